@@ -1,4 +1,4 @@
-"""The shapes of input that bench/shapes measures. Each returns the arguments of a command, and the files that they name."""
+"""The shapes of input that bench/shapes measures. Each returns the arguments of a command, and the files named there."""
 import json
 import random
 
@@ -135,7 +135,7 @@ def measures_beside_a_long_uri(n):
 
 
 def long_uri(names, size):
-    """A sheet with this many concepts, and a report that uses them all. They share a namespace URI of about `size` bytes."""
+    """A sheet with this many concepts, and a report that uses all of them. The concepts share a URI of about `size` bytes."""
     bound = {"u": f"{URI}/{'u' * size}"}
     concepts = [f"u:c{place:07}" for place in range(names)]
     return sheet(dict.fromkeys(concepts, "text"), namespaces=bound), report(numbered(fact(concept=name) for name in concepts), bound)
@@ -154,8 +154,8 @@ def names_of_a_long_uri_in_a_sheet(n):
 
 
 def names_and_bytes_of_a_uri_in_a_sheet(n):
-    """n names that share a URI of about 20 n bytes. If each name cost a comparison of URIs, four times n would
-    cost sixteen times as much."""
+    """n names that share a URI of about 20 n bytes. If each name cost a comparison of URIs, four times n would cost sixteen
+    times as much."""
     return merging(long_uri(n, 20 * n)[0], report({}))
 
 
@@ -336,7 +336,7 @@ def sends_without_a_change(n):
     return replaying(1, ["take 1 1", *["send 1"] * n], facts)
 
 
-def joins_of_what_is_there(n):
+def joins_that_add_nothing(n):
     """n joins: a replica of 1,000 facts joins a replica that has half of them."""
     halves = [report(numbered(numeric(str(place), period=period(place)) for place in range(0, FACTS, step))) for step in (1, 2)]
     return replaying(2, ["take 1 1", "take 2 2", *["join 1 2"] * n], *halves)
@@ -347,7 +347,7 @@ def takes_of_different_reports(n):
 
 
 def events_of_eight_replicas(n):
-    """n drawn events on replicas of at most 1,000 facts. Each report leaves out an eighth of them."""
+    """n drawn events on replicas of at most 1,000 facts. Each report leaves out an eighth of the facts."""
     chance = random.Random(1)
     facts = [numeric(str(place), entity="lei:e", period=period(place), unit="eg:EUR") for place in range(FACTS)]
     reports = [report({f"f{place}": one for place, one in enumerate(facts) if place % REPLICAS != left_out}) for left_out in range(REPLICAS)]
@@ -406,7 +406,7 @@ SHAPES = {
     lines_that_take: 1_000,
     texts_sent_and_received: 1_000,
     sends_without_a_change: 1_000,
-    joins_of_what_is_there: 100,
+    joins_that_add_nothing: 100,
     takes_of_different_reports: 500,
     events_of_eight_replicas: 500,
 }

@@ -1,5 +1,5 @@
 #!/usr/bin/env python3
-"""Checks that no shape of input costs much more than its size: bench/shapes [options] [SHAPE ..]
+"""Checks that no cost grows much faster than the input: bench/shapes [options] [SHAPE ..]
 
 Each shape makes an input long in one way, as a sender of a report, a sheet or a schedule could. The size n of a shape is a
 number of parts (such as facts) or of characters. The program runs at size n and at four times that size. The second run may
@@ -12,7 +12,7 @@ if n is at least 256. A quadratic cost grows sixteenfold and fails. The result i
     --size N            the smaller size, instead of the shape's own
     --bound TIMES       the largest allowed ratio (5)
     --program FILE      the program, instead of the built one in crates/xbrlmerge
-    --keep FOLDER       leaves the files of all shapes in FOLDER
+    --keep FOLDER       leaves the input files in FOLDER
 
 Status 0: each shape is within the bound. 1: some are not. 2: a measurement failed, an argument is wrong, or a program is
 missing.

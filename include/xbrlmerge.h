@@ -1,11 +1,11 @@
 /* xbrlmerge.h - merges xBRL-JSON reports into one canonical report, judges their duplicates, and lists
-   the sources of each fact. Refused reports are returned as numbers. The calls that merge or list write the bytes that
-   the program's commands print. docs/LIBRARY.md lists what is proved about the calls, and what is not.
+   the sources of each fact. Refused reports are returned as records of numbers. The calls that merge, judge or list write
+   the bytes that the program's commands print. docs/LIBRARY.md describes the calls, and lists what is not proved.
 
    Memory. The caller provides all buffers. A call keeps no pointer after it returns, and returns none. If the buffer for
-   the text or for the refused reports is too short, the call returns the required lengths and leaves both unchanged: make
-   that buffer longer, and call again. If both are long enough in the first call, the text is made only once. A call
-   allocates its own memory with malloc, and frees it before it returns.
+   the text or for the refused reports is too short, the call returns the required lengths and leaves both buffers unchanged:
+   make them long enough, and call again. If both are long enough in the first call, the text is made only once. A call
+   allocates its own memory with malloc, and frees this memory before it returns.
 
    Pointers. No pointer may be null, even if the length is 0: pass the address of any variable of its type instead. (The
    data() of an empty std::vector may be null.) The output (`out`, `needed`, `refusals`, `refused`, `checked`,

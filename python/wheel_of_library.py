@@ -9,7 +9,7 @@ from typing import Dict, Tuple
 
 HERE = os.path.dirname(os.path.abspath(__file__))
 LIBRARY = os.path.join(HERE, "..", "lib", "libxbrlmerge.so")
-# the C library and the dynamic linker; the tag is manylinux only if the library needs no other libraries
+# the C library and the dynamic linker; the tag is linux if the shared library needs another library
 SYSTEM = {b"libc.so.6", b"ld-linux-x86-64.so.2"}
 # the oldest minor version of the C library that such a tag can name
 OLDEST = 5

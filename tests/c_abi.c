@@ -5,11 +5,11 @@
        c_abi check SHEET REPORT
        c_abi edges SHEET
 
-   The program prints the text and the lines of refused reports as xbrlmerge does, and returns the status of the call. Calls
+   The program prints the result and the lines of refused reports as xbrlmerge does, and returns the status of the call. Calls
    with buffers are also made with buffers that are too short. With the static library, each request for memory is also refused
-   in turn. The last line on standard error begins with `requests`; it contains the number of refused requests that made the
+   in turn. The last line on standard error begins with `requests`, and contains the number of refused requests that made the
    call fail. `edges` instead makes calls with unusual arguments, prints nothing and returns 0. Status 90 means that a condition
-   in this file does not hold; a line prints the condition. */
+   in this file does not hold; a line on standard error shows the condition. */
 #include <stdio.h>
 #include <stdlib.h>
 #include <string.h>
@@ -122,8 +122,8 @@ static void tell_refusal(const xbrlmerge_refusal *row) {
         fprintf(stderr, "fact %llu\n", (unsigned long long)row->fact);
 }
 
-/* Makes the call with empty buffers. If they are too short, makes it again with one byte too few, with one row too few, and
-   with enough of both. Returns buffers that are long enough. */
+/* Makes the call with empty buffers. If these are too short, makes the call again with one byte too few, with one row too few,
+   and with enough bytes and rows. Returns buffers that are long enough. */
 static struct room short_rooms(const struct asked *asked) {
     struct room none = make_room(0, 0);
     uint32_t status = call(asked, &none);
@@ -150,8 +150,8 @@ static struct room short_rooms(const struct asked *asked) {
     return ample;
 }
 
-/* Refuses each request for memory in turn. A call then changes nothing. If only a cache lacks the memory, the call may have its
-   usual result. */
+/* Refuses each request for memory in turn. The call must then change nothing or, if only a cache lacks the memory, have its
+   usual result. Returns how many calls failed. */
 static long refuse_each(const struct asked *asked, const struct room *whole, uint32_t wanted) {
     long number = 0, refused = 0;
     do {
@@ -251,7 +251,7 @@ static int edges(struct asked *asked) {
     asked->command = "merge", asked->count = 0;
     for (asked->allow = 4; asked->allow != 0; asked->allow = asked->allow == 4 ? UINT32_MAX : 0)
         EXPECT(call(asked, &room) == XBRLMERGE_BAD_LEVEL && room.needed == 77 && room.refused == 78 && is_kept(&room, 0, 0));
-    /* three reports, of which the second is empty, and bytes after the last report */
+    /* three reports, the second one empty, and bytes after the last report */
     asked->command = "verdicts", asked->count = 3, asked->ends[0] = 2, asked->ends[1] = 2, asked->ends[2] = 4;
     EXPECT(call(asked, &room) == XBRLMERGE_REFUSED && room.needed == 0 && room.refused == 3 && is_kept(&room, 0, 3));
     EXPECT(room.rows[1].report == 2 && room.rows[1].number == 1 && room.rows[1].fact == 0 && room.rows[2].report == 3);

@@ -3,7 +3,7 @@
 
     [XBRLMERGE=PROGRAM] tests/c_abi
 
-The script checks libxbrlmerge.so and libxbrlmerge.a, which ./build --library wrote to lib/. Both must export the calls of
+The script checks libxbrlmerge.so and libxbrlmerge.a, which ./build --library writes to lib/. Both must export the calls of
 include/xbrlmerge.h and no other names. The types in the header must agree with crates/xbrlmerge_c. Then the script builds
 tests/c_abi.c with each library and makes each call on the examples. The texts, lines and statuses must equal the program's.
 For a refused sheet, only the number of the refusal is compared. With the static library, each request for memory in these

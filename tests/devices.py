@@ -5,7 +5,8 @@
 
 By default, PROGRAM is $XBRLMERGE or, if that is not set, the built program. The tables below list the expected status and line
 for most cases. The functions contain the other cases. If the line contains a number of bytes, standard output must contain
-exactly that many bytes from the start of the text. Otherwise it must contain all of the text or nothing. No file may change.
+exactly that many bytes from the start of the text. Otherwise standard output must contain all of the text or nothing. No file
+may change.
 
 Status 0: all cases are as expected. 1: some are not; each is printed. 2: there is no program.
 """
@@ -25,10 +26,10 @@ import time
 from support import built_program, bytes_of
 
 NOBODY, LIMIT, ENDLESS_LIMIT = 65534, 20, 180
-# the command that returns the size of a pipe; Python has a name for it since 3.10
+# the fcntl command that returns the size of a pipe; Python has a name for it since 3.10
 PIPE_SIZE = 1032
 # in kilobytes. With LITTLE address space, an endless file exhausts memory, but the other files do not. If less than MUCH memory
-# is free, endless files are read only with LITTLE
+# is free, the cases of kind `endless` are skipped
 LITTLE, MUCH = 150_000, 6_000_000
 
 GOOD, REFUSED, NOTHING_TAKEN = (0, ""), (1, "report 2: 1 NotJson at document\n"), (3, "device: 0 bytes written\n")
@@ -91,7 +92,7 @@ def report_of(facts):
 
 
 def contents():
-    """Returns the files' contents by name. The merged text of `long` and the lines for `rows` have at least 500,000 bytes."""
+    """Returns the files' contents by name. The merged text of `long` and the lines for `rows` each have at least 500,000 bytes."""
     sheet = {"namespaces": {"m": "https://made.example/2024"}, "concepts": {"m:A": "numeric", "m:T": "text"},
              "dimensions": {"m:Mill": "typed"}}
     words = {f"{it}": {"value": "Blue" * 650, "dimensions": {"concept": "m:T", "m:Mill": f"{it}"}} for it in range(400)}
@@ -273,7 +274,7 @@ def run_strange(room, kind, words):
 
 def compare_file(room, kind, name, words, ends):
     """Runs the program on a file of this kind. If status 3 is expected, the output must be empty. Otherwise it must be the same
-    as for a regular file with the same content. Half a report is compared with an empty one, since both are refused."""
+    as for a regular file with the same content. Half a report is compared with an empty report, since both are refused."""
     writer = make(room, kind, name)
     try:
         ran = run_strange(room, kind, words)
@@ -288,7 +289,7 @@ def compare_files(room):
     """Replaces the sheet, the events or a report by each kind of file, and standard input by an endless file."""
     for kind, all_ends in FILES.items():
         if kind == "endless" and free_memory() < MUCH:
-            room.left_out.append(f"endless files, since less than {MUCH:,} kB of memory is free")
+            room.left_out.append(f"endless files without a limit on memory, since less than {MUCH:,} kB is free")
             continue
         for (name, all_words), ends in zip(PLACES.items(), all_ends):
             for words in all_words[:1] if kind == "endless" else all_words:

@@ -15,10 +15,10 @@ entries. The status is 1 if
 - the table of conditions differs from `Reason`, its numbers, or the definitions of the conditions;
 - a page shows a wrong number of lines, or the number for DOUBT is above 600.
 
-Definitions of the kit are not followed. A record field does not hide a definition of the same name; a variable does, in its
-scope. Without options, the script prints the definitions that DOUBT lists. --format prints the definitions that FORMAT lists
-instead, and --quiet prints none.
---write updates the entries, the table of conditions and the numbers of lines, but not the words.
+Definitions of the kit are not followed. A variable hides a definition of the same name within the variable's scope. A record
+field hides a definition of the same name in the later fields of the record. Without options, the script prints the definitions
+that DOUBT lists; with --format, those that FORMAT lists; with --quiet, none. --write updates the entries, the table of
+conditions and the numbers of lines, but not the words.
 """
 import glob
 import os
@@ -93,8 +93,8 @@ class Specs:
                 self.types.setdefault((crate, name), path)
 
     def owner(self, path, word):
-        """Returns the definition, type or limit that a word in a file means. Returns the name
-        of a word of the kit, and None for other words."""
+        """Returns the definition, type or limit that a word in a file means. Returns the full name of a word of the kit, and None
+        for other words."""
         word, *rest = word.split(".")
         if (path, word) in self.owners:
             return self.owners[path, word]
@@ -196,8 +196,8 @@ def needs(specs, path, name):
 
 
 def closure(specs, root, stops=()):
-    """Returns the names that a contract or a definition depends on, except the kit's. A name follows its own dependencies.
-    Names in `stops` are returned, but not followed."""
+    """Returns the names that a contract or a definition depends on, except the kit's. Each name follows the names that it
+    depends on. Names in `stops` are returned, but not followed."""
     order, seen = [], {root}
 
     def follow(item):
@@ -311,8 +311,8 @@ def tested_on(page):
 
 
 def table_rows(page):
-    """Yields the rows of conditions that the code requires. The page supplies the sections and, for a reason that no definition
-    tests, the cell 'Tested on'."""
+    """Yields the rows that the table of conditions should have. The page supplies the sections and, for a reason that no
+    definition tests, the cell 'Tested on'."""
     there = {it[1]: it[3:] for it in CONDITION.findall(page.text)}
     comments = {name: text for text, name in re.findall(r"((?: *///.*\n)+) +(\w+),", content(REASONS[0]))}
     for name, number in re.findall(r"^entry_of (\w+) = record \{ number = (\d+);", content(REASONS[1]), re.MULTILINE):

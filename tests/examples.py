@@ -9,15 +9,15 @@ named, examples/embed/main.txt is skipped. The script compares
 - the output for the reports in examples/ with the files beside them. An older version, which did not declare levels,
   wrote earlier.json;
 - each page in PAGES with the results of its commands. The blocks of a page run in order, by `sh` and then by `bash`, in a
-  folder with the repository's files except crates/. They must leave no other files there. The last command of a block must
-  return the status that the paragraph before the block names, or 0; all other commands must return 0. If a block of output
-  follows, the commands must print exactly this output; ` ..` at the end of a line matches the rest of the line. If no output
-  follows, standard error may contain only the lines for refusals, too loose rows and refused events. `./build && ` at
-  the start of a block is removed. A block that still proves (`rt`, ./build, the gate) is skipped;
+  folder with the repository's files except crates/. The commands must not add or remove a file there. The last command of a
+  block must return the status that the paragraph before the block names, or 0; all other commands must return 0. If a block of
+  output follows, the commands must print exactly this output; ` ..` at the end of a line matches the rest of the line. If no
+  output follows, standard error may contain only the lines for refusals, too loose rows and refused events. `./build && ` at
+  the start of a block is removed. A block with another command that proves (`rt`, ./build, the gate) is skipped;
 - each fact that docs/GUIDE.md shows in JSON with the facts in examples/. Sheets that the guide shows must be accepted;
 - the sheet and the merged text of tools/contradictions with those expected in tests/normalise/vendors. The tool makes the
-  sheet from a taxonomy package, and normalises the reports of other tools in that folder;
-- the commands in the man pages and in the program's help, as on a page that shows no output;
+  sheet from a taxonomy package, and normalises three reports in that folder;
+- the commands in the man pages and in the program's help, like those of a page that shows no output;
 - each example in docs/REFUSALS.md with the line that the program prints for it.
 
 If no program is named, the Rattle code in docs/LIBRARY.md is proved too. The proof takes minutes, and much longer if ./build
@@ -45,7 +45,7 @@ PAGES = ("README", "docs/GUIDE", "docs/REFUSALS", "docs/COSTS")
 SHELLS = ("sh", "bash")
 # this start of a block is removed, since the program is built before the commands run
 BUILDS = "./build && "
-# a block with one of these commands is skipped, since it proves for minutes
+# a block with one of these commands is skipped, since the proofs would take minutes
 SLOW = re.compile(r"(?:^|&& )(?:rt|bash \.ci/run|\./build)\b", re.MULTILINE)
 # in the man pages and the help, a line that starts with one of these is a command
 STARTS = ("xbrlmerge ", "cat examples/")
@@ -105,8 +105,8 @@ def pieces():
 
 
 def build_embedded(room):
-    """Proves the code in docs/LIBRARY.md and builds the example of embedding. Returns its path, or an empty text if either
-    fails."""
+    """Proves the code in docs/LIBRARY.md and builds the example of embedding. Returns the path of the built example, or an empty
+    text if the proof or the build fails."""
     lines, embed = copied_libraries(room), re.search("'(embed: .*)'", content("docs/LIBRARY.md"))[1]
     below = " ".join(it.partition(":")[0] for it in lines)
     crates = {EMBED: (embed, {"main.rt": content("examples/embed/main.txt")}), SHOWN: (f"{SHOWN}: {below}", pieces())}
@@ -279,8 +279,7 @@ def compared(program):
 
 
 def declares(program, merged):
-    """Returns the faults of the merged text: it must declare the strictest level, and otherwise equal the earlier
-    text."""
+    """Returns the faults of the merged text: it must declare the strictest level, and otherwise equal the earlier text."""
     rest = merged
     for part in DECLARED:
         rest = rest.replace(part, "", 1)
@@ -320,7 +319,7 @@ def page_of_vendors(program):
 
 
 def by_hand(program, merged):
-    """Lets the two offices exchange files. Returns a line unless both then have the merged text and nothing was printed."""
+    """Lets two offices exchange files. Returns a line unless both offices then have the merged text and nothing was printed."""
     with tempfile.TemporaryDirectory() as room:
         ran = subprocess.run([os.path.join(TOP, "examples", "offices", "by_hand"), room], capture_output=True, text=True,
                              env={**os.environ, "XBRLMERGE": program})

@@ -1,7 +1,7 @@
-/* This library, loaded by LD_PRELOAD, replaces the calls of the C library (glibc) that write a file. Three environment
-   variables control this library. The call with the number FAIL, counted from 1, fails as on a full device. At the call with
-   the number KILL, the process is killed. Writes to the standard streams and calls of open without O_EXCL are not counted. The
-   name of each counted call is appended to the file that CALLS_TOLD names. */
+/* This library, loaded by LD_PRELOAD, replaces the functions of the C library (glibc) with which xbrlmerge writes a file.
+   Three environment variables control this library. FAIL is the number of the call that fails as on a full device. KILL is the
+   number of the call at which the process is killed. CALLS_TOLD names a file, to which the name of each counted call is
+   appended. Calls are counted from 1; writes to the standard streams and calls of open without O_EXCL are not counted. */
 #define _GNU_SOURCE
 #include <dlfcn.h>
 #include <errno.h>

@@ -5,9 +5,9 @@
 
 A node of a fold merges one group. The script draws reports that overlap, agree, contradict each other, or are refused. The
 results of examples/fold/Makefile and examples/fold/fold_dask.py must equal the bytes of one run. The Makefile runs with three
-numbers of branches, and fold_dask.py with three numbers of files per node. The script also checks how many branches a late
-report rebuilds, and nodes that fail or are stopped. If Dask is not installed, a substitute of two functions runs the nodes in
-turn. Nodes that call the library are skipped if there is no lib/libxbrlmerge.so, which ./build --library makes.
+numbers of branches, and fold_dask.py with three numbers of files per node. The script also tests late reports, files with odd
+names, and nodes that fail or are stopped. If Dask is not installed, a substitute of two functions runs the nodes in turn. Nodes
+that call the library are skipped if there is no lib/libxbrlmerge.so, which ./build --library makes.
 
 Status 0: all is as expected. 1: something is not; each fault is printed. 2: the program is not built.
 """
@@ -57,7 +57,7 @@ def fact(chance, prefix):
         return {"dimensions": dimensions, "value": f"{prefix}:B" if concept[0] == "N" else text}
     dimensions["unit"] = chance.choice(["c:EUR", "c:EUR/x:shares"])
     made = {"dimensions": dimensions, "value": f"{chance.randint(980, 1020)}.{chance.randint(0, 9)}0"}
-    # decimals: mostly near the last digit of the values, so that some facts agree and others do not; otherwise from -18 to 18
+    # decimals: mostly near the digits in which values differ, so that some facts agree and others do not; otherwise from -18 to 18
     places = chance.randint(-2, 1) if chance.random() < 0.8 else chance.randint(-18, 18)
     return {**made, "decimals": places} if chance.random() < 0.8 else made
 
@@ -189,8 +189,8 @@ def stopped_nodes():
 
 
 def dask_words():
-    """Returns the command of fold_dask.py, and whether Dask runs the nodes. If not, writes a substitute to the
-    working folder."""
+    """Returns the command of fold_dask.py, and whether Dask runs the nodes. If not, writes a substitute to the working
+    folder."""
     pythons = (sys.executable, "/usr/bin/python3")  # the system's Python has the packages of the system
     with_dask = next((python for python in pythons if shutil.which(python) and run(python, "-c", "import dask").returncode == 0), None)
     if not with_dask:

@@ -5,9 +5,9 @@
     tests/gate_times FILE                               prints the table in FILE again
 
 A part is the proof of a crate, the proof of its tests, its must-fail edits or its runs. The processes are sampled twice a
-second to find when a part begins and ends; 'processor' is the part's seconds, summed over all processors. Runs are not
-sampled: their times are taken from the lines of the gate, and 'processor' is 0. The status is 0 if M is 0 in the last line
-`N passed, M failed`, otherwise 1. With FILE the status is 0, or 2 if FILE has no table.
+second to find when a part begins and ends; 'processor' is the sum of the part's seconds on all processors. Runs are
+not sampled: their times are taken from the lines of the gate, and 'processor' is 0. The status is 0 if M is 0 in the last
+line `N passed, M failed`, otherwise 1. With FILE the status is 0, or 2 if FILE has no table.
 """
 import os
 import re
@@ -18,7 +18,7 @@ import time
 PARTS = ("proof", "tests", "edits", "runs")
 HEAD = f"{'crate':<14}{'part':<7}{'from':>8}{'to':>8}{'seconds':>9}{'processor':>11}"
 TICKS = os.sysconf("SC_CLK_TCK")
-# lines that the gate prints about runs; they are its last parts, one at a time
+# lines that the gate prints about runs. Runs are the last parts of the gate, one after another
 RUN = re.compile(r"(?:rt: )?(\w+) ran[ ,(]|(?:rt: )?(\w+): its tests (?:passed|FAILED)")
 ENDED = re.compile(r"\d+ passed, (\d+) failed")
 
@@ -83,7 +83,7 @@ class Watch(threading.Thread):
     def look(self, there, now):
         roots, under = writers(self.pipe), {}
         for pid in there:
-            # the topmost check above this process, if it belongs to the run
+            # the topmost check among this process and those above it, if the process belongs to the run
             line, at = [], pid
             while at in there and at not in roots and len(line) < 64:
                 line.append(at)
@@ -124,7 +124,7 @@ def table(watch, runs, whole):
 
 
 def live():
-    """Stamps the lines of a run as they arrive, then prints the table; returns the status."""
+    """Prints the lines of a run with their times as they arrive, and then the table. Returns the status."""
     begun, last, failed, runs = time.monotonic(), 0, 1, {}
     watch = Watch(begun)
     watch.start()

@@ -5,8 +5,8 @@
 
 By default, PROGRAM is $XBRLMERGE or the built program. Each run must end within 10 seconds, not by a signal, with a status and
 lines that its input allows. A report is read as it is and, with spaces after it, in pieces; both results must be equal. A
-refused report must not change the merged text of two good ones. An accepted report is merged; the text must be accepted and
-merge to the same bytes. JOBS processes run in parallel, as many as there are processors by default. CASE runs only the case
+refused report must not change the merged text of two good ones. An accepted report is merged; the text must be accepted, and
+must merge to the same bytes. JOBS processes run in parallel, as many as there are processors by default. CASE runs only the case
 with this number.
 
 Status 0: all is as expected. 1: something is not, or a usual result is missing in a run of 5,000 cases or more. 2: there is no
@@ -110,7 +110,7 @@ def drawn_report(chance, count=None, spread=0):
 
 
 def drawn_long(chance):
-    """Draws a report that is read in pieces: with many facts, or with its parts far apart."""
+    """Draws a report that is read in pieces: it has many facts, or many spaces after each comma."""
     return drawn_report(chance, MANY) if chance.random() < 0.1 else drawn_report(chance, 12, SPREAD)
 
 

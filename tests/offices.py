@@ -1,6 +1,6 @@
 #!/usr/bin/env python3
-"""Lets offices exchange merged texts, and compares the text of each office with one merge of the reports that reached it. Not
-part of the gate.
+"""Lets offices exchange merged texts, and compares the text of each office with one merge of the reports that reached that
+office. Not part of the gate.
 
     [SCHEDULES=200] [SEED=1] tests/offices [PROGRAM]
 

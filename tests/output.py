@@ -1,5 +1,5 @@
 #!/usr/bin/env python3
-"""Checks `--output` when each call that writes the file fails in turn, and when the run is killed there. Not part of the gate.
+"""Checks `--output` if a call that writes the file fails, and if the run is killed at that call. Not part of the gate.
 
     tests/output [PROGRAM]
 
@@ -70,7 +70,7 @@ class Tests:
             self.wrong.append(what)
 
     def held(self):
-        """Returns the content of the output, or None if it does not exist."""
+        """Returns the content of the output file, or None if there is no such file."""
         try:
             with open(f"{self.folder}/new", "rb") as file:
                 return file.read()

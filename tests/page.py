@@ -12,8 +12,8 @@ The browser must show something within 2 seconds, draw the page within 30 and re
 index must open the rows of its concept. The filter must count the rows that contain its words, and show at most 100 of them.
 Nothing may be wider than the window, at any of three widths.
 
-Status 0: all is as expected, or no Chromium is installed, which a line reports. 1: something is not; each fault is printed. 2:
-the program is not built, or a process failed or took too long.
+Status 0: all is as expected, or Chromium is not installed (a line reports this). 1: something is not; each fault is printed.
+2: the program is not built, or a process failed or took too long.
 """
 import argparse
 import collections
@@ -40,8 +40,8 @@ PAINT = 2_000  # the most milliseconds until something is shown
 # the script that reports when the browser first showed something
 PAINTED = """<body><script>new PerformanceObserver(list => list.getEntries().forEach(entry => console.log("painted", entry.startTime)))
 .observe({type: "paint", buffered: true})</script>"""
-WIDTHS = 500, 1_100, 1_900  # of the window, in pixels; Chromium accepts none below 500
-# the script that follows an entry of the index, puts a word into the filter, and measures widths
+WIDTHS = 500, 1_100, 1_900  # of the window, in pixels; Chromium accepts no width below 500
+# the script that follows an entry of the index, puts two words into the filter, and measures widths
 ASKED = """<script>
 const root = document.documentElement, answers = [];
 function measure() {

@@ -1,5 +1,5 @@
 #!/usr/bin/env python3
-"""Counts the words of each page, and follows its links:
+"""Counts the words of the pages, and follows their links:
 
     tests/pages [PAGE ..]
 
@@ -45,7 +45,7 @@ ELSEWHERE = re.compile(r"[a-z]+:")
 
 
 def words(path):
-    """Returns the number of words of a page, without the parts that its bound ignores."""
+    """Returns how many words of a page count for its bound."""
     text = content(path)
     for left_out in (GENERATED, COMMENT, CODE_BLOCK, *([NO_PROSE] if path in PROSE else [])):
         text = left_out.sub("", text)
@@ -64,7 +64,7 @@ def anchors(path):
 
 
 def broken_links(path):
-    """Returns a line for each relative link of a page that leads to no file or no heading."""
+    """Returns a line for each relative link of a page if the link's file or heading does not exist."""
     text, broken = CODE.sub("", CODE_BLOCK.sub("", content(path))), []
     for link in (it for it in LINK.findall(text) if not ELSEWHERE.match(it)):
         name, _, anchor = link.partition("#")

@@ -1,7 +1,7 @@
 /* This library, loaded by LD_PRELOAD, replaces malloc, calloc and realloc of the C library (glibc). Two environment variables
-   control this library. Requests are counted from 1 once the libraries are loaded. The request with the number REFUSE is
-   refused, and the line "refused" is written to the file that REFUSE_TOLD names. When the process ends, unless it is killed,
-   the number of requests is appended to that file. Without REFUSE_TOLD, requests are neither counted nor refused. */
+   control this library. REFUSE is the number of the request that is refused. Requests are counted from 1 once this library is
+   loaded. REFUSE_TOLD names a file, to which a refusal appends the line "refused". When the process exits normally, the number
+   of requests is appended to the same file. Without REFUSE_TOLD, requests are neither counted nor refused. */
 #include <errno.h>
 #include <fcntl.h>
 #include <stdio.h>

@@ -1,5 +1,5 @@
 #!/usr/bin/env python3
-"""Refuses, in turn, each request for memory that the tests and the program make. Not part of the gate.
+"""Refuses, one at a time, the requests for memory that the tests and the program make. Not part of the gate.
 
     [JOBS=N] tests/refused_memory [CRATE | program ..]
 
@@ -7,13 +7,13 @@ The tests of a crate are crates/NAME/out/NAME_tests, which `rt test` makes. The 
 crates/xbrlmerge/out/xbrlmerge if that does not exist. Without arguments, the script tests all crates with tests, and the
 program. A first run of each test counts the requests. A second run, set to refuse the request after the last one, must refuse
 none. Each later run refuses one request. A test must pass and print that a call got no memory (`refused`) or that its own
-setup got none (`refused here`); if it prints neither, the request counts as passed over. The program runs with arguments for
-every command. It must either print the line `out of memory` and end with status 3, after writing nothing or a first part of
-its text, or end as if nothing was refused. Two kinds of requests can be refused without harm: those for the key of a cache
-while a report is read, and those for clap's search for similar words. For the same reason, no request counts as passed over in
-the tests of crates that read reports. JOBS processes run in parallel, as many as there are processors by default. If a test
-makes more than 5,000 requests, only each 7th is refused from request 2,001 on. Fewer are refused if it makes more than 50,000,
-or if its runs are long. If some are left out, a line reports which were refused.
+setup got none (`refused here`). If the test prints neither, the request counts as passed over. The program runs with arguments
+for every command. It must print the line `out of memory` and end with status 3, or end as if nothing was refused. Before
+`out of memory`, it may write a first part of its text. Two kinds of requests can be refused without harm: those for the key of
+a cache while a report is read, and those for clap's search for similar words. So in the tests of crates that read reports, no
+request counts as passed over. JOBS processes run in parallel, as many as there are processors by default. If a test makes more
+than 5,000 requests, only each 7th is refused from request 2,001 on. Fewer are refused if a test makes more than 50,000 requests,
+or if its runs are long. If some requests are left out, a line reports which were refused.
 
 Status 0: nothing failed and nothing was passed over. 1: something failed or was passed over. 2: a name is unknown, there is no
 cc, or tests or the program are not built or are older than the sources.
@@ -37,8 +37,8 @@ PROGRAM = "program"
 JOBS = int(os.environ.get("JOBS", len(os.sched_getaffinity(0))))
 # if a test makes more than MANY requests, the first ALL are refused, and then each EVERY-th
 MANY, ALL, EVERY = 5000, 2000, 7
-# if it makes more than MOST, at most FEW are refused, spread evenly; tests that let a device fail at each byte make so many. If
-# its runs would take more than SECONDS in sequence, as many are refused as fit in that time, but about 100 at least
+# if a test makes more than MOST requests, at most FEW are refused, spread evenly; such tests let a device fail at each byte. If
+# the runs would take more than SECONDS in sequence, only as many requests are refused as fit, but about 100 at least
 MOST, FEW, SECONDS = 50_000, 1000, 240
 # how many requests a task refuses at most, and the time limit of a run in seconds
 SHARE, LIMIT = 40, 60
@@ -98,7 +98,7 @@ def is_older(built, crates):
 
 
 def newest(places, crates):
-    """Returns the first of these files that can be executed. It must not be older than the sources."""
+    """Returns the first of these files that can be executed. This file must not be older than the sources of these crates."""
     found = [it for it in places if os.access(it, os.X_OK)]
     if not found:
         raise NotBuilt(f"there is no {places[0]}")
@@ -199,7 +199,7 @@ def refuse(task):
 
 
 def count_requests(task):
-    """Counts the requests of a subject with nothing refused. A second run refuses a further request, which it must not make."""
+    """Counts the requests of a subject with nothing refused. A second run, set to refuse the next request, must not make it."""
     library, subject = task
     started = time.monotonic()
     ran = run(library, subject, 0)
@@ -295,7 +295,7 @@ def write_inputs(room):
     long_report(room)
 
 
-# command lines: @ marks a file in examples/, % a file in the script's folder, and < the standard input
+# command lines: @ marks a file in examples/, % a file that the script writes, and < the standard input
 LINES = """
  < %bundle
  < %bad_sheet
@@ -349,7 +349,7 @@ def lines_of_program(library, room):
 
 
 def table(rows):
-    """Returns the rows as a table of Markdown."""
+    """Returns the rows as a table in Markdown."""
     total = sum((row for _, row in rows), collections.Counter())
     lines = [("", *COLUMNS), ("---",) * (len(COLUMNS) + 1)]
     lines += [(name, *(f"{round(row[it]):,}" for it in COLUMNS)) for name, row in [*rows, ("all", total)]]

@@ -19,9 +19,9 @@ def bytes_of(path):
 
 
 def built_program(named=None):
-    """Returns the path of the program: the named one if a name is given, otherwise $XBRLMERGE if set, otherwise the built one.
+    """Returns the path of the program: `named` if given, otherwise $XBRLMERGE if set, otherwise the built program.
 
-    If this is not an executable file, the function prints a line and ends the process with status 2.
+    If there is no such executable file, the function prints a line and ends the process with status 2.
     """
     given = named or os.environ.get("XBRLMERGE")
     places = [given] if given else [os.path.join(TOP, place) for place in BUILT]

@@ -3,13 +3,13 @@
 
     [CASES=5000] [SEED=1] [CASE=N] [JOBS=N] tests/tools_malformed
 
-make_sheet reads schemas, catalogs and sheets; contradictions reads label linkbases, merged texts, sheets and the lines of
+make_sheet reads taxonomies and sheets; contradictions reads taxonomies with labels, merged texts, sheets and the lines of
 `verdicts` and `sources`; normalise reads reports and sheets. In most cases one file is broken, or the package that contains
-it, or both. Each run must end within 10 seconds of processor time and 1 GiB of memory, with status 0, 1 or 3. It may print
-only lines that a terminal can show, and must not raise an exception that the tool does not expect. With status 0 or 1 all
+the file, or both. Each run must end within 10 seconds of processor time and 1 GiB of memory, with status 0, 1 or 3. Its lines on
+standard error must be printable, and it must not raise an exception that the tool does not expect. With status 0 or 1 all
 outputs must be complete, and a second run of normalise on its output must change nothing. With status 3 no output may change.
-The tools run in this process; one case in 20 also runs as a process, which must have the same result. JOBS processes run in
-parallel, as many as there are processors by default. CASE runs only the case with this number.
+The tools run in this process. One case in 20 also runs as a separate process, which must have the same result. JOBS processes
+run in parallel, as many as there are processors by default. CASE runs only the case with this number.
 
 Status 0: all is as expected. 1: something is not, or a usual result is missing in a run of 5,000 cases or more. The first 20
 faults are printed with the seed and the case. The files of all faults are kept.
@@ -103,7 +103,7 @@ def reworded(chance, text, _):
 
 
 def dropped(chance, text, _):
-    """Removes a drawn member whose value is not an object or an array, or a drawn part if there is no such member."""
+    """Removes a drawn member whose value is neither an object nor an array. Without such a member, removes a drawn part."""
     return malformed.replaced(chance, text, rb'"[\w:]+": ?(?:"[^"\\]*"|null|true|false|-?\d+)(?:, ?)?', (b"",))
 
 
@@ -269,7 +269,7 @@ def write_taxonomy(room, chance, kinds):
 
 
 def of_taxonomy(room, chance):
-    """Runs make_sheet on a taxonomy with a broken schema or catalog."""
+    """Runs make_sheet on a taxonomy. A schema or the catalog may be broken, and so may the package."""
     status, out = room.run("make_sheet", [write_taxonomy(room, chance, (".xsd", "catalog.xml"))], [])
     expect_sheet(status, out)
 
@@ -319,7 +319,7 @@ def of_text(room, chance):
 
 
 def of_labels(room, chance):
-    """Runs contradictions with a taxonomy whose linkbase or schema is broken."""
+    """Runs contradictions with a taxonomy in which the core schema or an XML file, such as the linkbase, is broken."""
     text, verdicts, sources = drawn_text(chance)
     files = {"merged": text, "sheet": json.dumps(SHEET).encode(), "verdicts": verdicts, "sources": sources}
     run_on_text(room, chance, files, ["--labels", write_taxonomy(room, chance, (".xml", "core.xsd"))])

@@ -25,7 +25,7 @@ NO_OPTIONS = "help"
 FILE = "file"
 # the options with a fixed list of values, and the name of these values
 CHOSEN = {"--allow": "LEVEL", "--format": "FORMAT"}
-# prints the completions after some words; the cursor is at the last word
+# prints the completions of the last word of a command line
 ASK = 'source "$1"; shift; COMP_WORDS=("$@"); COMP_CWORD=$(($# - 1)); _xbrlmerge; printf "%s\\n" "${COMPREPLY[@]}"'
 
 
@@ -86,7 +86,7 @@ def told_by_man():
     told = {}
     for title, text in zip(pieces[1::2], pieces[2::2]):
         tags = "\n".join(re.findall(r"^\.TP\n\.\w+ (.*)", text, re.MULTILINE))
-        # options in a paragraph count too, so a paragraph must not name options that do not exist
+        # options in a paragraph count too, so a paragraph must not name options of other commands
         told["" if " " in title else title] = {
             "options": set(OPTION.findall(text)),
             "values": set(re.findall(r"(?<![\w-])[a-z]+", tags)),
@@ -97,7 +97,7 @@ def told_by_man():
 
 
 def told_by_completions():
-    """Returns the words of the completions for bash. Completed file names count as the arguments that name files."""
+    """Returns the words of the completions for bash. An argument counts if file names are completed for it."""
     with tempfile.TemporaryDirectory() as room:
         with open(os.path.join(room, FILE), "w", encoding="utf-8"):
             pass

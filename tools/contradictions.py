@@ -26,16 +26,16 @@ language, or a dimension that one row lacks. Pairs are left out if one provider 
 differ in the same dimension, at most 1,000 pairs are compared, fewer if the pairs found have more than 10,000 facts.
 
 --from uses the earlier output of `xbrlmerge merge` and `xbrlmerge verdicts`. --sources uses the output of `xbrlmerge sources`,
-and --names lists the providers in the order of the reports. Instead of both, you can name the merged report of each
-provider's own reports, as PROVIDER=TEXT.
+and --names lists the providers in the order of the reports. Instead of --sources and --names, you can name a merged report for
+each provider, made from the provider's own reports, as PROVIDER=TEXT.
 
 The page and changes.csv show at most 80 characters of an identifier, a URI or a text; the other tables contain them whole.
-In the tables, a ' precedes each text that a spreadsheet might read as a formula.
+In the tables, a ' precedes anything that a spreadsheet might read as a formula.
 
-Status 0: all reports were read without loss, and there is no contradiction. 1: the files are written, and there is something
-to look at: a contradiction, a refused report, a loss of --normalise, a report that it cannot normalise, a part that --taxonomy
-leaves out, or pairs that --near did not compare (0 with --exit-zero). 2: invalid arguments. 3: not done, and standard error
-shows why. Then no output has changed.
+Status 0: the files are written, and there is nothing to look at. 1: the files are written, and there is something to look at:
+a contradiction, a refused report, a loss of --normalise, a report that cannot be normalised, a part that --taxonomy leaves
+out, or pairs that --near did not compare (0 with --exit-zero). 2: invalid arguments. 3: not done, and standard error shows why.
+After status 2 or 3, no output has changed.
 """
 from __future__ import annotations
 
@@ -78,7 +78,8 @@ def read_options() -> argparse.Namespace:
     parser.add_argument("--exit-zero", action="store_true", help="return 0 instead of 1")
     parser.add_argument("--sources", metavar="SOURCES", help="with --from: the output of `xbrlmerge sources`")
     parser.add_argument("--names", metavar="NAME,..", help="with --sources: the providers, in the order of the reports")
-    parser.add_argument("words", nargs="*", metavar="[NAME=]REPORT", help="the reports")
+    parser.add_argument("words", nargs="*", metavar="[NAME=]REPORT",
+                        help="the reports; with --from, a merged report for each provider")
     add_losses(parser, "options of --normalise that lose something")
     options = parser.parse_intermixed_args()
     check(parser, options)
@@ -93,7 +94,7 @@ def check(parser: argparse.ArgumentParser, options: argparse.Namespace) -> None:
         if bool(options.sources) != bool(options.names) or options.sources and options.words:
             parser.error("use --sources and --names together, and without PROVIDER=TEXT")
         if options.names and not all(options.names.split(",")):
-            parser.error("a name is empty")
+            parser.error("a name in --names is empty")
     elif not options.words or options.sources or options.names:
         parser.error("name the reports; --sources and --names need --from")
     if loses(options) and not options.normalise:

@@ -16,7 +16,7 @@ no schema includes.
 
 Files may come from untrusted sources. Only regular files are read, and, without --outside, only those in a named folder, in
 the folder of a named file, or in a package. The limits are:
-    64 MB for a file
+    64 MB for a file that is not a package
     100,000 files in a package, paths of 1,024 characters, and 100 times its size plus 64 MB when unpacked
     1,000 levels in a document, which must not have a document type
     1,000 different lengths of uriStartString in the catalogs
@@ -39,7 +39,8 @@ from sheet_making.sheets import sheet_text, union  # noqa: E402
 def read_options() -> argparse.Namespace:
     parser = argparse.ArgumentParser(prog="make_sheet", description=__doc__, formatter_class=argparse.RawDescriptionHelpFormatter)
     parser.add_argument("--union", action="store_true", help="make one sheet from several")
-    parser.add_argument("--megabytes", type=int, default=64, metavar="N", help="the most megabytes of a file, by default 64")
+    parser.add_argument("--megabytes", type=int, default=64, metavar="N",
+                        help="the most megabytes of a file that is not a package, by default 64")
     parser.add_argument("--outside", action="store_true", help="follow references to files outside the named folders")
     parser.add_argument("inputs", nargs="+", metavar="INPUT", help="a schema, a package or a folder; with --union, a sheet")
     options = parser.parse_args()

@@ -28,7 +28,7 @@ class NotDone(Exception):
 
 
 class Stopped(BaseException):
-    """A signal that ends the tool once it has cleaned up. `except Exception` does not catch it."""
+    """A signal that ends the tool once the tool has cleaned up. `except Exception` does not catch this exception."""
 
     def __init__(self, number: int) -> None:
         super().__init__(number)
@@ -68,7 +68,7 @@ def finished(main: Callable[[], Status]) -> Status:
 
 
 def outcome(main: Callable[[], Status]) -> tuple[Status, tuple[str, ...]]:
-    """Runs a tool. Returns its status, and the reasons why it failed. An exception keeps the tool's objects in memory, so it is
+    """Runs a tool. Returns its status, and the reasons if it failed. An exception keeps the tool's objects in memory, so it is
     dropped before the reasons are printed."""
     try:
         status = status_of(main)
@@ -101,7 +101,7 @@ def sentence(fault: Exception) -> str:
 
 def stop(number: int, _frame: Optional[FrameType]) -> NoReturn:
     for each in STOPPING:
-        signal.signal(each, signal.SIG_IGN)  # so that nothing interrupts the cleanup
+        signal.signal(each, signal.SIG_IGN)  # so that no second signal interrupts the cleanup
     raise Stopped(number)
 
 

@@ -34,7 +34,7 @@ def program_at(given: Optional[str]) -> str:
 
 
 class Program:
-    """The program, a sheet, and a folder for its output."""
+    """The program, a sheet, and a folder for the program's output."""
 
     def __init__(self, path: str, sheet: str, folder: str) -> None:
         self.path, self.sheet, self.folder = path, os.path.abspath(sheet), folder
@@ -50,7 +50,7 @@ class Program:
         return done.returncode, done.stderr.decode(errors="replace").splitlines()
 
     def read_reports(self, command: str, paths: Iterable[str]) -> dict[int, str]:
-        """Runs a command on reports. Returns the refusals with the numbers of the reports, from 1. Errors: NotDone,
+        """Runs a command on reports. Returns the refusals by the number of the report, from 1. Errors: NotDone,
         OSError."""
         with open(self.place("reports"), "wb") as file:
             file.writelines(os.fsencode(os.path.abspath(path)) + b"\0" for path in paths)

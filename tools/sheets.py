@@ -24,7 +24,7 @@ class Sheet:
         self.uris = uris_of(members["namespaces"])
         for prefix in members["namespaces"]:
             if not PART.fullmatch(prefix) or not self.uris.get(prefix):
-                raise ValueError(f"the prefix {shortened(prefix)} is not a prefix, or its URI is empty or not a text")
+                raise ValueError(f"{shortened(prefix)} is not a prefix, or its URI is empty or not a text")
         self.concepts, self.dimensions = (self.kinds_of(members[table], kinds) for table, kinds in TABLES.items())
         sets = tree.get(SETS, [])
         if not isinstance(sets, list):

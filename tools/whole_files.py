@@ -29,7 +29,7 @@ class Output:
         return os.path.join(self.folder, "old")
 
     def keep_old(self) -> None:
-        """Keeps the file that will be replaced: as a link, or as a copy if the file system has no links."""
+        """Keeps the file that will be replaced: as a link, or as a copy if linking fails."""
         if os.path.exists(self.place):
             try:
                 os.link(self.place, self.old)
@@ -47,8 +47,9 @@ def write_files(texts: Iterable[tuple[str, Iterable[str]]]) -> None:
     """Writes all files or none. `texts` lists their paths and pieces.
 
     Each file is written in a new folder beside its place, then moved to its place. It gets the owner, the group and the
-    permissions of the file that it replaces, each if permitted, but no setuid, setgid or sticky bit. After a signal that
-    `process.run` handles, the new files are removed. Errors: OSError, and exceptions of the pieces. Every place is then unchanged.
+    permissions of the file that it replaces, each if permitted, but no setuid, setgid or sticky bit. A signal that
+    `process.run` handles stops the writing, and the new files are removed; the moves are not interrupted. Errors: OSError, and
+    exceptions of the pieces. After an error, every place is unchanged, unless a file cannot be moved back.
     """
     with files_written(texts):
         pass
@@ -56,7 +57,7 @@ def write_files(texts: Iterable[tuple[str, Iterable[str]]]) -> None:
 
 @contextlib.contextmanager
 def files_written(texts: Iterable[tuple[str, Iterable[str]]]) -> Iterator[None]:
-    """Writes files as `write_files` does, and moves them to their places when the block ends, unless it raises."""
+    """Writes files as `write_files` does, and moves them to their places when the block ends, unless the block raises."""
     with contextlib.ExitStack() as folders:
         outputs = [write_beside(path, pieces, folders) for path, pieces in texts]
         yield
@@ -93,7 +94,7 @@ def copy_permissions(place: str, file: int) -> None:
 
 
 def put_in_place(outputs: list[Output]) -> None:
-    """Moves all outputs to their places, or leaves every place unchanged."""
+    """Moves all outputs to their places. If a move fails, moves the earlier outputs back, and raises OSError."""
     if len({output.place for output in outputs}) < len(outputs):
         raise OSError("two outputs are one file")
     for output in outputs[:-1]:  # the last one is never moved back, because nothing is moved after it

@@ -21,7 +21,7 @@ NODE = os.path.join(os.path.dirname(os.path.abspath(__file__)), "merge_files")
 
 @dask.delayed
 def merge(sheet, out, files, most, _after=()):
-    """Merges files once the earlier steps are done. Only steps of the first level may return status 1, because the output of
+    """Merges files after the earlier steps. Only steps of the first level may return status 1, because the output of
     a step is not refused."""
     status = subprocess.run([NODE, sheet, out, *files]).returncode
     if not 0 <= status <= most:
@@ -52,7 +52,7 @@ def join_here(sheet, lower):
 
     merged = xbrlmerge.merge(sheet, [text for text, _ in lower])
     if merged.refusals:
-        raise SystemExit(f"a text is not whole: {merged.refusals[0]}")
+        raise SystemExit(f"the result of a step is refused: {merged.refusals[0]}")
     return merged.text, [line for _, lines in lower for line in lines]
 
 

@@ -10,7 +10,8 @@ A sheet or a report is given as bytes or as the path of a file. Each call has th
 the same name; verdict_columns and source_columns match verdicts and sources with --format json. Calls run in this
 process, and other threads continue to run. Refused reports are returned, not raised. Exceptions: SheetRefused and TooLoose,
 both subclasses of ValueError; MemoryError; OSError if a file cannot be read; TypeError if `reports` is one file or one
-report's bytes instead of a list; and ValueError if `allow` is not "none", "complete", "consistent" or "all".
+report's bytes instead of a list, or if a sheet or a report has another type; and ValueError if `allow` is not "none",
+"complete", "consistent" or "all".
 """
 import dataclasses
 import decimal
@@ -153,7 +154,7 @@ def merge(sheet: Given, reports: Iterable[Given], allow: str = "all") -> Merged:
     """Merges reports under a sheet. Refused reports are skipped and returned.
 
     `allow` is the loosest level that a row may have: none, complete, consistent or all. Raises TooLoose if a row
-    exceeds it, ValueError if it is not one of these, SheetRefused, MemoryError, OSError and TypeError.
+    exceeds this level, ValueError if `allow` is not a level, SheetRefused, MemoryError, OSError and TypeError.
     """
     if allow not in LEVELS:
         raise ValueError(f"allow must be one of {', '.join(LEVELS)}")
@@ -184,8 +185,8 @@ def verdict_columns(sheet: Given, reports: Iterable[Given]) -> Columns:
 
     The columns are: the number and the verdict of the row, the canonical identifier of the fact, its dimensions with names
     as {URI}local, its value and decimals, and the evidence of the row. `dimensions` contains the taxonomy-defined ones, as a JSON
-    object. Absent values, and the value of a nil fact, are None. Other values, `common_low` and `common_high` are texts, so that
-    no digit is lost. Raises SheetRefused, MemoryError, OSError and TypeError.
+    object. Absent items, and the value of a nil fact, are None. Other values of facts, `common_low` and `common_high` are texts,
+    so that no digit is lost. Raises SheetRefused, MemoryError, OSError and TypeError.
     """
     answer = _library.verdicts_json(_bytes(sheet), _each(reports))
     text = _text(answer)

@@ -10,7 +10,7 @@ DONE, REFUSED, TOO_LOOSE, TOO_SHORT, SHEET_REFUSED, NO_MEMORY, BAD_ENDS, BAD_LEV
 NAME = "libxbrlmerge.so"
 # the records for a refusal and for an accepted report in include/xbrlmerge.h
 ROW, CHECKED = struct.Struct("=QQI4x"), struct.Struct("=QII")
-# the first buffer is this many bytes longer than the reports, since a text can be longer than its reports if these are short
+# the first buffer is this many bytes longer than the reports, since a text made from short reports can be longer than they are
 MORE = 4096
 LONGEST_NAME = 64
 
@@ -23,7 +23,7 @@ def _load() -> ctypes.CDLL:
     if found is None:
         raise ImportError(f"xbrlmerge: there is no {NAME}: `./build --library` makes it, and XBRLMERGE_LIBRARY may name it")
     if struct.calcsize("P") != 8 or sys.byteorder != "little":
-        raise ImportError("xbrlmerge: it needs a little-endian processor of 64 bits")
+        raise ImportError("xbrlmerge: it needs a 64-bit Python on a little-endian processor")
     # a CDLL lets other Python threads run during a call
     return ctypes.CDLL(os.path.abspath(found))
 
@@ -75,7 +75,7 @@ def _room(size: int) -> Tuple[bytearray, ctypes.c_char]:
 
 
 def _answered(call: Callable[..., int], sheet: bytes, reports: Sequence[bytes], *more: int) -> Answer:
-    """Makes a call with buffers that are usually large enough, and repeats it with larger ones if they are not.
+    """Makes a call with buffers that are usually large enough. If they are not, repeats the call with larger ones.
 
     Raises MemoryError, and ValueError if the library rejects the arguments.
     """

@@ -1,4 +1,4 @@
-"""Draws tidy reports, which xbrlmerge accepts, and untidy reports, such as other tools write, or worse."""
+"""Draws tidy reports, which xbrlmerge accepts, and untidy reports, like those of other tools or worse."""
 import json
 
 SHEET = {

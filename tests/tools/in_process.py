@@ -18,7 +18,7 @@ from support import content  # noqa: E402
 
 
 class RoomTest(unittest.TestCase):
-    """Tests that each have a new folder, `room`."""
+    """A class of tests. Each test has a new folder, `room`."""
 
     def setUp(self):
         room = tempfile.TemporaryDirectory()
@@ -65,7 +65,7 @@ def run_whole(tool, *words):
 
 
 def growth(run_at, size):
-    """Returns how many times longer a run takes at four times the size: 4 for linear time, 16 for quadratic.
+    """Returns how many times as long a run takes at four times the size: 4 for linear time, 16 for quadratic time.
 
     Each time is the least of three measurements, in processor time. Time that does not depend on the size lowers the ratio.
     """

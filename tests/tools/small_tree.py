@@ -8,7 +8,7 @@ from in_process import TESTS
 
 
 class SmallTree:
-    """A folder with a copy of a script and the files that a test writes. It is removed when the test ends."""
+    """A folder with a copy of a script and the files that a test writes. The folder is removed when the test ends."""
 
     def __init__(self, test, script):
         self.folder = tempfile.mkdtemp()

@@ -94,8 +94,8 @@ class Pages(ToolTest):
     def test_intervals_and_gaps_are_exact(self):
         for text in ("4.805", "4.815", "\u22121\u202f200.5", "exact", "4.75 NOK / shares4.95 NOK / shares"):
             self.assertIn(text, self.words)
-        self.assertIn("No number fits both: 0.115 NOK / shares lie between 4.815 and 4.93.", self.words)
-        self.assertIn("2\u202f399 NOK lie between \u22121\u202f199.5 and 1\u202f199.5.", self.words)
+        self.assertIn("No number fits both: there is a gap of 0.115 NOK / shares between 4.815 and 4.93.", self.words)
+        self.assertIn("there is a gap of 2\u202f399 NOK between \u22121\u202f199.5 and 1\u202f199.5.", self.words)
 
     def test_only_numbers_have_a_line(self):
         self.assertEqual(self.seen.tags.count("svg"), 4 + 2 + 2 + 1)
@@ -160,7 +160,7 @@ class Providers(ToolTest):
 
 
 class Texts(ToolTest):
-    """Small texts of one numeric concept, eg:A, and one text concept, eg:T."""
+    """Small merged reports with facts of one numeric concept, eg:A, and one text concept, eg:T."""
 
     def merged(self, *facts):
         width = len(str(len(facts)))

@@ -172,14 +172,14 @@ class Files(Stubbed):
 class Refused(Stubbed):
     def test_a_refused_report_is_explained_and_the_others_go_on(self):
         bad = self.write("<b>.json", "no report")
-        self.refuses("report 4: 1 NotJson at document\n", ("the file is no JSON text", {}))
+        self.refuses("report 4: 1 NotJson at document\n", ("the file is not JSON", {}))
         done = self.run_on(*REPORTS, bad)
         self.assertEqual(done.returncode, 1)
-        self.assertEqual(done.stderr, f"contradictions: {bad}: 1 NotJson: the file is no JSON text\n")
+        self.assertEqual(done.stderr, f"contradictions: {bad}: 1 NotJson: the file is not JSON\n")
         self.assertEqual(done.stdout, f"{SUMMARY}; 1 report refused; page: {self.page}\n")
         self.assertEqual(self.log()[3], ("explain", [bad]))
         page = content(self.page)
-        for text in ("<b>1</b>refused reports", "&lt;b&gt;.json", "<li><bdi>1 NotJson: the file is no JSON text</bdi>", "<dd>2 of 3"):
+        for text in ("<b>1</b>refused reports", "&lt;b&gt;.json", "<li><bdi>1 NotJson: the file is not JSON</bdi>", "<dd>2 of 3"):
             self.assertIn(text, page)
 
     def test_what_explain_prints_is_bounded(self):
@@ -241,7 +241,7 @@ class Prepared(Stubbed):
     def test_what_cannot_be_normalised_goes_to_the_program(self):
         bad = self.write("bad.json", "[" * 100_000)
         self.prints_nothing()
-        self.refuses("report 1: 1 NotJson at document\n", ("it is no JSON", {}))
+        self.refuses("report 1: 1 NotJson at document\n", ("it is not JSON", {}))
         done = self.run_on("--normalise", bad)
         self.assertEqual(done.returncode, 1)
         self.assertIn("1 report refused; 1 report not normalised", done.stdout)

@@ -1,4 +1,4 @@
-"""Tests of tools/make_sheet, and of reading labels, on files designed to take long, name files outside, or make the tool fail."""
+"""Tests of tools/make_sheet and read_labels on files designed to take long, to read other files, or to make the tool fail."""
 import json
 import os
 import resource
@@ -100,7 +100,7 @@ class HostileTest(ToolTest):
         return place
 
     def refused(self, told, *words):
-        """Checks that the tool ends with status 3 and one line. It runs in this process."""
+        """Runs the tool in this process, and checks that it ends with status 3 and one line."""
         status, lines = in_process.run(make_sheet, *words)
         self.assertEqual((status, len(lines.splitlines())), (3, 1), lines)
         self.assertIn(told, lines)
@@ -150,13 +150,13 @@ class Long(HostileTest):
 
         sheet = json.loads(run(made(4)).stdout)
         self.assertEqual((len(sheet["namespaces"]), len(sheet["concepts"])), (4, 400))
-        self.refused("included in others have more than 62500 bytes together", made(20), "--megabytes", "1")
+        self.refused("more than 62500 bytes of schemas without a namespace are read again", made(20), "--megabytes", "1")
 
     def test_zips_of_blanks(self):
         blanks = self.pack({"a.xsd": SCHEMA % (" " * 1_000_000)})
         self.assertLess(os.path.getsize(blanks), 10_000)
         self.assertEqual(in_process.run(make_sheet, blanks), (0, ""))
-        self.refused("a.zip/a.xsd: it is longer than 1 MB (--megabytes)", blanks, "--megabytes", "1")
+        self.refused("a.zip/a.xsd: it is longer than 1 MB (make_sheet --megabytes)", blanks, "--megabytes", "1")
         many = self.pack({f"{number}.xsd": SCHEMA % (" " * 900_000) for number in range(9)})
         self.refused("with it, the package unpacks to more than 100 times its size plus 1 MB", many, "--megabytes", "1")
         self.assertEqual(in_process.run(make_sheet, many), (0, ""))
@@ -245,7 +245,7 @@ class Folders(HostileTest):
         self.refused("folder/b.xsd: it is not a file", fifo)
         os.unlink(fifo)
         os.symlink("/dev/zero", os.path.join(folder, "c.xsd"))
-        self.refused("folder/c.xsd: it is outside the named folders (--outside)", folder)
+        self.refused("folder/c.xsd: it is outside the named folders (make_sheet --outside)", folder)
         self.refused("folder/c.xsd: it is not a regular file", folder, "--outside")
         self.refused("/dev/zero: it is not a file", "/dev/zero")
 
@@ -263,7 +263,7 @@ class Folders(HostileTest):
             for named in (folder, os.path.join(folder, "a.xsd")):
                 if location.startswith("http") and named != folder:
                     continue  # without the folder, its catalog is not read
-                self.refused(": it is outside the named folders (--outside)", named)
+                self.refused(": it is outside the named folders (make_sheet --outside)", named)
                 done = run("--outside", named)
                 self.assertEqual(list(json.loads(done.stdout)["concepts"]), ["n1:Secret"], done.stderr)
             if location == "link.xsd":

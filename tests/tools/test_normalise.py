@@ -216,7 +216,7 @@ class Numbers(ToolTest):
         for token in ("1E18", "1E-19", "1.0000000000000000001e0", "1e999999999", "1e99999999999999999999", "1e-999999999"):
             value, told = self.value_of(token)
             self.assertEqual(value, f'"{token}"')
-            self.assertIn("/facts/f/value is left: it has more than 18 digits without its exponent", told)
+            self.assertIn("/facts/f/value is left: written without an exponent, it has more than 18 digits", told)
 
     def test_what_is_no_number_is_left(self):
         for token in ('"INF"', '"NaN"', '"1,000"', '"e5"', '"0x1E2"', '"\u0661E1"', "null", "{}", "[1]"):

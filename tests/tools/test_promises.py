@@ -87,13 +87,13 @@ class Promises(unittest.TestCase):
             return status, [it.removeprefix("promises: ") for it in lines], file.read()
 
     def test_a_complete_page_passes(self):
-        self.assertEqual(self.problems(PAGE), (0, ["all 4 public functions are listed"], PAGE))
+        self.assertEqual(self.problems(PAGE), (0, ["all 4 public functions and laws are listed"], PAGE))
 
     def test_tables_that_differ_are_written(self):
         page = PAGE.replace("| `Order::price` | What it costs, in cents. |\n", "").replace("`none`", "`err`")
         wrong = ["the tables of docs/PROVED.md differ from the code: run tests/promises --write"]
         self.assertEqual(self.problems(page), (1, wrong, page))
-        self.assertEqual(self.problems(page, "--write"), (0, ["all 4 public functions are listed"], PAGE))
+        self.assertEqual(self.problems(page, "--write"), (0, ["all 4 public functions and laws are listed"], PAGE))
 
     def test_names_that_do_not_exist(self):
         page = PAGE.replace("`Order::price` and `shop::read_order`", "`Order::prices`, `Order::hidden` and `shop::write_order`")

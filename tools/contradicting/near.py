@@ -34,8 +34,8 @@ class Near:
     The difference may be: an entity, a concept or an explicit member with the same local part in another namespace; letter
     case or white space; dates at most a day apart; another unit or language; a dimension that one of the two lacks.
     Rows form a group if they are equal in all dimensions but one, and their values of that dimension share a key of `buckets`.
-    A row and a row that lacks one of its dimensions also form a group. In a group, neighbours in the order of the rows are
-    compared first. `cut` counts the pairs beyond the limits.
+    Two rows also form a group if one lacks a dimension of the other and they are otherwise equal. In a group, neighbours in the
+    order of the rows are compared first. `cut` counts the pairs beyond the limits.
     """
 
     def __init__(self, providers: Sequence[str]) -> None:
@@ -108,7 +108,7 @@ class Near:
         return [f"--near: {told} {MOST_PAIRS} pairs are compared, fewer if those found have over {MOST_FACTS} facts"] if self.cut else []
 
     def table(self, pairs: list[tuple[int, int, Axis]], labels: Mapping[Name, str]) -> Iterator[Sequence[str]]:
-        """Yields the lines of the table: the facts of both rows in each pair."""
+        """Yields the lines of the table: the headings, then the facts of both rows in each pair."""
         listed = (self.kept[number] for pair in pairs for number in pair[:2])
         check_lengths((kept.dimensions, len(kept.facts)) for kept in listed)
         yield COLUMNS
@@ -122,7 +122,7 @@ class Near:
 
 
 def items_of(dimensions: Dimensions) -> Items:
-    """Returns the values of a row's dimensions; absent ones are left out."""
+    """Returns the values of a row's dimensions. Absent dimensions are left out."""
     core: Items = {key: value for key, value in dimensions._asdict().items() if value and key != "members"}
     return {**core, **{axis: (member,) for axis, member in dimensions.members}}
 

@@ -1,7 +1,7 @@
 """The page of contradictions: counts, refused reports, the first rows, an index by concept, and groups with the other rows.
 
-The page shows at most 80 characters of an identifier, a URI or a text, because it repeats them. The table of contradictions
-contains them in full.
+The page repeats identifiers, URIs and texts, so each one is cut to 80 characters. The table of contradictions contains
+them whole.
 """
 from __future__ import annotations
 
@@ -21,7 +21,7 @@ from process import MOST_CHARACTERS, printable, shortened
 
 Labels = Mapping[Name, str]
 
-FIRST = 100  # rows before the index; the others are loaded on request, so that the browser paints these at once
+FIRST = 100  # rows before the index, which the browser paints at once; the other rows are loaded on request
 CHUNK = 100  # the most rows of one concept that are loaded together
 HERE = os.path.dirname(os.path.abspath(__file__))
 WORDS = {"inconsistent": "contradictions", "consistent": "consistent within rounding", "complete": "reported once"}
@@ -34,7 +34,7 @@ def part(name: str) -> str:
 
 
 def page(rows: list[Row], reader: Reader, labels: Labels, refusals: Refusals) -> Iterator[str]:
-    """Yields the pieces of the page. Its policy permits no script except its own."""
+    """Yields the pieces of the page. The page's policy permits only the page's own script."""
     script = part("page.js")
     known = base64.b64encode(hashlib.sha256(script.encode()).digest()).decode()
     policy = f"default-src 'none'; style-src 'unsafe-inline'; script-src 'sha256-{known}'"
@@ -119,7 +119,7 @@ def group(rows: list[Row], start: int, anchor: str, reader: Reader, labels: Labe
 
 
 def dimensions_of(row: Row) -> Dimensions:
-    """Returns the dimensions of a row, which must contain a contradiction."""
+    """Returns the dimensions of a row, which must be a contradiction."""
     if row.dimensions is None:
         raise LookupError(f"row {row.number} is not a contradiction")
     return row.dimensions
@@ -130,7 +130,7 @@ def concept_of(row: Row) -> Name:
 
 
 def heading(concept: Name, labels: Labels, tag: str) -> str:
-    """Returns a concept as an element that can be opened, also by keyboard, to show its namespace."""
+    """Returns an element with the label or name of a concept. It shows the namespace when it is opened, also by keyboard."""
     label, local = labels.get(concept), escaped(concept.local)
     first = f"<bdi>{escaped(label)}</bdi>" if label else f"<bdi>{local}</bdi>"
     rest = f"<p>{escaped(concept.uri)}" + f" {local}" * bool(label)
@@ -176,13 +176,13 @@ def number_line(row: Row) -> Optional[NumberLine]:
 
 
 def below(line: NumberLine, unit: str) -> str:
-    """Returns the ends of a number line, and the reason why its row is a contradiction."""
+    """Returns the ends of a number line, and the reason why the row is a contradiction."""
     ends = "".join(f"<span>{shown(end)} {unit}".rstrip() + "</span>" for end in dict.fromkeys((line.low, line.high)))
     why = "A nil value contradicts every number."
     if line.gap:
         low, high = line.gap
         width = f"{shown(high - low)} {unit}".rstrip()
-        why = f"No number fits both: {width} lie between {shown(low)} and {shown(high)}."
+        why = f"No number fits both: there is a gap of {width} between {shown(low)} and {shown(high)}."
     return f"""<tr><td colspan="6"><td class="line"><div class="ends">{ends}</div></table>
 <p class="gap">{why}</p><table>"""
 
@@ -194,7 +194,7 @@ def start_of_cut(values: Iterable[Value]) -> int:
 
 
 def details(row: Row) -> Iterator[tuple[str, str]]:
-    """Yields the dimensions of a row except its concept, each after its heading."""
+    """Yields a heading and a text for each dimension of a row except the concept."""
     of, last = dimensions_of(row), [*row.facts.values()][-1]  # nil is sorted first, so the last fact is not nil
     start, _, end = of.period.rpartition("/")
     since = f"{day(start, False)} to " if start else "at the end of " * end.endswith("T00:00:00")
@@ -207,7 +207,7 @@ def details(row: Row) -> Iterator[tuple[str, str]]:
 
 
 def drawn(fact: Fact, line: NumberLine) -> str:
-    """Returns the interval of a fact on a number line, to scale, with the gap."""
+    """Returns the drawing of a fact's interval on a number line, to scale, with the gap. A nil fact gets a note instead."""
     if not isinstance(fact.value, Decimal):
         return '<td class="line nil"><i>not reported as a number</i>'
     low, high = fact.interval()

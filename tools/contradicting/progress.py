@@ -7,7 +7,7 @@ CLEAR = "\r\x1b[K"
 
 
 class Progress:
-    """A line on standard error, if that is a terminal. It is erased when the block ends."""
+    """A line on standard error, shown only on a terminal. The line is erased when the `with` block ends."""
 
     def __init__(self) -> None:
         self.is_shown = sys.stderr.isatty()

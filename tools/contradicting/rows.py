@@ -26,7 +26,8 @@ Value = Union[Decimal, Name, str, None]
 
 
 class Dimensions(NamedTuple):
-    """The dimensions of a row with expanded names; an absent dimension is empty or None. A unit is its numerators and its denominators."""
+    """The dimensions of a row with expanded names; an absent dimension is empty or None. A unit has a tuple of numerators and, if
+    there are any, a tuple of denominators."""
 
     concept: Name
     entity: Optional[Name]
@@ -75,7 +76,7 @@ class Row(NamedTuple):
         return self.said["one"], self.said["two"]
 
     def share(self) -> Optional[Decimal]:
-        """Returns the difference of the pair as a share of the larger absolute value, or None unless both facts are numbers."""
+        """Returns the difference of the pair as a share of the larger absolute value, or None if either is not a number."""
         one, two = (self.facts[name].value for name in self.pair)
         if not isinstance(one, Decimal) or not isinstance(two, Decimal):
             return None
@@ -105,7 +106,8 @@ def dimensions_given(fact: tuple[str, Tree]) -> Any:
 
 
 def contradiction(row: Row) -> Optional[Row]:
-    """Returns a row with its gap, or None if its pair is not two facts, or is two numbers without a gap."""
+    """Returns a row, with the gap if its pair is two numbers. None if the pair is not two facts of the row, or is two numbers
+    without a gap."""
     one, two = (row.facts.get(name) for name in row.pair)
     if not one or not two or one is two:
         return None
@@ -116,7 +118,7 @@ def contradiction(row: Row) -> Optional[Row]:
 
 
 class Reader:
-    """Reads the rows of a merged report together with their lines and providers."""
+    """Reads the rows of a merged report, and the verdict and the providers for each row."""
 
     def __init__(
         self, text: Text, sheet: Sheet, sources: FactSources, near: Optional[RowObserver], listed: list[Any]
@@ -129,7 +131,7 @@ class Reader:
     def rows(self, path: str) -> list[Row]:
         """Returns the rows that are contradictions, and counts and lists all rows.
 
-        Errors: NotDone if a line does not match the facts.
+        Errors: NotDone if a verdict or a source does not match the facts.
         """
         kept, groups = [], itertools.groupby(self.text.facts(), dimensions_given)
         with using(path), open(path, encoding="utf-8", newline="\n") as file:
@@ -182,7 +184,7 @@ class Reader:
         if kind == "numeric" and tree["value"] is not None:
             decimals = tree.get("decimals", 0)
             if not NUMBER.fullmatch(tree["value"]) or type(decimals) is not int or decimals not in range(-39, 40):
-                raise ValueError(f"it has a number in another form: {shortened(tree['value'])}")
+                raise ValueError(f"it has a number, or decimals, in another form: {shortened(tree['value'])}")
         elif not isinstance(tree["value"], (str, type(None))):
             raise ValueError("it has a value that is not a text")
         return kind

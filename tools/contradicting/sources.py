@@ -13,7 +13,7 @@ LONGEST_LINE = 1 << 26  # characters
 
 
 class Holder(NamedTuple):
-    """A provider that reported a fact, and the fact's identifiers in its reports, if they are known."""
+    """A provider that reported a fact, and the fact's identifiers in the provider's reports, if these are known."""
 
     name: str
     identifiers: tuple[str, ...]
@@ -31,7 +31,7 @@ class Sources:
     def __init__(self, path: str, reports: list[str], refused: Container[int] = ()) -> None:
         self.path, self.reports = path, reports
         self.names = [name for number, name in enumerate(reports, 1) if number not in refused]
-        self.head: Optional[tuple[str, str, str]] = None  # the fact, the provider of a report, and the identifier in it
+        self.head: Optional[tuple[str, str, str]] = None  # the fact, the provider of a report, and the identifier in that report
         with using(path):
             self.file = open(path, encoding="utf-8", newline="\n")
             self.advance()
@@ -57,18 +57,18 @@ class Sources:
                 found.setdefault(self.head[1], []).append(self.head[2])
                 self.advance()
             if not found:
-                raise ValueError(f"it lacks the source of {name}, or has it in the wrong place")
+                raise ValueError(f"the source of {name} is missing, or is in the wrong place")
         return tuple(Holder(provider, tuple(identifiers)) for provider, identifiers in found.items())
 
     def finish(self) -> None:
         """Raises NotDone if there are lines after those of the last fact."""
         with using(self.path):
             if self.head:
-                raise ValueError(f"it has a source of {self.head[0]}, which does not exist, or is in the wrong place")
+                raise ValueError(f"the source of {self.head[0]} is in the wrong place, or there is no such fact")
 
 
 class OwnTexts:
-    """A merged report for each provider, made from its own reports. A merge drops the identifiers of these reports."""
+    """A merged report for each provider, made from the provider's own reports. It does not contain their identifiers."""
 
     def __init__(self, providers: list[Provider]) -> None:
         self.providers, self.names = providers, [provider.name for provider in providers]

@@ -19,7 +19,7 @@ SEPARATOR = re.compile("[\t\r\n]")
 DIMENSIONS = "concept entity period unit language dimensions".split()
 COLUMNS = ["row", "fact", *DIMENSIONS, *"value decimals low high evidence providers identifiers said_by label".split()]
 LISTED = "row verdict first last said_by providers".split()
-LONGEST_ROW, LONGEST_TABLE = 1 << 24, 1 << 30  # the most characters in the dimensions of one row, and of all lines
+LONGEST_ROW, LONGEST_TABLE = 1 << 24, 1 << 30  # the most characters of the dimensions in one row, and in a whole table
 
 Cell = Union[Value, int]
 
@@ -64,7 +64,8 @@ def guarded(found: re.Match[str]) -> str:
 
 
 def check_lengths(rows: Iterable[tuple[Dimensions, int]]) -> None:
-    """Raises NotDone if the table or one row would be too long. `rows` has dimensions, with the number of facts that repeat them."""
+    """Raises NotDone if the table or one row would be too long. For each row, `rows` contains its dimensions, and the number of
+    lines that contain them."""
     total = 0
     for dimensions, facts in rows:
         length = length_of(dimensions)

@@ -18,10 +18,10 @@ class Reason(NamedTuple):
 
 
 class Log:
-    """Collects the lines for one fact or for the document: its changes, and the parts that a rule had to leave.
+    """Collects the lines for one fact or for the document: the changes, and the parts that a rule had to leave.
 
-    Each line repeats identifiers, URIs and texts, so they are shortened. A line with a shortened fact identifier also has
-    the number of the fact.
+    Identifiers, URIs and texts may be long, and lines repeat them, so all three are shortened. A line with a shortened
+    fact identifier also has the number of the fact.
     """
 
     def __init__(self, fact: Optional[str] = None, number: int = 0) -> None:
@@ -30,7 +30,7 @@ class Log:
         self.left: list[str] = []
 
     def tell(self, path: Path, rule: str, loss: bool, **values: Tree) -> None:
-        """Adds the line for a change at a path, with the values before and after."""
+        """Adds the line for a change at a path, with the old value, and with the new value unless a member was removed."""
         told = {key: brief_of(value) for key, value in values.items()}
         self.add(path, told, rule, loss, is_long(path) or told != values)
 
@@ -78,7 +78,7 @@ def brief_of(tree: Tree) -> Tree:
 
 
 class Part:
-    """An object of a report and its path. Each method that changes it logs the change."""
+    """An object of a report, and the path to it. Each method that changes the object logs the change."""
 
     def __init__(self, members: dict[str, Tree], path: Path, log: Log) -> None:
         self.members, self.path, self.log = members, path, log
@@ -97,7 +97,7 @@ class Part:
         self.log.tell((*self.path, key), rule, loss, was=self.members.pop(key))
 
     def rename(self, key: str, name: str, rule: str) -> None:
-        """Renames a member, which keeps its place, and logs the change. Errors: NotDone if the new name is taken."""
+        """Renames a member, keeps the order of the members, and logs the change. Errors: NotDone if the new name is taken."""
         path = (*self.path, key)
         if name in self.members:
             values = " and ".join(shortened(text_of(self.members[each])) for each in (name, key))

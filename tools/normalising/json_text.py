@@ -1,7 +1,7 @@
 """Reads and writes JSON. Numbers keep their spelling, and no member is lost.
 
-The module `json` reads texts, with hooks. `pieces_of` writes them, because the encoder of `json` spells numbers from an int or a
-float and would change 1.50, -0 and 1e400.
+The module `json` reads texts, with hooks. `pieces_of` writes them, because the encoder of `json` writes only ints and floats as
+numbers, and would change 1.50, -0 and 1e400.
 """
 from __future__ import annotations
 
@@ -23,7 +23,7 @@ class Number(str):
 
 
 class Twins(NamedTuple):
-    """Two members of an object with the same name, and the dict made from the object."""
+    """Two members with the same name in one object, and the dict made from this object."""
 
     made: dict[str, Tree]
     key: str
@@ -38,7 +38,8 @@ def read_json(path: str) -> Tree:
 def read_json_of_length(path: str) -> tuple[Tree, int]:
     """Returns the tree of a file, and the number of its characters.
 
-    Raises NotDone if the file cannot be read, is not JSON or is nested too deeply, or if two members of one object share a name.
+    Raises NotDone if the file cannot be read, is not JSON, is nested too deeply or has half a surrogate pair, or if two members
+    of one object share a name.
     """
     try:
         text = read_text(path)

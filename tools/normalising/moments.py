@@ -42,7 +42,7 @@ def with_time(moment: re.Match[str], is_start: bool) -> Optional[str]:
 def in_utc(moment: re.Match[str], _: bool) -> Optional[str]:
     """Returns a moment in UTC without its zone. If the zone is UTC already, midnight keeps its spelling.
 
-    None if the moment has no zone or no time, has a fraction, or is invalid.
+    None if the moment has no zone or no time, has a fraction, or is invalid, or if the year would not be from 1 to 9999.
     """
     day, time, part, zone = moment.groups(default="")
     if not zone or not time or part:
@@ -72,11 +72,11 @@ def is_date(day: str) -> bool:
 
 
 def doubts(period: str) -> Iterator[str]:
-    """Yields a message for each part of a period that `xbrlmerge` refuses: a fraction, a time zone, or a missing time."""
+    """Yields a message for each fraction, time zone and missing time in a period. `xbrlmerge` refuses all three."""
     for moment in map(MOMENT.fullmatch, period.split("/")):
         if moment and moment["part"]:
             yield "it has a fraction of a second"
         if moment and moment["zone"]:
             yield "it has a time zone (--zones=utc)"
         if moment and not moment["time"]:
-            yield "it is a date without a time (--dates=xbrl21)"
+            yield "it has a date without a time (--dates=xbrl21)"

@@ -1,4 +1,4 @@
-"""The rules that rewrite a report so that `xbrlmerge` can read it. docs/GUIDE.md describes each with its source."""
+"""The rules that rewrite a report so that `xbrlmerge` can read it. docs/GUIDE.md describes them."""
 from __future__ import annotations
 
 import argparse
@@ -24,19 +24,22 @@ KNOWN = {
 CORE = ("concept", "entity", "period", "unit", "language", "noteId")
 SCIENTIFIC = re.compile(r"[+-]?(?P<mantissa>\d+(\.\d*)?|\.\d+)[eE][+-]?\d+", re.ASCII)
 WHOLE = re.compile(r"[+-]?\d{1,18}", re.ASCII)
-DIGITS = 18  # the most digits of a number that is written without its exponent
+DIGITS = 18  # the most digits of a number written without its exponent, counted as in refusal 27
 
-GROWTH, SMALL = 16, 1_000_000  # the names of sets may add GROWTH times the report's length plus SMALL characters
+GROWTH, SMALL = 16, 1_000_000  # the names of sets add at most GROWTH times the report's length plus SMALL characters
 
 
 class Normaliser:
-    """Applies the rules to reports, with a sheet and options. With --drop-unreadable it drops the facts that the program refuses."""
+    """Applies the rules to reports, with a sheet and options. --drop-unreadable drops the facts that the program refuses."""
 
     def __init__(self, sheet: Sheet, options: argparse.Namespace, program: Optional[Program] = None) -> None:
         self.sheet, self.options, self.program = sheet, options, program
 
     def normalise(self, tree: Tree, length: int = 0) -> Log:
-        """Changes the tree of a report. Returns the lines for changes, and for the parts that a rule had to leave, in order."""
+        """Changes the tree of a report. Returns the lines for changes, and for the parts that a rule had to leave, in order.
+
+        Errors: NotDone, OSError.
+        """
         if not isinstance(tree, dict):
             raise NotDone("it is not a report: its root is not an object")
         whole = Log()
@@ -64,7 +67,7 @@ class Normaliser:
 
 
 def drop_unknown_members(part: Part, kind: str) -> None:
-    """Removes members that the format does not define. A member with a colon is an extension and stays."""
+    """Removes members that the format does not define. A member with a colon in its name is an extension and stays."""
     for key in [key for key in part.members if ":" not in key and key not in KNOWN[kind]]:
         part.remove(key, "unknown-member")
 
@@ -153,7 +156,7 @@ class FactReader:
         if scientific:
             plain = plain_number(scientific)
             if plain is None:
-                fact.leave("value", "it has more than 18 digits without its exponent")
+                fact.leave("value", "written without an exponent, it has more than 18 digits")
             else:
                 fact.change("value", plain, "exponent")
         if concept in self.sheet.sets:
@@ -164,7 +167,7 @@ class FactReader:
         found = [full_name(item, self.uris) for item in re.findall(rf"[^{SPACE}]+", given)]
         names = {name for name in found if name}
         if len(names) < len(found):
-            fact.leave("value", "the set repeats a name, or contains one whose prefix is not bound")
+            fact.leave("value", "the set repeats a name, or has an item that cannot be written as URI#LOCAL")
             return
         self.room -= sum(len(uri) + len(local) + 2 for uri, local in names) - len(given)
         if self.room < 0:
@@ -202,8 +205,9 @@ def trimmed(key: str, text: str) -> str:
 
 
 def whole_number(text: str) -> Optional[str]:
-    """Returns the plain spelling of a text or a JSON number that is a whole number, such as 2.0. None if it is not a whole
-    number, or is too long."""
+    """Returns the plain spelling of a whole number: a JSON number such as 2.0, or a text of digits with or without a sign.
+    None for all other numbers and texts, for a text of more than 18 digits, and for a number of more than 18 characters or
+    digits."""
     if isinstance(text, Number):
         number = Decimal(text) if len(text) <= 18 and abs(Decimal(text).adjusted()) < 18 else None
         return str(int(number)) if number is not None and number == number.to_integral_value() else None
@@ -211,7 +215,7 @@ def whole_number(text: str) -> Optional[str]:
 
 
 def plain_number(scientific: re.Match[str]) -> Optional[str]:
-    """Returns the same number without an exponent, or None if it then has more than 18 digits."""
+    """Returns the same number without an exponent, or None if it then has more than DIGITS digits."""
     if not scientific["mantissa"].strip("0."):
         return "0"
     try:

@@ -1,4 +1,4 @@
-"""The named files and packages, and the files that may be read from them."""
+"""The named files, folders and packages, and the files that may be read."""
 from __future__ import annotations
 
 import os
@@ -14,7 +14,7 @@ CATALOG = os.path.join(os.sep, "META-INF", "catalog.xml")
 
 
 class Files:
-    """Files on disk and in packages. A place is a path. In a package, it begins with the path of the package."""
+    """Files on disk and in packages. A place is the path of a file. In a package, the path of the package precedes it."""
 
     def __init__(self, words: Iterable[str], limits: Limits) -> None:
         self.limits = limits
@@ -61,21 +61,21 @@ class Files:
     def read(self, place: str) -> bytes:
         """Returns the bytes of a file.
 
-        Errors: ValueError if it is not a regular file, is outside the named folders, is too long or grew while it was read;
-        OSError; exceptions of zipfile.
+        Errors: OSError; exceptions of zipfile and zlib; ValueError if the file is not regular, is too long or grew while it was
+        read, if it is outside the named folders and --outside is not given, or if its package cannot be unpacked.
         """
         if place in self.packed:
             return self.packed[place].read(place)
         really = os.path.realpath(place)
         if not self.limits.outside and self.folders.isdisjoint(map(str, pathlib.PurePath(really).parents)):
-            raise ValueError("it is outside the named folders (--outside)")
+            raise ValueError("it is outside the named folders (make_sheet --outside)")
         return read_regular(really, self.limits)
 
 
 def read_regular(place: str, limits: Limits) -> bytes:
-    """Returns the bytes of a regular file. A FIFO does not block it.
+    """Returns the bytes of a regular file. A FIFO does not block the call.
 
-    Errors: ValueError if it is not a regular file, is too long or grew while it was read; OSError.
+    Errors: ValueError if the file is not regular, is too long or grew while it was read; OSError.
     """
     with open(place, "rb", opener=lambda path, flags: os.open(path, flags | os.O_NONBLOCK)) as file:
         status = os.fstat(file.fileno())

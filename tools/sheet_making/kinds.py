@@ -19,9 +19,9 @@ HEADS = {Name(XBRLI, "item"): "concepts", Name(XBRLDT, "dimensionItem"): "dimens
 # belong to taxonomies.
 SPECIFICATION = re.compile(r"https?://(www\.w3\.org/|(www\.)?xbrl\.org/(\d{4}|dtr|lrr)/)")
 REGISTERED = re.compile(r"http://www\.xbrl\.org/dtr/type/(numeric|non-numeric|\d{4}-\d\d-\d\d)")
-# Listed from memory, not read from schemas: the item types of XBRL 2.1 (section 5.1.1.3) except fractions, those of extensible
-# enumerations 1.0 and 2.0, and some of the data type registry (http://www.xbrl.org/dtr/dtr.xml). Other types of the registry
-# are resolved if its schema is read.
+# The item types of XBRL 2.1 (section 5.1.1.3) except fractions, of extensible enumerations 1.0 and 2.0, and some of the data type
+# registry (http://www.xbrl.org/dtr/dtr.xml). They were written down from memory, not read from schemas. Other types of the
+# registry are resolved if its schema is read.
 ITEM_TYPES = (
     ("numeric", XBRLI, "decimal float double integer nonPositiveInteger negativeInteger long int short byte monetary"),
     ("numeric", XBRLI, "nonNegativeInteger unsignedLong unsignedInt unsignedShort unsignedByte positiveInteger shares"),

@@ -10,14 +10,14 @@ from process import NotDone, sentence
 
 @dataclass(frozen=True)
 class Limits:
-    """How much is read, and whether schemas may refer to files outside the named folders."""
+    """How much may be read, and whether schemas may refer to files outside the named folders."""
 
     megabytes: int = 64
     outside: bool = False
 
     @property
     def file(self) -> int:
-        """The most bytes in a file."""
+        """The most bytes in a file that is not a package."""
         return self.megabytes * 1_000_000
 
     @property
@@ -38,4 +38,4 @@ def reading(path: str) -> Iterator[None]:
 
 
 def too_long(limits: Limits) -> ValueError:
-    return ValueError(f"it is longer than {limits.megabytes} MB (--megabytes)")
+    return ValueError(f"it is longer than {limits.megabytes} MB (make_sheet --megabytes)")

@@ -10,7 +10,7 @@ from sheet_making.limits import Limits, too_long
 MOST_ENTRIES = 100_000
 LONGEST_PATH = 1_024  # characters
 MOST_UNPACKED = 100  # times the size of the package
-METHODS = (zipfile.ZIP_STORED, zipfile.ZIP_DEFLATED)  # `zipfile` unpacks other methods without a limit
+METHODS = (zipfile.ZIP_STORED, zipfile.ZIP_DEFLATED)  # for other methods, `zipfile` does not limit how much it unpacks at once
 
 
 class Package:
@@ -48,5 +48,5 @@ class Package:
         self.left -= len(data)
         if self.left < 0:
             raise ValueError(f"with it, the package unpacks to more than {MOST_UNPACKED} times its size plus"
-                             f" {self.limits.megabytes} MB (--megabytes)")
+                             f" {self.limits.megabytes} MB (make_sheet --megabytes)")
         return data

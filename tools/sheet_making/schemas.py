@@ -46,7 +46,7 @@ class Part:
 
 
 class SchemaVisitor(Visitor):
-    """Reads a schema for the namespace `wanted`. None means the schema's own namespace, which an included schema may lack."""
+    """Reads a schema for the namespace `wanted`. None means the namespace that the schema itself names, if it names one."""
 
     def __init__(self, wanted: Optional[str]) -> None:
         self.wanted = wanted
@@ -107,7 +107,7 @@ class SchemaVisitor(Visitor):
         part.type, part.type_level, part.base_level = ANY_TYPE, level, 0
 
     def look_for_base(self, element: Element, level: int, part: Part) -> None:
-        """Records the base of a type. The type itself, its simpleContent or its complexContent names the base."""
+        """Records the base of a type. A derivation names it, in the type itself or in its simpleContent or complexContent."""
         if level == 3 and not part.is_type and element.name in TYPES:
             self.open_type(level, part)
         elif part.type_level and level - part.type_level in (1, 2) and element.name in DERIVATIONS:
@@ -116,8 +116,8 @@ class SchemaVisitor(Visitor):
                 part.type, part.base_level = base, level
 
     def expanded(self, element: Element, key: str) -> Optional[Name]:
-        """Returns the name in an attribute. In a schema without a namespace, a name without one is in the wanted
-        namespace."""
+        """Returns the name in an attribute, or None without the attribute. In a schema without a namespace, a name
+        without one is in the wanted namespace."""
         text = element.get(key)
         if text is None:
             return None

@@ -49,8 +49,8 @@ class Taxonomy:
         data = self.files.read(place)
         self.read_again += len(data) if namespaces else 0
         if self.read_again > self.files.limits.again:
-            raise ValueError(f"schemas without a namespace that are included in others have more than"
-                             f" {self.files.limits.again} bytes together (--megabytes)")
+            raise ValueError(f"more than {self.files.limits.again} bytes of schemas without a namespace are read again for"
+                             f" further namespaces (make_sheet --megabytes)")
         visitor = Declaring(self, place, wanted)
         read_xml(data, visitor)
         self.targets[place] = visitor.target
@@ -81,7 +81,7 @@ class Taxonomy:
 
 
 class Declaring(SchemaVisitor):
-    """Passes the declarations of a schema to a taxonomy."""
+    """Passes the declarations and references of a schema to a taxonomy."""
 
     def __init__(self, taxonomy: Taxonomy, place: str, wanted: Optional[str]) -> None:
         super().__init__(wanted)

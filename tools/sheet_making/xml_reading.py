@@ -79,8 +79,8 @@ class Visitor:
 def read_xml(data: bytes, visitor: Visitor) -> None:
     """Passes the tags of a document to a visitor, and the texts if the visitor's `takes_text` is true.
 
-    Errors: ValueError if it is not well-formed, has a document type, more than MOST_LEVELS levels or a prefix that is not
-    bound; exceptions of the visitor.
+    Errors: ValueError if the document is not well-formed, has a document type or more than MOST_LEVELS levels, has an element
+    with an unbound prefix, or binds a prefix to an empty namespace; MemoryError; exceptions of the visitor.
     """
     bindings, opened = Bindings(), []
 

@@ -23,7 +23,8 @@ pub(crate) enum Error<'n> {
     Unread(&'n str, Option<&'static str>),
     /// The file with this name has more than `MOST_BYTES` bytes.
     TooLong(&'n str),
-    /// The file with this name should list reports, but neither it nor the arguments name one.
+    /// The file with this name should list reports. Neither the file nor the arguments name a
+    /// report.
     NoNames(&'n str),
     /// The file with this name cannot be written.
     Unwritten(&'n str),

@@ -148,7 +148,7 @@ union_swaps a b c = λ i. record {
   references = sets_swap text_cmp_total text_cmp_exact a.references b.references c.references i;
 }
 
--- ---- the base of the gathered facts
+-- ---- the base of the collected facts
 
 pub record Bases (sheet : Sheet) (es : List Entry) (texts : List (List ℕ)) (b : Body) : Type 0 where
   pub stored : AreStored sheet es texts

@@ -1,4 +1,4 @@
--- Re-exports lemmas of lower crates to crates that use bases.
+-- Re-exports lemmas of lower crates for crates that use bases.
 pub use Rattle.merge_laws.proofs.Both.{set_with_has_item}
 pub use Rattle.merge_laws.proofs.Members.{set_is_its_members, all_by_place, all_in_turn}
 pub use Rattle.merge_laws.proofs.Rising.{none_rise}

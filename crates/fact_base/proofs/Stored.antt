@@ -1,4 +1,4 @@
--- The entries and references of a base after others are added.
+-- The entries and references of a base after an addition.
 use Rattle.std.proofs.Common.{◌≡◌, ℕ, List, [], ◌∷◌, ◌++◌, append-nil, length, get_or, false, Result, Ok, Err, sym, ap, subst, ◌∙◌, inl, inr, ⊎_elim, arith}
 use Rattle.std.specs.Prelude.{Contains, IsPermutation}
 use mathlib.Core.Bool.{true≢false}

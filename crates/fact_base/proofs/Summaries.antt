@@ -61,7 +61,7 @@ nil_or_not (Number m d) = inr (some_kind (Number m d) (omega arith))
 nil_or_not (AText t) = inr (some_kind (AText t) (omega arith))
 nil_or_not (AName n) = inr (some_kind (AName n) (omega arith))
 
--- each value is nil or of the kind of the first value that is not nil
+-- all values that are not nil are of one kind
 of_one_kind : (vs : List Value) → AreAlike vs → (kind : ℕ) × AreNilOrOfKind kind vs
 of_one_kind [] alike = (0, λ k d within. absurd (omega (arith, within)))
 of_one_kind (v ∷ vs) alike = ⊎_elim

@@ -13,19 +13,19 @@ use Rattle.fact_base.specs.Sets.{set_of}
 abbrev pub text_cmp : List ℕ → List ℕ → Ordering
 text_cmp = slice_cmp nat_cmp
 
--- a finite set of facts, and a finite set of references
+-- a list of facts and a list of references; `IsBody` states that both are sets
 pub record Body : Type 0 where
   pub facts : List Fact
   pub references : List (List ℕ)
 
--- the facts of all documents in sequence; the next definition lists their references
+-- the facts of all documents, in the order of the documents; the next definition does the same for references
 abbrev pub all_facts : List Document → List Fact
 all_facts docs = flat_map (λ d. d.facts) docs
 
 abbrev pub all_references : List Document → List (List ℕ)
 all_references docs = flat_map (λ d. d.references) docs
 
--- the set of the facts of all documents, and the set of their references
+-- the set of all facts in the documents, and the set of all references in the documents
 abbrev pub body : List Document → Body
 body docs = record { facts = set_of fact_cmp (all_facts docs); references = set_of text_cmp (all_references docs) }
 

@@ -8,7 +8,7 @@ use Rattle.oim_dims.specs.declared.fact.Fact.{Fact}
 use Rattle.oim_report.specs.Document.{Document}
 use Rattle.fact_base.specs.Body.{Body, body, text_cmp, union}
 
--- facts and references ascend, so they are distinct
+-- both lists ascend strictly, so no item is repeated
 pub record IsBody (b : Body) : Type 0 where
   pub facts : IsSet fact_cmp b.facts
   pub references : IsSet text_cmp b.references

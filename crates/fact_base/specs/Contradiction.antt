@@ -18,7 +18,7 @@ use Rattle.fact_base.specs.declared.verdict.Verdict.TheVariants.{Inconsistent}
 abbrev pub IsNumeric : Sheet → DimensionSet → Type 0
 IsNumeric sheet s = map.get sheet.concepts s.concept ≡ Some Numeric
 
--- both are numbers whose intervals share no point, or exactly one is nil
+-- both values are numbers, and no number is in both intervals; or exactly one value is nil
 abbrev pub Contradict : Value → Value → Type 0
 Contradict (Number m d) (Number n e) = ¬ ((units : ℤ) × IsCommonPoint (interval m d) (interval n e) units)
 Contradict Nil Nil = ⊥
@@ -26,7 +26,7 @@ Contradict Nil w = ⊤
 Contradict v Nil = ⊤
 Contradict v w = ⊥
 
--- two of these values contradict each other
+-- two of the values contradict each other
 pub record HasContradiction (vs : List Value) : Type 0 where
   pub first : Value
   pub second : Value

@@ -1,4 +1,4 @@
--- The conditions that facts and references satisfy if they were read under a sheet (own).
+-- The conditions that a body satisfies if its documents were read under a sheet (own).
 use Rattle.std.specs.Prelude.{◌≡◌, ℕ, List, Ok}
 use Rattle.std.specs.List.{All}
 use Rattle.oim_report.specs.Document.{Document}
@@ -9,7 +9,7 @@ use Rattle.oim_report.specs.Sheet.{Sheet}
 use Rattle.fact_base.specs.Body.{Body, body, union}
 use Rattle.fact_base.specs.BodyLaws.{IsBody}
 
--- facts fit the sheet; references are UTF-8, within the length limit, and do not change if resolved again without a base URL; both lists ascend
+-- all facts fit the sheet, all references satisfy `IsKeptReference`, and both lists ascend strictly
 pub record Fits (sheet : Sheet) (b : Body) : Type 0 where
   pub rises : IsBody b
   pub facts : All (FactFits sheet) b.facts

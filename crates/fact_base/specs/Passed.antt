@@ -1,4 +1,4 @@
--- Re-exports definitions of lower crates to crates that use bases.
+-- Re-exports definitions of lower crates for crates that use bases.
 pub use Rattle.merge_laws.specs.Members.{SameMembers}
 pub use Rattle.merge_laws.specs.Sorted.{IsSet}
 pub use Rattle.oim_report.specs.Document.{Document}

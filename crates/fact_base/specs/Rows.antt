@@ -18,7 +18,7 @@ abbrev pub values_at : DimensionSet → List Fact → List Value
 values_at s [] = []
 values_at s (f ∷ fs) = if is_eq (dimensions_cmp s f.dimensions) then f.value ∷ values_at s fs else values_at s fs
 
--- adds a fact before rows: to the first row if it has the same dimensions, otherwise as a new row
+-- adds a fact to the first row if both have the same dimensions; otherwise puts a new row in front
 abbrev pub before_rows : Fact → List Row → List Row
 before_rows f [] = (f.dimensions, f.value ∷ []) ∷ []
 before_rows f (r ∷ rs) = if is_eq (dimensions_cmp f.dimensions r.0) then (r.0, f.value ∷ r.1) ∷ rs else (f.dimensions, f.value ∷ []) ∷ r ∷ rs
@@ -28,7 +28,8 @@ unfoldable pub rows_of : List Fact → List Row
 rows_of [] = []
 rows_of (f ∷ fs) = before_rows f (rows_of fs)
 
--- the dimension sets of the rows are distinct and in order, and each fact has a row; each row has exactly its values, distinct and in order
+-- the dimension sets of the rows ascend strictly, and each fact has a row. A row has exactly the values of the facts with its
+-- dimensions: at least one, in strictly ascending order.
 pub record AreRowsOf (facts : List Fact) (rows : List Row) : Type 0 where
   pub rise : IsRising dimensions_cmp entry_key rows
   pub values : All (λ r. r.1 ≡ values_at r.0 facts) rows

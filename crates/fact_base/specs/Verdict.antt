@@ -23,7 +23,8 @@ abbrev pub each_meet : List Value → Bool
 each_meet [] = true
 each_meet (v ∷ vs) = list_all (values_meet v) vs && each_meet vs
 
--- None without values; one value is complete; several are consistent if every two of them meet, and inconsistent otherwise
+-- None if there is no value; `Complete` if there is one; with several values, `Consistent` if every two of them meet, otherwise
+-- `Inconsistent`
 abbrev pub verdict_of : List Value → Option Verdict
 verdict_of [] = None
 verdict_of (v ∷ []) = Some Complete
@@ -48,13 +49,13 @@ pub record IsCommonOf (vs : List Value) (common : Interval) : Type 0 where
   pub points : HasPoints common
   pub within : (units : ℤ) → IsWithin units common ↔ All (IsWithin units) (intervals_of vs)
 
--- the first two values are numbers; then no value of the row is nil, because nil is the least value
+-- the first two values are numbers; in a row, no later value is then nil, because values ascend and nil is the least value
 abbrev pub begin_with_numbers : List Value → Bool
 begin_with_numbers (v ∷ w ∷ vs) = has_interval v && has_interval w
 begin_with_numbers other = false
 
--- the indices shown for several values. If the first two values are numbers, these are the indices of the first number with the
--- least high end and of the first with the greatest low end. Otherwise they are 0 and 1
+-- the two indices that are shown for several values. If the first two values are numbers, i is the index of the first
+-- value whose interval has the least high end, and j of the first value whose interval has the greatest low end. Otherwise, i is 0 and j is 1.
 abbrev pub IsPairOf : Bool → List Value → ℕ → ℕ → Type 0
 IsPairOf true vs i j = (ends : Interval) → AreEnds ends (intervals_of vs) → (i ≡ place_of_least_high ends vs) × (j ≡ place_of_greatest_low ends vs)
 IsPairOf false vs i j = (i ≡ 0) × (j ≡ 1)
@@ -67,7 +68,7 @@ pub record IsApartPair (vs : List Value) (i j : ℕ) : Type 0 where
   pub shown : IsShownPair vs i j
   pub apart : AreApart vs i j
 
--- the evidence for a verdict, which a reader can check by hand
+-- the evidence with which a reader can check a verdict by hand
 abbrev pub IsEvidence : List Value → Evidence → Type 0
 IsEvidence vs Alike = length vs ≡ 1
 IsEvidence vs (Common common) = IsCommonOf vs common

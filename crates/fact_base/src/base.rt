@@ -22,8 +22,8 @@ use oim_value::{Level, Value};
 use std::alloc::{AllocError, Global};
 use std::marker::Model;
 
-/// The distinct facts and the taxonomy references of several reports that were read under one
-/// sheet. A base borrows its sheet.
+/// The distinct facts and the taxonomy references of reports that were read under one sheet. A base
+/// borrows its sheet.
 #[derive(Drop)]
 pub struct Base<'s> {
     alloc: Global,
@@ -145,7 +145,7 @@ impl<'s> Base<'s> {
 
     /// Does the same as `join`, but consumes the other base, so that fewer facts are copied.
     ///
-    /// Errors: out of memory; the base is then unchanged, and the other is lost.
+    /// Errors: out of memory; the base is then unchanged, and the other base is lost.
     pub fn absorb(&mut self, other: Base<'_>) -> Result<(), AllocError>
         requires { other.sheet ≡ self.old.sheet }
         ensures ok { OnOk result (self.new ≡ record self.old { body = union self.old.body other.entry.body }) }

@@ -20,8 +20,8 @@ use std::marker::Model;
 /// The base absorbs a report that has at least half as many facts and references as the base,
 /// rounded down. If providers report the same figures, each fact then costs one look-up. Absorbing
 /// a smaller report would walk the whole base, so its facts and references are appended to two
-/// lists instead. Before that, each list is sorted without repeats if half its length, rounded
-/// down, exceeds the length after the last sort.
+/// lists instead. Before that, a list is sorted and its repeats are removed if half its length,
+/// rounded down, exceeds its length after the last sort.
 ///
 /// References count like facts. Otherwise the base would absorb each report of the same facts with
 /// new references, and copy all references each time.

@@ -29,7 +29,7 @@ impl Row<'_> {
         verdict_of(self.values, self.summary)
     }
 
-    /// Returns the evidence for the verdict. Indices in it refer to `values`.
+    /// Returns the evidence for the verdict. Indices in the evidence refer to `values`.
     pub fn evidence(&self) -> Evidence
         ensures { IsEvidence self.now.values.now result }
     {

@@ -1,4 +1,4 @@
--- Proofs of the laws about the members of sets, maps and summaries, and about tests of all entries.
+-- Proofs of the laws of sets, maps and summaries.
 use Rattle.std.proofs.Common.{◌≡◌, ℕ, zero, suc, ◌<◌, true, false, Bool, cond, List, [], ◌∷◌, length, get_or, Option, Some, None, refl, sym, ap, subst, ◌∙◌, arith}
 use Rattle.std.specs.Prelude.{Contains, IsTrue, is_some}
 use Rattle.std.specs.Option.{option_map}

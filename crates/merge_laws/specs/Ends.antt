@@ -1,4 +1,4 @@
--- The summary of several values (own).
+-- The summary of a list of values (own).
 use Rattle.std.specs.Prelude.{◌≡◌, ◌↔◌, Bool, true, false, ◌||◌, is_some, IsTrue, List, [], ◌∷◌, Contains, Option, Some, None, IfSome}
 use Rattle.std.specs.List.{list_any}
 use Rattle.oim_value.specs.Ends.{AreEnds, intervals_of, has_interval}
@@ -25,8 +25,7 @@ abbrev pub summary_of_all : List Value → Summarised
 summary_of_all [] = record { nil = false; ends = None }
 summary_of_all (v ∷ vs) = both_summaries (summary_of v) (summary_of_all vs)
 
--- a summary records whether a value is nil, whether a value is a number, and the greatest low and least high end of the
--- numbers' intervals
+-- both fields of the summary are correct for these values
 pub record TellsAll (vs : List Value) (s : Summarised) : Type 0 where
   pub nil : IsTrue s.nil ↔ Contains vs Nil
   pub number : is_some s.ends ≡ list_any has_interval vs

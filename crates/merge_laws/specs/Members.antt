@@ -1,4 +1,4 @@
--- Laws about the members of sets, maps and summaries, and about tests of all entries (own).
+-- Laws of sets, maps and summaries (own).
 use Rattle.std.specs.Prelude.{◌≡◌, ◌↔◌, Bool, IsTrue, List, [], ◌∷◌, ◌++◌, Contains}
 use Rattle.std.specs.List.{AllPass}
 use Rattle.std.specs.declared.cmp.Ordering.{Ordering}
@@ -8,7 +8,7 @@ use Rattle.merge_laws.specs.Ends.{summary_of, both_summaries, summary_of_all}
 use Rattle.merge_laws.specs.Sorted.{IsRising, IsSet, entry_key, value_at}
 use Rattle.merge_laws.specs.Union.{map_with, map_union, set_union}
 
--- order and repetition do not matter
+-- the lists have the same members, in any order and with any repetition
 abbrev pub SameMembers : {A : Type 0} → List A → List A → Type 0
 SameMembers {A} xs ys = (x : A) → Contains xs x ↔ Contains ys x
 
@@ -16,7 +16,7 @@ SameMembers {A} xs ys = (x : A) → Contains xs x ↔ Contains ys x
 abbrev pub SetIsItsMembers : {K : Type 0} → (K → K → Ordering) → Type 0
 SetIsItsMembers {K} R = (xs ys : List K) → IsSet R xs → IsSet R ys → SameMembers xs ys → xs ≡ ys
 
--- maps with the same value, or none, at each key are equal
+-- two maps are equal if, at each key, both have the same value or both have none
 abbrev pub MapIsItsValues : {K : Type 0} → (K → K → Ordering) → Type 0 → Type 0
 MapIsItsValues {K} R V = (es fs : List (K × V)) → IsRising R entry_key es → IsRising R entry_key fs → ((k : K) → value_at R k es ≡ value_at R k fs) → es ≡ fs
 

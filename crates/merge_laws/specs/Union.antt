@@ -5,7 +5,7 @@ use Rattle.std.specs.Ordering.{match_ordering}
 use Rattle.merge_laws.specs.Sorted.{IsRising, IsSet, has_key, itself, entry_key, value_at}
 
 module _ {K E : Type 0} (R : K → K → Ordering) (key : E → K) (join : E → E → E) where
-  -- the items with x inserted; an item with the same key is joined with x
+  -- x is inserted in order; if an item has the same key, x is joined with that item instead
   abbrev pub with_item : E → List E → List E
   with_item x [] = x ∷ []
   with_item x (e ∷ es) = match_ordering (R (key x) (key e)) (x ∷ e ∷ es) (join e x ∷ es) (e ∷ with_item x es)

@@ -49,7 +49,8 @@ pub(crate) fn find<K: Key, E: Keyed<K>>(items: &[E], key: &K) -> Result<usize, u
     }
 }
 
-/// Searches from index `from` in steps that about double, so a near key takes few steps.
+/// Searches from index `from`, and about doubles the step each time, so a key near that index takes
+/// few steps.
 pub(crate) fn find_from<K: Key, E: Keyed<K>>(
     items: &[E],
     key: &K,

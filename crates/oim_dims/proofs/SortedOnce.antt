@@ -1,4 +1,4 @@
--- Two sorted lists that contain each item equally often are equal.
+-- Two lists that contain each item equally often are equal, if both are sorted by an order in which only equal items tie.
 use Rattle.std.proofs.Common.{◌≡◌, ℕ, suc, ◌+◌, Bool, true, false, cond, List, [], ◌∷◌, refl, sym, ap, ◌∙◌, arith}
 use Rattle.std.specs.Prelude.{All}
 use Rattle.std.specs.List.{sum_by, count_by}

@@ -18,7 +18,7 @@ matches_picture e = if e.0 == 48 then is_ascii_digit e.1 else e.1 == e.0
 unfoldable pub has_picture : List ℕ → Bool
 has_picture t = length t == 19 && list_all matches_picture (zip picture t)
 
--- the number that the bytes i to j - 1 denote
+-- the number that the bytes i to j - 1 of a text denote
 abbrev pub number : List ℕ → ℕ → ℕ → ℕ
 number t i j = digits_value 10 (slice_range t i j)
 
@@ -62,7 +62,7 @@ is_date_time t = has_picture t && has_date t && has_time t && int_le (second_at 
 abbrev pub moment_of : List ℕ → Option ℤ
 moment_of t = if is_date_time t then Some (second_at t) else None
 
--- the greatest number up to a limit that passes the test, or 0 if none does
+-- the greatest number from 1 to n that passes the test, or 0 if none does
 unfoldable pub greatest : (ℕ → Bool) → ℕ → ℕ
 greatest p zero = 0
 greatest p (suc n) = if p (suc n) then suc n else greatest p n

@@ -14,7 +14,7 @@ abbrev pub is_below : QName → List (QName × Member) → Bool
 is_below n [] = true
 is_below n (e ∷ es) = is_lt (name_cmp n e.0) && is_below n es
 
--- the names strictly ascend, so that each occurs once
+-- the names ascend strictly, so no name is repeated
 abbrev pub rises : List (QName × Member) → Bool
 rises [] = true
 rises (e ∷ es) = is_below e.0 es && rises es
@@ -40,13 +40,13 @@ pub record DimensionSet : Type 0 where
   pub language : Option (List ℕ)
   pub members : List (QName × Member)
 
--- a dimension set has each dimension at most once; its unit, if any, satisfies IsUnit, and its period's moments are in range
+-- the names of the members ascend strictly; the unit, if there is one, satisfies IsUnit; the moments of the period are in range
 pub record IsDimensionSet (d : DimensionSet) : Type 0 where
   pub members : IsTrue (rises d.members)
   pub unit : IfSome d.unit IsUnit
   pub period : HasMoments d.period
 
--- a name is in the list exactly if the list has a member with that name
+-- `has_name` is true exactly if the list has a member with that name
 abbrev pub NamesAreThere : Type 0
 NamesAreThere = (n : QName) (es : List (QName × Member)) → IsTrue (has_name n es) ↔ ((m : Member) × Contains es (n, m))
 
@@ -55,6 +55,6 @@ pub record IsOneMore (old new : List (QName × Member)) (e : QName × Member) : 
   pub rises : IsTrue (rises new)
   pub members : (f : QName × Member) → Contains new f ↔ (Contains old f ⊎ (f ≡ e))
 
--- adding a member with a new name adds exactly that member
+-- if the names ascend, inserting a member with a new name adds exactly that member and keeps the order
 abbrev pub MembersGrow : Type 0
 MembersGrow = (n : QName) (m : Member) (es : List (QName × Member)) → IsTrue (rises es) → ¬ (IsTrue (has_name n es)) → IsOneMore es (with_member n m es) (n, m)

@@ -36,7 +36,7 @@ kind_of_member Nil = 0
 kind_of_member (AText t) = 1
 kind_of_member (AName n) = 2
 
--- members are ordered by kind; then texts by bytes, names by their parts
+-- members are ordered by kind; then texts by bytes, names by URI and local part
 abbrev pub member_cmp : Member → Member → Ordering
 member_cmp (AText s) (AText t) = slice_cmp nat_cmp s t
 member_cmp (AName m) (AName n) = name_cmp m n
@@ -46,7 +46,7 @@ member_cmp x y = nat_cmp (kind_of_member x) (kind_of_member y)
 abbrev pub item_cmp : QName × Member → QName × Member → Ordering
 item_cmp x y = ordering_then (name_cmp x.0 y.0) (member_cmp x.1 y.1)
 
--- dimension sets are ordered part by part; an absent part is less than a present one
+-- dimension sets are ordered by concept, entity, period, unit, language and members; an absent value is less than a present one
 abbrev pub dimensions_cmp : DimensionSet → DimensionSet → Ordering
 dimensions_cmp x y =
     ordering_then (name_cmp x.concept y.concept)

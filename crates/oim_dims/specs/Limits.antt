@@ -1,4 +1,4 @@
--- The limits of moments (own): the constants of the code and the date-times that denote them.
+-- The values of the constants for moments (own).
 use Rattle.std.specs.Prelude.{◌≡◌, Some, None, codes}
 use Rattle.oim_dims.specs.declared.limits.TheConstants.{DAY_SECONDS, FIRST_MOMENT, LAST_MOMENT}
 use Rattle.oim_dims.specs.DateTime.{moment_of}

@@ -23,7 +23,7 @@ from_to (Some start) None = Err PeriodForm
 from_to (Some start) (Some end) =
     if int_lt end start then Err PeriodOrder else (if int_eq start end then Ok (Instant start) else Ok (Duration start end))
 
--- the period that a text denotes, or the reason to refuse it: one date-time, or two with `/` between them
+-- the period that a text denotes, or the reason to refuse the text; the text must be one date-time, or two with `/` between them
 abbrev pub period_of : List ℕ → Result Period Reason
 period_of t = from_to (moment_of (start_part t)) (moment_of (end_part t))
 
@@ -44,7 +44,7 @@ EndsAfterStart Forever = ⊤
 EndsAfterStart (Instant m) = ⊤
 EndsAfterStart (Duration start end) = start <ℤ end
 
--- the conditions of a period that a text denotes
+-- the conditions that a period satisfies if a text denotes it
 pub record IsPeriod (p : Period) : Type 0 where
   pub moments : HasMoments p
   pub forward : EndsAfterStart p

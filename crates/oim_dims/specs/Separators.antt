@@ -1,4 +1,4 @@
--- The separators of a text's parts (xBRL-JSON 1.0, periods and units).
+-- The separators in the texts of periods and units (xBRL-JSON 1.0).
 use Rattle.std.specs.Prelude.{ℕ, Bool, ◌==◌}
 
 -- `/` separates the two moments of a period, and the two sides of a unit

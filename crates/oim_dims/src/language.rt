@@ -7,9 +7,9 @@ ghost use Rattle.oim_dims.specs.Language.{is_language, is_group, is_hyphen};
 use oim_names::{Reason, Text};
 use std::alloc::Global;
 
-/// Reads a language, and returns it in ASCII lower case. A language consists of groups of one to
-/// eight ASCII letters or digits with `-` between them, and the first group has only letters (XML
-/// Schema Part 2, section 3.3.3).
+/// Reads a language, and returns it in ASCII lower case. A language is a list of groups with `-`
+/// between the groups. A group has one to eight ASCII letters or digits, and the first group has
+/// only letters (XML Schema Part 2, section 3.3.3).
 ///
 /// Errors: `LanguageForm` exactly if the text does not have this form; `OutOfMemory`.
 pub fn read_language(alloc: Global, text: &str) -> Result<Text, Reason>

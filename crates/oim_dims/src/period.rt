@@ -16,7 +16,7 @@ pub enum Period {
     Forever,
     /// The fact holds at one moment.
     Instant(Moment),
-    /// The fact holds from the first moment to the second.
+    /// The fact holds from the first moment to the second moment.
     Duration(Moment, Moment),
 }
 

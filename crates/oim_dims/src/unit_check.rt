@@ -49,7 +49,7 @@ pub fn unit_refusal(aliases: &Aliases, text: &str) -> Option<Reason>
     None
 }
 
-/// Returns whether a text has the form of a unit. The names in it are not tested.
+/// Returns whether a text has the form of a unit. The names in the text are not tested.
 pub fn is_unit_text(text: &str) -> bool
     ensures { result ≡ is_unit_text text.now }
 {

@@ -47,7 +47,7 @@ fn is_row(line: &str) -> bool {
         && !line.contains("; ")
 }
 
-/// Guesses the kind of a JSON file that was passed as a report but looks like another file.
+/// Guesses the kind of a JSON file that was passed as a report but looks like another kind of file.
 pub(crate) fn kind_of_tree(tree: &Value) -> Option<&'static str> {
     if is_csv(tree) {
         Some("the metadata of an xBRL-CSV report: convert it to xBRL-JSON with another program")
@@ -64,7 +64,7 @@ fn is_csv(tree: &Value) -> bool {
     kind.ends_with("/xbrl-csv") || tree.get("tableTemplates").is_some()
 }
 
-/// Guesses the kind of a JSON file that was passed as a sheet but looks like another file.
+/// Guesses the kind of a JSON file that was passed as a sheet but looks like another kind of file.
 pub(crate) fn kind_of_sheet(tree: &Value) -> Option<&'static str> {
     if is_csv(tree) {
         Some("the metadata of an xBRL-CSV report, not a concept sheet")

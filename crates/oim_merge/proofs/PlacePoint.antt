@@ -1,4 +1,4 @@
--- The facts that are less than a given fact are the first facts of a rising list.
+-- The facts that are less than a given fact are the first facts of an ascending list.
 use Rattle.std.proofs.Common.{◌≡◌, ℕ, ◌<◌, ◌≤◌, List, [], ◌∷◌, map, length, get_or, Bool, true, false, sym, ap, ◌∙◌, arith}
 use Rattle.std.specs.List.Sorted.{IsPartitionPoint, IsPartitionedBy}
 use Rattle.std.specs.Ordering.{is_lt}

@@ -118,7 +118,7 @@ module _ (b : Body) (rises : IsSet fact_cmp b.facts) (done rest : List Row) (r :
       let long : length (row_facts r) ≡ length r.1 = length-map r.1 (λ v. record { dimensions = r.0; value = v }) in
       omega (arith, long, ap length facts_split, length-append (rows_facts done) (row_facts r ++ rows_facts rest), length-append (row_facts r) (rows_facts rest))
 
-  -- a text with the identifiers that follow from these counts is the text of the row
+  -- a text with the identifiers that follow from `before` and `count` is the text of the row
   pub row_is : (written : RowText) → DependsOnItsNames written → (number before count : ℕ) (e : Evidence) (row : List ℕ) → before ≡ length (rows_facts done) → count ≡ length b.facts → IsEvidence r.1 e →
       row ≡ written (named before count) number r e → IsRow written b.facts number r row
   row_is written names number before count e row before_is count_is shows is = record {

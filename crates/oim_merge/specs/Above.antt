@@ -14,7 +14,8 @@ use Rattle.fact_base.specs.Verdict.{verdict_of}
 use Rattle.fact_base.specs.declared.verdict.Verdict.{Verdict}
 use Rattle.fact_base.specs.declared.verdict.Verdict.TheVariants.{Complete, Inconsistent}
 
--- no dimension set is above `all`; an inconsistent set is above `consistent`; a set with several distinct facts is above `complete` and `none`
+-- no dimension set is above `all`; only an inconsistent set is above `consistent`; a set is above `complete` and `none` if it has several
+-- distinct facts
 abbrev pub is_above : Level → Verdict → Bool
 is_above AllLevel v = false
 is_above ConsistentLevel Inconsistent = true
@@ -33,7 +34,7 @@ row_is_above level r = some_above level (verdict_of r.1)
 abbrev pub StaysWithin : Level → Body → Type 0
 StaysWithin level b = All (λ r. row_is_above level r ≡ false) (rows_of b.facts)
 
--- the dimension set with this number, from 1, is the first above the level
+-- the dimension set with this number, counted from 1, is the first above the level
 pub record IsFirstAbove (level : Level) (b : Body) (number : ℕ) : Type 0 where
   pub before : List Row
   pub row : Row

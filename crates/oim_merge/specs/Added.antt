@@ -29,10 +29,10 @@ abbrev pub with_reports : Added → List (List ℕ) → Added
 with_reports a [] = a
 with_reports a (bytes ∷ reports) = with_reports (with_report a bytes) reports
 
--- the state after a list of reports, computed from the whole list
+-- the state after all reports of a list, computed from the whole list
 abbrev pub added : Sheet → List (List ℕ) → Added
 added sheet reports = record { sheet = sheet; body = merged sheet reports; refusals = refused sheet reports; reports = length reports }
 
--- adding reports one at a time gives the same result as adding the list
+-- adding reports one at a time gives the state that is computed from the whole list
 abbrev pub StepsAreList : Type 0
 StepsAreList = (sheet : Sheet) (reports : List (List ℕ)) → with_reports (begun sheet) reports ≡ added sheet reports

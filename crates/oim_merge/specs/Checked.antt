@@ -12,8 +12,8 @@ use Rattle.oim_merge.specs.declared.checked.Checked.{Checked}
 abbrev pub IsCanonicalOf : Document → List ℕ → Type 0
 IsCanonicalOf d bytes = bytes ≡ canonical (body (d ∷ []))
 
--- the report is accepted as a document. The result contains the number of its facts, repeats included, the level that the
--- facts satisfy, and whether the bytes are canonical
+-- the report is accepted. The result contains the number of facts, repeats included, the strictest level that the facts satisfy, and
+-- whether the bytes are canonical.
 pub record IsChecked (sheet : Sheet) (bytes : List ℕ) (checked : Checked) : Type 0 where
   pub document : Document
   pub read : outcome sheet bytes ≡ Ok document

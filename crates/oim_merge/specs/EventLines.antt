@@ -50,7 +50,7 @@ lines_of bytes = without_empty_last (line_pieces bytes)
 abbrev pub SaysEvents : List ℕ → List Event → Type 0
 SaysEvents bytes events = AllZip IsEventLine (lines_of bytes) events
 
--- the line with this number, from 1, spells no event, and each earlier line spells an event
+-- the line with this number, counted from 1, spells no event, and each earlier line spells an event
 pub record IsFirstBadLine (bytes : List ℕ) (number : ℕ) : Type 0 where
   pub before : List (List ℕ)
   pub line : List ℕ

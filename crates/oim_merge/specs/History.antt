@@ -1,4 +1,4 @@
--- The documents that bases took, the bases that they joined, and how their texts are read (own).
+-- The history of a base, and how the text of a body is read (own).
 use Rattle.std.specs.Prelude.{◌≡◌, ℕ, List, [], ◌∷◌, ◌++◌, Contains, Ok}
 use Rattle.std.specs.List.{All}
 use Rattle.merge_laws.specs.Members.{SameMembers}
@@ -67,7 +67,7 @@ TextsGiveBodies = (sheet : Sheet) (b : Body) → Fits sheet b → IsReadAsBody s
 abbrev pub EarlierTextsGiveBodies : Type 0
 EarlierTextsGiveBodies = (sheet : Sheet) (b : Body) → Fits sheet b → IsReadAsBody sheet (earlier b) b
 
--- merging a merged text with itself and with any of the documents that it was merged from gives the same text
+-- a merged text does not change if it is merged with itself and with any of its documents
 abbrev pub MergedTextsMerge : Type 0
 MergedTextsMerge =
     (sheet : Sheet) (docs some : List Document) (merged : Document) → All (IsAccepted sheet) docs → ((d : Document) → Contains some d → Contains docs d) →

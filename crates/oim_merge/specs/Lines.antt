@@ -16,7 +16,7 @@ use Rattle.fact_base.specs.declared.verdict.Verdict.{Verdict}
 use Rattle.fact_base.specs.declared.verdict.Verdict.TheVariants.{Complete, Consistent, Inconsistent}
 use Rattle.oim_write.specs.Tree.{identifier}
 
--- the canonical identifier of the fact at an index, from 0, in a dimension set
+-- the canonical identifier of the fact at an index (from 0) in a dimension set
 abbrev pub identifier_at : List Fact → Row → ℕ → List ℕ
 identifier_at facts r i = get_or (map (identifier facts) (facts_with r.0 r.1)) i []
 
@@ -30,13 +30,13 @@ evidence_text name (Apart i j) = codes "inconsistent apart " ++ (name i ++ 32 �
 abbrev pub RowText : Type 0
 RowText = (ℕ → List ℕ) → ℕ → Row → Evidence → List ℕ
 
--- the line of a dimension set: its number, the identifiers of its first and last fact, and the evidence
+-- the line of a dimension set: its number, the identifiers of its first and last facts, and the evidence
 abbrev pub line_text : RowText
 line_text name number r evidence = decimal number ++ 32 ∷ (name 0 ++ 32 ∷ (name (length r.1 - 1) ++ 32 ∷ (evidence_text name evidence ++ 10 ∷ [])))
 
 -- ---- the rows of a body, in any format
 
--- the text of the row with this number, with its evidence
+-- the text of the row with this number, with evidence for the row's verdict
 pub record IsRow (written : RowText) (facts : List Fact) (number : ℕ) (r : Row) (row : List ℕ) : Type 0 where
   pub evidence : Evidence
   pub shows : IsEvidence r.1 evidence

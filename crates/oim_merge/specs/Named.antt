@@ -4,7 +4,7 @@ use Rattle.fact_base.specs.declared.evidence.Evidence.{Evidence}
 use Rattle.fact_base.specs.declared.evidence.Evidence.TheVariants.{Alike, Common, Apart}
 use Rattle.oim_write.specs.Rank.{padded, width}
 
--- the identifier of the fact at an index, from 0, given the number of facts before the set and the number of all facts
+-- the identifier of the fact at an index (from 0), given the number of facts before the set and the number of all facts
 abbrev pub named : ℕ → ℕ → ℕ → List ℕ
 named before count place = 102 ∷ padded (width count) (before + place + 1)
 

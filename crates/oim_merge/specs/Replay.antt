@@ -13,7 +13,7 @@ use Rattle.oim_merge.specs.declared.schedules.event.Event.TheVariants.{Take}
 use Rattle.oim_merge.specs.declared.schedules.replay_fault.ReplayFault.{ReplayFault}
 use Rattle.oim_merge.specs.declared.schedules.replay_fault.ReplayFault.TheVariants.{OutOfMemory, BadEvent}
 
--- the replicas, the texts that they sent, and the refused takes
+-- the replicas, the texts that they sent, and the refusals from `Take` events
 pub record Replay : Type 0 where
   pub world : World Contents (List ℕ)
   pub refused : List (ℕ × Refusal)
@@ -30,12 +30,12 @@ abbrev pub refused_by : Sheet → List (List ℕ) → Event → List (ℕ × Ref
 refused_by sheet reports (Take i r) = refusal_in r (outcome sheet (report reports r))
 refused_by sheet reports event = []
 
--- the refused takes, in the order of the events
+-- all refusals from `Take` events, in the order of the events
 abbrev pub refused_takes : Sheet → List (List ℕ) → List Event → List (ℕ × Refusal)
 refused_takes sheet reports events = flat_map (refused_by sheet reports) events
 
 -- No event is bad. Each of the n replicas has the base of the documents that reached it. Bases and sent texts are as in the machine
--- `wire` with the present writer. The refused takes are returned.
+-- `wire` with the present writer. `refused` lists all refusals from `Take` events.
 pub record IsReplayOf (sheet : Sheet) (n : ℕ) (reports : List (List ℕ)) (events : List Event) (replay : Replay) : Type 0 where
   pub good : NoneIsBad n (length reports) events
   pub world : replay.world ≡ world_after (wire sheet [] reports) n events

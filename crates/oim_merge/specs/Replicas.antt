@@ -26,7 +26,7 @@ report reports r = slice_index_or reports (r - 1) []
 
 -- ---- the reports that reached each replica
 
--- a finite set of report numbers: the rising list of its members
+-- a finite set of report numbers: the ascending list of its members
 abbrev pub Numbers : Type 0
 Numbers = List ℕ
 
@@ -49,11 +49,11 @@ reached sheet reports = record {
   received = λ message numbers. both numbers message;
 }
 
--- the documents of the reports in a set
+-- the documents of the accepted reports with these numbers
 abbrev pub documents_named : Sheet → List (List ℕ) → Numbers → List Document
 documents_named sheet reports numbers = accepted sheet (map (report reports) numbers)
 
--- ---- replicas that see only bytes
+-- ---- replicas that keep bases and exchange texts
 
 -- a base takes an outcome; a refusal changes nothing
 abbrev pub with_outcome : Result Document Refusal → Contents → Contents
@@ -72,7 +72,7 @@ abbrev pub text_by : Writer → Body → List ℕ
 text_by present b = canonical b
 text_by earlier b = earlier_text b
 
--- the list chooses a writer for each sent text; texts beyond its end have the present writer
+-- the list chooses a writer for each sent text; texts beyond the end of the list have the present writer
 abbrev pub text_chosen : List Writer → ℕ → Body → List ℕ
 text_chosen writers sent b = text_by (slice_index_or writers sent present) b
 
@@ -88,11 +88,11 @@ wire sheet writers reports = record {
 
 -- ---- agreement
 
--- the base that took the documents of the reports in a set
+-- the base that took the documents of the accepted reports with these numbers
 abbrev pub base_named : Sheet → List (List ℕ) → Numbers → Contents
 base_named sheet reports numbers = base_of sheet (documents_named sheet reports numbers)
 
--- each replica has the base of the documents that reached it; each sent text is read as the body that its sender had then
+-- each replica has the base of the documents that reached it; each sent text is read as the body that the sender had when it sent the text
 pub record Agree (sheet : Sheet) (reports : List (List ℕ)) (sets : World Numbers Numbers) (bases : World Contents (List ℕ)) : Type 0 where
   pub replicas : bases.replicas ≡ map (base_named sheet reports) sets.replicas
   pub sent : AllZip (λ bytes numbers. IsReadAsBody sheet bytes (body (documents_named sheet reports numbers))) bases.sent sets.sent

@@ -49,7 +49,7 @@ Stops level b refusals old new (SheetFault reason) = ⊥
 
 -- ---- reports
 
--- the accepted reports stay within the level, their text was appended, and the refusals of the others were returned
+-- the body of the accepted reports stays within the level, its text was appended, and the refusals of the other reports were returned
 abbrev pub Consolidates : Sheet → List (List ℕ) → Level → Option (List ℕ) → Option (List ℕ) → List (ℕ × Refusal) → Type 0
 Consolidates sheet reports level = Writes level (merged sheet reports) (refused sheet reports)
 

@@ -4,14 +4,14 @@ use Rattle.std.specs.List.{slice_index_or}
 use Rattle.oim_merge.specs.declared.schedules.event.Event.{Event}
 use Rattle.oim_merge.specs.declared.schedules.event.Event.TheVariants.{Take, Join, Send, Receive, Restart}
 
--- the element with this number, from 1
+-- the element with this number, counted from 1
 abbrev pub numbered : {A : Type 0} → List A → ℕ → Option A
 numbered xs zero = None
 numbered xs (suc place) = slice_get xs place
 
 -- ---- bad events
 
--- the number is not from 1 to `greatest`
+-- the number is 0 or above `greatest`
 abbrev pub is_outside : ℕ → ℕ → Bool
 is_outside greatest number = number == 0 || nat_lt greatest number
 
@@ -31,7 +31,7 @@ is_send event = false
 abbrev pub sent_by : List Event → ℕ
 sent_by events = length (filter is_send events)
 
--- the event at an index, from 0, is bad; a message can be received only after it was sent
+-- the event at an index (from 0) is bad; a message can be received only after it was sent
 pub record IsBadAt (replicas reports : ℕ) (events : List Event) (place : ℕ) : Type 0 where
   pub event : Event
   pub there : slice_get events place ≡ Some event
@@ -40,7 +40,7 @@ pub record IsBadAt (replicas reports : ℕ) (events : List Event) (place : ℕ) 
 abbrev pub NoneIsBad : ℕ → ℕ → List Event → Type 0
 NoneIsBad replicas reports events = (place : ℕ) → ¬ (IsBadAt replicas reports events place)
 
--- the event in this line, from 1, is the first bad event
+-- the event in this line, counted from 1, is the first bad event
 pub record IsFirstBad (replicas reports : ℕ) (events : List Event) (line : ℕ) : Type 0 where
   pub place : ℕ
   pub line_is : line ≡ place + 1
@@ -71,7 +71,7 @@ module _ {S M : Type 0} (machine : Machine S M) where
   abbrev pub kept_by : World S M → ℕ → S
   kept_by world i = slice_index_or world.replicas (i - 1) machine.fresh
 
-  -- the world in which the replica with this number has this state
+  -- the world after the replica with this number changes to this state
   abbrev pub keeps : World S M → ℕ → S → World S M
   keeps world i state = record { replicas = slice_set world.replicas (i - 1) state; sent = world.sent }
 

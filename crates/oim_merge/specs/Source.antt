@@ -8,7 +8,8 @@ use Rattle.oim_merge.specs.declared.read_fault.ReadFault.TheVariants.{OutOfMemor
 abbrev pub Gives : Option (List ℕ) → Option (List ℕ) → (List ℕ → Type 0) → Type 0
 Gives old new P = (given : List ℕ) × Consumes old new given × P given
 
--- the bytes before a fault: `Device` contains their number; for `TooLong`, they exceed the limit; for `OutOfMemory`, there is no condition
+-- the bytes that the source gave before a fault: `Device` contains their number; for `TooLong`, their number is above the limit; for
+-- `OutOfMemory`, there is no condition
 abbrev pub GivesBefore : Option (List ℕ) → Option (List ℕ) → ℕ → ReadFault → Type 0
 GivesBefore old new limit OutOfMemory = Unit {0}
 GivesBefore old new limit (Device n) = Gives old new (λ given. length given ≡ n)

@@ -118,21 +118,21 @@ pub fn sources_ignore_order()
 {}
 
 /// After every schedule without a bad event, each replica has the base of the documents that
-/// reached it. Each sent text is accepted, whichever version wrote the text. No replica is added or
-/// lost.
+/// reached it since its last restart. Each sent text is accepted, whichever version wrote the text.
+/// No replica is added or lost.
 pub fn wire_agrees()
     ensures agrees { WireAgrees }
     ensures stay { ReplicasStay }
 {}
 
 /// After every schedule without a bad event, each replica has the text, verdicts, values and level
-/// of a new merge of the reports that reached it.
+/// of a new merge of the reports that reached it since its last restart.
 pub fn replicas_say_as_afresh()
     ensures { ReplicasSayAsAfresh }
 {}
 
 /// After every schedule without a bad event, two replicas write the same bytes if the same accepted
-/// reports reached both.
+/// reports reached both since their last restarts.
 pub fn equal_sets_write_the_same()
     ensures { EqualSetsWriteTheSame }
 {}

@@ -27,7 +27,7 @@ pub use consolidation::{Consolidation, consolidate};
 pub use fault::Fault;
 pub use merged::Merged;
 pub use refusals::Refusals;
-// judging and checking
+// verdicts, sources of facts, and checks
 pub use checked::{Checked, check_report};
 pub use identifiers::Identifiers;
 pub use sources::mentions::mentions_by_fact;
@@ -44,7 +44,7 @@ pub use schedules::events_reader::read_events;
 pub use schedules::replay_fault::ReplayFault;
 pub use schedules::replayed::Replayed;
 pub use schedules::replaying::replay;
-// sources
+// inputs
 pub use read_fault::ReadFault;
 pub use source::{Source, SourceError};
 pub use source_reader::read_all;

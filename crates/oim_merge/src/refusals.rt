@@ -5,7 +5,7 @@ use std::alloc::{AllocError, Global};
 use std::marker::Model;
 
 /// The refusals of reports, each with the number of its report, from 1. They are in the order of
-/// the reports, or after a schedule in the order of the events.
+/// the reports or, after a schedule, in the order of the events.
 #[derive(Debug, Drop)]
 pub struct Refusals {
     entries: Vec<(u64, Refusal)>,
@@ -21,7 +21,7 @@ impl Model for Refusals {
 }
 
 impl Refusals {
-    /// Returns an empty list. This requests no memory.
+    /// Returns an empty list. The call does not allocate.
     pub fn new(alloc: Global) -> Refusals
         ensures { result ≡ [] }
     {
@@ -32,7 +32,7 @@ impl Refusals {
 
     /// Appends the refusal of the report with this number, from 1.
     ///
-    /// Errors: out of memory; the list is unchanged then.
+    /// Errors: out of memory; the list is then unchanged.
     pub fn push(&mut self, report: u64, refusal: Refusal) -> Result<(), AllocError>
         ensures ok { OnOk result (self.new ≡ self.old ++ (report, refusal) ∷ []) }
         ensures err { OnErr result (self.new ≡ self.old) }

@@ -14,10 +14,10 @@ const FEWEST: usize = 1 << 12;
 
 const MOST: usize = 1 << 16;
 
-/// Reads a source of at most `limit` bytes to its end and releases unused memory. This takes at
+/// Reads a source of at most `limit` bytes to its end and releases unused memory. The call makes at
 /// most `limit` + 1 reads, since each read but the last returns at least one byte.
 ///
-/// Errors: `TooLong` if the source has more than `limit` bytes; `Device` if it failed;
+/// Errors: `TooLong` if the source has more than `limit` bytes; `Device` if the source failed;
 /// `OutOfMemory`.
 pub fn read_all<S: Source>(alloc: Global, source: &mut S, limit: u32) -> Result<Encoded, ReadFault>
     requires { S.failures source.old < 2 ^ 64 - 1 }

@@ -63,7 +63,7 @@ impl Aliases {
     ///
     /// Errors: `Namespace` if the prefix is empty or contains white space or a colon, if the URI is
     /// empty, or if the prefix is bound to another URI (XML Namespaces 1.0, section 3; the last
-    /// rule is own); `OutOfMemory`.
+    /// rule is our own); `OutOfMemory`.
     pub fn add(&mut self, prefix: &str, uri: &str) -> Result<(), Reason>
         ensures ok { OnOk result (self.new ≡ bound self.old prefix.now uri.now) }
         ensures refused { (result ≡ Err Reason.Namespace) ↔ IsTrue (is_refused_binding self.old prefix.now uri.now) }

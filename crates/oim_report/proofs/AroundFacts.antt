@@ -1,4 +1,4 @@
--- A document's text denotes the members before `facts`, `facts` with the members of its pieces, and the members after `facts`.
+-- A document's text denotes the members before and after `facts`, and the member `facts` with the members of all pieces.
 use Rattle.std.proofs.Common.{◌≡◌, ℕ, ◌≤◌, Bool, true, false, ◌||◌, ◌==◌, inl, inr, ◌⊎◌, List, [], ◌∷◌, ◌++◌, Some, option_map, option_and_then, refl, sym, ap, ◌∙◌, subst, arith, append_assoc, append-nil}
 use Rattle.std.specs.Prelude.{codes}
 use Rattle.std.proofs.lemmas.Bool.{eqb-true}

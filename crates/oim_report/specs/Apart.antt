@@ -16,7 +16,7 @@ use Rattle.oim_report.specs.Sheet.{Sheet}
 abbrev pub are_apart : Level → List Fact → ℕ → ℕ → Bool
 are_apart level facts i j = option_map_or (λ f. option_map_or (λ g. not (allows level f g)) (slice_get facts j) false) (slice_get facts i) false
 
--- the report denotes facts and a level that does not allow the facts at the indices i and j together
+-- the report denotes these facts and declares this level; the level does not allow the facts at the indices i and j together
 pub record AreFactsApart (sheet : Sheet) (tree : Data) (i j : ℕ) : Type 0 where
   pub facts : List Fact
   pub level : Level
@@ -24,7 +24,7 @@ pub record AreFactsApart (sheet : Sheet) (tree : Data) (i j : ℕ) : Type 0 wher
   pub declared : level_said tree ≡ Some level
   pub apart : IsTrue (are_apart level facts i j)
 
--- no condition applies to the document or a fact, and the level of the facts is above the declared level
+-- no condition applies to the document, all facts are accepted, and the level of the facts is above the declared level
 pub record HasFactsApart (sheet : Sheet) (tree : Data) : Type 0 where
   pub facts : List Fact
   pub level : Level

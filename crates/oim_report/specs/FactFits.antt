@@ -47,7 +47,7 @@ abbrev pub EntityFits : Option QName → Type 0
 EntityFits None = ⊤
 EntityFits (Some n) = FitsEntity n
 
--- each measure is a name, and only numeric concepts have units
+-- each measure is a name that a text can spell, and the concept is numeric
 pub record MeasuresFit (kind : ConceptKind) (m : Measures) : Type 0 where
   pub numerators : All FitsName m.numerators
   pub denominators : All FitsName m.denominators

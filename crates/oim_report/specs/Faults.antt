@@ -25,7 +25,7 @@ use Rattle.oim_report.specs.Least.{told}
 
 -- ---- the facts
 
--- the faults of several fact objects, which are numbered from n
+-- the faults of several fact objects; the objects are numbered from n
 abbrev pub faults_from : Sheet → List Binding → ℕ → List Data → List Refusal
 faults_from sheet bs n [] = []
 faults_from sheet bs n (d ∷ ds) = map (at (AtFact n)) (told (holds sheet bs d)) ++ faults_from sheet bs (n + 1) ds

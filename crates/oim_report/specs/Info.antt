@@ -1,4 +1,4 @@
--- The parts of a report, and the contents of the parts outside its facts (xBRL-JSON 1.0, section 2; own where marked).
+-- The parts of a report, and the contents of all parts except the facts (xBRL-JSON 1.0, section 2; own where marked).
 use Rattle.std.specs.Prelude.{ℕ, List, [], ◌∷◌, Bool, false, ◌&&◌, bytes_eq, codes, if◌then◌else◌, Option, Some, None, option_map, option_and_then}
 use Rattle.std.specs.Option.{option_map_or, unwrap_or}
 use Rattle.oim_names.specs.Bindings.{Binding, uri_of}

@@ -82,12 +82,12 @@ within outer key d = option_and_then (get key) (get outer d)
 abbrev pub members : Option Members → Members
 members ms = unwrap_or ms no_members
 
--- each key with its value, in byte order of the keys
+-- each key with its value, in the order of the members; members that were read are in byte order of their keys
 abbrev pub entries : Members → List (List ℕ × Data)
 entries no_members = []
 entries (member key d ms) = (key, d) ∷ entries ms
 
--- the values of members, in byte order of their keys
+-- the values of members, in the same order
 abbrev pub values : Members → List Data
 values no_members = []
 values (member key d ms) = d ∷ values ms
@@ -105,8 +105,8 @@ has_member ms = any_in (λ key d. true) ms
 
 -- ---- keys
 
--- a key has a colon. It names a taxonomy-defined dimension in `dimensions`, and belongs to an extension in other objects with
--- known keys (own).
+-- a key has a colon. In `dimensions`, the key then names a taxonomy-defined dimension; in other objects with known keys, it belongs to
+-- an extension (own).
 abbrev pub has_colon : List ℕ → Bool
 has_colon key = list_any is_colon key
 

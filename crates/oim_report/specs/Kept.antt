@@ -32,7 +32,8 @@ kept_by (Ok url) base reference = if is_web url then web_text (Some url) else So
 kept_by (Err e) None reference = Some reference
 kept_by (Err e) (Some base) reference = web_text (web_url (parse_url (Some base) reference))
 
--- the text under which a reference is kept, or None if the reference does not resolve
+-- the text under which a reference is kept, or None if a relative reference does not resolve against the base URL to an http or https
+-- URL
 abbrev pub kept : Option Parts → List ℕ → Option (List ℕ)
 kept base reference = kept_by (parse_url None reference) base reference
 

@@ -10,7 +10,7 @@ use Rattle.oim_names.specs.declared.reason.Reason.TheVariants.{Namespace, Featur
 unfoldable pub least : (Reason → Bool) → Option Reason
 least holds = find holds reasons
 
--- the conditions that hide a condition: if the namespaces are refused, keys cannot be compared with the feature
+-- the conditions that hide a condition: `Namespace` hides `Feature`, because the prefixes decide which member is the feature
 abbrev pub hidden_by : Reason → List Reason
 hidden_by Feature = Namespace ∷ []
 hidden_by r = []

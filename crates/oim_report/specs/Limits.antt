@@ -11,10 +11,10 @@ use Rattle.oim_report.specs.PlainJson.{IsPlainJson}
 abbrev pub TextsAreWithinLimit : Type 0
 TextsAreWithinLimit = (text : List ℕ) → IsTrue (is_within_limit text) ↔ (length text ≤ 65_536)
 
--- a value that was read is at most `MOST_LEVELS` deep
+-- a value that was read is at most `MOST_LEVELS` levels deep
 abbrev pub NestsWithinLimit : Type 0
 NestsWithinLimit = (bytes : List ℕ) (tree : Data) → json bytes ≡ Some tree → depth tree ≤ MOST_LEVELS
 
--- a plain object that is at most `MOST_LEVELS` deep is read back from its compact text
+-- a plain object that is at most `MOST_LEVELS` levels deep is read back from its compact text
 abbrev pub NestedIsRead : Type 0
 NestedIsRead = (ms : Members) → IsPlainJson (object ms) MOST_LEVELS → json (compact_text (object ms)) ≡ Some (object ms)

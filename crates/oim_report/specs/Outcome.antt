@@ -30,7 +30,7 @@ at place reason = record { reason = reason; place = place }
 
 -- ---- a fact
 
--- the fact that an object denotes, if no condition applies; an object that denotes no fact is refused for its form
+-- the reason, if a condition applies; otherwise the fact that the object denotes, or `MemberForm` if the object denotes none
 abbrev pub fact_or : Option Reason → Option Fact → Result Fact Reason
 fact_or None (Some fact) = Ok fact
 fact_or None None = Err MemberForm
@@ -74,7 +74,8 @@ tree_outcome sheet None = Err (at AtDocument NotJson)
 tree_outcome sheet (Some tree) =
     unless_refused (document_refusal tree) (then_allowed (map_ok (document_with tree) (facts_said sheet (bindings_of tree) (facts_of tree))))
 
--- the document that the bytes denote under the sheet, or the first refusal: of the document, a fact or the duplicates
+-- the document that the bytes denote under the sheet, or the first refusal. The document is tested first, then the facts, then the
+-- duplicates.
 unfoldable pub outcome : Sheet → List ℕ → Result Document Refusal
 outcome sheet bytes = tree_outcome sheet (json bytes)
 

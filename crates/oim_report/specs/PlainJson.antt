@@ -62,7 +62,7 @@ pub record IsPlainJson (d : Data) (most : ℕ) : Type 0 where
   pub utf8 : HasUtf8 d
   pub shallow : depth d ≤ most
 
--- the compact text of a plain object is read as that object, if the object is at most `max_depth` levels deep
+-- the compact text of a plain object with UTF-8 strings and keys, at most `max_depth` levels deep, is read as that object
 abbrev pub PlainTextReadsBack : Type 0
 PlainTextReadsBack = (ms : Members) → IsPlainJson (object ms) max_depth → json (compact_text (object ms)) ≡ Some (object ms)
 

@@ -121,7 +121,7 @@ module _ (spelled : QName → List ℕ) where
     unknown = false;
   }
 
--- if a fact fits a sheet and its names are spelled as in `SpellsFact`, its object has these parts
+-- if a fact fits a sheet and its names are spelled as in `SpellsFact`, its object has the parts in `parts_given`
 abbrev pub FactObjectHasParts : Type 0
 FactObjectHasParts = (sheet : Sheet) (bs : List Binding) (spelled : QName → List ℕ) (f : Fact) → FactFits sheet f → SpellsFact bs spelled f → fact_parts (fact_object spelled f) ≡ Some (parts_given spelled f)
 

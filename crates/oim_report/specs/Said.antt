@@ -104,7 +104,7 @@ said_member bs (Some Typed) (text t) = Some (MemberText t)
 said_member bs (Some Typed) nil = Some NoMember
 said_member bs kind g = None
 
--- the members `es` with the members of several keys added
+-- adds to `es` the members that several keys denote; None if a key denotes no member
 abbrev pub members_with : Sheet → List Binding → List (QName × Member) → List (List ℕ × Given) → Option (List (QName × Member))
 members_with sheet bs es [] = Some es
 members_with sheet bs es (d ∷ ds) =
@@ -113,7 +113,7 @@ members_with sheet bs es (d ∷ ds) =
 abbrev pub dimension_names : List Binding → List (List ℕ × Given) → List QName
 dimension_names bs defined = filter_map (λ d. named bs d.0) defined
 
--- the members of several keys, if no dimension is repeated
+-- the members that several keys denote, if no dimension is repeated
 abbrev pub said_members : Sheet → List Binding → List (List ℕ × Given) → Option (List (QName × Member))
 said_members sheet bs ds = if comes_again (dimension_names bs ds) then None else members_with sheet bs [] ds
 
@@ -159,7 +159,7 @@ said_dimensions sheet bs kind ds =
     (said_entity bs ds.entity))
     (said_concept bs ds.concept)
 
--- the fact whose concept has this kind
+-- the fact, given the kind of its concept
 abbrev pub fact_with : Sheet → List Binding → FactParts → DimensionParts → ConceptKind → Option Fact
 fact_with sheet bs p ds kind =
     option_and_then (λ dimensions. option_map (λ value. record { dimensions = dimensions; value = value }) (said_value bs kind p.value p.decimals)) (said_dimensions sheet bs kind ds)

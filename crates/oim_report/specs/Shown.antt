@@ -70,7 +70,7 @@ when holds part = if holds then Some part else None
 abbrev pub value_or_nothing : Option Data → Shown
 value_or_nothing d = option_map_or value d nothing
 
--- the first part whose test passes
+-- the first part whose test passes, or `nothing`
 abbrev pub first_of : List (Bool × Shown) → Shown
 first_of [] = nothing
 first_of (t ∷ ts) = if t.0 then t.1 else first_of ts
@@ -199,7 +199,7 @@ module _ {K : Type 0} (kind_named : List ℕ → Option K) (same : K → K → B
   abbrev pub named_kind : List Binding → List ℕ × Data → Option (QName × K)
   named_kind bs m = option_and_then (λ n. option_map (λ k. (n, k)) (kind_in kind_named same m.1)) (named bs m.0)
 
-  -- the kinds of some names, with one more name if it is new
+  -- adds a name and its kind if the name is new
   abbrev pub with_kind : FinMap name_cmp K → QName × K → FinMap name_cmp K
   with_kind kinds e = if map.contains_key kinds e.0 then kinds else map.insert kinds e.0 e.1
 

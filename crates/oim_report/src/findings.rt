@@ -1,4 +1,4 @@
-//! Finds the faults of reports, and the parts at fault of reports and sheets.
+//! Finds the faults of a report, and the part of a report or a sheet that violates a condition.
 
 pub(crate) mod content_rows;
 pub(crate) mod defined_rows;

@@ -22,7 +22,7 @@ use serde_json::Value;
 use std::alloc::Global;
 use std::marker::Model;
 
-/// Reads a report under a sheet (xBRL-JSON 1.0; further conditions are own).
+/// Reads a report under a sheet (xBRL-JSON 1.0; further conditions are our own).
 ///
 /// Errors, the first that applies: `NotJson`; the lowest-numbered condition that applies to the
 /// document; the lowest-numbered condition that applies to the first refused fact, in byte order of
@@ -95,7 +95,7 @@ impl<'s> ReportReader<'s> {
     }
 
     /// Reads a report as `read` does, and its identifiers as `fact_identifiers` does (xBRL-JSON 1.0;
-    /// further conditions are own). The bytes are parsed only once.
+    /// further conditions are our own). The bytes are parsed only once.
     ///
     /// Errors: as for `read`.
     #[tactic(auto, unfolding(crate::specs::Outcome::outcome))]

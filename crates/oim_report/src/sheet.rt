@@ -45,9 +45,9 @@ impl Sheet {
     /// `dimensions`, which are objects (own).
     ///
     /// Errors, the first that applies: `NotJson`; `MemberForm` if the root or one of these members
-    /// is not an object; `UnknownMember` for any other key without a colon in the root; `Namespace`
-    /// if an entry of `namespaces` does not bind a prefix to a URI; the first of `NameForm`,
-    /// `UnboundPrefix` and `ReservedNamespace` that applies to any key of `concepts` or
+    /// is not an object; `UnknownMember` if the root has any other key without a colon;
+    /// `Namespace` if an entry of `namespaces` does not bind a prefix to a URI; the first of
+    /// `NameForm`, `UnboundPrefix` and `ReservedNamespace` that applies to any key of `concepts` or
     /// `dimensions`; `SheetKind` if a kind is invalid, or if two keys of one member give a name two
     /// kinds. `OutOfMemory` may replace any result.
     #[tactic(auto, unfolding(crate::specs::Sheet::sheet_outcome))]

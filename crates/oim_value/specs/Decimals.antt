@@ -8,7 +8,7 @@ use Rattle.oim_value.specs.declared.decimals.Places.TheVariants.{Finite, Infinit
 abbrev pub is_finite_decimals : ℤ → Bool
 is_finite_decimals d = nat_le (unsigned_abs d) (unsigned_abs MOST_DECIMALS)
 
--- the decimals that a number may have: finite ones in the range, or infinite ones
+-- the decimals that a number may have: finite ones in range, or infinite ones
 abbrev pub AreDecimals : Option ℤ → Type 0
 AreDecimals (Some d) = IsTrue (is_finite_decimals d)
 AreDecimals None = Unit {0}

@@ -36,8 +36,8 @@ pub record MeetBetween (vs : List Value) (e : Interval) : Type 0 where
 abbrev pub DifferentMeetAsNumbers : Type 0
 DifferentMeetAsNumbers = (x y : Value) → x ≢ y → Meets x y → IsTrue (has_interval x) × IsTrue (has_interval y)
 
--- take two or more different values: one may be nil, all others are of one kind; they meet each other exactly if no value is nil
--- and the interval between the ends is not empty
+-- if two or more values are different, and all that are not nil are of one kind, every two of the values meet exactly if no value is
+-- nil and the interval between the ends is not empty
 abbrev pub DifferentMeetBetweenEnds : Type 0
 DifferentMeetBetweenEnds = (kind : ℕ) (vs : List Value) → 2 ≤ length vs → AreDifferent vs → AreNilOrOfKind kind vs → EachTwoValuesMeet vs ↔ ((e : Interval) × MeetBetween vs e)
 

@@ -22,7 +22,7 @@ kind_order (Number m d) = 1
 kind_order (AText t) = 2
 kind_order (AName n) = 3
 
--- values are ordered by kind; then numbers by units and decimals, texts by bytes, names by their parts
+-- values are ordered by kind; then numbers by units and decimals, texts by bytes, names by URI and local part
 abbrev pub value_cmp : Value → Value → Ordering
 value_cmp (Number m d) (Number n e) = ordering_then (int_cmp m n) (decimals_cmp d e)
 value_cmp (AText s) (AText t) = slice_cmp nat_cmp s t

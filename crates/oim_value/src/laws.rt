@@ -156,7 +156,8 @@ pub fn all_meet_iff_ends_meet()
 /// Take two or more different values: one may be nil, and all others are of one kind. They meet
 /// each other exactly if all are numbers and the greatest low end of their intervals is at most the
 /// least high end. If the greatest low end is above the least high end, two numbers do not meet:
-/// the first with this high end and the first with this low end.
+/// the first number whose interval has this high end, and the first whose interval has this low
+/// end.
 pub fn different_meet_between_ends()
     ensures numbers { DifferentMeetAsNumbers }
     ensures between { DifferentMeetBetweenEnds }

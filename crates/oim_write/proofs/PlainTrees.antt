@@ -1,4 +1,4 @@
--- The tree of a body that fits a sheet is plain: its texts are UTF-8, it has no float, the keys of its objects ascend, and it nests at most four deep.
+-- The tree of a body that fits a sheet is plain: its texts are UTF-8, it has no float, the keys of its objects ascend, and it is at most four levels deep.
 use Rattle.std.proofs.Common.{◌≡◌, ℕ, suc, ◌≤◌, ◌<◌, List, [], ◌∷◌, length, get_or, Option, Some, None, refl, codes, arith}
 use Rattle.std.specs.Prelude.{All, IsUtf8}
 use Rattle.std.specs.Cmp.Lexicographic.{slice_cmp}
@@ -73,7 +73,7 @@ texts_kept (t ∷ ts) n are =
     let rest = texts_kept ts n (All-tail IsUtf8 t ts are) in
     record { plain = (tt, rest.plain); utf8 = (All-head IsUtf8 t ts are, rest.utf8); shallow = omega (arith, rest.shallow) }
 
--- ---- members with rising labels, before other members
+-- ---- members with ascending labels, before other members
 
 module _ {A : Type 0} (key : A → List ℕ) (shown : A → Data) (others : Members) where
   before_each : (k : List ℕ) (xs : List A) → IsBefore k others → ((j : ℕ) (d : A) → j < length xs → slice_cmp nat_cmp k (key (get_or xs j d)) ≡ Less) → IsBefore k (members_before key shown xs others)

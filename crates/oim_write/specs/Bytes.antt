@@ -22,7 +22,7 @@ earlier b = compact_text (earlier_tree b)
 abbrev pub BytesIgnoreOrder : Type 0
 BytesIgnoreOrder = (ds es : List Document) → SameMembers ds es → canonical (body ds) ≡ canonical (body es)
 
--- The tree of a body that fits a sheet has UTF-8 texts and no float, and it nests at most four deep. The keys of its objects are distinct
+-- The tree of a body that fits a sheet has UTF-8 texts and no float, and it is at most four levels deep. The keys of its objects are distinct
 -- and in byte order. This holds for each declared level, and for the earlier form.
 abbrev pub TreesArePlain : Type 0
 TreesArePlain = (sheet : Sheet) (b : Body) (declared : Option Level) → Fits sheet b → IsPlainJson (tree_declaring declared b) 4

@@ -49,6 +49,6 @@ module _ (spelled : QName → List ℕ) where
       (member (codes "dimensions") (object (ordered_dimensions f.dimensions))
       (member (codes "value") (value_data spelled f.value) no_members)))
 
--- with the prefixes of a text, the object of each fact has its members in this order
+-- if names have the prefixes of a text, the object of each fact in that text has its members in the order of `ordered_fact`
 abbrev pub FactsAreWrittenInOrder : Type 0
 FactsAreWrittenInOrder = (facts : List Fact) (f : Fact) → Contains facts f → IsDimensionSet f.dimensions → fact_object (name_text (uris facts)) f ≡ ordered_fact (name_text (uris facts)) f

@@ -1,4 +1,4 @@
--- The ranks of the members of a set, which begin at 1, and their texts of one width (own). In bytes, `0` is 48.
+-- The ranks of the members of a set, from 1, and the texts of these ranks, padded to one width (own). In bytes, `0` is 48.
 use Rattle.std.specs.Prelude.{◌≡◌, ℕ, zero, suc, ◌+◌, ◌/◌, ◌%◌, ◌^◌, ◌<◌, ◌≤◌, List, [], ◌∷◌, ◌++◌, length, count_by, nat_lt, if◌then◌else◌, Contains}
 use Rattle.std.specs.declared.cmp.Ordering.{Ordering}
 use Rattle.std.specs.Ordering.{is_lt, nat_cmp}
@@ -39,7 +39,7 @@ pub record IsNumeralOf (digits n : ℕ) (text : List ℕ) : Type 0 where
 abbrev pub PaddedWritesNumber : Type 0
 PaddedWritesNumber = (digits n : ℕ) → n < 10 ^ digits → IsNumeralOf digits n (padded digits n)
 
--- `digits` is the smallest count of digits, at least 1, that can write n
+-- `digits` is the smallest number of digits, at least 1, that can write n
 pub record IsFewestDigits (n digits : ℕ) : Type 0 where
   pub some : 1 ≤ digits
   pub enough : n < 10 ^ digits

@@ -1,4 +1,4 @@
--- The namespace URIs of the facts' names. Each gets one prefix (OIM Common 1.0: prefixes have no meaning).
+-- The namespace URIs of the facts' names. Each URI gets one prefix (OIM Common 1.0: prefixes have no meaning).
 use Rattle.std.specs.Prelude.{ℕ, List, [], ◌∷◌, ◌++◌, map, flat_map, Option, Some, None}
 use Rattle.oim_names.specs.QName.{QName}
 use Rattle.oim_value.specs.declared.value.Value.{Value}

@@ -8,8 +8,8 @@ use std::alloc::{AllocError, Global};
 const LABEL: usize = 16;
 
 /// Returns a fact's identifier in a canonical text: the letter `f`, then the fact's rank, padded
-/// with zeros to as many digits as `count` has (own). Ranks begin at 1. A rank with more digits is
-/// cut to its last digits.
+/// with zeros to as many digits as `count` has (own). Ranks begin at 1. If the rank has more digits
+/// than `count`, its first digits are dropped.
 ///
 /// Errors: out of memory.
 pub fn identifier(alloc: Global, rank: u128, count: u128) -> Result<Text, AllocError>

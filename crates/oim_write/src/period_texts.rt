@@ -72,7 +72,7 @@ impl Model for PeriodTexts {
 }
 
 impl PeriodTexts {
-    /// Returns an empty cache. This requests no memory.
+    /// Returns an empty cache. The call does not allocate.
     pub(crate) fn new(alloc: Global) -> PeriodTexts {
         PeriodTexts {
             texts: Vec::new(alloc),

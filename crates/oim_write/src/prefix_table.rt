@@ -61,7 +61,7 @@ impl PrefixTable {
         label(alloc, "n", self.digits, self.rank(uri))
     }
 
-    // Few URIs share a class of the cache, so it usually has the index.
+    // Few URIs share a class of the cache, so the cache usually has the index.
     fn rank(&self, uri: &str) -> u128
         ensures { result ≡ rank text_cmp uri.now self.now }
     {

@@ -136,7 +136,7 @@ impl Write for TestWriter {
     }
 }
 
-/// Takes bytes like `TestWriter`, but compares them with a text instead of keeping them.
+/// Takes bytes like `TestWriter`, but compares them with a text instead of storing them.
 #[derive(Clone, Copy)]
 pub struct ComparingWriter<'a> {
     text: Expecting<'a>,

@@ -5,8 +5,8 @@ use Rattle.oim_report.specs.declared.refusal.Refusal.{Refusal}
 use Rattle.oim_merge.specs.declared.fault.Fault.{Fault}
 use Rattle.oim_merge.specs.declared.fault.Fault.TheVariants.{OutOfMemory, Device, TooLoose, Sheet as SheetFault}
 
--- why a call failed, given the conditions for a row above the level and for a refused sheet; there is no condition for refused
--- memory, and none for a failed device, since a sink in memory fails only if memory is refused
+-- why a call failed, given the conditions for a row above the level and for a refused sheet. There is no condition for refused memory.
+-- There is none for a failed device either: a sink in memory fails only if memory is refused.
 abbrev pub StopsBy : (ℕ → List (ℕ × Refusal) → Type 0) → (Reason → Type 0) → Fault → Type 0
 StopsBy IsRow IsSheet (TooLoose number told) = IsRow number told
 StopsBy IsRow IsSheet (SheetFault reason) = IsSheet reason

@@ -6,7 +6,7 @@ use Rattle.oim_report.specs.declared.place.Place.TheVariants.{Document, Fact}
 use Rattle.oim_report.specs.declared.refusal.Refusal.{Refusal}
 use Rattle.xbrlmerge_c.specs.declared.output.RefusedReport.{RefusedReport}
 
--- a fact has its number, from 1; the document has 0
+-- the number of a fact, counted from 1, or 0 for the document
 abbrev pub place_number : Place → ℕ
 place_number Document = 0
 place_number (Fact n) = n

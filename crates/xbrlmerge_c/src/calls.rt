@@ -35,10 +35,10 @@ pub(crate) fn level_numbered(number: u32) -> Option<Level>
 /// text is written to the start of `out` and the refused reports to the start of `refusals`;
 /// `needed` and `refused` get their lengths.
 ///
-/// Errors, by the status: `TOO_LOOSE`, with the refused reports but no text, and with the number of
-/// the first row above the level in `needed`; `TOO_SHORT`, with only the lengths; `SHEET_REFUSED`,
-/// with the number of the refusal in `needed` and 0 in `refused`; `NO_MEMORY`, `BAD_ENDS` and
-/// `BAD_LEVEL`, with nothing changed.
+/// Errors, by the status: `TOO_LOOSE`, with the refused reports, without a text, and with `needed`
+/// set to the number of the first row above the level; `TOO_SHORT`, with only the lengths;
+/// `SHEET_REFUSED`, with `needed` set to the number of the refusal and `refused` to 0; `NO_MEMORY`,
+/// `BAD_ENDS` and `BAD_LEVEL`, with nothing changed.
 #[unsafe(no_mangle)]
 pub extern "C" fn xbrlmerge_merge(
     alloc: Global,

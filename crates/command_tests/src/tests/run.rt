@@ -139,8 +139,8 @@ fn a_refused_sheet_ends_the_run(rt: HostRuntime) -> Result<(), Fail> {
     Ok(())
 }
 
-/// Returns whether the run ends with status 3, exactly this text on standard output, and this line
-/// on standard error, if standard output has room for this many bytes.
+/// Runs the program with room for this many bytes on standard output. Returns whether the run ends
+/// with status 3, exactly this text on standard output, and this line on standard error.
 fn stops(
     rt: &HostRuntime,
     input: TestReader<'_>,

@@ -34,7 +34,7 @@ entry_of f = (f.dimensions, summed f.value)
 abbrev pub with_fact : Fact → List Entry → List Entry
 with_fact f es = map_with dimensions_cmp summed_of_both f.dimensions (summed f.value) es
 
--- no entry is above these dimensions
+-- no entry has greater dimensions than these
 abbrev pub NoneAbove : DimensionSet → List Entry → Type 0
 NoneAbove s es = All (λ e. is_gt (dimensions_cmp e.0 s) ≡ false) es
 
@@ -45,14 +45,14 @@ pub record EntryFits (sheet : Sheet) (s : DimensionSet) (kept : Summed) : Type 0
   pub summary : kept.1 ≡ summary_of_all kept.0
   pub facts : All (FactFits sheet) (facts_with s kept.0)
 
--- the entries and texts that a base with this sheet can store
+-- the entries and references that a base with this sheet can store
 pub record AreStored (sheet : Sheet) (es : List Entry) (texts : List (List ℕ)) : Type 0 where
   pub rise : IsRising dimensions_cmp entry_key es
   pub entries : All (λ e. EntryFits sheet e.0 e.1) es
   pub in_order : IsSet text_cmp texts
   pub references : All IsKeptReference texts
 
--- ascending entries with exactly these facts; they fit each sheet that all facts fit
+-- ascending entries with exactly these facts; the entries fit each sheet that all these facts fit
 pub record AreEntriesOf (facts : List Fact) (entries : List Entry) : Type 0 where
   pub rise : IsRising dimensions_cmp entry_key entries
   pub in_order : All (λ e. IsSet value_cmp e.1.0) entries

@@ -25,7 +25,7 @@ pub record AreSummarised (vs : List Value) (told : Summarised) : Type 0 where
   pub alike : AreAlike vs
   pub summary : told ≡ summary_of_all vs
 
--- the common part of the intervals of values; None with nil, without numbers, or if no number lies in all intervals
+-- the common part of the values' intervals; None if a value is nil, if no value is a number, or if no number lies in all intervals
 abbrev pub shared_by : Summarised → Option Interval
 shared_by s = option_and_then (λ ends. if s.nil || int_lt ends.high ends.low then None else Some ends) s.ends
 

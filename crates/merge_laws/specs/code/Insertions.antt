@@ -5,7 +5,7 @@ use Rattle.std.specs.declared.cmp.Ordering.{Ordering}
 use Rattle.std.specs.Ordering.{is_lt}
 use Rattle.merge_laws.specs.Sorted.{item_at, has_key, entry_key}
 
--- the items after new ones were inserted; the new items are listed from the last to the first
+-- inserts the new items at their indices; the list of new items begins with the last one
 abbrev pub inserted : {E : Type 0} → List E → List (ℕ × E) → List E
 inserted es [] = es
 inserted es (n ∷ ns) = inserted (take n.0 es) ns ++ n.1 ∷ drop n.0 es
@@ -53,7 +53,7 @@ with_value i v [] = []
 with_value zero v (e ∷ es) = (e.0, v) ∷ es
 with_value (suc i) v (e ∷ es) = e ∷ with_value i v es
 
--- the entries after several values are replaced, one after another
+-- replaces several values, one after another
 abbrev pub with_values : {K V : Type 0} → List (K × V) → List (ℕ × V) → List (K × V)
 with_values es [] = es
 with_values es (c ∷ cs) = with_values (with_value c.0 c.1 es) cs

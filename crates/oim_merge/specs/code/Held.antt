@@ -37,7 +37,8 @@ pub record IsWritten (sheet : Sheet) (text : List ℕ) : Type 0 where
 abbrev pub sent_texts : Messages → List (List ℕ)
 sent_texts messages = texts_at messages.texts.items messages.sent.items
 
--- each sent text is stored; each stored text is the text of a body; each cached reading is the result of reading its text
+-- each sent text is stored; each stored text is the text of a body that fits the sheet; each cached reading is the result of reading
+-- its text
 pub record AreHeld (sheet : Sheet) (messages : Messages) : Type 0 where
   pub places : AreWithin messages.texts.items messages.sent.items
   pub kept : AreReadings sheet messages.texts.items messages.kept.items

@@ -9,7 +9,7 @@ use Rattle.oim_merge.specs.Sources.{SourceText}
 use Rattle.oim_merge.specs.declared.sources.fact_list.LentFact.{LentFact}
 use Rattle.oim_merge.specs.declared.sources.placed_mention.PlacedMention.{PlacedMention}
 
--- rows of a body with these facts were pushed through a buffer, completely or until a fault
+-- the rows of a body with these facts were pushed through a buffer completely; in the next definition, until a fault
 pub record PassesRows (written : RowText) (facts : List Fact) (rows : List Row) (old new : Option (List ℕ)) (before after : Pending) : Type 0 where
   pub text : List ℕ
   pub are : AreRowsFrom written facts 1 rows text

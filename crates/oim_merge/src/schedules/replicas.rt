@@ -20,8 +20,8 @@ use std::alloc::{AllocError, Global};
 #[derive(Drop)]
 pub(crate) struct Replicas<'s> {
     pub bases: Vec<Base<'s>>,
-    /// For each replica, the index of its text in `messages.texts`. It is None if the replica sent
-    /// no text, or if a later event may have changed its base.
+    /// For each replica, the index of its text in `messages.texts`. The index is None if the
+    /// replica sent no text, or if a later event may have changed its base.
     pub current: Vec<Option<usize>>,
     pub messages: Messages<'s>,
     pub refused: Refusals,

@@ -17,7 +17,7 @@ module _ {K Y : Type 0} where
   abbrev pub in_group : Option (BTreeMap (String Y) (QName × K)) → List ℕ → Option (QName × K)
   in_group group l = option_and_then (λ g. get_by_text g l) group
 
-  -- the group has the names that the map has with this URI
+  -- the group has exactly the names that the map has with this URI, with the same kinds
   abbrev pub IsGroupOf : FinMap name_cmp K → List ℕ → Option (BTreeMap (String Y) (QName × K)) → Type 0
   IsGroupOf m u group = (l : List ℕ) → (option_map (λ e. e.1) (in_group group l) ≡ map.get m (record { uri = u; local_part = l })) × IfSome (in_group group l) (λ e. e.0 ≡ record { uri = u; local_part = l })
 

@@ -86,7 +86,7 @@ pub record IsTail (text facts : List ℕ) (behind : Option (List ℕ)) : Type 0 
   pub splits : text ≡ s3 ++ 58 ∷ (s4 ++ 123 ∷ (facts ++ (s5 ++ 125 ∷ rest)))
   pub ends : IsEnd rest behind
 
--- the texts of the members before `facts`, in it, and after it
+-- the texts of the members before, in and after `facts`
 pub record IsSplit (text : List ℕ) (before : Option (List ℕ)) (facts : List ℕ) (behind : Option (List ℕ)) : Type 0 where
   pub head : List ℕ
   pub tail : List ℕ
@@ -94,7 +94,7 @@ pub record IsSplit (text : List ℕ) (before : Option (List ℕ)) (facts : List 
   pub head_is : IsHead head before
   pub tail_is : IsTail tail facts behind
 
--- each text is a piece; with a comma between them they are a piece with the members `all`
+-- each text is a piece; joined by a comma, both texts are a piece with the members `all`
 pub record AreBoth (before behind : List ℕ) (all : Members) : Type 0 where
   pub found : Members
   pub more : Members
@@ -102,7 +102,7 @@ pub record AreBoth (before behind : List ℕ) (all : Members) : Type 0 where
   pub second : IsPiece behind more
   pub both : IsPiece (before ++ 44 ∷ behind) all
 
--- the members before and after `facts`; there is at least one
+-- the members before and after `facts`; there is at least one such member
 abbrev pub IsBeside : Option (List ℕ) → Option (List ℕ) → Members → Type 0
 IsBeside None None found = ⊥
 IsBeside (Some before) None found = IsPiece before found

@@ -5,7 +5,8 @@ ghost use Rattle.oim_report.specs.Json.{given, given_of, is_absent, is_no_text, 
 
 use serde_json::Value;
 
-/// A JSON value that may be absent, in the cases that readers of sheets and reports distinguish.
+/// A JSON value that may be absent. The variants are the cases that readers of sheets and reports
+/// distinguish.
 #[derive(Clone, Copy, Debug)]
 pub(crate) enum JsonMember<'a> {
     Absent,

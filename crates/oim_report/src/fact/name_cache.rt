@@ -13,14 +13,14 @@ use oim_names::{Aliases, Name};
 use std::alloc::Global;
 use std::collections::BTreeMap;
 
-/// Finds which listed name a text spells, under one set of prefixes. Groups are cached by prefix,
-/// so that later names with the same prefix are found without comparing URIs.
+/// Finds which name of a sheet a text spells, under one set of prefixes. Groups are cached by
+/// prefix, so that later names with the same prefix are found without comparing URIs.
 #[derive(Drop)]
 pub(crate) struct NameCache<'s, K: Kind> {
     alloc: Global,
-    /// The texts that spell a listed name, each with the name and its kind.
+    /// The texts that spell a name of the sheet, each with the name and its kind.
     pub(crate) texts: TextCache<(&'s Name, K)>,
-    /// The prefixes that were used, each with the group of its namespace, if the sheet has one.
+    /// The prefixes that were used, each with the sheet's group for its namespace, or None.
     pub(crate) groups: BTreeMap<String, Option<&'s Group<K>>>,
 }
 

@@ -128,7 +128,7 @@ fn two_keys<'a>(
             if before.has(&name) {
                 return Ok(Some(beside_first(aliases, dimensions, key.as_str())));
             }
-            // `before` compares only names, so any kind serves
+            // only the names in `before` are looked up, so any kind will do
             before.put(name, DimensionKind::Explicit)?;
         }
     }

@@ -18,9 +18,9 @@ use oim_names::{Aliases, Reason};
 use serde_json::Value;
 use std::alloc::{AllocError, Global};
 
-/// Returns the part of a fact object that violates a condition under a sheet and these prefixes, or
-/// `None` exactly if the condition does not apply (own). If several parts violate the condition,
-/// the first is returned.
+/// Returns the part at fault if a condition applies to a fact object under a sheet and these
+/// prefixes, and `None` if the condition does not apply (own). If several parts are at fault, the
+/// first is returned.
 ///
 /// Errors: out of memory.
 pub fn fact_part<'a>(

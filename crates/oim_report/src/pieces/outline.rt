@@ -7,8 +7,8 @@ use crate::pieces::spaces::{strip_back, strip_front, trim_back};
 use serde_json::{Map, Value};
 use std::alloc::Global;
 
-// The end of `facts` is searched only in the last `MOST_BEHIND` bytes of a document, not counting
-// white space at the end.
+// `guess_end` looks for the end of `facts` only in the last `MOST_BEHIND` bytes of a document, not
+// counting white space at the end.
 const MOST_BEHIND: usize = 16_384;
 
 /// A document without its member `facts`, and the text of the members of `facts`.

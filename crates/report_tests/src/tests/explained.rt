@@ -220,7 +220,7 @@ const FACTS: [Table<'static>; 1] = [Table {
     end: "}}",
 }];
 
-// Files in other encodings, compressed files and archives, and the lines about them.
+// Files in other encodings, a compressed file and an archive, each with the line about it.
 const BYTES: [(&[u8], &str); 5] = [
     (
         b"\xff\xfe{\0",

@@ -154,7 +154,7 @@ pub(super) const STOPPED: [Row; 15] = [
         &[],
         "event 1: refused\n",
     ),
-    // a missing report, replica or message is found only after all reports are read
+    // a missing report, replica or sent text is found only after all reports are read
     (
         "replay --sheet sheet --replicas 2 --events late 100",
         3,

@@ -5,7 +5,7 @@ use Rattle.merge_laws.specs.code.Insertions.{new_items, new_values}
 use Rattle.merge_laws.specs.Sorted.{entry_key}
 use Rattle.merge_laws.proofs.changes.changes_by.Given as goal
 
--- all entries before index `from` are below the next entry of the others
+-- all entries before index `from` are below the next entry of the other map
 abbrev pub invariant-loop-other : goal.invariant-loop-other
 invariant-loop-other g l = record {
   values : l.changes.values.items ≡ new_values g.K.Ord.cmp g.V.Merge.merged l.entries (take l.other-index l.others);

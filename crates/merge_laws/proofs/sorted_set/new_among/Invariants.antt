@@ -5,7 +5,7 @@ use Rattle.merge_laws.specs.code.Insertions.{new_items}
 use Rattle.merge_laws.specs.Sorted.{itself}
 use Rattle.merge_laws.proofs.sorted_set.new_among.Given as goal
 
--- all items before index `from` are below the next item of the others
+-- all items before index `from` are below the next item of the other set
 abbrev pub invariant-loop-other : goal.invariant-loop-other
 invariant-loop-other g l = record {
   news : l.news.items ≡ new_items g.T.Ord.cmp itself l.items (take l.other-index l.others);

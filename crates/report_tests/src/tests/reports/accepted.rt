@@ -23,7 +23,7 @@ const LEVELS: &[Table] = &[
         ],
         end: "}}",
     },
-    // facts are equal in all these spellings
+    // equal facts may be spelled differently
     Table {
         start: FACTS,
         rows: &[

@@ -223,7 +223,7 @@ fn parts_of_a_document_have_their_forms(rt: HostRuntime) -> Result<(), Fail> {
     Ok(())
 }
 
-// Each document has the expected fault. All except the one with the reference `a.xsd` also have the
+// Each document has the expected fault. Each document without the reference `a.xsd` also has the
 // fault with the next number.
 const TWO_FAULTS: [Table; 3] = [
     Table {

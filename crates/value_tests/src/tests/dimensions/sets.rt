@@ -122,7 +122,7 @@ fn a_concept_alone_holds_forever(rt: HostRuntime) -> Result<(), Fail> {
     Ok(())
 }
 
-// Returns whether a set has an entity, a unit and a language exactly if they are expected.
+// Returns whether a set has an entity, a unit and a language, each exactly if its argument is true.
 fn has_just(set: &Dimensions, entity: bool, unit: bool, language: bool) -> bool {
     set.entity().is_some() == entity
         && set.unit().is_some() == unit

@@ -230,7 +230,8 @@ fn units_are_written_and_read_back(rt: HostRuntime) -> Result<(), Fail> {
 // Bindings without a prefix for the URI of `eg:b`.
 const FEW: [(&str, &str); 1] = [("x", "http://example.org/u")];
 
-// Bindings with two prefixes for the URI of `eg:b`. The first of these has a reserved character.
+// Bindings with two prefixes for the URI of `eg:b`. The first of these prefixes has a reserved
+// character.
 const HIDDEN: [(&str, &str); 3] = [
     ("x", "http://example.org/u"),
     ("e*g", "http://example.org/t"),

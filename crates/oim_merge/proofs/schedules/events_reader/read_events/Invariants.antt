@@ -2,7 +2,7 @@ use Rattle.std.proofs.Common.{◌+◌, ◌≤◌, length}
 use Rattle.oim_merge.proofs.EventsRead.{HasReadEvents}
 use Rattle.oim_merge.proofs.schedules.events_reader.read_events.Given as goal
 
--- each line so far spells an event, so there are at most as many events as bytes read
+-- each line so far spells an event, so there are at most as many events as bytes that were read
 abbrev pub invariant-loop-rest : goal.invariant-loop-rest
 invariant-loop-rest l = record {
   read : HasReadEvents l.bytes l.rest l.events;
