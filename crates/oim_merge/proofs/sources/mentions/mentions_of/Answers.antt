@@ -15,7 +15,7 @@ loop-report-preserved c =
     let report = c.as_bytes.result.now in
     let rest = drop (l.report-index + 1) reports in
     let here : drop l.report-index reports ≡ report ∷ rest = drop_more reports l.report-index c.report-item.result (omega arith) ∙ ap (λ t. t ∷ rest) (sym c.report-item.is ∙ sym c.as_bytes.ensures) in
-    let added = subst (λ s. c.add_report.new.mentions.items ≡ l.mentions.items ++ all_placed (map lent c.args.facts.now) (mentions_of (l.number + 1) (identifiers report) (outcome s report))) l.invariant.same c.in_ok-add_report.ensures in
+    let added = subst (λ s. c.add_report.new.mentions.items ≡ l.mentions.items ++ all_placed (map lent c.args.facts.now) (mentions_of (l.number + 1) (identifiers report) (outcome s report))) l.invariant.same c.in_ok-add_report.ensures.added in
     record {
       same = c.add_report.ensures.same ∙ l.invariant.same;
       count = omega (arith, l.invariant.count);
