@@ -15,7 +15,7 @@ returns-then-not-are_ends c = record {
   some_refused = λ is. cc;
   short = λ is. cc;
   sheet_is_refused = λ is. cc;
-  no_ends = λ is ends. c.if-not-are_ends ends;
+  no_ends = λ is ends. let holds = c.are_ends.ensures.1 ends in let refused = c.if-not-are_ends.true in cc;
   same = λ high. refl;
 }
 
@@ -31,7 +31,7 @@ returns c =
     record {
       within = omega (arith, low);
       not_loose = λ is. answered.never_loose (IsSheetRefused sheet) made _ _ _ err answers is;
-      are_ends = λ low. search;
+      are_ends = λ low. c.are_ends.ensures.0 c.if-not-are_ends.false;
       listed = λ low. answered.hands lists made _ _ _ ok answers low;
       none_refused = λ is. answered.none_refused made _ _ _ answers is;
       some_refused = λ is. answered.some_refused made _ _ _ answers is;
