@@ -89,7 +89,7 @@ positive : (z : ℤ) → pos 1 ≤ℤ z → (z ≡ pos (unsigned_abs z)) × (1 �
 positive (pos n) h = (refl, omega (arith, signed_arith))
 positive (negsuc n) h = absurd (omega (arith, signed_arith))
 
--- a date of jiff in the year 0001 or later has the parts that are computed from its day number
+-- a date of jiff in the year 0001 or later has the year, month and day that are computed from its day number
 pub date_parts : (date : Date) (z : ℤ) → epoch_day date ≡ z → neg_ℤ (pos 719_162) ≤ℤ z → (date.year ≡ pos (year_of z)) × (date.month ≡ month_of z) × (date.day ≡ day_of z)
 date_parts date z is low =
     let h = civil date in

@@ -81,7 +81,7 @@ unit_refusal bs t =
     if some_piece (lacks_binding is_name bs) t then Some UnboundPrefix else (
     if some_piece (lies_in_reserved is_name bs) t then Some ReservedNamespace else None)))
 
--- a name that can be a measure; the local part has no reserved character, because such a character would end the piece
+-- a name that can be a measure; the local part has no reserved character, because no piece has one
 pub record IsMeasure (n : QName) : Type 0 where
   pub filled : n.uri ≢ []
   pub allowed : n.uri ≢ reserved_uri

@@ -49,8 +49,8 @@ pub fn texts_denote_one_unit()
     ensures refused { OthersAreRefused }
 {}
 
-/// A list of members has a name exactly if it has a member with that name. Adding a member with a
-/// new name adds exactly that member.
+/// `has_name` finds a name exactly if the list has a member with that name. If the names ascend,
+/// adding a member with a new name adds exactly that member and keeps the order.
 pub fn members_grow()
     ensures there { NamesAreThere }
     ensures more { MembersGrow }

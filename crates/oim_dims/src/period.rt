@@ -40,8 +40,8 @@ impl Period {
 /// Reads a period: one date-time, or two with `/` between them. Two equal date-times denote an
 /// instant. The call does not allocate.
 ///
-/// Errors: `PeriodForm` if the text has another form, or a date-time does not exist; `PeriodOrder`
-/// if the end is before the start.
+/// Errors: `PeriodForm` if the text has another form, or if a date-time does not exist or is after
+/// the year 9999; `PeriodOrder` if the end is before the start.
 pub fn read_period(_alloc: Global, text: &str) -> Result<Period, Reason>
     ensures { result ≡ period_of text.now }
 {

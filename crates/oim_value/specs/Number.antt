@@ -39,7 +39,7 @@ is_numeral ds = nat_lt 0 (length ds) && list_all is_ascii_digit ds
 abbrev pub is_number : List ℕ → Bool
 is_number t = is_numeral (both_parts t)
 
--- the flag is true for a text with `-`
+-- the flag is true if the text begins with `-`
 abbrev pub signed : Bool → ℕ → ℤ
 signed true n = neg_ℤ (pos n)
 signed false n = pos n
