@@ -42,7 +42,8 @@ InconsistentIsApart =
 
 -- ---- evidence
 
--- there are several values, and every two meet; the interval is not empty, and contains exactly the numbers in all intervals of the values
+-- there are several values, and every two meet; the interval is not empty, and contains exactly the numbers that lie in every
+-- interval of the values
 pub record IsCommonOf (vs : List Value) (common : Interval) : Type 0 where
   pub several : 2 ≤ length vs
   pub each : EachTwoValuesMeet vs
@@ -55,7 +56,8 @@ begin_with_numbers (v ∷ w ∷ vs) = has_interval v && has_interval w
 begin_with_numbers other = false
 
 -- the two indices that are shown for several values. If the first two values are numbers, i is the index of the first
--- value whose interval has the least high end, and j of the first value whose interval has the greatest low end. Otherwise, i is 0 and j is 1.
+-- value whose interval has the least high end, and j is the index of the first value whose interval has the greatest low
+-- end. Otherwise, i is 0 and j is 1.
 abbrev pub IsPairOf : Bool → List Value → ℕ → ℕ → Type 0
 IsPairOf true vs i j = (ends : Interval) → AreEnds ends (intervals_of vs) → (i ≡ place_of_least_high ends vs) × (j ≡ place_of_greatest_low ends vs)
 IsPairOf false vs i j = (i ≡ 0) × (j ≡ 1)

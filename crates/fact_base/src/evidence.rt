@@ -1,6 +1,6 @@
 use oim_value::Interval;
 
-/// Evidence for a verdict, which a reader can check by hand (own).
+/// Evidence with which a reader can check a verdict by hand (own).
 #[derive(Clone, Copy, Debug, PartialEq, Eq)]
 pub enum Evidence {
     /// There is only one distinct fact.

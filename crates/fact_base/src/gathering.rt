@@ -133,7 +133,7 @@ impl<'s> Gathering<'s> {
     {
         self.facts.reserve(facts.len())?;
         self.references.append(&mut references)?;
-        // capacity was reserved, so this cannot be refused
+        // The capacity is reserved, so appending the facts cannot fail.
         self.facts.append(&mut facts)
     }
 

@@ -79,8 +79,8 @@ pub fn joined(rt: &HostRuntime, parts: &[&str]) -> Result<Vec<u8>, AllocError> {
     Ok(all)
 }
 
-/// Returns `count` copies of the piece. If memory is refused, prints `refused here` and tries once
-/// more.
+/// Returns a text that repeats the piece `count` times. If memory is refused, prints `refused here`
+/// and tries once more.
 pub fn repeated(rt: &HostRuntime, piece: &str, count: usize) -> Result<String, AllocError> {
     match piece.repeat(rt.alloc(), count) {
         Err(_) => {

@@ -12,7 +12,7 @@ pub enum Then {
     Fails,
     /// Each further call returns an error of the kind `Interrupted`.
     IsInterrupted,
-    /// A reader gives zeros forever; a writer fails.
+    /// Each further call reads zeros, or fails to write.
     GoesOn,
 }
 
@@ -46,7 +46,7 @@ fn fault(then: Then) -> io::Error {
     io::Error::from(kind)
 }
 
-/// Gives its remaining bytes in steps, then behaves as `then`, and counts the calls.
+/// Returns its remaining bytes in steps, then behaves as `then`, and counts the calls.
 #[derive(Clone, Copy)]
 pub struct TestReader<'a> {
     left: &'a [u8],
