@@ -239,7 +239,11 @@ impl Aliases {
         }
     }
 
-    /// Returns the prefix, a colon and the local part of the name. The prefix need not be bound.
+    /// Returns the prefix, a colon and the local part of the name. The prefix need not be bound. If
+    /// `expand` returned the name and the prefix is bound to its URI, `expand` reads this text as the
+    /// same name. The same holds for `expand_entity`.
+    ///
+    /// Errors: out of memory.
     pub fn spell(&self, prefix: &str, name: &Name) -> Result<Text, AllocError>
         ensures text { IfOk result (λ text. text ≡ prefix.now ++ 58 ∷ name.now.local_part) }
         ensures back { uri_of self.now prefix.now ≡ Some name.now.uri →

@@ -25,6 +25,8 @@ impl Model for Text {
 
 impl Text {
     /// Copies a string slice into a new text.
+    ///
+    /// Errors: out of memory.
     pub fn new(alloc: Global, text: &str) -> Result<Text, AllocError>
         ensures { IfOk result (λ made. made ≡ text.now) }
     {
@@ -32,6 +34,8 @@ impl Text {
     }
 
     /// Returns a text that takes over a string. The bytes are not copied.
+    ///
+    /// Errors: out of memory; the string is then lost.
     pub fn from_string(alloc: Global, text: String) -> Result<Text, AllocError>
         ensures { IfOk result (λ made. made ≡ string_bytes text) }
     {
