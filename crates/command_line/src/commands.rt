@@ -20,7 +20,7 @@ use std::alloc::Global;
 use std::io::Write;
 use std::rt::Files;
 
-/// Runs the request. After an error, `out` may have a part of the text of the request.
+/// Runs the request and writes its output to `out`. After an error, the output may be incomplete.
 pub(crate) fn execute<'n, F: Files, E: Write, S: Sink>(
     request: &Request<'n>,
     inputs: &mut Inputs<'n, F, E>,

@@ -13,9 +13,9 @@ use std::rt::Files;
 /// setuid and setgid are not among them.
 const KEPT_BITS: u32 = 0o777;
 
-/// Runs the request and writes its text to standard output. Flushes if the command ran to its end
-/// or a row was above the allowed level. If standard output fails, the fault contains the number of
-/// bytes that standard output took in this run.
+/// Runs the request and writes its output to standard output. Flushes standard output if the
+/// command ran to its end or a row was above the allowed level. If standard output fails, the error
+/// contains the number of bytes that standard output took in this run.
 pub(crate) fn write_out<'n, F: Files, E: Write, O: Write + Drop>(
     request: &Request<'n>,
     inputs: &mut Inputs<'n, F, E>,
@@ -41,7 +41,7 @@ fn flush<'n, O: Write + Drop>(
     }
 }
 
-/// Runs the request and writes its text to the file with this name, completely or not at all.
+/// Runs the request and writes its output to the file with this name, completely or not at all.
 pub(crate) fn write_file<'n, F: Files, E: Write>(
     request: &Request<'n>,
     inputs: &mut Inputs<'n, F, E>,
@@ -78,8 +78,8 @@ fn settle<'n, F: Files>(
 
 type Named<F> = (String, F);
 
-/// Creates a file in the same folder, to replace the file with this name. If there is an old file,
-/// the new one gets the old mode bits within `KEPT_BITS`.
+/// Creates a file in the folder of the file with this name, to replace that file. If there is an
+/// old file, the new one gets the old mode bits within `KEPT_BITS`.
 ///
 /// Errors: `Unwritten` if `old_mode` returns it, or if the new file cannot be created or its mode
 /// cannot be set; out of memory.

@@ -21,7 +21,7 @@ pub(crate) struct Args<'w> {
 }
 
 impl<'w> Args<'w> {
-    /// Returns the bytes of the bundle or of the file of names; empty if neither is read.
+    /// Returns the bytes of the bundle or of the file of names, or no bytes if neither is read.
     ///
     /// Errors: `Unread`, `TooLong`, and out of memory.
     pub(crate) fn read_input<F: Files, R: Read + Drop>(
@@ -49,7 +49,7 @@ pub(crate) enum Request<'w> {
     Bundle,
     /// Print help or the version. clap returns both as errors.
     Help(clap::Error),
-    /// Explain the sheet in this file and the reports.
+    /// Explain the reports, and the sheet in this file.
     Explain(&'w str, Format),
     /// Run another command under the sheet in this file.
     Under(&'w str, Subcommand<'w>),

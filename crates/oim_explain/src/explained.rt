@@ -15,12 +15,11 @@ use std::alloc::{AllocError, Global};
 /// `tree_faults`. One line follows for each key that is repeated in the root, in `documentInfo`,
 /// `namespaces`, `features` or `facts`, in a fact, or in its `dimensions`. Only the last member
 /// with that key is read (RFC 8259, section 4). A line of text begins with the name of the file and
-/// shows at most 80 characters of a value or key. All lines are safe to print on a terminal
-/// (`Escaped`).
+/// shows at most 80 characters of an identifier, a key or a value. All lines are safe to print on a
+/// terminal (`Escaped`).
 ///
 /// If `serde_json` cannot read the file, the only line contains the parser's message. Repeated keys
-/// are then not listed, even if the crate `json`, which accepts numbers of any size, can read the
-/// file.
+/// are then not listed, even if `json` can read the file. (`json` accepts numbers of any size.)
 ///
 /// Errors: out of memory.
 pub fn explain(

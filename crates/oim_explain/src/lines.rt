@@ -63,7 +63,8 @@ impl<'n> Lines<'n> {
     }
 
     /// Adds a line for a repeated member. If the member is in a fact, only the sentence contains
-    /// the fact's identifier, because the sentence cuts long identifiers.
+    /// the fact's identifier, cut to 80 characters. A fact may have many repeated members, and
+    /// otherwise each JSON object would repeat the whole identifier.
     pub(crate) fn push_repeated(&mut self, key: &str, sentence: &str) -> Result<(), AllocError> {
         self.put(&Fault {
             place: None,

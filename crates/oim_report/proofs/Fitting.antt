@@ -1,4 +1,4 @@
--- A fact that an object denotes fits the sheet, part by part.
+-- If the URIs of all bindings are namespaces, each part of a fact that an object denotes fits the sheet.
 use Rattle.std.proofs.Common.{◌≡◌, ◌≢◌, ℕ, List, [], ◌∷◌, Bool, true, false, not, ◌&&◌, cond, bytes_eq, Option, Some, None, refl, sym, ap, subst, length, ◌==◌, arith}
 use Rattle.std.specs.Prelude.{ℤ, All, IsTrue, option_and_then, codes}
 use Rattle.std.specs.Option.{option_map, option_map_or, unwrap_or}
@@ -136,7 +136,8 @@ dimensions_clean ms = record {
   defined = defined_clean ms;
 }
 
--- the value and the dimensions of a fact object, except the period, are UTF-8 if they are texts
+-- the value and the dimensions of a fact object, except the period, are UTF-8 if they are texts; the keys of
+-- taxonomy-defined dimensions are UTF-8
 pub record AreClean (p : FactParts) : Type 0 where
   pub value : IsClean p.value
   pub dimensions : (ds : DimensionParts) → p.dimensions ≡ Some ds → AreCleanDimensions ds

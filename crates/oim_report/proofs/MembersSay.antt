@@ -1,4 +1,5 @@
--- If `said_members` returns a list, it contains exactly the members that the keys denote, and these members fit the sheet.
+-- If `said_members` returns a list, it contains exactly the members that the keys denote. These members fit the sheet
+-- if the URIs of all bindings are namespaces, and the keys and texts are UTF-8.
 use Rattle.std.proofs.Common.{◌≡◌, ◌≢◌, ◌⊎◌, inl, inr, ⊎_elim, ℕ, zero, suc, ◌<◌, length, get_or, List, [], ◌∷◌, Bool, true, false, Option, Some, None, refl, sym, ap, subst, ◌∙◌, arith}
 use Rattle.std.specs.Prelude.{All, Contains, IsTrue, if◌then◌else◌, option_and_then}
 use Rattle.std.specs.List.{list_any}

@@ -1,4 +1,4 @@
--- The object of a fact is plain JSON, so it is read back from its compact text.
+-- The object of a written fact is plain JSON with UTF-8 strings and keys, at most two levels deep.
 use Rattle.std.proofs.Common.{◌≡◌, ℕ, ◌≤◌, List, [], ◌∷◌, codes, true, Option, Some, None, refl, ap, ◌∙◌, arith, pos, negsuc}
 use Rattle.std.specs.Prelude.{ℤ, All, IfSome, IsUtf8, unsigned_abs}
 use Rattle.std.specs.Ordering.{nat_cmp, match_ordering, ordering_reverse}

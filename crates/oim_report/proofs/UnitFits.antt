@@ -1,4 +1,5 @@
--- A unit that a text denotes satisfies `IsUnit` and fits the kind of the concept.
+-- If the URIs of all bindings are namespaces, a unit that a UTF-8 text denotes satisfies `IsUnit` and fits the kind of
+-- the concept.
 use Rattle.std.proofs.Common.{◌≡◌, ◌≢◌, ℕ, zero, suc, List, [], ◌∷◌, Bool, true, false, not, ◌==◌, drop, Option, Some, None, refl, sym, subst, length, arith}
 use Rattle.std.specs.Prelude.{All, IfSome}
 use Rattle.std.specs.List.{AllZip, list_all, list_any}

@@ -63,7 +63,8 @@ pub(crate) fn words<'w>(alloc: Global) -> Result<Command<'w>, AllocError> {
 }
 
 /// Reads the sheet and the reports, one after another, and writes a line for each fault to `out`.
-/// In the format `Text`, a line with the counts follows. Returns the number of faults.
+/// Repeated members count as faults. In the format `Text`, a line with the counts follows. Returns
+/// the number of faults.
 ///
 /// Errors: `Unread`, `TooLong`, `Sheet`, out of memory, and `Device`.
 pub(crate) fn run<'n, F: Files, E: Write, S: Sink>(

@@ -114,8 +114,8 @@ fn stops_once<O: Write + Drop>(
     Some(same)
 }
 
-/// Returns the status and standard error, which is compared with the expected text and with the
-/// line for refused memory.
+/// Runs the program with a standard input that fails. Returns the status and standard error, which
+/// is compared with the expected text and with the line for refused memory.
 fn heard<'a, O: Write + Drop>(
     rt: &HostRuntime,
     words: &[&str],

@@ -109,7 +109,7 @@ fn a_refused_report_changes_nothing(rt: HostRuntime) -> Result<(), Fail> {
     Ok(())
 }
 
-/// Bundles with a refused sheet, and the line that reports the refusal.
+/// Bundles with a refused sheet, each with the line that reports the refusal.
 const REFUSED_SHEETS: [(&str, &str); 5] = [
     ("", "sheet: 1 NotJson\n"),
     ("\n{}", "sheet: 1 NotJson\n"),

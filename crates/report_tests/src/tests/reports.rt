@@ -25,7 +25,7 @@ use test_helpers::asked_again::{
     SHEET, joined, read, read_sheet, repeated, tell_refused, tell_refused_here,
 };
 
-// If a request for memory is refused, the call is repeated once.
+// `read` and `read_sheet` repeat a call once if a request for memory is refused.
 
 /// Returns `holds`, and prints the text if `holds` is false.
 fn told(rt: &HostRuntime, holds: bool, text: &str) -> bool {

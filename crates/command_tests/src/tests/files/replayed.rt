@@ -154,7 +154,8 @@ pub(super) const STOPPED: [Row; 15] = [
         &[],
         "event 1: refused\n",
     ),
-    // a missing report, replica or sent text is found only after all reports are read
+    // an event that names a missing report, replica or message is refused after all reports are
+    // read
     (
         "replay --sheet sheet --replicas 2 --events late 100",
         3,

@@ -3,7 +3,8 @@ use oim_report::Sheet;
 use std::alloc::AllocError;
 use std::test::Fail;
 
-// A report that repeats a piece and its closing text between a start and an end.
+// The parts of a report: between `start` and `end`, `piece` is repeated, and `closing` follows as
+// often.
 struct Long<'t> {
     start: &'t str,
     piece: &'t str,
