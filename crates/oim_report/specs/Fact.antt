@@ -102,7 +102,7 @@ SaysValue bs kind g decimals said = ⊥
 
 -- ---- the fact
 
--- the members of `dimensions` denote this dimension set; the sheet lists its taxonomy-defined dimensions
+-- the members of `dimensions` denote this dimension set; the sheet lists the set's taxonomy-defined dimensions
 pub record SaysDimensions (sheet : Sheet) (bs : List Binding) (ds : DimensionParts) (said : DimensionSet) : Type 0 where
   pub concept : GivesText ds.concept (λ t. Expands bs t said.concept)
   pub entity : SaysEntity bs ds.entity said.entity
