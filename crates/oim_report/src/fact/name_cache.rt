@@ -14,7 +14,7 @@ use std::alloc::Global;
 use std::collections::BTreeMap;
 
 /// Finds which name of a sheet a text spells, under one set of prefixes. Groups are cached by
-/// prefix, so that later names with the same prefix are found without comparing URIs.
+/// prefix, so that later names with the same prefix are found without a search by URI.
 #[derive(Drop)]
 pub(crate) struct NameCache<'s, K: Kind> {
     alloc: Global,
