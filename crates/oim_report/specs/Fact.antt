@@ -56,7 +56,7 @@ SaysUnit bs g said = GivesTextOr (said ≡ None) g (λ t. UnitOf bs t said)
 abbrev pub SaysLanguage : Given → Option (List ℕ) → Type 0
 SaysLanguage g said = GivesTextOr (said ≡ None) g (λ t. IsTrue (is_language t) × (said ≡ Some (str_to_ascii_lowercase t)))
 
--- the member of an explicit dimension is a name; the member of a typed one is the text as it is spelled, or nil
+-- the member of an explicit dimension is a name; the member of a typed dimension is the text as it is spelled, or nil
 abbrev pub SaysMember : List Binding → DimensionKind → Given → Member → Type 0
 SaysMember bs Explicit g (MemberName n) = GivesText g (λ t. Expands bs t n)
 SaysMember bs Explicit g (MemberText t) = ⊥

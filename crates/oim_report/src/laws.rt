@@ -172,9 +172,9 @@ pub fn limits_are()
     ensures nested { NestedIsRead }
 {}
 
-/// Take a plain object (`IsPlain`) with UTF-8 strings and keys, at most 127 levels deep. Its compact
-/// text is read as that object. A plain object contains no float, so its compact text is the one
-/// that `serde_json` writes.
+/// Take a plain object (`IsPlain`) with UTF-8 strings and keys, at most 127 levels deep. Its
+/// compact text is read as that object. A plain object contains no float, so its compact text is
+/// the one that `serde_json` writes.
 pub fn plain_text_reads_back()
     ensures back { PlainTextReadsBack }
     ensures whole { PlainHasNoFloat }
@@ -187,7 +187,7 @@ pub fn fact_object_is_plain()
 {}
 
 /// `least` returns the lowest-numbered condition that applies. `told` lists the conditions that
-/// apply and are not hidden. Their numbers strictly ascend, and the first is the condition that
+/// apply and are not hidden. Their numbers strictly ascend, and the first condition is the one that
 /// `least` returns.
 pub fn least_is_answered()
     ensures { LeastIsAnswered }
