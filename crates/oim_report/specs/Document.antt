@@ -12,7 +12,7 @@ use Rattle.oim_report.specs.Parts.{FactParts, fact_parts}
 use Rattle.oim_report.specs.Sheet.{Sheet}
 
 -- a report's facts with repeats, in byte order of their identifiers (law `identifiers_rise`); the kept texts of its references,
--- in the order of `taxonomy`; and its declared level of duplicates
+-- in the order of `taxonomy`; and its declared level of duplicates (`All` if none is declared)
 pub record Document : Type 0 where
   pub facts : List Fact
   pub references : List (List ℕ)

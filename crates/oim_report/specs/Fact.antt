@@ -56,7 +56,7 @@ SaysUnit bs g said = GivesTextOr (said ≡ None) g (λ t. UnitOf bs t said)
 abbrev pub SaysLanguage : Given → Option (List ℕ) → Type 0
 SaysLanguage g said = GivesTextOr (said ≡ None) g (λ t. IsTrue (is_language t) × (said ≡ Some (str_to_ascii_lowercase t)))
 
--- the member of an explicit dimension is a name; the member of a typed one is the text as it is spelled, or nil
+-- the member of an explicit dimension is a name; the member of a typed dimension is the text as it is spelled, or nil
 abbrev pub SaysMember : List Binding → DimensionKind → Given → Member → Type 0
 SaysMember bs Explicit g (MemberName n) = GivesText g (λ t. Expands bs t n)
 SaysMember bs Explicit g (MemberText t) = ⊥
@@ -102,7 +102,7 @@ SaysValue bs kind g decimals said = ⊥
 
 -- ---- the fact
 
--- the members of `dimensions` denote this dimension set; the sheet lists its taxonomy-defined dimensions
+-- the members of `dimensions` denote this dimension set; the sheet lists the set's taxonomy-defined dimensions
 pub record SaysDimensions (sheet : Sheet) (bs : List Binding) (ds : DimensionParts) (said : DimensionSet) : Type 0 where
   pub concept : GivesText ds.concept (λ t. Expands bs t said.concept)
   pub entity : SaysEntity bs ds.entity said.entity

@@ -69,7 +69,7 @@ LanguageFits kind (Some l) = IsLanguageOf kind l
 
 -- ---- members
 
--- the member of an explicit dimension is a name; the member of a typed one is a UTF-8 text or nil
+-- the member of an explicit dimension is a name; the member of a typed dimension is a UTF-8 text or nil
 abbrev pub MemberFits : DimensionKind → Member → Type 0
 MemberFits Explicit (MemberName n) = FitsName n
 MemberFits Explicit (MemberText t) = ⊥

@@ -105,7 +105,7 @@ module _ (sheet : Sheet) (bs : List Binding) (fact : Data) (dimensions : Members
   abbrev pub explicit_text : List ℕ × Data → Option (List ℕ)
   explicit_text m = if is_some_and (same_dimension_kind Explicit) (dimension_kind m.0) then as_text m.1 else None
 
-  -- all names of the fact, each marked as a name or an entity
+  -- the texts of the fact that must have the form of a name or an entity, each with that form
   abbrev pub names : List Spelled
   names =
       map a_name (option_to_list (text_at (codes "concept")))

@@ -16,7 +16,7 @@ without_mark bytes = if bytes_eq (take 3 bytes) (0xef ∷ 0xbb ∷ 0xbf ∷ []) 
 abbrev pub json_text : List ℕ → Option Data
 json_text text = if is_utf8 text then read text else None
 
--- a byte order mark at the beginning is skipped
+-- the JSON value of a file's bytes, or None if the bytes are not JSON in UTF-8
 abbrev pub json : List ℕ → Option Data
 json bytes = json_text (without_mark bytes)
 

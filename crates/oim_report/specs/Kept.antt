@@ -25,15 +25,14 @@ web_text None = None
 web_text (Some url) = if is_web_text (serialize url) then Some (serialize url) else None
 
 -- the kept text of a reference: an http or https URL is kept as its serialization, and another URL as it is spelled. A reference
--- that is not a URL is kept as the serialization of the http or https URL that it resolves to, or as it is spelled if there is no
--- base URL.
+-- that is not a URL is resolved against the base URL to an http or https URL, and the serialization of that URL is kept. Without
+-- a base URL, the reference is kept as it is spelled.
 abbrev pub kept_by : Parsed Parts → Option Parts → List ℕ → Option (List ℕ)
 kept_by (Ok url) base reference = if is_web url then web_text (Some url) else Some reference
 kept_by (Err e) None reference = Some reference
 kept_by (Err e) (Some base) reference = web_text (web_url (parse_url (Some base) reference))
 
--- the text under which a reference is kept, or None if a relative reference does not resolve against the base URL to an http or https
--- URL
+-- the kept text of a reference, or None if a relative reference does not resolve against the base URL to an http or https URL
 abbrev pub kept : Option Parts → List ℕ → Option (List ℕ)
 kept base reference = kept_by (parse_url None reference) base reference
 

@@ -21,12 +21,12 @@ told holds = filter (λ r. not (list_any holds (hidden_by r)) && holds r) reason
 
 -- ---- laws
 
--- the condition applies, and none with a smaller number does
+-- the condition applies, and no condition with a smaller number applies
 pub record IsLeast (holds : Reason → Bool) (r : Reason) : Type 0 where
   pub holding : IsTrue (holds r)
   pub before : (s : Reason) → IsTrue (holds s) → (entry_of r).number ≤ (entry_of s).number
 
--- the condition applies, and none that hides it does
+-- the condition applies, and no condition that hides it applies
 pub record IsShown (holds : Reason → Bool) (r : Reason) : Type 0 where
   pub holding : IsTrue (holds r)
   pub alone : (s : Reason) → Contains (hidden_by r) s → holds s ≡ false

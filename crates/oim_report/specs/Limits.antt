@@ -15,6 +15,6 @@ TextsAreWithinLimit = (text : List ℕ) → IsTrue (is_within_limit text) ↔ (l
 abbrev pub NestsWithinLimit : Type 0
 NestsWithinLimit = (bytes : List ℕ) (tree : Data) → json bytes ≡ Some tree → depth tree ≤ MOST_LEVELS
 
--- a plain object that is at most `MOST_LEVELS` levels deep is read back from its compact text
+-- a plain object with UTF-8 strings and keys, at most `MOST_LEVELS` levels deep, is read back from its compact text
 abbrev pub NestedIsRead : Type 0
 NestedIsRead = (ms : Members) → IsPlainJson (object ms) MOST_LEVELS → json (compact_text (object ms)) ≡ Some (object ms)

@@ -83,7 +83,7 @@ outcome sheet bytes = tree_outcome sheet (json bytes)
 abbrev pub OutcomesWantNoMemory : Type 0
 OutcomesWantNoMemory = (sheet : Sheet) (bytes : List ℕ) (place : Place) → outcome sheet bytes ≢ Err (at place OutOfMemory)
 
--- ---- a fact object to which no condition applies (own)
+-- ---- accepted fact objects (own)
 
 -- no condition applies to a fact object
 abbrev pub IsFree : Sheet → List Binding → Data → Type 0
@@ -95,8 +95,8 @@ FactsAreSaid = (sheet : Sheet) (bs : List Binding) (d : Data) → IsFree sheet b
 
 -- ---- accepted reports, in terms of the conditions instead of `outcome` (own)
 
--- the bytes are JSON and denote this document, no condition applies to the document or a fact, and the level of the facts is
--- not above the declared one
+-- the bytes are JSON and denote this document; no condition applies to the document or a fact; the level of the facts is not
+-- above the declared one
 pub record Accepts (sheet : Sheet) (bytes : List ℕ) (d : Document) : Type 0 where
   pub tree : Data
   pub read : json bytes ≡ Some tree

@@ -38,8 +38,8 @@ dimension_parts ms = record {
 }
 
 -- the members of a fact object: its value, its decimals, and its dimensions if they are an object. `linked` states that `links`
--- has a member, `misshapen` that `dimensions` or `links` exists and is not an object, and `unknown` that some other key has no
--- colon.
+-- has a member. `misshapen` states that `dimensions` or `links` exists and is not an object. `unknown` states that some other key
+-- has no colon.
 pub record FactParts : Type 0 where
   pub value : Given
   pub decimals : Given

@@ -27,7 +27,7 @@ use Rattle.oim_report.specs.Namespaces.{binds_nothing}
 use Rattle.oim_report.specs.Parts.{core_keys, fact_keys}
 use Rattle.oim_report.specs.Sheet.{Sheet, concept_kind_named, dimension_kind_named, has_other_kind, kind_in, names_no_kind, same_concept_kind, same_dimension_kind, sheet_bindings, sheet_concepts, sheet_dimensions, sheet_holds, sheet_keys, sheet_names, sheet_namespaces}
 
--- the condition applies, and none that hides it does; `told` lists the conditions that are shown
+-- the condition applies, and no condition that hides it applies; `told` lists the conditions that are shown
 abbrev pub is_shown : (Reason → Bool) → Reason → Bool
 is_shown holds r = not (list_any holds (hidden_by r)) && holds r
 

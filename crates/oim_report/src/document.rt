@@ -1,5 +1,5 @@
-//! Reads the parts of a report outside its facts, and finds the identifiers of its facts and their
-//! level of duplicates.
+//! Reads the parts of a report outside its facts, and finds the identifiers and the level of
+//! duplicates of the facts.
 
 pub(crate) mod base;
 pub(crate) mod base_url;

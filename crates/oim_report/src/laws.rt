@@ -76,9 +76,8 @@ pub fn sheet_refused_where_held()
     ensures { SheetRefusedWhereHeld }
 {}
 
-/// An accepted sheet lists a concept with a kind exactly if a key of `concepts` expands to the
-/// concept and the value at the key names the kind. The same holds for dimensions and the keys of
-/// `dimensions`.
+/// An accepted sheet lists exactly the concepts to which the keys of `concepts` expand, each with
+/// the kind that the key's value names. The same holds for dimensions and the keys of `dimensions`.
 pub fn sheet_lists_what_it_says()
     ensures concepts { ConceptsAreListed }
     ensures dimensions { DimensionsAreListed }
@@ -109,9 +108,9 @@ pub fn identifiers_rise()
     ensures { IdentifiersRise }
 {}
 
-/// A report is accepted as a document exactly if its bytes are JSON and denote that document, no
-/// condition applies to the document or a fact, and the level of its facts is not looser than the
-/// declared level.
+/// A report is accepted as a document exactly if all of these hold: its bytes are JSON and denote
+/// that document; no condition applies to the document or a fact; the level of its facts is not
+/// above the declared level.
 pub fn accepted_where_free()
     ensures { AcceptedWhereFree }
 {}
@@ -173,9 +172,9 @@ pub fn limits_are()
     ensures nested { NestedIsRead }
 {}
 
-/// The compact text of a plain object (`IsPlain`) is read as that object, if its strings and keys
-/// are UTF-8 and it is at most 127 levels deep. A plain object contains no float, so its compact
-/// text is the one that `serde_json` writes.
+/// Take a plain object (`IsPlain`) with UTF-8 strings and keys, at most 127 levels deep. Its
+/// compact text is read as that object. A plain object contains no float, so its compact text is
+/// the one that `serde_json` writes.
 pub fn plain_text_reads_back()
     ensures back { PlainTextReadsBack }
     ensures whole { PlainHasNoFloat }
@@ -188,7 +187,7 @@ pub fn fact_object_is_plain()
 {}
 
 /// `least` returns the lowest-numbered condition that applies. `told` lists the conditions that
-/// apply and are not hidden. Their numbers strictly ascend, and the first is the condition that
+/// apply and are not hidden. Their numbers strictly ascend, and the first condition is the one that
 /// `least` returns.
 pub fn least_is_answered()
     ensures { LeastIsAnswered }

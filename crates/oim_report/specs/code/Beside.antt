@@ -1,4 +1,4 @@
--- The level that a value adds to smaller or equal values with the same dimensions (own).
+-- The level that a value requires beside smaller or equal values with the same dimensions (own).
 use Rattle.std.specs.Prelude.{Bool, false, Option, Some, None, if◌then◌else◌}
 use Rattle.std.specs.Ordering.{is_eq}
 use Rattle.oim_value.specs.Interval.{common_part, interval, intervals_meet}

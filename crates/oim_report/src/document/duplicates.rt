@@ -64,9 +64,9 @@ pub(crate) fn level_within(limit: Level, facts: &[Fact], order: &[usize]) -> Res
     Ok(level)
 }
 
-// Returns the level that `value` adds to earlier values with the same dimensions. The level of all
-// these values is the maximum of the earlier level and the result. `last` is the last earlier
-// value, and `shared` is the common part of the intervals of all earlier values.
+// Returns the level that `value` requires beside earlier values with the same dimensions. The level
+// of all these values is the maximum of the level of the earlier values and the result. `last` is
+// the last earlier value, and `shared` is the common part of the intervals of all earlier values.
 fn level_beside(last: &Value, shared: Option<Interval>, value: &Value) -> Level
     ensures { result ≡ level_beside last.now shared value.now }
 {

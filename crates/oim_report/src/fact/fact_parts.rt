@@ -21,7 +21,7 @@ pub(crate) struct DimensionParts<'a> {
     pub(crate) note: JsonMember<'a>,
     /// The members whose keys have a colon, in byte order of the keys.
     pub(crate) defined: Vec<(&'a str, JsonMember<'a>)>,
-    /// Whether a key other than the core dimensions has no colon.
+    /// Whether some key has no colon and names no core dimension.
     pub(crate) unknown: bool,
 }
 

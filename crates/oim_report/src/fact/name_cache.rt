@@ -14,13 +14,13 @@ use std::alloc::Global;
 use std::collections::BTreeMap;
 
 /// Finds which name of a sheet a text spells, under one set of prefixes. Groups are cached by
-/// prefix, so that later names with the same prefix are found without comparing URIs.
+/// prefix, so that later names with the same prefix are found without a search by URI.
 #[derive(Drop)]
 pub(crate) struct NameCache<'s, K: Kind> {
     alloc: Global,
     /// The texts that spell a name of the sheet, each with the name and its kind.
     pub(crate) texts: TextCache<(&'s Name, K)>,
-    /// The prefixes that were used, each with the sheet's group for its namespace, or None.
+    /// The prefixes that were used, each with the sheet's group for its namespace, if there is one.
     pub(crate) groups: BTreeMap<String, Option<&'s Group<K>>>,
 }
 

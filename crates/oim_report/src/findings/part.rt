@@ -7,7 +7,7 @@ use serde_json::Value;
 /// The part of a report or a sheet that violates a condition.
 #[derive(Clone, Copy)]
 pub enum Part<'a> {
-    /// Nothing can be shown, because the part is missing.
+    /// No part can be shown, for example because the part is missing.
     Nothing,
     /// The whole value, which is not an object.
     Whole,
