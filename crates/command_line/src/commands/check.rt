@@ -24,7 +24,7 @@ const MORE: &str = "The line of an accepted report is one of
   accepted FACTS LEVEL other
 
   FACTS       the number of its facts, repeats included
-  LEVEL       its duplicates, which are facts with the same dimensions:
+  LEVEL       the level of its duplicates, which are facts with the same dimensions:
   none        there are none
   complete    duplicates are equal
   consistent  duplicates are equal, or numbers that agree within rounding
@@ -32,7 +32,7 @@ const MORE: &str = "The line of an accepted report is one of
   canonical   the file is, byte for byte, what `merge` would write for it
   other       it is not, for example because an older version wrote it, without a level
 
-To compare the two, `check` may keep the report and the output of `merge` in memory.
+To compare the file with the output of `merge`, `check` may keep both in memory.
 
 Example:
   xbrlmerge check --sheet examples/sheet.json examples/ledgerline.json

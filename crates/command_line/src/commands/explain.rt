@@ -18,8 +18,8 @@ pub(crate) const NAME: &str = "explain";
 const ABOUT: &str = "Explains what is wrong with reports, in plain words";
 
 const MORE: &str =
-    "Each line for a fault contains the file, the fact if the fault is in one, the number and the name
-of the refusal, and what is wrong, usually with the text at fault. At most 80 characters of an
+    "Each line for a fault contains the file, the fact if the fault is in a fact, the number and the
+name of the refusal, and what is wrong, usually with the text at fault. At most 80 characters of an
 identifier or a text are shown.
 
 The other commands name only the first fault of a report. `explain` lists all faults of the
@@ -32,7 +32,8 @@ identifier. Only the last one is read. A line for a repeated member has no numbe
 refusal. The other commands do not refuse a file for such members, so run `explain` first on files
 from untrusted sources.
 
-The last line contains the numbers of reports, of reports with a fault, and of faults.
+The last line contains the numbers of reports, of reports with a fault, and of faults. Repeated
+members count as faults.
 
 With --format json each fault is a JSON object on one line, and the line with the numbers is not
 printed. The members of an object:

@@ -30,7 +30,7 @@ whether they agree exactly, agree within rounding, or contradict each other, wit
   consistent    the row has several numbers, which agree within rounding
   LOW HIGH      the lowest and the highest number that fit all of them
   inconsistent  the row has facts that contradict each other
-  I J           two of these
+  I J           two of these facts
 
 FORMAT is one of:
   lines  as above
