@@ -29,7 +29,7 @@ pub record Merges (sheet : List ℕ) (reports : List (List ℕ)) (level : Level)
   pub text_is : text ≡ canonical (merged listed reports)
   pub refusals_are : told ≡ refused listed reports
 
--- the row with this number, counted from 1, is the first above the level; these are the refusals of the refused reports
+-- the row with this number, counted from 1, is the first above the level; `told` lists the refusals of the refused reports
 pub record IsLoose (sheet : List ℕ) (reports : List (List ℕ)) (level : Level) (number : ℕ) (told : List (ℕ × Refusal)) : Type 0 where
   pub listed : Sheet
   pub read : sheet_outcome sheet ≡ Ok listed

@@ -81,7 +81,7 @@ const SCHEDULES: &[Schedule] = &[
         sent: &[],
         refused: &[2, 2, 2],
     },
-    // a report that no event takes is not read
+    // a report that no event takes is not refused
     Schedule {
         reports: &[UNBOUND],
         lines: "",
