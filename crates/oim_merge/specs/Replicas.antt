@@ -63,7 +63,7 @@ with_outcome (Err refusal) base = base
 abbrev pub joined_with : Contents → Contents → Contents
 joined_with base other = record { sheet = base.sheet; body = union base.body other.body }
 
--- which version wrote a sent text: the present one, or an earlier one whose texts declare no level
+-- which version wrote a sent text: the present version, or an earlier version whose texts declare no level
 pub data Writer : Type 0 where
   present : Writer
   earlier : Writer
