@@ -20,8 +20,8 @@
    Threads. Calls share no state: several threads may call at the same time. Do not call from a signal handler, or in the
    forked child of a process with several threads.
 
-   Stack. A call needs at most 128 kB of stack for JSON that is nested 126 deep. That is measured, not proved. JSON may be
-   nested 127 deep, so allow a little more. */
+   Stack. A call needs at most 128 kB of stack for JSON that is nested 126 deep. This limit is measured, not proved. JSON
+   may be nested 127 deep, so allow a little more. */
 #ifndef XBRLMERGE_H
 #define XBRLMERGE_H
 
@@ -46,7 +46,7 @@ enum {
     XBRLMERGE_BAD_LEVEL = 7      /* `allow` is not a level: nothing has changed */
 };
 
-/* The levels of duplicates that a row may have, the strictest first. */
+/* The levels of duplicates that a row may have, the strictest first. A row is all facts with the same dimensions. */
 enum {
     XBRLMERGE_ALLOW_NONE = 0,
     XBRLMERGE_ALLOW_COMPLETE = 1,
@@ -84,7 +84,7 @@ uint32_t xbrlmerge_verdicts(const uint8_t *sheet, size_t sheet_length, const uin
                             xbrlmerge_refusal *refusals, size_t refusals_length, size_t *refused);
 
 /* Lists the sources of each fact, as `sources` does: `out` gets a line for each fact object of the accepted reports.
-   Otherwise it is like xbrlmerge_verdicts. It reads the reports twice, and keeps a copy of them in memory. */
+   Otherwise it is like xbrlmerge_verdicts. It copies the reports, and reads them twice. */
 uint32_t xbrlmerge_sources(const uint8_t *sheet, size_t sheet_length, const uint8_t *reports, size_t reports_length,
                            const size_t *ends, size_t ends_length, uint8_t *out, size_t out_length, size_t *needed,
                            xbrlmerge_refusal *refusals, size_t refusals_length, size_t *refused);
@@ -103,8 +103,8 @@ uint32_t xbrlmerge_sources_json(const uint8_t *sheet, size_t sheet_length, const
 uint32_t xbrlmerge_check(const uint8_t *sheet, size_t sheet_length, const uint8_t *report, size_t report_length,
                          xbrlmerge_checked *checked, xbrlmerge_refusal *refusal);
 
-/* Writes the name of a refusal, such as "UnboundPrefix", to the start of `out`, without a NUL, and returns its length: at
-   most 20 bytes, and 0 if no refusal has this number. If `out` is shorter than the name, it is unchanged. */
+/* Writes the name of a refusal, such as "UnboundPrefix", to the start of `out`, without a NUL. Returns the length of the
+   name: at most 20 bytes, and 0 if no refusal has this number. If `out` is shorter than the name, `out` is unchanged. */
 size_t xbrlmerge_refusal_name(uint32_t number, uint8_t *out, size_t out_length);
 
 #ifdef __cplusplus

@@ -13,7 +13,7 @@ Consumes-behind a b (Ok n) front part rest at long fits read =
     subst (Consumes a b) (sym (ap (take n) (drop_at front (part ++ rest) at long) ∙ take-append-le n part rest fits.0)) read
 Consumes-behind a b (Err e) front part rest at long fits read = tt
 
--- if one call consumed the first i bytes of the buffer, and the next call consumed n more, both calls consumed the first i + n bytes
+-- if one call consumed the first i bytes of the buffer and the next call n more, together they consumed the first i + n bytes
 pub Consumes-more : (a b c : Option (List ℕ)) (xs ys : List ℕ) (i n : ℕ) → take i ys ≡ take i xs
     → Consumes a b (take i xs) → Consumes b c (take n (drop i ys)) → Consumes a c (take (i + n) ys)
 Consumes-more a b c xs ys i n front before read =

@@ -21,7 +21,7 @@ pub record Replay : Type 0 where
 abbrev pub world_of : List Contents → List (List ℕ) → World Contents (List ℕ)
 world_of bases sent = record { replicas = bases; sent = sent }
 
--- an index beyond the end gives an empty text
+-- the texts at these indices; an index beyond the end gives an empty text
 abbrev pub texts_at : List (List ℕ) → List ℕ → List (List ℕ)
 texts_at texts places = map (λ place. slice_index_or texts place []) places
 

@@ -20,7 +20,7 @@ use Rattle.oim_merge.specs.Reports.{accepted}
 use Rattle.oim_merge.specs.Schedule.{Machine, NoneIsBad, World, numbered, world_after}
 use Rattle.oim_merge.specs.declared.schedules.event.Event.{Event}
 
--- reports have numbers from 1
+-- the report with this number, counted from 1
 abbrev pub report : List (List ℕ) → ℕ → List ℕ
 report reports r = slice_index_or reports (r - 1) []
 
@@ -55,7 +55,7 @@ documents_named sheet reports numbers = accepted sheet (map (report reports) num
 
 -- ---- replicas that keep bases and exchange texts
 
--- a base takes an outcome; a refusal changes nothing
+-- a base after it takes the document of an accepted report; a refusal changes nothing
 abbrev pub with_outcome : Result Document Refusal → Contents → Contents
 with_outcome (Ok d) base = record { sheet = base.sheet; body = union base.body (body (d ∷ [])) }
 with_outcome (Err refusal) base = base
@@ -63,7 +63,7 @@ with_outcome (Err refusal) base = base
 abbrev pub joined_with : Contents → Contents → Contents
 joined_with base other = record { sheet = base.sheet; body = union base.body other.body }
 
--- which version wrote a sent text: the present one, or an earlier one whose texts declare no level
+-- which version wrote a sent text: the present version, or an earlier version whose texts declare no level
 pub data Writer : Type 0 where
   present : Writer
   earlier : Writer

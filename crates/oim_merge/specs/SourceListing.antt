@@ -10,7 +10,7 @@ use Rattle.oim_merge.specs.declared.fault.Fault.{Fault}
 use Rattle.oim_merge.specs.declared.fault.Fault.TheVariants.{OutOfMemory, Device, TooLoose, Sheet as SheetFault}
 
 module _ (header : List ℕ) (written : SourceText) (sheet : Sheet) (reports : List (List ℕ)) where
-  -- the header and the sources in the accepted reports were appended, and the refusals of the others were returned
+  -- the header and the sources in the accepted reports were appended, and the refusals of the other reports were returned
   pub record AppendsSources (old new : Option (List ℕ)) (told : List (ℕ × Refusal)) : Type 0 where
     pub refusals_are : told ≡ refused sheet reports
     pub appended : Appends old new (header ++ sources_by written sheet reports)
@@ -22,7 +22,7 @@ module _ (header : List ℕ) (written : SourceText) (sheet : Sheet) (reports : L
   AppendingStops old new (TooLoose row told) = ⊥
   AppendingStops old new (SheetFault reason) = ⊥
 
--- the lines of the accepted reports were appended, and the refusals of the others were returned
+-- the lines of the accepted reports were appended, and the refusals of the other reports were returned
 abbrev pub ListsSources : Sheet → List (List ℕ) → Option (List ℕ) → Option (List ℕ) → List (ℕ × Refusal) → Type 0
 ListsSources = AppendsSources [] source_line
 

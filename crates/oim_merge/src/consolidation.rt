@@ -44,8 +44,8 @@ pub fn consolidate<S: Sink>(
 }
 
 /// Merges reports one at a time. A consolidation stores the facts and references of the accepted
-/// reports, the refusals, the number of all reports, the prefixes of one report, and a limited
-/// number of short texts of reports. It borrows the sheet under which it reads reports.
+/// reports, the refusals, and the number of all reports. It caches the prefixes of one report and a
+/// limited number of short texts. It borrows the sheet under which it reads reports.
 #[derive(Drop)]
 pub struct Consolidation<'s> {
     alloc: Global,

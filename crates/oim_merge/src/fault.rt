@@ -4,8 +4,8 @@ use crate::refusals::Refusals;
 use oim_names::Reason;
 use oim_write::WriteFault;
 
-/// Why reports were not merged or listed. The number of written bytes saturates at the greatest
-/// `u64`.
+/// Why a merged text, verdicts or sources were not written completely. The number of written bytes
+/// saturates at the greatest `u64`.
 #[derive(Debug, Drop)]
 pub enum Fault {
     /// Memory was refused after this many bytes were written.

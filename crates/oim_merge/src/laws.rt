@@ -12,7 +12,7 @@ ghost use Rattle.oim_merge.specs.Sources.{EachFactIsSaid, EachMentionIsTold, Eac
 
 use fact_base::Base;
 
-/// Two lists of reports have the same canonical text if their accepted reports contain the same
+/// Two lists of reports give the same canonical text if their accepted reports are read as the same
 /// documents, whatever the order and repetition.
 pub fn reports_ignore_order()
     ensures { ReportsIgnoreOrder }
@@ -74,8 +74,8 @@ pub fn earlier_is_not_canonical()
 {}
 
 /// A base has the body of the documents that reached it, directly or through bases that it joined.
-/// So two bases have the same bytes, verdicts, level and references if the same documents reached
-/// both, whatever the order, grouping and repetition.
+/// So two bases have the same canonical text, verdicts, level and references if the same documents
+/// reached both, whatever the order, grouping and repetition.
 pub fn histories_are_forgotten()
     ensures body { HistoriesGiveBodies }
     ensures bytes { HistoriesAreForgotten }

@@ -9,7 +9,7 @@ use oim_report::Sheet;
 use oim_write::Encoded;
 use std::alloc::{AllocError, Global};
 
-/// Merged reports: the accepted reports as one base, and the refusals of the others.
+/// Merged reports: the accepted reports as one base, and the refusals of the other reports.
 #[derive(Drop)]
 pub struct Merged<'s> {
     /// The base of the accepted reports.

@@ -76,7 +76,7 @@ gains_one us n =
 pub in_set : (us : List (List ℕ)) (u : List ℕ) → Contains us u → Contains (set_of text_cmp us) u
 in_set us u h = ((set_of_is_set text_cmp_total text_cmp_exact us).members u).1 h
 
--- if the URI at an index equals a URI, the set contains that URI
+-- if the URI at index i equals u, the set of the URIs contains u
 pub told_there : (us : List (List ℕ)) (i : ℕ) (known u : List ℕ) (told : Bool) → told ≡ bytes_eq known u → i < length us → get_or us i u ≡ known → OnTrue told (Contains (set_of text_cmp us) u)
 told_there us i known u true is within there = in_set us u (i, within, there ∙ same_bytes known u (sym is))
 told_there us i known u false is within there = tt

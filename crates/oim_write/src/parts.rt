@@ -103,7 +103,7 @@ pub(crate) fn append_reference(
     Ok(())
 }
 
-/// `before` is the number of facts before this one. The fact is not copied, so its dimensions and
+/// `before` is the number of facts before this fact. The fact is not copied, so its dimensions and
 /// its value are separate parameters.
 pub(crate) fn append_fact(
     text: &mut Vec<u8>,

@@ -12,7 +12,7 @@ use oim_names::{Name, PositionCache, Text};
 use std::alloc::{AllocError, Global};
 use std::marker::Model;
 
-/// The URIs of a base's names, in byte order. Each gets one prefix.
+/// The URIs of a base's names, in byte order. Each URI gets one prefix.
 #[derive(Drop)]
 pub(crate) struct PrefixTable {
     uris: Vec<Text>,

@@ -1,8 +1,8 @@
 use crate::period_texts::PeriodTexts;
 use std::alloc::Global;
 
-/// Buffers that are reused for each fact, to request memory less often. One holds a name, a unit or
-/// a label; the other caches the texts of periods.
+/// Two buffers that are reused for each fact, to request memory less often. One holds a name, a
+/// unit or a label; the other caches the texts of periods.
 #[derive(Drop)]
 pub struct Scratch {
     pub(crate) alloc: Global,

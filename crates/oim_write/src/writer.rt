@@ -19,9 +19,9 @@ use fact_base::{Base, Row};
 use oim_names::Text;
 use std::alloc::{AllocError, Global};
 
-/// The canonical text of a base (xBRL-JSON 1.0; the choice of prefixes and identifiers is our own).
-/// It declares the strictest level of duplicates that the facts satisfy (OIM Common 1.0,
-/// `xbrl:allowedDuplicates`).
+/// Returns the canonical text of a base (xBRL-JSON 1.0; the choice of prefixes and identifiers is
+/// our own). The text declares the strictest level of duplicates that the facts satisfy (OIM Common
+/// 1.0, `xbrl:allowedDuplicates`).
 ///
 /// Errors: out of memory.
 pub fn text(alloc: Global, base: &Base<'_>) -> Result<Encoded, AllocError>

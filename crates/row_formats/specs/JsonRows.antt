@@ -36,7 +36,7 @@ apart_data first second = array (item (string first) (item (string second) no_it
 abbrev pub evidence_member : List ℕ → Data → Members
 evidence_member key d = member (codes "evidence") (object (member key d no_members)) no_members
 
--- the evidence, given the identifiers of the facts; a row with a single fact has no evidence
+-- the member `evidence`, given the identifiers of the facts; absent if the row has a single fact
 abbrev pub evidence_members : (ℕ → List ℕ) → Evidence → Members
 evidence_members name Alike = no_members
 evidence_members name (Common c) = evidence_member (codes "common") (common_data c)

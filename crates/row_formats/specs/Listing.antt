@@ -17,7 +17,7 @@ ListsRows format = Lists (header format) (row_text format)
 abbrev pub RowsStop : RowFormat → Body → Option (List ℕ) → Option (List ℕ) → Fault → Type 0
 RowsStop format = ListStops (header format) (row_text format)
 
--- the header and the rows of the accepted reports were appended, and the refusals of the others were returned
+-- the header and the rows of the accepted reports were appended, and the refusals of the other reports were returned
 abbrev pub ListsVerdictRows : RowFormat → Sheet → List (List ℕ) → Option (List ℕ) → Option (List ℕ) → List (ℕ × Refusal) → Type 0
 ListsVerdictRows format sheet reports = ListsRows format (merged sheet reports) (refused sheet reports)
 

@@ -45,7 +45,7 @@ sources_in format sheet reports = source_header format ++ sources_by (source_tex
 
 -- ---- the state after a call
 
--- the header and the rows of the accepted reports were appended, and the refusals of the others were returned
+-- the header and the rows of the accepted reports were appended, and the refusals of the other reports were returned
 abbrev pub ListsSourceRows : RowFormat → Sheet → List (List ℕ) → Option (List ℕ) → Option (List ℕ) → List (ℕ × Refusal) → Type 0
 ListsSourceRows format = AppendsSources (source_header format) (source_text format)
 

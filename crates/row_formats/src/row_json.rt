@@ -116,7 +116,7 @@ fn write_fact(
     json.end_object()
 }
 
-// A single fact needs no evidence.
+// A row with a single fact has no member `evidence`.
 fn write_evidence(json: &mut Writer, judged: &JudgedRow<'_>) -> Result<(), AllocError>
     requires { IsJudged judged.now }
     ensures { OnOk result (AddsMembers json.old json.new

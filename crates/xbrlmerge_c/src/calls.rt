@@ -33,7 +33,7 @@ pub(crate) fn level_numbered(number: u32) -> Option<Level>
 /// Merges reports, as `oim_merge::consolidate` does. The reports are concatenated in `reports` and
 /// end at `ends`. `allow` is the number of a level, from 0 for the strictest to 3. The canonical
 /// text is written to the start of `out` and the refused reports to the start of `refusals`;
-/// `needed` and `refused` get their lengths.
+/// `needed` and `refused` get their lengths. Returns `DONE`, or `REFUSED` if a report was refused.
 ///
 /// Errors, by the status: `TOO_LOOSE`, with the refused reports, without a text, and with `needed`
 /// set to the number of the first row above the level; `TOO_SHORT`, with only the lengths;

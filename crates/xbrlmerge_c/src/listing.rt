@@ -22,7 +22,7 @@ pub(crate) enum Listing {
     SourcesJson,
 }
 
-/// The body of each exported call that lists verdicts or sources. This function has the same
+/// The code of each exported call that lists verdicts or sources. This function has the same
 /// contract as the call, and one more parameter, `listing`.
 pub(crate) fn list(
     alloc: Global,

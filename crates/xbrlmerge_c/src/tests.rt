@@ -21,8 +21,8 @@ const BAD_SHEET: &str = r#"{"concepts":{"eg:A":"numeric"}}"#;
 const HUNDRED: &str =
     r#"{"documentInfo":{"documentType":"https://xbrl.org/2021/xbrl-json","namespaces":{"eg":"http://example.org/t"}},"facts":{"a":{"value":"100","decimals":0,"dimensions":{"concept":"eg:A"}}}}"#;
 
-/// An accepted report, a refused one with an unbound prefix, and an accepted one that contradicts
-/// the first.
+/// An accepted report, a report refused for an unbound prefix, and an accepted report that
+/// contradicts the first.
 const REPORTS: &str =
     r#"{"documentInfo":{"documentType":"https://xbrl.org/2021/xbrl-json","namespaces":{"eg":"http://example.org/t"}},"facts":{"a":{"value":"100","decimals":0,"dimensions":{"concept":"eg:A"}}}}{"documentInfo":{"documentType":"https://xbrl.org/2021/xbrl-json","namespaces":{"eg":"http://example.org/t"}},"facts":{"a":{"value":"1","dimensions":{"concept":"q:A"}}}}{"documentInfo":{"documentType":"https://xbrl.org/2021/xbrl-json","namespaces":{"eg":"http://example.org/t"}},"facts":{"b":{"value":"102","decimals":0,"dimensions":{"concept":"eg:A"}}}}"#;
 

@@ -125,7 +125,7 @@ const SPELLED: [&[&str]; 9] = [
     ],
 ];
 
-/// A sheet with another prefix. It lists the concept of `WRITTEN_HUNDRED` and three others.
+/// A sheet with another prefix. It lists the concept of `WRITTEN_HUNDRED` and three other concepts.
 const MORE: &str =
     r#"{"namespaces":{"q":"http://example.org/t","z":"http://example.org/z"},"concepts":{"q:A":"numeric","q:B":"numeric","z:C":"text","q:Q":"name"}}"#;
 

@@ -9,7 +9,7 @@ use test_helpers::devices::{STEPS, Step, TestReader, Then};
 use test_helpers::expecting::Expecting;
 
 // After a refused request for memory, the call is repeated on a new device. A line on standard
-// error reports the refusal.
+// error reports the refused request.
 
 /// The result of `read_all`, the number of its reads, and the number of the source's failures.
 fn read(

@@ -16,7 +16,7 @@ use test_helpers::canonical_parts::{CONSISTENT_HEAD, END, MIDDLE, ONE_URI, WRITT
 use test_helpers::expecting::Expecting;
 
 // Each call is repeated after a refused request for memory. The sink must contain as many bytes of
-// the text as the fault reports. A line on standard error reports each refusal to
+// the text as the fault reports. A line on standard error reports each refused request to
 // `tests/refused_memory`.
 
 fn take(rt: &HostRuntime, base: &mut Base<'_>, report: &Report<'_>) -> bool {
@@ -43,13 +43,14 @@ fn base_of<'s>(rt: &HostRuntime, sheet: &'s Sheet, report: &[u8]) -> Option<Base
     take_first(rt, &report)
 }
 
-/// True if the sink took exactly `written` bytes without a failure, and the text is not shorter.
+/// True if the sink took exactly `written` bytes without a failure, and the text has at least as
+/// many bytes.
 fn holds(sink: &StdSink<Expecting<'_>>, text: &[u8], written: u64) -> bool {
     sink.taken() == written && sink.failures() == 0 && written <= text.len() as u64
 }
 
-/// If the sink took exactly the first `written` bytes of the text, prints the refusal on standard
-/// error and returns None. Otherwise returns `Some(false)`.
+/// If the sink took exactly the first `written` bytes of the text, reports the refused request on
+/// standard error and returns None. Otherwise returns `Some(false)`.
 fn wanted_memory(
     rt: &HostRuntime,
     sink: StdSink<Expecting<'_>>,

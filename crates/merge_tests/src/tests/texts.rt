@@ -12,7 +12,7 @@ use test_helpers::canonical_parts::{END, HEAD, MIDDLE};
 use test_helpers::expecting::Expecting;
 
 // After a refused request for memory, the call is repeated. A line on standard error reports the
-// refusal to `tests/refused_memory`.
+// refused request to `tests/refused_memory`.
 
 const LINE: &str = "\n";
 

@@ -106,8 +106,8 @@ fn holds_each_front(alloc: Global, call: Call<'_, '_>, text: &[u8]) -> Result<bo
     Ok(true)
 }
 
-// The sheet and the report are short, because three calls read the report again for each writer,
-// and one of these calls also reads the sheet again.
+// The sheet and the report are short, because three calls read the report again for each writer.
+// `consolidate_bundle` also reads the sheet again.
 
 const SHORT_SHEET: &str =
     r#"{"namespaces":{"eg":"http://example.org/t"},"concepts":{"eg:A":"numeric"}}"#;

@@ -14,12 +14,12 @@ abbrev pub read_as : Sheet → Result Document Refusal → Result Contents Refus
 read_as sheet (Ok d) = Ok (base_of sheet (d ∷ []))
 read_as sheet (Err refusal) = Err refusal
 
--- a base takes a reading; a refusal changes nothing
+-- a base after it joins the base that was read; a refusal changes nothing
 abbrev pub with_read : Result Contents Refusal → Contents → Contents
 with_read (Ok read) base = joined_with base read
 with_read (Err refusal) base = base
 
--- if something is cached for these bytes, it is the result of reading them
+-- a cached reading is the result of reading these bytes; there may be none
 abbrev pub IsReadingOf : Sheet → List ℕ → Option (Result Contents Refusal) → Type 0
 IsReadingOf sheet bytes None = Unit {0}
 IsReadingOf sheet bytes (Some read) = read ≡ read_as sheet (outcome sheet bytes)

@@ -94,7 +94,8 @@ impl<'s> Messages<'s> {
         }
     }
 
-    /// The index in `texts` of an equal text, or the index in `order` at which to insert a new one.
+    /// The index in `texts` of an equal text, or the index in `order` at which to insert the index
+    /// of a new text.
     fn find(&self, text: &Encoded) -> Result<usize, usize>
         ensures { MatchResult result
             (IsTextAt self.now.texts.items text.now)

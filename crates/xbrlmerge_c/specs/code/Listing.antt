@@ -10,7 +10,7 @@ use Rattle.row_formats.specs.declared.row_format.RowFormat.TheVariants.{Json}
 use Rattle.xbrlmerge_c.specs.declared.listing.Listing.{Listing}
 use Rattle.xbrlmerge_c.specs.declared.listing.Listing.TheVariants.{Sources, SourcesJson, Verdicts, VerdictsJson}
 
--- the listing of the accepted reports was appended, and the refusals of the others were returned
+-- the listing of the accepted reports was appended, and the refusals of the other reports were returned
 abbrev pub AppendsListing : Listing → Sheet → List (List ℕ) → Option (List ℕ) → Option (List ℕ) → List (ℕ × Refusal) → Type 0
 AppendsListing Verdicts = ListsVerdicts
 AppendsListing Sources = ListsSources

@@ -37,7 +37,7 @@ fn room_for_reports(rt: &HostRuntime) -> Result<Vec<Encoded>, AllocError> {
     }
 }
 
-/// Bytes that are not a report, and one report twice.
+/// An empty file, which is refused, and one report twice.
 fn reports(rt: &HostRuntime, report: &str) -> Result<Vec<Encoded>, AllocError> {
     let mut reports = room_for_reports(rt)?;
     for report in ["", report, report] {
@@ -54,7 +54,7 @@ fn tells_first(refused: &Refusals) -> bool {
 }
 
 /// True if the whole text was written and only the first report was refused; None if memory was
-/// refused.
+/// refused and the sink took exactly as many bytes of the text as the fault reports.
 pub(crate) fn came_to(
     rt: &HostRuntime,
     answer: Result<Refusals, Fault>,

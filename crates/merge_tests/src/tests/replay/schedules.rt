@@ -81,7 +81,7 @@ const SCHEDULES: &[Schedule] = &[
         sent: &[],
         refused: &[2, 2, 2],
     },
-    // a report that no event takes is not read
+    // a report that no event takes is not refused
     Schedule {
         reports: &[UNBOUND],
         lines: "",
@@ -104,7 +104,7 @@ const SCHEDULES: &[Schedule] = &[
         sent: &[ONE],
         refused: &[],
     },
-    // an old text after a newer one
+    // an old text is received after a newer text
     Schedule {
         reports: THREE,
         lines: "take 1 1\nsend 1\ntake 1 2\nsend 1\nreceive 2 2\nreceive 2 1\n",

@@ -3,7 +3,7 @@ use std::test::Fail;
 use test_helpers::asked_again::{INFO, OPEN_INFO};
 use test_helpers::canonical_parts::{END, HEAD, MIDDLE};
 
-// Compares merged texts with expected ones.
+// Compares merged texts with expected texts.
 
 /// `INFO` with `zz` instead of `eg`.
 const OTHER_INFO: &str =

@@ -75,7 +75,7 @@ const FACTS: &[(&str, &str, &str)] = &[
         TWO_URIS,
         r#""f1":{"dimensions":{"concept":"n1:Q"},"value":"n2:North"}"#,
     ),
-    // different spellings of zero are one fact
+    // facts that differ only in the spelling of zero are one fact
     (
         r#""a":{"value":"-0","dimensions":{"concept":"eg:A"}},"b":{"value":"+0.00","dimensions":{"concept":"eg:A"}},"c":{"value":".0","dimensions":{"concept":"eg:A"}},"d":{"value":"0","dimensions":{"concept":"eg:A"}}"#,
         ONE_URI,

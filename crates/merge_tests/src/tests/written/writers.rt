@@ -9,8 +9,8 @@ use test_helpers::devices::{ComparingWriter, STEPS, Step, Then};
 
 // Tests writers that stop after part of a text or all of it, with and without a buffer.
 
-/// The result of a run: the length that the fault reported, the bytes taken, the failures of the
-/// sink, and whether the writer took exactly the bytes that it expects.
+/// The result of a run: the length that the fault reported, the number of bytes taken, the number
+/// of the sink's failures, and whether the writer took exactly the bytes that it expects.
 type Left = (Option<u64>, u64, u64, bool);
 
 fn left(told: Option<u64>, sink: StdSink<ComparingWriter<'_>>) -> Left {
