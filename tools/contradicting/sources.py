@@ -68,7 +68,8 @@ class Sources:
 
 
 class OwnTexts:
-    """A merged report for each provider, made from the provider's own reports. It does not contain their identifiers."""
+    """A merged report for each provider, made from the provider's own reports. It lacks the facts' identifiers in these
+    reports."""
 
     def __init__(self, providers: list[Provider]) -> None:
         self.providers, self.names = providers, [provider.name for provider in providers]
