@@ -98,6 +98,6 @@ def identifiers(holders: Holders) -> str:
 
 
 def told(holders: Holders) -> str:
-    """Returns names and identifiers as one text, with long ones cut."""
+    """Returns the providers' names and identifiers as one text, each of them shortened."""
     brief = ((shortened(holder.name), ", ".join(map(shortened, holder.identifiers))) for holder in holders)
     return "; ".join(" ".join(each).strip() for each in brief)
