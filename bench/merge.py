@@ -220,8 +220,7 @@ def instructions(program, bundle):
 
 def measure(workload, size, programs, folder):
     """Returns the bundle's size in bytes and, for each program, the least processor seconds, the peak kilobytes and the
-    instructions.
-    Checks the merged text."""
+    instructions. Checks the merged text."""
     stem = os.path.join(folder, f"{workload.replace(' ', '_')}_{size}")
     bundle = f"{stem}.bundle"
     in_child(write_bundle, workload, size, bundle)

@@ -1,4 +1,4 @@
-"""The shapes of input that bench/shapes measures. Each returns the arguments of a command, and the files named there."""
+"""The shapes of input that bench/shapes measures. Each returns the arguments of a command, and the files that they name."""
 import json
 import random
 

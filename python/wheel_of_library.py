@@ -11,7 +11,7 @@ HERE = os.path.dirname(os.path.abspath(__file__))
 LIBRARY = os.path.join(HERE, "..", "lib", "libxbrlmerge.so")
 # the C library and the dynamic linker; the tag is linux if the shared library needs another library
 SYSTEM = {b"libc.so.6", b"ld-linux-x86-64.so.2"}
-# the oldest minor version of the C library that such a tag can name
+# the oldest minor version of the C library that a manylinux tag can name
 OLDEST = 5
 TIME = (1980, 1, 1, 0, 0, 0)
 
@@ -25,8 +25,8 @@ def _project(key: str) -> str:
 
 
 def _platform(library: bytes) -> str:
-    """Returns the platform tag: manylinux with the newest version of the C library that is needed, or linux if another
-    library is needed too or no version is found."""
+    """Returns the platform tag: manylinux with the newest version of the C library that is needed. The tag is linux if
+    another library is needed too, or if no version is found."""
     minors = [int(it) for it in re.findall(rb"GLIBC_2\.(\d+)", library)]
     is_plain = set(re.findall(rb"\x00([\w+.-]*\.so[.\d]*)(?=\x00)", library)) - {b"libxbrlmerge.so"} <= SYSTEM
     return f"manylinux_2_{max([OLDEST, *minors])}_x86_64" if is_plain and minors else "linux_x86_64"

@@ -54,7 +54,7 @@ def imports_of(text):
 
 
 def pieces(text):
-    """Yields a file's definitions in order. Each has its name, the other names that it owns, and its text.
+    """Yields, for each definition of a file in order, its name, the other names that it owns, and its text.
 
     A `data` definition owns its constructors, and a mutual definition owns its further heads. A record does not own its fields.
     """

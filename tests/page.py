@@ -61,7 +61,7 @@ setTimeout(() => {
   }, 3000);
 }, 2000);
 </script></body>"""
-# for each value of one contradiction, its provider and its identifier in the provider's report
+# for each fact of one contradiction, its provider and its identifier in the provider's report
 OWN_NAMES = ("issuer f56", "statfeed TS08780")
 # the colours of the background, of a value of the pair and of the gap, in each theme
 LOOKS = {"light": ("ffffff", "b3201f", "f3c9c5"), "dark": ("16181c", "ff8a80", "5c2b2b")}

@@ -5,12 +5,12 @@
 
 A `pub` function is public if `lib.rt` exports it, its type or its module. A function or a law of a trait is public if `lib.rt`
 exports the trait. An `extern "C"` function is always public. The page has a generated table for each library with contracts.
-The table lists each public function with the names of its clauses and the first paragraph of its doc comment. --write writes
-these tables. The status is 1 if
+The table lists each public function or law with the names of its clauses and the first paragraph of its doc comment. --write
+writes these tables. The status is 1 if
 
 - the tables differ from the code;
-- a public function has no doc comment;
-- the page names a function that does not exist (`crate::x`, `Type::x`, `laws::x`). Names of types without functions are not checked.
+- a public function or law has no doc comment;
+- the page names a function that does not exist (`crate::x`, `Type::x`, `laws::x`). `Type::x` is not checked if Type has no functions.
 """
 import glob
 import os

@@ -5,7 +5,7 @@
 
 The reports are drawn and broken as in tests/malformed; about one in four is long enough to be read in pieces. Each run of
 `merge` reads a sheet and at most a hundred reports. Both programs must end with the same status, 0 or 1, and print the same
-bytes and lines; so each refusal has the same reason and place.
+bytes and lines. So each refusal has the same reason and place.
 
 Status 0: all is as expected. 1: something is not; the files of each batch with a fault are kept, and the first 20 faults are
 printed with the seed. 2: a program does not exist.

@@ -7,13 +7,13 @@ BUILT = ("xbrlmerge", "crates/xbrlmerge/out/xbrlmerge")
 
 
 def content(path):
-    """Returns the text of a file. A path that is not absolute begins at the top of the repository."""
+    """Returns the text of a file. A relative path starts at the top of the repository."""
     with open(os.path.join(TOP, path), encoding="utf-8") as file:
         return file.read()
 
 
 def bytes_of(path):
-    """Returns the bytes of a file. A path that is not absolute begins at the working folder."""
+    """Returns the bytes of a file. A relative path starts at the working folder."""
     with open(path, "rb") as file:
         return file.read()
 

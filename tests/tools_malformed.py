@@ -319,7 +319,7 @@ def of_text(room, chance):
 
 
 def of_labels(room, chance):
-    """Runs contradictions with a taxonomy in which the core schema or an XML file, such as the linkbase, is broken."""
+    """Runs contradictions with the labels of a taxonomy. The core schema or a .xml file may be broken, and so may the package."""
     text, verdicts, sources = drawn_text(chance)
     files = {"merged": text, "sheet": json.dumps(SHEET).encode(), "verdicts": verdicts, "sources": sources}
     run_on_text(room, chance, files, ["--labels", write_taxonomy(room, chance, (".xml", "core.xsd"))])

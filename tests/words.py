@@ -97,7 +97,7 @@ def told_by_man():
 
 
 def told_by_completions():
-    """Returns the words of the completions for bash. An argument counts if file names are completed for it."""
+    """Returns the words of the completions for bash. An argument for a file counts if file names are completed for it."""
     with tempfile.TemporaryDirectory() as room:
         with open(os.path.join(room, FILE), "w", encoding="utf-8"):
             pass

@@ -17,8 +17,8 @@ Providers are named after their files: the provider of issuer.json is "issuer". 
 made several reports, repeat its NAME. A refused report is listed with the first 20 faults that `xbrlmerge explain` finds, and
 the other reports are used. --taxonomy makes the sheet first and writes it as sheet.json; the option may be repeated.
 
---normalise applies the rules of tools/normalise to each report first, and lists the changes in changes.csv. With it, you can
-use that tool's options that lose something, such as --drop-notes. A report that cannot be normalised is used as it is.
+--normalise applies the rules of tools/normalise to each report first, and lists the changes in changes.csv. It permits the
+options of tools/normalise that lose something, such as --drop-notes. A report that cannot be normalised is used as it is.
 
 --near NEAR.csv writes a table of pairs of rows that differ in one dimension only, perhaps by mistake: the same name or
 identifier in another namespace or scheme, other letter case or white space, dates at most a day apart, another unit or
@@ -87,7 +87,7 @@ def read_options() -> argparse.Namespace:
 
 
 def check(parser: argparse.ArgumentParser, options: argparse.Namespace) -> None:
-    """Exits with a usage error if an option or the name of a report is invalid, or if an output is an input or another output."""
+    """Exits with a usage error if an option or a report's name is invalid, an output is an input, or two outputs are one file."""
     if options.texts:
         if options.normalise or options.program:
             parser.error("--from takes neither --normalise nor --program")
@@ -115,7 +115,7 @@ def outputs_of(options: argparse.Namespace) -> list[str]:
 
 
 def inputs_of(options: argparse.Namespace) -> list[str]:
-    """Returns the paths of the input files. Errors: ValueError, as in `reports_of`."""
+    """Returns the paths of the input files and folders. Errors: ValueError, as in `reports_of`."""
     inputs = [*options.labels, *(options.taxonomy or []), *[options.sheet] * bool(options.sheet)]
     if options.texts:
         return [*inputs, *options.texts, *[options.sources] * bool(options.sources), *(word.partition("=")[2] for word in options.words)]

@@ -39,7 +39,7 @@ def run(main: Callable[[], Status]) -> NoReturn:
     """Ends the process with the status that `main` returns.
 
     An exception of `main` becomes lines on standard error and NOT_DONE, so it never leads to status 1. SystemExit, which
-    argparse raises, becomes USAGE or DONE. A failed write on standard output or standard error is NOT_DONE as well. After a
+    argparse raises, becomes USAGE or DONE. A failed write to standard output or standard error leads to NOT_DONE. After a
     signal in STOPPING the process cleans up, and then ends by that signal.
     """
     fill_standard_files()
@@ -138,7 +138,7 @@ def are_flushed() -> bool:
         try:
             file.flush()
         except OSError:
-            os.dup2(os.open(os.devnull, os.O_WRONLY), file.fileno())  # Python would flush it again and exit with status 120
+            os.dup2(os.open(os.devnull, os.O_WRONLY), file.fileno())  # else Python flushes it again and exits with 120
             taken = False
     return taken
 
@@ -163,5 +163,5 @@ def printable(text: str) -> str:
 
 
 def shortened(text: str) -> str:
-    """Returns a text, cut after MOST_CHARACTERS with two dots if it is longer."""
+    """Returns a text, or its first MOST_CHARACTERS characters and two dots if it is longer."""
     return text if len(text) <= MOST_CHARACTERS else text[:MOST_CHARACTERS] + ".."

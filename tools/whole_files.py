@@ -49,7 +49,7 @@ def write_files(texts: Iterable[tuple[str, Iterable[str]]]) -> None:
     Each file is written in a new folder beside its place, then moved to its place. It gets the owner, the group and the
     permissions of the file that it replaces, each if permitted, but no setuid, setgid or sticky bit. A signal that
     `process.run` handles stops the writing, and the new files are removed; the moves are not interrupted. Errors: OSError, and
-    exceptions of the pieces. After an error, every place is unchanged, unless a file cannot be moved back.
+    exceptions of the pieces. After an error, every place is unchanged, unless a move cannot be undone.
     """
     with files_written(texts):
         pass
@@ -94,10 +94,10 @@ def copy_permissions(place: str, file: int) -> None:
 
 
 def put_in_place(outputs: list[Output]) -> None:
-    """Moves all outputs to their places. If a move fails, moves the earlier outputs back, and raises OSError."""
+    """Moves all outputs to their places. If a move fails, undoes the earlier moves, and raises OSError."""
     if len({output.place for output in outputs}) < len(outputs):
         raise OSError("two outputs are one file")
-    for output in outputs[:-1]:  # the last one is never moved back, because nothing is moved after it
+    for output in outputs[:-1]:  # the last move is never undone, because none follows it
         output.keep_old()
     moved: list[Output] = []
     try:

@@ -6,7 +6,7 @@ to a file. With --calls, it is a call of the Python module xbrlmerge, whose resu
 make a Client first, and let all machines share SHEET, OUT and the files. Set TMPDIR to a folder that all machines share, or
 with --calls install the module on each machine.
 Status 0: OUT contains every report. 1: reports were refused, as standard error shows, and OUT contains the others; or a step
-failed: then do not use OUT, which may be missing, old or incomplete (with --calls it is unchanged). 2: invalid arguments.
+failed: then do not use OUT, which may be missing, old or incomplete (with --calls it is unchanged). 2: an argument is missing.
 """
 import os
 import shlex

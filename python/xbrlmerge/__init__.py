@@ -99,7 +99,7 @@ class Row:
     first: str  #: the identifier of its first fact in the canonical text
     last: str  #: the identifier of its last fact
     verdict: str  #: complete, consistent or inconsistent
-    common: Optional[Tuple[decimal.Decimal, decimal.Decimal]] = None  #: if consistent: the lowest and highest number that fit all facts
+    common: Optional[Tuple[decimal.Decimal, decimal.Decimal]] = None  #: if consistent: the lowest and highest numbers that fit all facts
     apart: Optional[Tuple[str, str]] = None  #: if inconsistent: the identifiers of two facts that contradict each other
 
 

@@ -57,7 +57,7 @@ def untidy_dimensions(chance, concept):
 
 
 def fact_text(members):
-    """Returns the JSON text of an object whose values are JSON texts."""
+    """Returns the JSON text of an object, from the JSON texts of its values."""
     return "{%s}" % ",".join(f"{json.dumps(key)}:{value}" for key, value in members.items())
 
 

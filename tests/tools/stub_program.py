@@ -1,5 +1,5 @@
 """A program in place of `xbrlmerge`. Each command prints the output prepared in the program's folder. The program also
-records the names of the reports, and copies the sheet.
+records each command with the names of its reports, and copies the sheet.
 
 COMMAND.out and COMMAND.err are printed if they exist. COMMAND.status contains the status, 0 by default. If COMMAND.waits
 exists, the command waits. For a report named `normalised`, `explain` prints only the faults of the document and of facts in

@@ -1,4 +1,4 @@
-"""Tests of tools/contradictions with labels, with the table of similar rows, and on a large text."""
+"""Tests of tools/contradictions with labels, with --near, and on a large text."""
 import csv
 import json
 import os

@@ -33,8 +33,8 @@ ARC = '<link:labelArc xlink:from="{}" xlink:to="{}"/>'
 
 
 def each(form, size, *more):
-    """Returns the form once for each number below the size, filled with the texts of `more`. A text can contain the number and
-    the next number."""
+    """Returns the form once for each number below the size, filled with the texts of `more`. In a text, {0} means the number and
+    {1} the next one."""
     return "".join(form.format(*(spelled.format(number, number + 1) for spelled in more)) for number in range(size))
 
 
@@ -322,7 +322,7 @@ class Statuses(HostileTest):
             self.assertEqual(run(*words).returncode, 2)
 
     def test_signals(self):
-        self.assertEqual(signal.getsignal(signal.SIGTERM), signal.SIG_DFL)  # a run of a tool in this process leaves the default
+        self.assertEqual(signal.getsignal(signal.SIGTERM), signal.SIG_DFL)  # a tool that runs in this process does not set a handler
 
 
 class Unions(HostileTest):

@@ -68,7 +68,8 @@ class Sources:
 
 
 class OwnTexts:
-    """A merged report for each provider, made from the provider's own reports. It does not contain their identifiers."""
+    """A merged report for each provider, made from the provider's own reports. It lacks the facts' identifiers in these
+    reports."""
 
     def __init__(self, providers: list[Provider]) -> None:
         self.providers, self.names = providers, [provider.name for provider in providers]
@@ -97,6 +98,6 @@ def identifiers(holders: Holders) -> str:
 
 
 def told(holders: Holders) -> str:
-    """Returns names and identifiers as one text, with long ones cut."""
+    """Returns the providers' names and identifiers as one text, each of them shortened."""
     brief = ((shortened(holder.name), ", ".join(map(shortened, holder.identifiers))) for holder in holders)
     return "; ".join(" ".join(each).strip() for each in brief)
