@@ -224,6 +224,8 @@ def main():
         for number in range(COUNT):
             chance = random.Random(f"{SEED} {number}")
             write(f"in/{number // 4:03}.{number % 4}.json", report(chance, 1 + number // 25 % 3 if number % 25 == 7 else 0))
+        for width in ("0", "-1", "two"):
+            check(run(*words, "sheet.json", "dask.json", width, *paths()).returncode == 2, f"a WIDTH of {width} is accepted")
         wanted = one_run()
         check(len(wanted[1]) == len(range(7, COUNT, 25)), f"{len(wanted[1])} reports are refused")
         for width in WIDTHS:

@@ -6,7 +6,8 @@ to a file. With --calls, it is a call of the Python module xbrlmerge, whose resu
 make a Client first, and let all machines share SHEET, OUT and the files. Set TMPDIR to a folder that all machines share, or
 with --calls install the module on each machine.
 Status 0: OUT contains every report. 1: reports were refused, as standard error shows, and OUT contains the others; or a step
-failed: then do not use OUT, which may be missing, old or incomplete (with --calls it is unchanged). 2: an argument is missing.
+failed: then do not use OUT, which may be missing, old or incomplete (with --calls it is unchanged). 2: an argument is missing,
+or WIDTH is not a whole number from 1.
 """
 import os
 import shlex
@@ -71,7 +72,7 @@ def fold_by_calls(sheet, out, width, files):
 def main(words):
     folds = fold_by_calls if words[:1] == ["--calls"] else fold
     words = words[1:] if folds is fold_by_calls else words
-    if len(words) < 4:
+    if len(words) < 4 or not words[2].isdecimal() or int(words[2]) == 0:
         print(__doc__)
         return 0 if words == ["--help"] else 2
     return folds(*words[:2], int(words[2]), words[3:])
