@@ -8,7 +8,7 @@
 The first two forms run `xbrlmerge` on the reports. Each form writes these files into the folder DIR, except that --from writes
 no merged.json:
 
-    page.html           the contradictions: texts, names and nil values first, then the largest differences
+    page.html           the contradictions: texts, names and nil values first, then the largest relative differences
     contradictions.csv  the facts of the contradictions as a table
     rows.csv            all rows, with how many providers report each ("1 of 3")
     merged.json         the merged report

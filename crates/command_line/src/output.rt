@@ -10,7 +10,7 @@ use std::os::unix::fs::PermissionsExt;
 use std::rt::Files;
 
 /// The mode bits that the new file gets from the old one. The new file may have another owner, so
-/// setuid and setgid are not among them.
+/// setuid, setgid and sticky are not among them.
 const KEPT_BITS: u32 = 0o777;
 
 /// Runs the request and writes its output to standard output. Flushes standard output if the

@@ -20,7 +20,7 @@ const VERSION: &str = "0.3.0-dev";
 const ABOUT: &str = "Merges xBRL-JSON reports, and finds where they contradict each other";
 
 const MORE: &str =
-    "Without a command, xbrlmerge merges the bundle on standard input: the first line is a sheet, and
+    "Without arguments, xbrlmerge merges the bundle on standard input: the first line is a sheet, and
 each other line that is not empty is a report.
 
 Example:

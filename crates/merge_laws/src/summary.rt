@@ -29,7 +29,7 @@ impl Model for Summary {
 }
 
 impl Summary {
-    /// Returns the summary of one value. `merge` joins the summaries of several values.
+    /// Returns the summary of one value. `merge` combines two summaries.
     pub fn of(value: &Value) -> Self
         ensures { result ≡ summary_of value.now }
     {

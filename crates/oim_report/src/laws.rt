@@ -187,8 +187,8 @@ pub fn fact_object_is_plain()
 {}
 
 /// `least` returns the lowest-numbered condition that applies. `told` lists the conditions that
-/// apply and are not hidden. Their numbers strictly ascend, and the first condition is the one that
-/// `least` returns.
+/// apply and are not hidden (`Namespace` hides `Feature`). Their numbers strictly ascend, and the
+/// first condition is the one that `least` returns.
 pub fn least_is_answered()
     ensures { LeastIsAnswered }
 {}
