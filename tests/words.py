@@ -3,9 +3,9 @@
 
     tests/words [PROGRAM]
 
-The man page must also show the same forms of lines as the help. By default, PROGRAM is $XBRLMERGE or the built program. Status
-0: all have the same words. 1: some words differ; each is printed with the place where it is missing or should not be. 2: there
-is no program.
+The man page must also show the same line formats as the help, such as "take I R". By default, PROGRAM is $XBRLMERGE or the
+built program. Status 0: all have the same words. 1: some words differ; each is printed with the place where it is missing or
+should not be. 2: there is no program.
 """
 import os
 import re
@@ -59,10 +59,10 @@ def told_by_help(program):
 
 
 def forms(text):
-    """Returns the forms of lines (verdicts, sources, check, events) that a help text or the man page shows."""
+    """Returns the line formats (verdicts, sources, check, events) that a help text or the man page shows."""
     begins = r"^(?:  |\.\w+ )((?:ROW|FACT|accepted|take|join|send|receive|restart) +[A-Z].*)"
     found = re.findall(begins, re.sub(r'\\f.|"', "", text), re.MULTILINE)
-    # the meaning of a form may follow it after three spaces
+    # the meaning of a format may follow it after three spaces
     return {" ".join(it.partition("   ")[0].split()) for it in found}
 
 

@@ -221,7 +221,7 @@ def _bytes(given: Given) -> bytes:
         return given
     if isinstance(given, (bytearray, memoryview)):
         return bytes(given)
-    # `open` alone would also accept the number of an open file
+    # `open` alone would also accept a file descriptor
     with open(os.fspath(given), "rb") as file:
         return file.read()
 

@@ -1,7 +1,7 @@
 """Reads and writes JSON. Numbers keep their spelling, and no member is lost.
 
-The module `json` reads texts, with hooks. `pieces_of` writes them, because the encoder of `json` writes only ints and floats as
-numbers, and would change 1.50, -0 and 1e400.
+`json.loads` parses a text; its hooks keep the spelling of numbers and find repeated members. `pieces_of` writes texts, because
+the encoder of `json` writes only ints and floats as numbers, and would change 1.50, -0 and 1e400.
 """
 from __future__ import annotations
 

@@ -1,4 +1,4 @@
--- The member of `dimensions` at a key.
+-- A look-up or a test in an absent object gives the same result as in an object without members.
 use Rattle.std.proofs.Common.{◌≡◌, ℕ, List, Bool, refl}
 use Rattle.std.specs.Prelude.{Option, Some, None, option_and_then}
 use Rattle.serde_json.specs.Data.{Data, Members, null, boolean, number, string, array, object}

@@ -5,8 +5,8 @@ use oim_report::Sheet;
 use std::test::Fail;
 
 // Tests a report that has every kind of part. If the report is cut at any index, it must be
-// refused. If any one byte is replaced by a byte of `OTHERS`, the report must not be refused for
-// lack of memory.
+// refused. If any one byte is replaced by a byte of `OTHERS`, or by one of `",:[]{}`, the report
+// must not be refused for lack of memory.
 
 const EVERY_PART: &str =
     r#"{"documentInfo":{"documentType":"https://xbrl.org/2021/xbrl-json","features":{"xbrl:allowedDuplicates":"all","eg:f":7},"baseURL":"http://x.org/d/","linkTypes":{},"namespaces":{"eg":"http://example.org/t","x":"u:u","xbrl":"https://xbrl.org/2021"},"taxonomy":["b.xsd"],"eg:m":[true,-1.5e3]},"facts":{"a":{"value":"-12.50","decimals":-3,"dimensions":{"concept":"eg:A","entity":"x:A1","period":"2020-01-01T00:00:00/2020-12-31T24:00:00","unit":"(x:a*x:b)/x:c","eg:Reg":"eg:N","eg:Sku":null}},"b":{"value":"é\u00e9\ud83d\ude00\n","dimensions":{"concept":"eg:T","language":"en-GB"}},"c":{"value":"x:N","links":{},"dimensions":{"concept":"eg:Q","eg:Sku":"a b","period":"2020-12-31T24:00:00"}},"d":{"value":null,"dimensions":{"concept":"eg:A"},"eg:z":{}}}}"#;
