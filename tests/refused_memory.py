@@ -117,7 +117,8 @@ def build_library(room):
 
 
 def run(library, subject, number):
-    """Runs a subject in a new folder with this request refused; 0 refuses none. Requests are None if they were not counted."""
+    """Runs a subject in a new folder with this request refused; 0 refuses none. In the result, `requests` is None if they were
+    not counted."""
     with tempfile.TemporaryDirectory(prefix="refused-") as room:
         os.makedirs(f"{room}/here/out")
         around = {**os.environ, "LD_PRELOAD": library, "REFUSE": str(number), "REFUSE_TOLD": f"{room}/told"}

@@ -44,7 +44,7 @@ class Refusals:
         self.reports.append(Refused(path, tuple(first or [refusal]), count or 1))
 
     def lacking_lines(self, most: int = MOST_NAMES) -> Iterator[str]:
-        """Yields lines with the concepts and dimensions that the sheet lacks, and then the advice, if there is any."""
+        """Yields lines with the concepts and dimensions that the sheet lacks. If it lacks any, the advice follows, unless it is empty."""
         for kind, names in self.lacking.items():
             if names:
                 count = f"{len(names)}{' or more' * (len(names) == MOST_NAMES)} {kind}{'s' * (len(names) > 1)}"

@@ -79,8 +79,9 @@ class Visitor:
 def read_xml(data: bytes, visitor: Visitor) -> None:
     """Passes the tags of a document to a visitor, and the texts if the visitor's `takes_text` is true.
 
-    Errors: ValueError if the document is not well-formed, has a document type or more than MOST_LEVELS levels, has an element
-    with an unbound prefix, or binds a prefix to an empty namespace; MemoryError; exceptions of the visitor.
+    Errors: LookupError or ValueError if the encoding is not supported; ValueError if the document is not well-formed, has a
+    document type or more than MOST_LEVELS levels, has an element with an unbound prefix, or binds a prefix to an empty namespace;
+    MemoryError; exceptions of the visitor.
     """
     bindings, opened = Bindings(), []
 

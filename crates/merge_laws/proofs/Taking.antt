@@ -94,7 +94,7 @@ module _ {K E : Type 0} {R : K → K → Ordering} (key : E → K) (o : IsTotalO
       above : is_lt (R (key e) k) ≡ false → R (key e) w ≡ Greater → place_of R key w (take (place_of R key k (e ∷ es)) (e ∷ es)) ≡ place_of R key w (e ∷ es)
       above t q = ap (λ i. place_of R key w (take i (e ∷ es))) (place_here key o k e es t) ∙ sym (place_here key o w e es (ap is_lt q))
 
-  -- the insertions of items below a key depend only on the items below the key
+  -- if all items of fs are below a key, their insertions into es depend only on the items of es below that key
   below_news : (k : K) (es fs : List E) → IsRising R key es → AllBelow key o k fs → new_items R key es fs ≡ new_items R key (take (place_of R key k es) es) fs
   below_news k es [] h b = refl
   below_news k es (f ∷ fs) h b =

@@ -70,7 +70,7 @@ verdict_shown Alike = Complete
 verdict_shown (Common c) = Consistent
 verdict_shown (Apart i j) = Inconsistent
 
--- the evidence in a line shows the verdict on the dimension set
+-- in a body that fits a sheet, the evidence in a line shows the verdict on the line's dimension set
 abbrev pub LinesTellVerdicts : Type 0
 LinesTellVerdicts =
     (sheet : Sheet) (b : Body) → Fits sheet b → (r : Row) → Contains (rows_of b.facts) r →

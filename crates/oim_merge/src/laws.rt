@@ -95,8 +95,8 @@ pub fn lines_are_one()
     ensures { LinesAreOne }
 {}
 
-/// The evidence in a line shows the verdict on the line's dimension set. The text of the evidence
-/// begins with the word for that verdict.
+/// In a body that fits a sheet, the evidence in a line shows the verdict on the line's dimension
+/// set. The text of the evidence begins with the word for that verdict.
 pub fn lines_tell_verdicts()
     ensures verdict { LinesTellVerdicts }
     ensures word { WordsShowVerdicts }

@@ -114,7 +114,7 @@ const ROWS: &[Row] = &[
         ],
         &[CONSISTENT_HEAD, ONE_URI, MIDDLE, WRITTEN_BOTH, END],
     ),
-    // merged texts may declare a stricter level than the text that is merged from them
+    // a merge may declare a looser level than each text that it merges
     (
         &[
             SHEET, LINE, HEAD, ONE_URI, MIDDLE, ONE_VALUE, "101", VALUE_END, LINE, HEAD, ONE_URI,

@@ -5,7 +5,8 @@ use test_helpers::canonical_parts::{END, HEAD, MIDDLE};
 
 // Prefixes are numbered in the byte order of their URIs, not in the order of first use.
 
-// Parts of reports and texts with one fact, which uses all URIs in its concept and its measures.
+// Parts of reports and of their merged texts. A report has one fact, whose concept and measures use
+// all its URIs.
 
 const BOUND: &str = r#","namespaces":{"eg":"http://example.org/t","#;
 
