@@ -102,7 +102,7 @@ module _ {K E : Type 0} {R : K → K → Ordering} (key : E → K) (o : IsTotalO
       let place = sym (below_places (key f) k es h b.0) in
       λ i. cond (is_some (found i)) [] ((place i, f) ∷ []) ++ below_news k es fs h b.1 i
 
-  -- out has the items of es, and the items of fs whose keys are not in es
+  -- the list `out` ascends, and has the items of es and the items of fs whose keys are not in es
   pub record IsTaken (es fs out : List E) : Type 0 where
     pub rises : IsRising R key out
     pub at : (q : K) → item_at R key q out ≡ option_or (item_at R key q es) (item_at R key q fs)

@@ -72,7 +72,7 @@ module _ {K V : Type 0} {R : K → K → Ordering} (o : IsTotalOrder R) where
       ] refl
 
   module _ (merged : V → V → V) where
-    -- an entry whose value is merged with the other map's value at its key, if the other map has the key
+    -- one map's entry at a key, with the value of the other map's entry at the key merged into it; either entry may be missing
     abbrev pub revalued : Option (K × V) → Option (K × V) → Option (K × V)
     revalued None b = None
     revalued (Some e) None = Some e
@@ -95,7 +95,7 @@ module _ {K V : Type 0} {R : K → K → Ordering} (o : IsTotalOrder R) where
     none_above q [] h = refl
     none_above q (f ∷ fs) h = ap (λ r. cond (is_eq r) (Some f) (item_at R entry_key q fs)) (o.antisymm q f.0 ∙ ap ordering_reverse h.0) ∙ none_above q fs h.1
 
-    -- an entry with a new key changes no value
+    -- if the other map's next entry has a new key, no value changes
     other_alone : (es fs out : List (K × V)) (f : K × V) → item_at R entry_key f.0 es ≡ None → IsRevalued es fs out → IsRevalued es (fs ++ f ∷ []) out
     other_alone es fs out f none before = record {
       rises = before.rises;
@@ -108,7 +108,7 @@ module _ {K V : Type 0} {R : K → K → Ordering} (o : IsTotalOrder R) where
       ] refl;
     }
 
-    -- an entry with a shared key sets the merged value
+    -- if both maps have the key of the other map's next entry, the merged value replaces the old value
     other_shared : (es fs out : List (K × V)) (f e : K × V) → item_at R entry_key f.0 es ≡ Some e → AllBelow entry_key o f.0 fs → IsRevalued es fs out → IsRevalued es (fs ++ f ∷ []) (with_value (place_of R entry_key f.0 es) (merged e.1 f.1) out)
     other_shared es fs out f e here low before =
         let v = merged e.1 f.1 in

@@ -25,7 +25,7 @@ abbrev pub summary_of_all : List Value → Summarised
 summary_of_all [] = record { nil = false; ends = None }
 summary_of_all (v ∷ vs) = both_summaries (summary_of v) (summary_of_all vs)
 
--- both fields of the summary are correct for these values
+-- the summary states whether one of these values is nil, whether one is a number, and the ends of the numbers' intervals
 pub record TellsAll (vs : List Value) (s : Summarised) : Type 0 where
   pub nil : IsTrue s.nil ↔ Contains vs Nil
   pub number : is_some s.ends ≡ list_any has_interval vs

@@ -44,7 +44,7 @@ abbrev pub map_union : {K V : Type 0} → (K → K → Ordering) → (V → V �
 map_union R merged = union_of R entry_key (merged_entries merged)
 
 module _ {K : Type 0} (R : K → K → Ordering) where
-  -- a set has exactly the items of two lists
+  -- `set` is a set with exactly the items of the lists xs and ys
   pub record IsSetOfBoth (xs ys set : List K) : Type 0 where
     pub rises : IsSet R set
     pub members : (x : K) → Contains set x ↔ (Contains xs x ⊎ Contains ys x)
@@ -60,12 +60,12 @@ module _ {K : Type 0} (R : K → K → Ordering) where
   SetWithHasItem = (xs : List K) (x : K) → IsSet R xs → IsSetOfBoth xs (x ∷ []) (set_with R x xs)
 
 module _ {K V : Type 0} (R : K → K → Ordering) (merged : V → V → V) where
-  -- a map has exactly the keys of two maps; the two values at a shared key are merged, and other values do not change
+  -- `map` has exactly the keys of the maps es and fs; the two values at a shared key are merged, and other values do not change
   pub record IsMapOfBoth (es fs map : List (K × V)) : Type 0 where
     pub rises : IsRising R entry_key map
     pub values : (k : K) → value_at R k map ≡ either_or_both merged (value_at R k es) (value_at R k fs)
 
-  -- a look-up finds a value at a key exactly if the map has this entry
+  -- a look-up of k finds v exactly if the map has an entry with the key k and the value v
   abbrev pub MapTellsEntry : Type 0
   MapTellsEntry = (es : List (K × V)) (k : K) (v : V) → IsRising R entry_key es → (value_at R k es ≡ Some v) ↔ Contains es (k, v)
 

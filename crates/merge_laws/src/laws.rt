@@ -16,7 +16,7 @@ pub fn set_has_both<T: Key>()
 
 /// The union of two maps has the keys of both. If both maps have a key, its value is the merge of
 /// the two values. Otherwise, the value does not change. `put` is a union with a map of one entry.
-/// A look-up finds a value at a key exactly if the map has this entry.
+/// A look-up finds a value at a key exactly if the map has an entry with this key and value.
 pub fn map_has_both<K: Key, V: Merge>()
     ensures told { MapTellsEntry K.cmp V.merged }
     ensures union { MapUnionHasBoth K.cmp V.merged }

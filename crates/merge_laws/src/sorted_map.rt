@@ -66,8 +66,8 @@ impl<K: Key, V: Merge> SortedMap<K, V> {
         }
     }
 
-    /// Merges the other map into this one, as `merge` does, but consumes the other map. Its
-    /// entries are moved, not copied.
+    /// Merges the other map into this one, as `merge` does, but consumes the other map. Its new
+    /// keys and all its values are moved, not copied.
     ///
     /// Errors: out of memory; the map is then unchanged, and the other map is lost.
     pub fn absorb(&mut self, other: Self) -> Result<(), AllocError>

@@ -21,7 +21,7 @@ first_day = day_count-early (pos 1) 10000 1 1 refl (omega arith) (omega arith) (
 zero_day : day_count (pos 0) 1 1 ≡ 3_652_425
 zero_day = day_count-early (pos 0) 9999 1 1 refl (omega arith) (omega arith) (omega arith)
 
--- 0001-01-01 is the first day, and 9999-12-31 the last
+-- a date of the calendar in the year 0001 or later is from 0001-01-01 to 9999-12-31
 pub day_range : (y m d : ℕ) → 1 ≤ y → IsCivilDate (pos y) m d → IsBetween (neg_ℤ (pos 719_162)) (pos 2_932_896) (days_from_civil (pos y) m d)
 day_range y m d low h =
     let year_zero : IsCivilDate (pos 0) 12 31 = search rules in
@@ -61,7 +61,7 @@ earlier a b m d n e h = omega (arith, signed_arith, days_from_civil-day_count a 
 no_later : (a b : ℤ) (m d n e : ℕ) → day_count a m d ≤ day_count b n e → days_from_civil a m d ≤ℤ days_from_civil b n e
 no_later a b m d n e h = omega (arith, signed_arith, days_from_civil-day_count a m d, days_from_civil-day_count b n e)
 
--- a date has the year, month and day that are computed from its day number
+-- a date in the year 0001 or later has the year, month and day that are computed from its day number
 pub year_is : (y m d : ℕ) → 1 ≤ y → IsCivilDate (pos y) m d → year_of (days_from_civil (pos y) m d) ≡ y
 unfolding year_of
 year_is y m d low h =
@@ -112,7 +112,7 @@ epoch_is_zero date h =
     let ed : date.day ≡ 1 = omega (arith, signed_arith, h.2) in
     rw (ey, em, ed) (omega (arith, signed_arith, days_from_civil-day_count (pos 1970) 1 1, day_count-epoch))
 
--- jiff writes a date as `date_text` does
+-- jiff writes a date in the year 0001 or later as `date_text` does
 pub text_of_date : (date : Date) (z : ℤ) → epoch_day date ≡ z → neg_ℤ (pos 719_162) ≤ℤ z → jiff_date_text date ≡ date_text z
 unfolding date_text
 text_of_date date z is low = let p = date_parts date z is low in rw (p.0, p.1, p.2) refl

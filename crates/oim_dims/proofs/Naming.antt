@@ -1,4 +1,4 @@
--- The measures that a unit's pieces expand to.
+-- If a text is not refused as a unit, its pieces expand to names that can be measures.
 use Rattle.std.proofs.Common.{◌≡◌, ◌≢◌, ◌⊎◌, inl, inr, ◌∙◌, ℕ, zero, suc, ◌<◌, Bool, true, false, cond, List, [], ◌∷◌, length, drop, get_or, refl, sym, ap, arith}
 use Rattle.std.specs.Prelude.{Option, Some, None, All, IsTrue, not, if◌then◌else◌, ◌&&◌, ◌==◌}
 use Rattle.std.proofs.lemmas.Bool.{and_parts, or_parts, not-true}

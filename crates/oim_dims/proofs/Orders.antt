@@ -1,4 +1,4 @@
--- Properties of the derived orders.
+-- The derived orders of periods, members, dimension sets and facts equal the orders in the specifications.
 use Rattle.std.proofs.Common.{◌≡◌, refl, subst, ◌∙◌}
 use Rattle.std.specs.Ordering.{nat_cmp, ordering_then}
 use Rattle.std.specs.Option.{option_cmp}

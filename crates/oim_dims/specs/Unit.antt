@@ -88,7 +88,7 @@ pub record IsMeasure (n : QName) : Type 0 where
   pub form : IsTrue (is_part n.local_part)
   pub plain : list_any is_mark n.local_part ≡ false
 
--- each unit has sorted measures with at least one numerator, and is not `pure` alone
+-- each unit has sorted lists of names that satisfy `IsMeasure`, with at least one numerator, and is not `pure` alone
 pub record IsUnit (m : Measures) : Type 0 where
   pub numerators : IsSorted name_cmp m.numerators
   pub denominators : IsSorted name_cmp m.denominators
@@ -108,7 +108,7 @@ can_write bs m = list_all (is_writable bs) m.numerators && list_all (is_writable
 abbrev pub measure_text : List Binding → QName → List ℕ
 measure_text bs n = unwrap_or (prefix_of bs n.uri) [] ++ 58 ∷ n.local_part
 
--- measures with `*` between them, each written by a function from names to texts
+-- the texts that f returns for the measures, with `*` between them
 abbrev pub product_text : (QName → List ℕ) → List QName → List ℕ
 product_text f ns = join_with_byte 42 (map f ns)
 
@@ -137,11 +137,11 @@ pub record DenotesUnit (bs : List Binding) (t : List ℕ) (m : Measures) : Type 
   pub accepted : unit_refusal bs t ≡ None
   pub alone : (u : Option Measures) → UnitOf bs t u → IfSome u IsUnit → u ≡ Some m
 
--- the text of a unit denotes that unit if the function spells each measure
+-- the text of a unit denotes that unit if f spells each of its measures
 abbrev pub UnitsReadBack : Type 0
 UnitsReadBack = (bs : List Binding) (f : QName → List ℕ) (m : Measures) → IsUnit m → SpellsEach bs f m → DenotesUnit bs (unit_text f m) m
 
--- bindings that can write a unit spell each of its measures
+-- if the bindings can write a unit, `measure_text` spells each of its measures
 abbrev pub BindingsSpell : Type 0
 BindingsSpell = (bs : List Binding) (m : Measures) → AreBindings bs → IsUnit m → IsTrue (can_write bs m) → SpellsEach bs (measure_text bs) m
 

@@ -131,7 +131,8 @@ impl Dimensions {
         self.unit = unit;
     }
 
-    /// Sets the language to this text. `read_language` returns languages in lower case.
+    /// Sets the language to this text, which is not checked. `read_language` checks a language and
+    /// returns it in lower case.
     pub fn set_language(&mut self, language: Text)
         ensures { self.new ≡ record self.old { language = Some language } }
     {

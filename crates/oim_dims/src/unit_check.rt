@@ -79,7 +79,7 @@ pub(crate) fn has_mark(text: &[u8]) -> bool
         .any(|c| *c == b'(' || *c == b')' || *c == b'*' || *c == b'/')
 }
 
-/// Returns the first measure in a unit's text that is refused for this reason, or None.
+/// Returns the first measure in a unit's text that is refused as a name for this reason, or None.
 pub fn refused_piece<'t>(aliases: &Aliases, reason: Reason, text: &'t str) -> Option<&'t str>
     ensures any { is_some result ≡ some_piece (λ p. refuses reason aliases.now (a_name p)) text.now }
     ensures first { let all = numerator_pieces text.now ++ denominator_pieces text.now in

@@ -2,7 +2,7 @@
 use Rattle.std.specs.Prelude.{ℕ, List, length, ◌+◌, ◌-◌, ◌*◌, ◌%◌}
 use Rattle.std.specs.List.{slice_index_or}
 
--- the byte at index length - back, for `back` of at least 1; the first byte if the text is shorter, and 0 if it is empty
+-- the byte at index length - back, for `back` of at least 1; the first byte if t has fewer than `back` bytes; 0 if t is empty
 abbrev pub byte_from_end : List ℕ → ℕ → ℕ
 byte_from_end t back = slice_index_or t (length t - back) 0
 

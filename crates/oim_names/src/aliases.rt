@@ -110,7 +110,8 @@ impl Aliases {
         self.uri_text(prefix).map(|uri| uri.as_str())
     }
 
-    /// Returns a `Text`, so that names can share the URI. The cache avoids most look-ups in the map.
+    /// Returns a `Text`, so that names can share the URI. If the cache has the index of the prefix,
+    /// the map is not searched.
     fn uri_text(&self, prefix: &str) -> Option<&Text>
         ensures found { option_copied result ≡ uri_of self.now prefix.now }
         ensures filled { IfSome result (λ uri. uri.now ≢ []) }
@@ -190,7 +191,7 @@ impl Aliases {
     }
 
     /// Expands an entity: a prefix bound to the scheme's URI, a colon and an identifier, which may
-    /// be any non-empty text (xBRL-JSON 1.0, section 3.1.4). The name shares the URI of its prefix.
+    /// be any non-empty text (xBRL-JSON 1.0, section 3.1.4). The entity shares the URI of its prefix.
     ///
     /// Errors: the reason that `entity_refusal` returns; `OutOfMemory`.
     pub fn expand_entity(&self, text: &str) -> Result<Name, Reason>
@@ -240,8 +241,8 @@ impl Aliases {
     }
 
     /// Returns the prefix, a colon and the local part of the name. The prefix need not be bound. If
-    /// `expand` returned the name and the prefix is bound to its URI, `expand` reads this text as the
-    /// same name. The same holds for `expand_entity`.
+    /// `expand` returned the name and the prefix is bound to the name's URI, `expand` reads this text
+    /// as the same name. The same holds for `expand_entity`.
     ///
     /// Errors: out of memory.
     pub fn spell(&self, prefix: &str, name: &Name) -> Result<Text, AllocError>

@@ -33,13 +33,13 @@ impl Text {
         Text::from_string(alloc, String::from_str(alloc, text)?)
     }
 
-    /// Returns a text that takes over a string. The bytes are not copied.
+    /// Turns a string into a text without copying the bytes.
     ///
     /// Errors: out of memory; the string is then lost.
     pub fn from_string(alloc: Global, text: String) -> Result<Text, AllocError>
         ensures { IfOk result (λ made. made ≡ string_bytes text) }
     {
-        // The contract of `as_str` states that the bytes are UTF-8.
+        // This call proves that the bytes are UTF-8: its contract says so.
         let _utf8 = text.as_str();
         let text = Rc::new(alloc, text)?;
         Ok(Text { text })

@@ -1,5 +1,5 @@
--- Several different values meet exactly if they are numbers and the greatest low end of their intervals is at most the least high
--- end.
+-- Every two of several different values meet exactly if all are numbers and the greatest low end of their intervals is at most
+-- the least high end.
 use Rattle.std.proofs.Common.{◌≡◌, ℕ, zero, suc, ◌<◌, ◌≤◌, Bool, true, false, List, [], ◌∷◌, length, map, get_or, refl, sym, ap, subst, ◌∙◌, arith, inl, inr}
 use mathlib.Core.Bool.{true≢false}
 use Rattle.std.specs.Prelude.{◌≢◌, ◌⊎◌, IsTrue, ℤ, pos, None, int_le}
@@ -160,7 +160,7 @@ found_at P (AName n ∷ vs) k x lt is p = behind P (AName n) vs (found_at P vs k
 found : (P : Interval → Type 0) (vs : List Value) → Any P (intervals_of vs) → Found P vs
 found P vs a = found_at P vs a.0 a.1 a.2 a.3 a.4
 
--- ---- every two values meet exactly if the interval between the ends is not empty
+-- ---- when every two of several different values meet
 
 all_numbers : (vs : List Value) → 2 ≤ length vs → AreDifferent vs → EachTwoValuesMeet vs → All IsNumber vs
 all_numbers vs two different meet zero d lt = (different_meet_as_numbers (get_or vs 0 d) (get_or vs 1 d) (different 0 1 d (omega arith) (omega (arith, two))) (meet 0 1 d (omega arith) (omega (arith, two)))).0

@@ -1,4 +1,4 @@
--- The size of short numbers, in units.
+-- The size of short numbers in units, and the number of units that a text denotes.
 use Rattle.std.proofs.Common.{◌≡◌, ◌+◌, ℕ, List, ◌++◌, length, ◌*◌, ◌-◌, ◌^◌, ◌<◌, ◌≤◌, Bool, true, false, zero, suc, refl, sym, ap, ◌∙◌, arith}
 use Rattle.std.specs.Prelude.{ℤ, pos, ◌*ℤ◌, unsigned_abs, IsTrue}
 use Rattle.std.proofs.Math.Nat.{pow-le-pow_right, mul-le-mul_left}

@@ -1,4 +1,4 @@
--- Joining all digits and cutting trailing zeros gives the plain text.
+-- If a number is not whole, its text with all decimal places becomes the plain text when trailing zeros are cut.
 use Rattle.std.proofs.Common.{◌≡◌, ℕ, zero, suc, ◌*◌, ◌/◌, ◌%◌, ◌^◌, ◌<◌, List, [], ◌∷◌, ◌++◌, length, length-append, append_assoc, refl, sym, ap, ◌∙◌, arith}
 use Rattle.std.specs.Prelude.{ℤ, unsigned_abs}
 use Rattle.std.proofs.lemmas.List.{append-nil}

@@ -14,6 +14,6 @@ pub record EndsAreBounded (i : Interval) : Type 0 where
   pub low : unsigned_abs i.low < end_bound
   pub high : unsigned_abs i.high < end_bound
 
--- both ends of a short number's interval are bounded if the decimals are in range
+-- both ends of a short number's interval are bounded if the decimals are in range or infinite
 abbrev pub IntervalEndsAreBounded : Type 0
 IntervalEndsAreBounded = (units : ℤ) (decimals : Option ℤ) → IsShort units → AreDecimals decimals → EndsAreBounded (interval units decimals)

@@ -34,7 +34,7 @@ intervals_meet a b = int_le a.low b.high && int_le b.low a.high
 abbrev pub common_part : Interval → Interval → Interval
 common_part a b = record { low = int_max a.low b.low; high = int_min a.high b.high }
 
--- twice the half width is 10^-d: this law is for decimals d from 0 to UNIT_PLACES - 1, and the next law for 0 and below
+-- for decimals d from 0 to UNIT_PLACES - 1, twice the half width is 10^-d; for decimals -d, it is 10^d (next law)
 abbrev pub HalfAfterPoint : Type 0
 HalfAfterPoint = (d : ℕ) → d < UNIT_PLACES → 2 * half_width (Some (pos d)) * 10 ^ d ≡ 10 ^ UNIT_PLACES
 

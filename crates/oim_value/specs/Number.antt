@@ -39,7 +39,7 @@ is_numeral ds = nat_lt 0 (length ds) && list_all is_ascii_digit ds
 abbrev pub is_number : List ℕ → Bool
 is_number t = is_numeral (both_parts t)
 
--- the flag is true if the text begins with `-`
+-- -n if the flag is true, otherwise n
 abbrev pub signed : Bool → ℕ → ℤ
 signed true n = neg_ℤ (pos n)
 signed false n = pos n
@@ -50,7 +50,7 @@ pub record Denotes (t : List ℕ) (units : ℤ) : Type 0 where
   pub form : IsTrue (is_number t)
   pub value : units *ℤ pos (10 ^ length (fraction_part t)) ≡ signed (is_negative t) (10 ^ UNIT_PLACES * digits_value 10 (both_parts t))
 
--- zeros alone become the empty list
+-- digits without their leading zeros; zeros alone become the empty list
 abbrev pub without_leading : List ℕ → List ℕ
 without_leading [] = []
 without_leading (c ∷ cs) = if c == 48 then without_leading cs else c ∷ cs
@@ -89,6 +89,6 @@ pub record IsShort (units : ℤ) : Type 0 where
 abbrev pub DenotesOne : Type 0
 DenotesOne = (t : List ℕ) (m n : ℤ) → Denotes t m → Denotes t n → m ≡ n
 
--- a short text denotes a short number
+-- if a short text denotes a number, the number is short
 abbrev pub ShortIsKept : Type 0
 ShortIsKept = (t : List ℕ) (units : ℤ) → Denotes t units → IsTrue (is_short t) → IsShort units

@@ -36,8 +36,8 @@ pub record MeetBetween (vs : List Value) (e : Interval) : Type 0 where
 abbrev pub DifferentMeetAsNumbers : Type 0
 DifferentMeetAsNumbers = (x y : Value) → x ≢ y → Meets x y → IsTrue (has_interval x) × IsTrue (has_interval y)
 
--- if two or more values are different, and all that are not nil are of one kind, every two of the values meet exactly if no value is
--- nil and the interval between the ends is not empty
+-- take two or more different values; all that are not nil are of one kind. Every two of them meet exactly if no value is nil
+-- and the interval between the ends is not empty
 abbrev pub DifferentMeetBetweenEnds : Type 0
 DifferentMeetBetweenEnds = (kind : ℕ) (vs : List Value) → 2 ≤ length vs → AreDifferent vs → AreNilOrOfKind kind vs → EachTwoValuesMeet vs ↔ ((e : Interval) × MeetBetween vs e)
 
@@ -66,6 +66,7 @@ pub record AreApart (vs : List Value) (i j : ℕ) : Type 0 where
   pub second_there : slice_get vs j ≡ Some second
   pub apart : Meets first second → ⊥
 
--- if the greatest low end is above the least high end, the first values with these ends do not meet
+-- if the greatest low end is above the least high end, the first value with this low end and the first with this high end do
+-- not meet
 abbrev pub CrossedEndsAreApart : Type 0
 CrossedEndsAreApart = (vs : List Value) (e : Interval) → AreEnds e (intervals_of vs) → e.high <ℤ e.low → AreApart vs (place_of_least_high e vs) (place_of_greatest_low e vs)

@@ -24,7 +24,7 @@ module _ {K E : Type 0} (R : K → K → Ordering) (key : E → K) where
   abbrev pub place_of : K → List E → ℕ
   place_of k es = position_or_len (λ e. not (is_lt (R (key e) k))) es
 
-  -- the index of a key, or the index at which to insert it
+  -- the index of k as `Ok`, or the index at which to insert k as `Err`
   abbrev pub found_at : K → List E → Result ℕ ℕ
   found_at k es = if has_key R key k es then Ok (place_of k es) else Err (place_of k es)
 

@@ -160,7 +160,8 @@ fn a_unit_may_be_none(rt: HostRuntime) -> Result<(), Fail> {
     Ok(())
 }
 
-// Returns whether the local parts are a, b, a and b, and the third URI is greater than the second.
+// Returns whether the names of the members have the local parts a, b, a and b, and the third name
+// has a greater URI than the second.
 fn are_in_order(set: &Dimensions) -> bool {
     let members = set.members();
     members.len() == 4
