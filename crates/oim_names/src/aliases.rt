@@ -191,7 +191,8 @@ impl Aliases {
     }
 
     /// Expands an entity: a prefix bound to the scheme's URI, a colon and an identifier, which may
-    /// be any non-empty text (xBRL-JSON 1.0, section 3.1.4). The entity shares the URI of its prefix.
+    /// be any non-empty text (xBRL-JSON 1.0, section 3.1.4). The entity shares the URI of its
+    /// prefix.
     ///
     /// Errors: the reason that `entity_refusal` returns; `OutOfMemory`.
     pub fn expand_entity(&self, text: &str) -> Result<Name, Reason>
@@ -241,8 +242,8 @@ impl Aliases {
     }
 
     /// Returns the prefix, a colon and the local part of the name. The prefix need not be bound. If
-    /// `expand` returned the name and the prefix is bound to the name's URI, `expand` reads this text
-    /// as the same name. The same holds for `expand_entity`.
+    /// `expand` returned the name and the prefix is bound to the name's URI, `expand` reads this
+    /// text as the same name. The same holds for `expand_entity`.
     ///
     /// Errors: out of memory.
     pub fn spell(&self, prefix: &str, name: &Name) -> Result<Text, AllocError>
