@@ -1,4 +1,4 @@
--- If two values of a numeric dimension set do not meet, they contradict each other.
+-- In a body that fits a sheet, two values of a numeric dimension set contradict each other exactly if they do not meet.
 use Rattle.std.proofs.Common.{◌≡◌, Bool, true, false, cond, List, [], ◌∷◌, Some, refl, sym, ap, subst, ◌∙◌, ⊎_elim}
 use Rattle.std.specs.Prelude.{◌↔◌, Contains}
 use Rattle.std.specs.Cmp.{Equal-is}

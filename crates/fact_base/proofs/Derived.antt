@@ -1,4 +1,4 @@
--- The orders and merges of the code's types equal the orders and merges in the specifications.
+-- With the orders and merges of the code's types, entries merge, are found and ascend as the specifications define.
 use Rattle.std.proofs.Common.{◌≡◌, List, Result, Ok, Err, sym, subst}
 use Rattle.std.specs.Prelude.{OnOk}
 use Rattle.merge_laws.specs.Ends.{both_summaries}

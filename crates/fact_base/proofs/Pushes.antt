@@ -47,7 +47,7 @@ up_then_up r s t first second =
 turned : (r s : DimensionSet) → dimensions_cmp r s ≡ Less → dimensions_cmp s r ≡ Greater
 turned r s less = dimensions_cmp_total.antisymm s r ∙ ap ordering_reverse less
 
--- ---- a fact with other dimensions is added after all entries
+-- ---- a fact with greater dimensions than all entries is added after them
 
 abbrev pub AllBelow : DimensionSet → List Entry → Type 0
 AllBelow s = AllByRecursion (λ e. dimensions_cmp e.0 s ≡ Less)

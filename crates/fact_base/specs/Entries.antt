@@ -1,4 +1,4 @@
--- The representation of a base (own).
+-- How a base represents its facts (own).
 use Rattle.std.specs.Prelude.{map, List}
 use Rattle.std.specs.List.{flat_map}
 use Rattle.merge_laws.specs.Ends.{Summarised}

@@ -15,7 +15,7 @@ pub record Fits (sheet : Sheet) (b : Body) : Type 0 where
   pub facts : All (FactFits sheet) b.facts
   pub references : All IsKeptReference b.references
 
--- the document is the outcome of some bytes under the sheet
+-- reading some bytes under the sheet returns this document
 abbrev pub IsAccepted : Sheet → Document → Type 0
 IsAccepted sheet d = (bytes : List ℕ) × (outcome sheet bytes ≡ Ok d)
 

@@ -5,6 +5,6 @@ use Rattle.oim_dims.specs.declared.fact.Fact.{Fact}
 use Rattle.fact_base.specs.Body.{Body, text_cmp}
 use Rattle.fact_base.specs.Sets.{set_of}
 
--- facts and references may be in any order, and may be repeated
+-- the body of these facts and references, which may be in any order and repeated
 abbrev pub gathered : List Fact → List (List ℕ) → Body
 gathered facts references = record { facts = set_of fact_cmp facts; references = set_of text_cmp references }

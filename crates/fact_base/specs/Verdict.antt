@@ -70,7 +70,7 @@ pub record IsApartPair (vs : List Value) (i j : ℕ) : Type 0 where
   pub shown : IsShownPair vs i j
   pub apart : AreApart vs i j
 
--- the evidence with which a reader can check a verdict by hand
+-- the evidence is true of these values; a reader can check their verdict with it by hand
 abbrev pub IsEvidence : List Value → Evidence → Type 0
 IsEvidence vs Alike = length vs ≡ 1
 IsEvidence vs (Common common) = IsCommonOf vs common

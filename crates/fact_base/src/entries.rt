@@ -25,8 +25,8 @@ pub(crate) type Entries = SortedMap<Dimensions, (SortedSet<Value>, Summary)>;
 
 type Entry = (Dimensions, (SortedSet<Value>, Summary));
 
-/// `order` visits each fact once, in ascending order. Each fact is therefore added to the last
-/// entry or after it, without a look-up.
+/// Returns the entries of the facts. `order` visits each fact once, in ascending order. Each fact
+/// is therefore added to the last entry or after it, without a look-up.
 pub(crate) fn entries_of(
     alloc: Global,
     facts: &[Fact],
@@ -168,7 +168,8 @@ fn same_at(one: &Entries, other: &Entries, place: usize) -> bool
     }
 }
 
-/// Reads the number of values and the summary of every dimension set, but not the values.
+/// Returns the strictest level that allows the facts. Reads the number of values and the summary of
+/// every dimension set, but not the values.
 pub(crate) fn level_of(entries: &Entries) -> Level
     requires rise { IsRising dimensions_cmp entry_key entries.now }
     requires summed { All (λ e. AreSummarised e.1.0 e.1.1) entries.now }

@@ -32,7 +32,7 @@ pub struct Gathering<'s> {
     base: Base<'s>,
     // the number of facts and references in the base
     size: u128,
-    // the facts and references of smaller reports, and how many remained after the last sort
+    // the facts and references of smaller reports, each list with its length after the last sort
     facts: Vec<Fact>,
     settled_facts: usize,
     references: Vec<Text>,
@@ -133,7 +133,8 @@ impl<'s> Gathering<'s> {
     {
         self.facts.reserve(facts.len())?;
         self.references.append(&mut references)?;
-        // The capacity is reserved, so appending the facts cannot fail.
+        // The capacity is reserved, so appending the facts cannot fail once the references are
+        // appended.
         self.facts.append(&mut facts)
     }
 

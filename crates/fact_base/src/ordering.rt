@@ -9,8 +9,8 @@ use oim_dims::Fact;
 use oim_names::Key;
 use std::alloc::AllocError;
 
-/// Swaps put the facts in order without copying them. The sort afterwards guarantees the order.
-/// Since the facts are already sorted, the sort only compares each fact with the next one.
+/// Swaps put the facts in order without copying them. The order after the swaps is not proved, so a
+/// sort follows: it finds the facts sorted, and only compares each fact with the next one.
 pub(crate) fn in_order(mut facts: Vec<Fact>, order: Vec<usize>) -> Result<Vec<Fact>, AllocError>
     requires { IsOrderOf facts.items order.items }
     ensures moved { IfOk result (λ sorted. IsPermutation facts.items sorted.items) }

@@ -2,9 +2,9 @@ use oim_names::Reason;
 use oim_report::{Place, Refusal, Report, Sheet, read_report};
 use std::alloc::{AllocError, Global};
 
-// Repeats a call after a refused request for memory. A line on standard error reports the refusal
-// to `tests/refused_memory`: `refused here` if the request was for the test's own data, otherwise
-// `refused`.
+// Functions that repeat a call if a request for memory was refused. They report the refusal to
+// `tests/refused_memory` in a line on standard error: `refused here` if the request was for the
+// test's own data, otherwise `refused`.
 
 /// A sheet with every kind of concept and dimension.
 pub const SHEET: &str =

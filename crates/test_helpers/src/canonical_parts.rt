@@ -13,10 +13,12 @@ pub const CONSISTENT_HEAD: &str =
 pub const CONTRADICTING_HEAD: &str =
     r#"{"documentInfo":{"documentType":"https://xbrl.org/2021/xbrl-json","features":{"xbrl:allowedDuplicates":"all"},"namespaces":{"#;
 
-/// The text from the namespace of `xbrl` up to the facts, after other namespaces.
+/// The text from the namespace of `xbrl` up to the facts, after other namespaces. There are no
+/// taxonomy references.
 pub const MIDDLE: &str = r#","xbrl":"https://xbrl.org/2021"},"taxonomy":[]},"facts":{"#;
 
-/// The text from the namespace of `xbrl` up to the facts, if no other namespace precedes it.
+/// The text from the namespace of `xbrl` up to the facts, if no other namespace precedes it. There
+/// are no taxonomy references.
 pub const MIDDLE_ALONE: &str = r#""xbrl":"https://xbrl.org/2021"},"taxonomy":[]},"facts":{"#;
 
 /// The text after the facts, in canonical texts and in the reports of tests.
@@ -37,5 +39,5 @@ pub const WRITTEN_BOTH: &str =
 pub const EARLIER_HEAD: &str =
     r#"{"documentInfo":{"documentType":"https://xbrl.org/2021/xbrl-json","namespaces":{"#;
 
-/// The text between the namespaces and the facts in the earlier form.
+/// The text between the namespaces and the facts in the earlier form, without taxonomy references.
 pub const EARLIER_MIDDLE: &str = r#"},"taxonomy":[]},"facts":{"#;

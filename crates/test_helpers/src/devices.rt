@@ -46,7 +46,7 @@ fn fault(then: Then) -> io::Error {
     io::Error::from(kind)
 }
 
-/// Returns its remaining bytes in steps, then behaves as `then`, and counts the calls.
+/// A reader that returns `left` in steps, then behaves as `then`, and counts the calls.
 #[derive(Clone, Copy)]
 pub struct TestReader<'a> {
     left: &'a [u8],
@@ -87,7 +87,7 @@ impl Read for TestReader<'_> {
     }
 }
 
-/// Takes `room` bytes in steps, then behaves as `then`.
+/// A writer that takes and stores `room` bytes in steps, then behaves as `then`.
 #[derive(Drop)]
 pub struct TestWriter {
     held: Vec<u8>,

@@ -32,7 +32,7 @@ impl<'a> Expecting<'a> {
         self.left.is_empty() && !self.differs
     }
 
-    /// Returns whether the bytes written so far are as expected.
+    /// Returns whether the bytes written so far are the beginning of an expected text.
     pub fn is_front(&self) -> bool {
         !self.differs
     }

@@ -1,5 +1,5 @@
-// Makes and copies dimension sets with every part, for `tests/refused_memory`. A refused call must
-// not change anything.
+// Makes and copies dimension sets with every part, for `tests/refused_memory`. A call that fails
+// for lack of memory must not change anything.
 
 use super::sets::{Kind, Part, equals_its_copy, fact, is_copied, member, with};
 use super::{example, name};

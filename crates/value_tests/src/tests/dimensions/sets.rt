@@ -249,8 +249,8 @@ fn takes(rt: &HostRuntime, aliases: &Aliases, set: &mut Dimensions, names: &[&st
 
 const LAST: [Part; 1] = [Part::Member("eg:c", Kind::Nil)];
 
-// Returns whether `set_members` stores members in the order of names, and changes nothing if it
-// refuses others.
+// Returns whether `set_members` stores a list of members in the order of names, and changes nothing
+// if it refuses another list.
 fn are_put_in_order(rt: &HostRuntime, aliases: &Aliases) -> bool {
     match with(rt, aliases, "eg:A", &LAST) {
         Ok(mut set) => {
