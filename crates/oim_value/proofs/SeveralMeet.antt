@@ -1,5 +1,4 @@
--- Every two of several different values meet exactly if all are numbers and the greatest low end of their intervals is at most
--- the least high end.
+-- Every two of several different values meet exactly if all are numbers, and the greatest low end is at most the least high end.
 use Rattle.std.proofs.Common.{◌≡◌, ℕ, zero, suc, ◌<◌, ◌≤◌, Bool, true, false, List, [], ◌∷◌, length, map, get_or, refl, sym, ap, subst, ◌∙◌, arith, inl, inr}
 use mathlib.Core.Bool.{true≢false}
 use Rattle.std.specs.Prelude.{◌≢◌, ◌⊎◌, IsTrue, ℤ, pos, None, int_le}

@@ -66,7 +66,7 @@ pub record AreApart (vs : List Value) (i j : ℕ) : Type 0 where
   pub second_there : slice_get vs j ≡ Some second
   pub apart : Meets first second → ⊥
 
--- if the greatest low end is above the least high end, the first value with this low end and the first with this high end do
--- not meet
+-- take the first value with the greatest low end, and the first with the least high end; they do not meet if this low end is
+-- above this high end
 abbrev pub CrossedEndsAreApart : Type 0
 CrossedEndsAreApart = (vs : List Value) (e : Interval) → AreEnds e (intervals_of vs) → e.high <ℤ e.low → AreApart vs (place_of_least_high e vs) (place_of_greatest_low e vs)
