@@ -79,14 +79,14 @@ uint32_t xbrlmerge_merge(const uint8_t *sheet, size_t sheet_length, const uint8_
                          const size_t *ends, size_t ends_length, uint32_t allow, uint8_t *out, size_t out_length,
                          size_t *needed, xbrlmerge_refusal *refusals, size_t refusals_length, size_t *refused);
 
-/* Judges the duplicates of reports, as `verdicts` does: `out` gets a line for each row. Otherwise it is like
-   xbrlmerge_merge, but never returns XBRLMERGE_TOO_LOOSE or XBRLMERGE_BAD_LEVEL. */
+/* Judges the duplicates of reports, as `verdicts` does: `out` gets a line for each row. Otherwise the call is like
+   xbrlmerge_merge, but has no `allow`, and never returns XBRLMERGE_TOO_LOOSE or XBRLMERGE_BAD_LEVEL. */
 uint32_t xbrlmerge_verdicts(const uint8_t *sheet, size_t sheet_length, const uint8_t *reports, size_t reports_length,
                             const size_t *ends, size_t ends_length, uint8_t *out, size_t out_length, size_t *needed,
                             xbrlmerge_refusal *refusals, size_t refusals_length, size_t *refused);
 
 /* Lists the sources of each fact, as `sources` does: `out` gets a line for each fact object of the accepted reports.
-   Otherwise it is like xbrlmerge_verdicts. It copies the reports, and reads them twice. */
+   Otherwise the call is like xbrlmerge_verdicts. The call copies the reports, and reads each report twice. */
 uint32_t xbrlmerge_sources(const uint8_t *sheet, size_t sheet_length, const uint8_t *reports, size_t reports_length,
                            const size_t *ends, size_t ends_length, uint8_t *out, size_t out_length, size_t *needed,
                            xbrlmerge_refusal *refusals, size_t refusals_length, size_t *refused);
