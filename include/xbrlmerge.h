@@ -35,12 +35,14 @@ extern "C" {
 /* The status that a call returns. */
 enum {
     XBRLMERGE_DONE = 0,          /* done, and every report was accepted */
-    XBRLMERGE_REFUSED = 1,       /* done, but some reports were refused; the output is made from the others */
+    XBRLMERGE_REFUSED = 1,       /* done, but some reports were refused; the output is made from the others
+                                    (xbrlmerge_check: the report was refused) */
     XBRLMERGE_TOO_LOOSE = 2,     /* the duplicates of a row exceed `allow`: `needed` is the number of the first such row,
                                     from 1 */
     XBRLMERGE_TOO_SHORT = 3,     /* `out` has fewer than `needed` bytes, or `refusals` fewer than `refused` records. If
                                     the duplicates exceed `allow`, `needed` is 0, and only `refusals` is too short */
-    XBRLMERGE_SHEET_REFUSED = 4, /* the sheet is refused: `needed` is the number of its refusal */
+    XBRLMERGE_SHEET_REFUSED = 4, /* the sheet is refused: `needed` is the number of its refusal (xbrlmerge_check sets
+                                    `refusal` instead) */
     XBRLMERGE_NO_MEMORY = 5,     /* memory was refused: nothing has changed */
     XBRLMERGE_BAD_ENDS = 6,      /* an end is less than the one before it, or beyond the reports: nothing has changed */
     XBRLMERGE_BAD_LEVEL = 7      /* `allow` is not a level: nothing has changed */
@@ -77,14 +79,14 @@ uint32_t xbrlmerge_merge(const uint8_t *sheet, size_t sheet_length, const uint8_
                          const size_t *ends, size_t ends_length, uint32_t allow, uint8_t *out, size_t out_length,
                          size_t *needed, xbrlmerge_refusal *refusals, size_t refusals_length, size_t *refused);
 
-/* Judges the duplicates of reports, as `verdicts` does: `out` gets a line for each row. Otherwise it is like
-   xbrlmerge_merge, but never returns XBRLMERGE_TOO_LOOSE or XBRLMERGE_BAD_LEVEL. */
+/* Judges the duplicates of reports, as `verdicts` does: `out` gets a line for each row. Otherwise the call is like
+   xbrlmerge_merge, but has no `allow`, and never returns XBRLMERGE_TOO_LOOSE or XBRLMERGE_BAD_LEVEL. */
 uint32_t xbrlmerge_verdicts(const uint8_t *sheet, size_t sheet_length, const uint8_t *reports, size_t reports_length,
                             const size_t *ends, size_t ends_length, uint8_t *out, size_t out_length, size_t *needed,
                             xbrlmerge_refusal *refusals, size_t refusals_length, size_t *refused);
 
 /* Lists the sources of each fact, as `sources` does: `out` gets a line for each fact object of the accepted reports.
-   Otherwise it is like xbrlmerge_verdicts. It copies the reports, and reads them twice. */
+   Otherwise the call is like xbrlmerge_verdicts. The call copies the reports, and reads each report twice. */
 uint32_t xbrlmerge_sources(const uint8_t *sheet, size_t sheet_length, const uint8_t *reports, size_t reports_length,
                            const size_t *ends, size_t ends_length, uint8_t *out, size_t out_length, size_t *needed,
                            xbrlmerge_refusal *refusals, size_t refusals_length, size_t *refused);
@@ -97,9 +99,9 @@ uint32_t xbrlmerge_sources_json(const uint8_t *sheet, size_t sheet_length, const
                                 const size_t *ends, size_t ends_length, uint8_t *out, size_t out_length, size_t *needed,
                                 xbrlmerge_refusal *refusals, size_t refusals_length, size_t *refused);
 
-/* Checks one report, as `check` does. If it is accepted (XBRLMERGE_DONE), `checked` is set. If it is refused
-   (XBRLMERGE_REFUSED), `refusal` is set, with the report number 1. If the sheet is refused (XBRLMERGE_SHEET_REFUSED),
-   `refusal` is set, with the report number 0. The other output is unchanged. If memory was refused, both are unchanged. */
+/* Checks one report, as `check` does. If the report is accepted (XBRLMERGE_DONE), only `checked` is set. If the report is
+   refused (XBRLMERGE_REFUSED), only `refusal` is set, with the report number 1. If the sheet is refused
+   (XBRLMERGE_SHEET_REFUSED), only `refusal` is set, with the report number 0. If memory was refused, neither is set. */
 uint32_t xbrlmerge_check(const uint8_t *sheet, size_t sheet_length, const uint8_t *report, size_t report_length,
                          xbrlmerge_checked *checked, xbrlmerge_refusal *refusal);
 

@@ -54,7 +54,7 @@ each P a b c d AllLevel = d
 abbrev Splits : Level → Level → Level → Type 0
 Splits x y l = is_le (level_cmp (ord_max level_cmp x y) l) ≡ (is_le (level_cmp x l) && is_le (level_cmp y l))
 
--- the maximum of two levels is within a level if and only if both levels are
+-- the looser of two levels is within a third level if and only if both levels are
 splits : (x y l : Level) → Splits x y l
 splits = each (λ x. (y l : Level) → Splits x y l)
     (each (λ y. (l : Level) → Splits Unique y l) (each (Splits Unique Unique) refl refl refl refl) (each (Splits Unique Complete) refl refl refl refl) (each (Splits Unique Consistent) refl refl refl refl) (each (Splits Unique AllLevel) refl refl refl refl))

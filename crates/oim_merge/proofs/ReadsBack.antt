@@ -1,4 +1,4 @@
--- The canonical text is read as the document with the body's facts and references.
+-- The text of a body that fits a sheet is read as the document with the body's facts and references.
 use Rattle.std.proofs.Common.{◌≡◌, ℕ, ◌+◌, List, [], ◌∷◌, ◌++◌, true, false, cond, Option, Some, None, Ok, Err, refl, sym, ap, subst, bytes_eq, ◌≢◌, ◌∙◌, codes, map, arith}
 use Rattle.std.specs.Prelude.{All, Bool, IsTrue, IsUtf8, ◌<◌, ◌↔◌, ⊤, nat_lt, not}
 use Rattle.std.specs.List.{list_all}
@@ -201,7 +201,8 @@ feature_bound (Some l) us = xbrl_found us us
 read_back : (sheet : Sheet) (b : Body) (declared : Option Level) → IsPlainJson (tree_declaring declared b) 4 → json (compact_text (tree_declaring declared b)) ≡ Some (tree_declaring declared b)
 read_back sheet b declared plain = object_text_back _ (record { plain = plain.plain; utf8 = plain.utf8; shallow = omega (arith, plain.shallow) })
 
--- the text of a body is read as the document of the body, unless the level of the facts is above the declared level
+-- the text of a body that fits a sheet is read as the document of the body, unless the level of the facts is above the
+-- declared level
 declared_reads_back : (sheet : Sheet) (b : Body) (declared : Option Level) → Fits sheet b → outcome sheet (compact_text (tree_declaring declared b)) ≡ unless_above (level_of b.facts) (document_at (declared_level declared) b)
 unfolding outcome
 declared_reads_back sheet b declared fits =

@@ -1,4 +1,4 @@
--- A placed mention has the same text as the mention.
+-- The text of a mention follows from the index of its fact and the number of all facts.
 use Rattle.std.proofs.Common.{◌≡◌, ℕ, suc, ◌+◌, List, ◌∷◌, ◌++◌, length, Option, ap, ◌∙◌, arith}
 use Rattle.std.specs.Prelude.{flat_map}
 use Rattle.std.proofs.lemmas.List.Folds.{flat_map-map}

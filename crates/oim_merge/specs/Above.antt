@@ -44,6 +44,6 @@ pub record IsFirstAbove (level : Level) (b : Body) (number : ℕ) : Type 0 where
   pub above : row_is_above level row ≡ true
   pub earlier : All (λ r. row_is_above level r ≡ false) before
 
--- a body that fits a sheet stays within a level if and only if its text declares that level or a stricter one
+-- a body that fits a sheet stays within a level if and only if its canonical text declares that level or a stricter one
 abbrev pub AllowedIsDeclared : Type 0
 AllowedIsDeclared = (sheet : Sheet) (b : Body) (level : Level) → Fits sheet b → StaysWithin level b ↔ IsTrue (is_le (level_cmp (level_of b.facts) level))

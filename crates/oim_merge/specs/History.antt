@@ -67,7 +67,7 @@ TextsGiveBodies = (sheet : Sheet) (b : Body) → Fits sheet b → IsReadAsBody s
 abbrev pub EarlierTextsGiveBodies : Type 0
 EarlierTextsGiveBodies = (sheet : Sheet) (b : Body) → Fits sheet b → IsReadAsBody sheet (earlier b) b
 
--- a merged text does not change if it is merged with itself and with any of its documents
+-- the merged text of accepted documents does not change if it is merged with itself and with any of the documents
 abbrev pub MergedTextsMerge : Type 0
 MergedTextsMerge =
     (sheet : Sheet) (docs some : List Document) (merged : Document) → All (IsAccepted sheet) docs → ((d : Document) → Contains some d → Contains docs d) →

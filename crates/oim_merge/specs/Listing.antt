@@ -38,7 +38,7 @@ module _ (header : List ℕ) (written : RowText) where
 
 -- ---- verdict lines
 
--- the lines for the accepted reports were appended, and the refusals of the other reports were returned
+-- the verdict lines of the accepted reports were appended, and the refusals of the other reports were returned
 abbrev pub ListsVerdicts : Sheet → List (List ℕ) → Option (List ℕ) → Option (List ℕ) → List (ℕ × Refusal) → Type 0
 ListsVerdicts sheet reports = Lists [] line_text (merged sheet reports) (refused sheet reports)
 

@@ -25,7 +25,7 @@ document_at level b = record { facts = b.facts; references = b.references; level
 abbrev pub CanonicalReadsBack : Type 0
 CanonicalReadsBack = (sheet : Sheet) (b : Body) → Fits sheet b → outcome sheet (canonical b) ≡ Ok (document_at (level_of b.facts) b)
 
--- the text in the earlier form declares no level, so it is read with all duplicates allowed
+-- the earlier form declares no level: the text of a body that fits a sheet is read with all duplicates allowed
 abbrev pub EarlierReadsBack : Type 0
 EarlierReadsBack = (sheet : Sheet) (b : Body) → Fits sheet b → outcome sheet (earlier b) ≡ Ok (document_at All b)
 

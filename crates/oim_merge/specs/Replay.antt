@@ -34,8 +34,8 @@ refused_by sheet reports event = []
 abbrev pub refused_takes : Sheet → List (List ℕ) → List Event → List (ℕ × Refusal)
 refused_takes sheet reports events = flat_map (refused_by sheet reports) events
 
--- No event is bad. Each of the n replicas has the base of the documents that reached it. Bases and sent texts are as in the machine
--- `wire` with the present writer. `refused` lists all refusals from `Take` events.
+-- No event is bad. Each of the n replicas has the base of the documents that reached it since its last restart. Bases and sent
+-- texts are as in the machine `wire` with the present writer. `refused` lists all refusals from `Take` events.
 pub record IsReplayOf (sheet : Sheet) (n : ℕ) (reports : List (List ℕ)) (events : List Event) (replay : Replay) : Type 0 where
   pub good : NoneIsBad n (length reports) events
   pub world : replay.world ≡ world_after (wire sheet [] reports) n events

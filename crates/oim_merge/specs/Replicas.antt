@@ -1,4 +1,4 @@
--- Replicas that keep bases and exchange texts, and the reports that reached each replica (own).
+-- Replicas that keep bases and exchange texts, and the accepted reports that reached each replica since its last restart (own).
 use Rattle.std.specs.Prelude.{◌≡◌, ℕ, ◌-◌, List, [], ◌∷◌, ◌++◌, map, length, Some, Result, Ok, Err}
 use Rattle.std.specs.List.{AllZip, slice_index_or}
 use Rattle.std.specs.Ordering.{nat_cmp}
@@ -39,7 +39,7 @@ abbrev pub with_accepted : Result Document Refusal → ℕ → Numbers → Numbe
 with_accepted (Ok d) r numbers = both numbers (r ∷ [])
 with_accepted (Err refusal) r numbers = numbers
 
--- replicas that keep and send the numbers of the accepted reports that reached them
+-- replicas that keep and send the numbers of the accepted reports that reached them since their last restart
 abbrev pub reached : Sheet → List (List ℕ) → Machine Numbers Numbers
 reached sheet reports = record {
   fresh = [];

@@ -86,7 +86,7 @@ module _ {S M : Type 0} (machine : Machine S M) where
   happens world (Receive i k) = receives world i (numbered world.sent k)
   happens world (Restart i) = keeps world i machine.fresh
 
-  -- the world after a whole schedule
+  -- the world after these events, in order
   abbrev pub run : List Event → World S M → World S M
   run [] world = world
   run (event ∷ events) world = run events (happens world event)

@@ -22,7 +22,7 @@ module _ (header : List ℕ) (written : SourceText) (sheet : Sheet) (reports : L
   AppendingStops old new (TooLoose row told) = ⊥
   AppendingStops old new (SheetFault reason) = ⊥
 
--- the lines of the accepted reports were appended, and the refusals of the other reports were returned
+-- the source lines of the accepted reports were appended, and the refusals of the other reports were returned
 abbrev pub ListsSources : Sheet → List (List ℕ) → Option (List ℕ) → Option (List ℕ) → List (ℕ × Refusal) → Type 0
 ListsSources = AppendsSources [] source_line
 

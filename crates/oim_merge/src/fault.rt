@@ -19,7 +19,7 @@ pub enum Fault {
         /// The refusals, with the numbers of their reports, from 1.
         refused: Refusals,
     },
-    /// The sheet is refused.
+    /// The sheet of a bundle is refused, so nothing is written.
     Sheet(Reason),
 }
 

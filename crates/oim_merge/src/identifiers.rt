@@ -5,8 +5,8 @@ use oim_names::Text;
 use oim_write::identifier;
 use std::alloc::{AllocError, Global};
 
-/// The identifiers of a row's facts. They are computed from the number of facts before the row and
-/// the number of all facts.
+/// The identifiers of a row's facts in the canonical text, computed from the number of facts before
+/// the row and the number of all facts.
 #[derive(Clone, Copy)]
 pub struct Identifiers {
     /// The allocator for the identifiers.

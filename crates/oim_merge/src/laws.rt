@@ -118,15 +118,15 @@ pub fn sources_ignore_order()
 {}
 
 /// After every schedule without a bad event, each replica has the base of the documents that
-/// reached it since its last restart. Each sent text is accepted, whichever version wrote the text.
-/// No replica is added or lost.
+/// reached it since its last restart. Each sent text is read as the body that the sender had when
+/// it sent the text, whichever version wrote the text. No replica is added or lost.
 pub fn wire_agrees()
     ensures agrees { WireAgrees }
     ensures stay { ReplicasStay }
 {}
 
 /// After every schedule without a bad event, each replica has the text, verdicts, values and level
-/// of a new merge of the reports that reached it since its last restart.
+/// of a new merge of the accepted reports that reached it since its last restart.
 pub fn replicas_say_as_afresh()
     ensures { ReplicasSayAsAfresh }
 {}

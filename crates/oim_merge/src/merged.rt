@@ -19,7 +19,7 @@ pub struct Merged<'s> {
 }
 
 impl<'s> Merged<'s> {
-    /// Reads and merges the reports in order.
+    /// Reads the reports under the sheet, in order, and merges the accepted ones.
     ///
     /// Errors: out of memory.
     pub fn of(

@@ -6,7 +6,7 @@ use oim_names::{Reason, Text};
 use oim_report::{Refusal, Report, ReportReader, Sheet};
 use std::alloc::{AllocError, Global};
 
-/// Reads a report, or returns its refusal.
+/// Reads a report under the reader's sheet, or returns the report's refusal.
 ///
 /// Errors: out of memory, which is not a refusal here.
 pub(crate) fn read<'s>(
@@ -25,7 +25,7 @@ pub(crate) fn read<'s>(
     }
 }
 
-/// Reads one report under the sheet, or returns its refusal.
+/// Does the same as `read`, with a new reader for the sheet.
 ///
 /// Errors: out of memory, which is not a refusal here.
 pub(crate) fn read_alone<'s>(

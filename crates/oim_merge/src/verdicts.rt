@@ -1,4 +1,4 @@
-//! Lists rows with their verdicts.
+//! Lists the rows of a base with their verdicts.
 
 pub(crate) mod judged_row;
 pub(crate) mod verdict_format;

@@ -50,7 +50,7 @@ module _ (facts : List Fact) (rises : IsSet fact_cmp facts) where
 abbrev bound_text : List ℕ
 bound_text = codes "\"xbrl\":\"https://xbrl.org/2021\""
 
--- this member follows the other prefixes, with a comma before it if there are any
+-- the member that binds `xbrl` follows the members of the other prefixes, with a comma before it if there are any
 names-parts : (later : Bool) (level : Level) (us vs : List (List ℕ)) → parts later (members_before (prefix us) string vs (xbrl_member (Some level))) ≡ parts later (namespace_members us vs) ++ (comma_if (later || has_some vs) ++ bound_text)
 unfolding escape_byte
 names-parts true level us [] = refl

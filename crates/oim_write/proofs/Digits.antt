@@ -1,4 +1,4 @@
--- Widths and padded numbers, one digit at a time. The bound of `digits_up_to` does not matter if it is at least n.
+-- Widths and padded numbers, one digit at a time. The bound of `digits_up_to` does not matter if it is at least the number.
 use Rattle.std.proofs.Common.{◌≡◌, ℕ, zero, suc, ◌+◌, ◌-◌, ◌%◌, ◌^◌, [], ◌∷◌, ◌++◌, ◌/◌, ◌<◌, ◌≤◌, false, cond, nat_lt, refl, sym, ap, ◌∙◌, arith}
 use Rattle.std.proofs.Math.Nat.{pow-suc, pow-zero}
 use Rattle.std.proofs.lemmas.Bool.{cond-true, cond-false, cases_Bool, lt-ltb}

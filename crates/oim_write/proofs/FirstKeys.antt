@@ -4,7 +4,7 @@ use Rattle.json.specs.Print.{escape_byte}
 use Rattle.fact_base.specs.Body.{Body}
 use Rattle.oim_write.specs.Bytes.{canonical, earlier}
 
--- the index of the first letter of the second key
+-- the index, in the text of a body, of the first letter of the second key
 abbrev pub behind_type : ℕ
 behind_type = 67
 

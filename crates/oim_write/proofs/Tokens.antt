@@ -1,4 +1,4 @@
--- The tokens of an object contain the tokens of its members.
+-- The tokens of an object: the tokens of its members, between the tokens of the braces.
 use Rattle.std.proofs.Common.{◌≡◌, List, [], ◌∷◌, ◌++◌, append_assoc, append-nil, Option, Some, None, Result, Ok, Err, refl, sym, ap, ◌∙◌}
 use Rattle.std.specs.Prelude.{ℕ, OnOk}
 use Rattle.json.specs.Token.{Token, begin_object, end_object, key}

@@ -1,5 +1,5 @@
--- A fact object, member by member in the order of writing (own). If names have the prefixes of a merged text, this is the byte
--- order of the keys.
+-- A fact object, member by member in the order of writing (own). If names have the prefixes of a text, the order of writing is
+-- the byte order of the keys.
 use Rattle.std.specs.Prelude.{◌≡◌, ℕ, List, [], ◌∷◌, codes, Option, Some, None, Contains}
 use Rattle.serde_json.specs.Data.{Data, number, string, object, Members, no_members, member}
 use Rattle.serde_json.specs.Find.{of_integer}

@@ -19,7 +19,7 @@ abbrev pub unit_names : Option Measures → List QName
 unit_names None = []
 unit_names (Some m) = m.numerators ++ m.denominators
 
--- the name of a dimension, and its member if the member is a name
+-- the name of a taxonomy-defined dimension, and its member if the member is a name
 abbrev pub defined_names : QName × Member → List QName
 defined_names (n, NoMember) = n ∷ []
 defined_names (n, MemberText t) = n ∷ []
@@ -34,7 +34,7 @@ value_names (Number units d) = []
 value_names (AText t) = []
 value_names (AName n) = n ∷ []
 
--- the names of a fact: concept, entity, measures, dimensions, explicit members, and the value if it is a name
+-- the names of a fact: concept, entity, measures, taxonomy-defined dimensions, explicit members, and the value if it is a name
 abbrev pub fact_names : Fact → List QName
 fact_names f = dimension_names f.dimensions ++ value_names f.value
 

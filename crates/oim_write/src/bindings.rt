@@ -10,7 +10,8 @@ use oim_names::Aliases;
 use std::alloc::{AllocError, Global};
 
 /// Returns the prefixes of the names in a base's text: `n1`, `n2` and so on, in the byte order of
-/// their URIs. All numbers are padded with zeros to the same width (own).
+/// their URIs. All numbers are padded with zeros to the same width (own). The prefix `xbrl`, which
+/// the text also binds, is left out.
 ///
 /// Errors: out of memory.
 pub fn prefixes(alloc: Global, base: &Base<'_>) -> Result<Aliases, AllocError>

@@ -3,7 +3,7 @@ ghost use Rattle.std.specs.Prelude.{◌≡◌, IfOk};
 use std::alloc::{AllocError, Global};
 use std::marker::Model;
 
-/// The bytes of a text. Contracts see a list of bytes.
+/// The bytes of a text, which need not be valid UTF-8. Contracts see a list of bytes.
 #[derive(Debug, Drop)]
 pub struct Encoded {
     bytes: Vec<u8>,

@@ -12,13 +12,14 @@ pub fn bytes_ignore_order()
 {}
 
 /// The tree of a body that fits a sheet has UTF-8 texts and no float, and nests at most four deep.
-/// The keys of its objects are distinct and in byte order.
+/// The keys of its objects are distinct and in byte order. The tree may declare any level or none.
 pub fn trees_are_plain()
     ensures { TreesArePlain }
 {}
 
-/// The members of a fact object are in the byte order of their keys. The taxonomy-defined
-/// dimensions are between `language` and `period`, in the order of their names.
+/// If names have the prefixes of a text, the members of each fact object in the text are in the
+/// byte order of their keys. The taxonomy-defined dimensions are between `language` and `period`,
+/// in the order of their names.
 pub fn facts_are_written_in_order()
     ensures { FactsAreWrittenInOrder }
 {}

@@ -55,7 +55,7 @@ impl PeriodText {
     }
 }
 
-/// Caches the last text for each class of periods, since most reports have few periods. Contracts
+/// Caches the text of the last period in each class, since most reports have few periods. Contracts
 /// see the period cached for each class.
 #[derive(Drop)]
 pub(crate) struct PeriodTexts {

@@ -36,7 +36,7 @@ pub record AreRows (format : RowFormat) (b : Body) (text : List ℕ) : Type 0 wh
 abbrev pub RowsAreOne : Type 0
 RowsAreOne = (format : RowFormat) (sheet : Sheet) (b : Body) → Fits sheet b → HasOneText (AreRows format b)
 
--- in a body that fits a sheet, the evidence for a row shows the verdict on its dimension set
+-- in a body that fits a sheet, the evidence for a row shows the verdict on the row's dimension set
 abbrev pub RowsTellVerdicts : Type 0
 RowsTellVerdicts =
     (sheet : Sheet) (b : Body) → Fits sheet b → (r : Row) → Contains (rows_of b.facts) r →

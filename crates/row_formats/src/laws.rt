@@ -7,7 +7,8 @@ pub fn rows_are_one()
     ensures { RowsAreOne }
 {}
 
-/// In a body that fits a sheet, the evidence for a row shows the verdict on its dimension set.
+/// In a body that fits a sheet, the evidence for a row shows the verdict on the row's dimension
+/// set.
 pub fn rows_tell_verdicts()
     ensures { RowsTellVerdicts }
 {}

@@ -5,6 +5,7 @@ pub enum RowFormat {
     Json,
     /// CSV (RFC 4180): a header, then a record for each fact (verdicts) or fact object (sources).
     Csv,
-    /// CSV for a spreadsheet: a `'` is put before each text that may be read as a formula.
+    /// CSV for a spreadsheet: a `'` precedes each text value (verdicts), or each identifier in a
+    /// report (sources), that may be read as a formula.
     SpreadsheetCsv,
 }

@@ -62,7 +62,7 @@ pub fn verdict_rows<S: Sink>(
     write_verdicts(alloc, &base, refusals, &format, out)
 }
 
-/// Does the same as `verdict_rows` for reports that were added one at a time.
+/// Does the same as `verdict_rows` for reports that were added to a consolidation one at a time.
 ///
 /// Errors: the same as `verdict_rows`.
 pub fn finish_rows<S: Sink>(

@@ -36,9 +36,9 @@ pub(crate) fn level_numbered(number: u32) -> Option<Level>
 /// `needed` and `refused` get their lengths. Returns `DONE`, or `REFUSED` if a report was refused.
 ///
 /// Errors, by the status: `TOO_LOOSE`, with the refused reports, without a text, and with `needed`
-/// set to the number of the first row above the level; `TOO_SHORT`, with only the lengths;
-/// `SHEET_REFUSED`, with `needed` set to the number of the refusal and `refused` to 0; `NO_MEMORY`,
-/// `BAD_ENDS` and `BAD_LEVEL`, with nothing changed.
+/// set to the number of the first row above the level; `TOO_SHORT`, with only the lengths (0 for
+/// the text if a row is above the level); `SHEET_REFUSED`, with `needed` set to the number of the
+/// refusal and `refused` to 0; `NO_MEMORY`, `BAD_ENDS` and `BAD_LEVEL`, with nothing changed.
 #[unsafe(no_mangle)]
 pub extern "C" fn xbrlmerge_merge(
     alloc: Global,

@@ -13,7 +13,7 @@ use oim_write::{Sink, StdSink};
 use row_formats::{RowFormat, finish_rows, source_rows};
 use std::alloc::Global;
 
-/// The rows that a call lists, and their format.
+/// What a call lists, and in which format: lines, or JSON objects.
 #[derive(Clone, Copy, Debug)]
 pub(crate) enum Listing {
     Verdicts,

@@ -41,7 +41,7 @@ const REASONS: [Reason; 33] = [
 ];
 
 /// Returns the length in bytes of the name of the refusal with this number, or 0 if no refusal has
-/// the number. Writes the name to the start of `out` if `out` is long enough.
+/// the number. Writes the name to the start of `out`; if `out` is shorter, `out` does not change.
 #[unsafe(no_mangle)]
 pub extern "C" fn xbrlmerge_refusal_name(number: u32, out: &mut [u8]) -> usize
     ensures length { result ≡ length (name_numbered number) }

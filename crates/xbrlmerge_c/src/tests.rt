@@ -74,7 +74,7 @@ struct Left {
     refused: usize,
 }
 
-/// Makes a call with an output buffer of this many bytes.
+/// Makes a call with an output buffer of `room` bytes, at most 400.
 fn called_once(alloc: Global, call: Call, sheet: &str, ends: &[usize], room: usize) -> Left {
     let (mut out, mut rows) = ([7; 400], [BEFORE; 2]);
     let (mut needed, mut refused) = (7, 7);

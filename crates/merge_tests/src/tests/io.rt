@@ -28,8 +28,8 @@ fn read(
     (answer, source.into_inner().calls, failures)
 }
 
-/// True if `read_all` returns this result after at most `limit` + 2 reads. A failing source must
-/// fail exactly once.
+/// True if `read_all` returns this result after at most `limit` + 2 reads. The source must fail
+/// exactly once if the result is `Device`, and otherwise never.
 fn answers(
     rt: &HostRuntime,
     reader: TestReader<'_>,

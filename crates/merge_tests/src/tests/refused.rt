@@ -15,9 +15,9 @@ use test_helpers::asked_again::{
 use test_helpers::canonical_parts::{CONSISTENT_HEAD, END, MIDDLE, ONE_URI, WRITTEN_BOTH};
 use test_helpers::expecting::Expecting;
 
-// Each call is repeated after a refused request for memory. The sink must contain as many bytes of
-// the text as the fault reports. A line on standard error reports each refused request to
-// `tests/refused_memory`.
+// Each call is repeated after a refused request for memory. If the call writes to a sink, the sink
+// must contain as many bytes of the text as the fault reports. A line on standard error reports
+// each refused request to `tests/refused_memory`.
 
 fn take(rt: &HostRuntime, base: &mut Base<'_>, report: &Report<'_>) -> bool {
     if !base.same_sheet(report.sheet()) {
@@ -174,14 +174,14 @@ fn a_refused_base_comes_back(rt: HostRuntime) -> Result<(), Fail> {
 /// Fifty letters.
 const LETTERS: &str = "abcdefghijklmnopqrstuvwxyzabcdefghijklmnopqrstuvwx";
 
-// The last value contains the letters 1,200 times (`MORE`), each other value 400 times (`MANY`).
+// The last value contains `LETTERS` 1,200 times (`MORE`), each other value 400 times (`MANY`).
 // Memory for the last value is requested after the sink took a chunk.
 
 const MANY: usize = 400;
 
 const MORE: usize = 1_200;
 
-/// The text of a fact between its identifier and its value, and after the value.
+/// Two parts of the text of a fact: between the identifier and the value, and after the value.
 const OPEN_TEXT: [&str; 2] = [r#"":{"value":""#, r#"","dimensions":{"concept":"eg:T"}}"#];
 
 const LONG_ROOM: usize = 1 << 18;

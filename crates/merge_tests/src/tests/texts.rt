@@ -57,7 +57,8 @@ fn all_give(rt: &HostRuntime, rows: &[Row]) -> Result<bool, Fail> {
     Ok(all)
 }
 
-/// True if the merged text of a report with these facts has these namespaces and these fact texts.
+/// True if the merged text of a report with these facts has these namespaces and these fact texts,
+/// and declares the level `none`.
 fn writes(rt: &HostRuntime, facts: &str, namespaces: &str, text: &str) -> Result<bool, Fail> {
     let bundle = [SHEET, LINE, INFO, facts, END];
     gives(rt, &bundle, &[HEAD, namespaces, MIDDLE, text, END])

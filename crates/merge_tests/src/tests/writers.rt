@@ -13,10 +13,10 @@ use test_helpers::canonical_parts::{
 };
 use test_helpers::devices::{ComparingWriter, STEPS, Step, Then};
 
-// Tests calls that write a text. Writers stop after each number of bytes, from 0 to the length of
-// the text. After a refused request for memory, the row is tested again.
+// Tests calls that write a merged text or verdict lines. Writers stop after each number of bytes,
+// from 0 to the length of the output. After a refused request for memory, the row is tested again.
 
-/// A call that writes a text, with its input.
+/// A call that writes a merged text or verdict lines, with its input.
 #[derive(Clone, Copy)]
 enum Call<'a, 's> {
     Base(&'a Base<'s>),
@@ -166,7 +166,7 @@ fn kind_holds(alloc: Global, kind: Kind, facts: &str, text: &[u8]) -> Result<boo
     }
 }
 
-/// The facts of a report, the text in parts, and its length.
+/// The facts of a report, the parts of the expected output, and the length of the output.
 type Row = (&'static str, &'static [&'static str], usize);
 
 const NUMBER: Row = (HUNDRED, &[HEAD, ONE_URI, MIDDLE, WRITTEN_HUNDRED, END], 276);

@@ -18,7 +18,7 @@ AreWithin texts places = All (λ place. place < length texts) places
 abbrev pub IsTextAt : List (List ℕ) → List ℕ → ℕ → Type 0
 IsTextAt texts text place = (place < length texts) × (slice_index_or texts place [] ≡ text)
 
--- the current text of a base, if there is one, is at this index
+-- if there is an index, the text at the index is the canonical text of the base
 abbrev pub IsCurrent : List (List ℕ) → Contents → Option ℕ → Type 0
 IsCurrent texts base None = Unit {0}
 IsCurrent texts base (Some place) = IsTextAt texts (canonical base.body) place

@@ -1,4 +1,4 @@
--- Rows that are buffered on their way to a sink (own). In bytes, `f` is 102.
+-- Rows that are buffered on their way to a sink, and the texts of mentions (own). In bytes, `f` is 102.
 use Rattle.std.specs.Prelude.{ℕ, Option, List, ◌+◌, ◌∷◌}
 use Rattle.fact_base.specs.Rows.{Row}
 use Rattle.oim_write.specs.SinkBuffer.{Breaks, Passes, Pending}

@@ -19,7 +19,7 @@ abbrev pub with_read : Result Contents Refusal → Contents → Contents
 with_read (Ok read) base = joined_with base read
 with_read (Err refusal) base = base
 
--- a cached reading is the result of reading these bytes; there may be none
+-- the cached reading, if there is one, is the result of reading these bytes
 abbrev pub IsReadingOf : Sheet → List ℕ → Option (Result Contents Refusal) → Type 0
 IsReadingOf sheet bytes None = Unit {0}
 IsReadingOf sheet bytes (Some read) = read ≡ read_as sheet (outcome sheet bytes)

@@ -3,12 +3,13 @@
 pub enum Event {
     /// The replica with the first number takes the report with the second number.
     Take(u32, u32),
-    /// The first replica takes everything that the second replica has.
+    /// The replica with the first number takes all facts and references of the replica with the
+    /// second number.
     Join(u32, u32),
     /// The replica sends its text, which gets the next number.
     Send(u32),
     /// The replica with the first number takes the sent text with the second number.
     Receive(u32, u32),
-    /// The replica loses everything and starts empty.
+    /// The replica loses its facts and references. Its sent texts remain.
     Restart(u32),
 }

@@ -122,8 +122,8 @@ impl<'s> Messages<'s> {
         }
     }
 
-    /// Adds the sent text at an index, from 0, to a base. Each text is read only once. If the text
-    /// is refused, the base does not change.
+    /// Adds the facts and references of a sent text to a base. `number` counts sent texts from 0.
+    /// Each text is read only once. If the text is refused, the base does not change.
     ///
     /// Errors: out of memory.
     pub(crate) fn give(

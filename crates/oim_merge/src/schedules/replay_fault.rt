@@ -10,8 +10,9 @@ pub enum ReplayFault {
     /// Memory was refused. The result so far is lost.
     #[error("out of memory")]
     OutOfMemory,
-    /// The number, from 1, of the first line that is not an event. If all lines are events, it is
-    /// the number of the first line that names something that does not exist.
+    /// `read_events` returns the number, from 1, of the first line that is not an event. `replay`
+    /// returns the number of the first event that names a replica, a report or a sent text that
+    /// does not exist.
     #[error("line {0} is refused")]
     BadEvent(u64),
 }

@@ -97,7 +97,8 @@ impl<'s> Replayed<'s> {
     }
 }
 
-// For each sent text in order, `places` has its index in `texts`. Numbers begin at 1.
+// For each sent text in order, `places` has its index in `texts`. `number` counts the sent texts,
+// from 1.
 fn text_numbered<'t>(texts: &'t [Encoded], places: &[usize], number: usize) -> Option<&'t Encoded>
     requires { AreWithin texts.now places.now }
     ensures { MatchOption result (numbered (texts_at texts.now places.now) number ≡ None)

@@ -65,7 +65,7 @@ fn mentions_of(
     Ok(mentions)
 }
 
-// The first three parameters are the same for all reports; the next two belong to this report.
+// Appends the mentions in the report with this number to `mentions`. A refused report has none.
 fn add_report(
     alloc: Global,
     reader: &mut ReportReader<'_>,

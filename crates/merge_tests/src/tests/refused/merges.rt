@@ -15,7 +15,8 @@ use test_helpers::asked_again::{
 };
 use test_helpers::expecting::Expecting;
 
-// Tests the calls that take reports. After a refused request for memory, the call is repeated.
+// Tests `consolidate`, `verdict_lines`, `source_lines`, `consolidate_bundle` and `check_report`.
+// After a refused request for memory, the call is repeated.
 
 fn encoded(rt: &HostRuntime, bytes: &[u8]) -> Result<Encoded, AllocError> {
     match Encoded::new(rt.alloc(), bytes) {
@@ -53,8 +54,8 @@ fn tells_first(refused: &Refusals) -> bool {
     }
 }
 
-/// True if the whole text was written and only the first report was refused; None if memory was
-/// refused and the sink took exactly as many bytes of the text as the fault reports.
+/// True if the whole text was written and only the first report was refused, as not JSON. None if
+/// memory was refused and the sink took exactly as many bytes of the text as the fault reports.
 pub(crate) fn came_to(
     rt: &HostRuntime,
     answer: Result<Refusals, Fault>,

@@ -49,7 +49,7 @@ const ROWS: &[Row] = &[
     (&[SHEET], &[NONE_TEXT]),
     (&[SHEET, LINE, LINE], &[NONE_TEXT]),
     (&[SHEET, LINE, INFO, END], &[NONE_TEXT]),
-    // prefixes and repetition do not matter
+    // prefixes, order and repetition of the reports do not matter
     (&[SHEET, LINE, INFO, ONE], &[ONE_TEXT]),
     (&[SHEET, LINE, OTHER_INFO, OTHER, LINE], &[ONE_TEXT]),
     (
@@ -95,7 +95,7 @@ const ROWS: &[Row] = &[
         &[SHEET, LINE, HEAD, TWO_URIS, MIDDLE, BLUE, END],
         &[HEAD, TWO_URIS, MIDDLE, BLUE, END],
     ),
-    // references are resolved, sorted and written once; a merged text keeps its references
+    // references are resolved, sorted and written once; merging a merged text keeps its references
     (
         &[
             SHEET,

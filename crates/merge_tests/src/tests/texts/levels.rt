@@ -114,7 +114,7 @@ const ROWS: &[Row] = &[
         ],
         &[CONSISTENT_HEAD, ONE_URI, MIDDLE, WRITTEN_BOTH, END],
     ),
-    // a merge may declare a looser level than each text that it merges
+    // the merged text may declare a looser level than each of the texts in the bundle
     (
         &[
             SHEET, LINE, HEAD, ONE_URI, MIDDLE, ONE_VALUE, "101", VALUE_END, LINE, HEAD, ONE_URI,

@@ -11,7 +11,7 @@ const NINE: &str =
     r#""a":{"value":"1","decimals":0,"dimensions":{"concept":"eg:A"}},"b":{"value":"2","decimals":0,"dimensions":{"concept":"eg:A"}},"c":{"value":"3","decimals":0,"dimensions":{"concept":"eg:A"}},"d":{"value":"4","decimals":0,"dimensions":{"concept":"eg:A"}},"e":{"value":"5","decimals":0,"dimensions":{"concept":"eg:A"}},"f":{"value":"6","decimals":0,"dimensions":{"concept":"eg:A"}},"g":{"value":"7","decimals":0,"dimensions":{"concept":"eg:A"}},"h":{"value":"8","decimals":0,"dimensions":{"concept":"eg:A"}},"i":{"value":"9","decimals":0,"dimensions":{"concept":"eg:A"}}"#;
 
 const ROWS: &[Row] = &[
-    // values are in order
+    // facts with equal dimensions are in the order of their values, then of their decimals
     (
         &[
             SHEET,
@@ -40,7 +40,7 @@ const ROWS: &[Row] = &[
             END,
         ],
     ),
-    // dimensions are in order
+    // facts are in the order of their dimensions, then of their values
     (
         &[
             SHEET,
@@ -108,7 +108,7 @@ const ROWS: &[Row] = &[
             END,
         ],
     ),
-    // texts are in byte order
+    // text values are in byte order
     (
         &[
             SHEET,

@@ -2,7 +2,7 @@ use Rattle.std.proofs.Common.{◌≡◌, ◌+◌, ◌-◌, ◌^◌, ◌<◌}
 use Rattle.oim_write.specs.Rank.{width}
 use Rattle.oim_write.proofs.labels.width_of.Given as goal
 
--- a u128 has at most 39 digits
+-- `digits` - 1 digits were removed from the number so far; a u128 has at most 39 digits
 abbrev pub invariant-loop-rest : goal.invariant-loop-rest
 invariant-loop-rest l = record {
   same : l.digits + width l.rest ≡ 1 + width l.number;

@@ -4,7 +4,7 @@ use Rattle.oim_write.specs.SinkBuffer.{Passes}
 use Rattle.oim_merge.specs.code.Listing.{placed_text}
 use Rattle.oim_merge.proofs.sources.source_listing.push_rows.Given as goal
 
--- the texts so far were pushed
+-- the texts of the mentions so far were pushed
 abbrev pub invariant-loop-mention : goal.invariant-loop-mention
 invariant-loop-mention g l = record {
   passed : Passes (g.S.Sink.told l.initial.out) (g.S.Sink.told l.out) l.initial.buffer l.buffer

@@ -5,7 +5,7 @@ use Rattle.fact_base.specs.Shown.{rows_left}
 use Rattle.oim_write.specs.code.Table.{Gains, row_names}
 use Rattle.oim_write.proofs.prefix_table.PrefixTable.of.Given as goal
 
--- adding the names of the remaining rows to the set gives the URIs of all rows
+-- adding the URIs of the names in the remaining rows to the set gives the URIs of the names in all rows
 abbrev pub invariant-loop-row : goal.invariant-loop-row
 invariant-loop-row l =
     (new : List (List ℕ)) → Gains l.set (flat_map row_names (rows_left l.row-iterator)) new → Gains [] (flat_map row_names (rows_of l.base.body.facts)) new
