@@ -62,7 +62,7 @@ ODD_UNITS = ('fact "TS1": 12 NameForm', 'fact "TS2": 26 NumberForm', 'fact "TS3"
 EMPTY = ('{"documentInfo":{"documentType":"https://xbrl.org/2021/xbrl-json","features":{"xbrl:allowedDuplicates":"none"},'
          '"namespaces":{"xbrl":"https://xbrl.org/2021"},"taxonomy":[]},"facts":{}}')
 CUT = " .."
-# a taxonomy with the names in tests/normalise/vendors/sheet.json
+# a schema that declares the concepts and the dimension of tests/normalise/vendors/sheet.json
 SCHEMA = """<xs:schema xmlns:xs="http://www.w3.org/2001/XMLSchema" xmlns:xbrli="http://www.xbrl.org/2003/instance"
     xmlns:xbrldt="http://xbrl.org/2005/xbrldt" targetNamespace="http://statfeed.example/taxonomy">
     <xs:element name="Sales" type="xbrli:monetaryItemType" substitutionGroup="xbrli:item"/>
@@ -132,7 +132,7 @@ def whole_lines(text):
 
 
 def commands(text):
-    """Returns the commands on lines of their own, each as a block with status 0 and no shown output."""
+    """Returns the lines of a text that are commands, each as a block with status 0 and no shown output."""
     return [([it], 0, None) for it in whole_lines(text) if it.startswith(STARTS)]
 
 

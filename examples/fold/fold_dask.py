@@ -22,8 +22,8 @@ NODE = os.path.join(os.path.dirname(os.path.abspath(__file__)), "merge_files")
 
 @dask.delayed
 def merge(sheet, out, files, most, _after=()):
-    """Merges files after the earlier steps. Only steps of the first level may return status 1, because the output of
-    a step is not refused."""
+    """Merges files after the earlier steps. `most` is the highest allowed status: 1 on the first level, where reports may be
+    refused, and 0 in the last step, because the output of a step is not refused."""
     status = subprocess.run([NODE, sheet, out, *files]).returncode
     if not 0 <= status <= most:
         raise SystemExit(f"{out} is not made: status {status}")
@@ -48,7 +48,7 @@ def merge_here(sheet, files):
 
 @dask.delayed
 def join_here(sheet, lower):
-    """Merges the results of steps with a call. A complete result is never refused."""
+    """Merges the results of the first level with a call. A merged report is never refused under the same sheet."""
     import xbrlmerge
 
     merged = xbrlmerge.merge(sheet, [text for text, _ in lower])
