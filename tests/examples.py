@@ -11,7 +11,7 @@ named, examples/embed/main.txt is skipped. The script compares
 - each page in PAGES with the results of its commands. The blocks of a page run in order, by `sh` and then by `bash`, in a
   folder with the repository's files except crates/. The commands must not add or remove a file there. The last command of a
   block must return the status that the paragraph before the block names, or 0; all other commands must return 0. If a block of
-  output follows, the commands must print exactly this output; ` ..` at the end of a line matches the rest of the line. If no
+  output follows, it must equal standard output and then standard error; ` ..` at the end of a line matches the rest. If no
   output follows, standard error may contain only the lines for refusals, too loose rows and refused events. `./build && ` at
   the start of a block is removed. A block with another command that proves (`rt`, ./build, the gate) is skipped;
 - each fact that docs/GUIDE.md shows in JSON with the facts in examples/. Sheets that the guide shows must be accepted;
