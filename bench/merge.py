@@ -1,7 +1,7 @@
 #!/usr/bin/env python3
 """Measures xbrlmerge on generated reports: bench/merge [FOLDER]
 
-There are three workloads: one report, reports of 50 facts, and eight providers of the same facts, some of them rounded. Each
+There are three workloads: one report, reports of 50 facts, and eight providers of the same facts, some values rounded. Each
 workload is measured in two sizes, as a bundle: a line with the sheet, then a line per report. For comparison, a peer runs on
 the same bundle. The peer is a short program that reads each line with serde_json and writes it back. A ratio is the cost of
 xbrlmerge divided by the peer's. Growth is an exponent: it is 1 if ten times the facts cost ten times as much. Growth is
@@ -64,8 +64,8 @@ class Failure(Exception):
 
 
 def in_child(work, *words):
-    """Runs a function in a child process. The peak memory of a child includes its parent's memory at the fork, so this
-    process must stay small."""
+    """Runs a function in a child process, so that this process stays small. The measured peak memory of a program includes the
+    memory of this process at the fork."""
     sys.stdout.flush()
     child = os.fork()
     if child == 0:
@@ -247,7 +247,7 @@ def compare(folder):
     with tempfile.TemporaryDirectory() as room:
         programs = {"xbrlmerge": build(os.path.join(REPOSITORY, "crates", "xbrlmerge"))}
         programs["peer"] = shutil.copy(build_peer(room), os.path.join(folder, "peer"))
-    # the memory of this process at the fork counts as the child's
+    # a program's measured peak is never below this, since it includes the memory of this process at the fork
     floor = run("true", os.devnull, os.devnull)[1]
     row(("", "facts", "MB", "CPU s", "peer's", "ratio", "instr/fact", "ratio", "peak MB", "peer's", "ratio", "growth"))
     for workload in WORKLOADS:

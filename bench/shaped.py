@@ -1,4 +1,5 @@
-"""The shapes of input that bench/shapes measures. Each returns the arguments of a command, and the files that they name."""
+"""The shapes of input that bench/shapes measures. A shape is a function of the size. It returns the arguments of a command, and
+the content of each file that the command reads, by name."""
 import json
 import random
 
@@ -9,7 +10,7 @@ MONTHS = 12
 YEARS = 9_000
 REPLICAS = 8
 FACTS = 1_000
-# the name of a report that is refused
+# a command that reads a report of this name must end with status 1, since the report is refused
 REFUSED = "refused.json"
 
 
@@ -295,7 +296,7 @@ def faults_of_one_fact(n):
 
 
 def duplicates_that_are_denied(n):
-    """n numbers that agree within rounding, and one that contradicts them all."""
+    """A report that allows only consistent duplicates: n numbers agree within rounding, and one contradicts them all."""
     numbers = [{**numeric(str(n - place)), "decimals": -18} for place in range(n)] + [numeric("9" * 18)]
     level = {"namespaces": {"eg": URI, "xbrl": "https://xbrl.org/2021"}, "features": {"xbrl:allowedDuplicates": "consistent"}}
     return explaining(report(numbered(numbers), **level))

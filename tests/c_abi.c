@@ -5,11 +5,12 @@
        c_abi check SHEET REPORT
        c_abi edges SHEET
 
-   The program prints the result and the lines of refused reports as xbrlmerge does, and returns the status of the call. Calls
-   with buffers are also made with buffers that are too short. With the static library, each request for memory is also refused
-   in turn. The last line on standard error begins with `requests`, and contains the number of refused requests that made the
-   call fail. `edges` instead makes calls with unusual arguments, prints nothing and returns 0. Status 90 means that a condition
-   in this file does not hold; a line on standard error shows the condition. */
+   The program prints the result and the lines of refused reports as xbrlmerge does, and returns the status of the call. The
+   line for a refused sheet has the number of the refusal, but not its name. Calls with buffers are also made with buffers that
+   are too short. With the static library, each request for memory is also refused in turn. The last line on standard error
+   begins with `requests`, and contains the number of refused requests that made the call fail. `edges` instead makes calls with
+   unusual arguments, prints nothing and returns 0. Status 90 means that a condition in this file does not hold; a line on
+   standard error shows the condition. */
 #include <stdio.h>
 #include <stdlib.h>
 #include <string.h>

@@ -129,7 +129,7 @@ def compare(program, callers, words, files):
         requests = [int(it.split()[1]) for it in said if it.startswith("requests:")]
         said = [it for it in said if not it.startswith("requests:")]
         if done.returncode == 4:
-            # a call returns only the number of a sheet's refusal
+            # for a refused sheet, a call returns only the refusal's number, so the name is not compared
             same = wanted.returncode == 3 and said[0] == " ".join(lines(wanted.stderr)[0].split()[:2])
         else:
             same = (done.returncode, said) == (wanted.returncode, lines(wanted.stderr)) and done.stdout == wanted.stdout

@@ -33,7 +33,7 @@ PIPE_SIZE = 1032
 LITTLE, MUCH = 150_000, 6_000_000
 
 GOOD, REFUSED, NOTHING_TAKEN = (0, ""), (1, "report 2: 1 NotJson at document\n"), (3, "device: 0 bytes written\n")
-# for each command line: the result, and the result if standard output accepts no byte; the report `cut` is refused
+# for each command line: the status and line, and the status and line if standard output accepts no byte; `cut` is refused
 WORDS = {
     "": (REFUSED, NOTHING_TAKEN),
     "merge --sheet sheet long cut": (REFUSED, NOTHING_TAKEN),
@@ -55,7 +55,7 @@ STOPS_INPUT = {"standard input closed": "<&-", "standard input a folder": "<.", 
 
 UNREAD, MEMORY, LENGTH = (3, "file strange: cannot be read\n"), (3, "out of memory\n"), (3, "file strange: too long\n")
 BAD_SHEET, BAD_EVENT, BAD_REPORT = (3, "sheet: 1 NotJson\n"), (3, "event 2: refused\n"), (1, "report 1: 1 NotJson at document\n")
-# for each kind of file: the results when the sheet, the events or a report, in this order, is such a file
+# for each kind of file: the status and line if the sheet is such a file, then if the events are, then if a report is
 FILES = {
     "missing": (UNREAD, UNREAD, UNREAD),
     "a folder": (UNREAD, UNREAD, UNREAD),
@@ -231,7 +231,7 @@ def compare_pipes(room):
 
 
 def make(room, kind, name):
-    """Makes the file `strange`. Returns the process that writes to it, if there is one."""
+    """Makes the file `strange`, except for the kind `missing`. Returns the process that writes to a FIFO, otherwise None."""
     strange, content = f"{room.folder}/strange", room.contents[name]
     if kind == "a folder":
         os.mkdir(strange)
@@ -273,8 +273,8 @@ def run_strange(room, kind, words):
 
 
 def compare_file(room, kind, name, words, ends):
-    """Runs the program on a file of this kind. If status 3 is expected, the output must be empty. Otherwise it must be the same
-    as for a regular file with the same content. Half a report is compared with an empty report, since both are refused."""
+    """Runs the program on a file of this kind. If status 3 is expected, the output must be empty. Otherwise it must equal
+    the output for a regular file of the same content. Half a report is compared with an empty one, since both are refused."""
     writer = make(room, kind, name)
     try:
         ran = run_strange(room, kind, words)

@@ -10,7 +10,7 @@ entries. The status is 1 if
 
 - a name is not in its file, or is listed twice;
 - a listed definition or contract uses a definition of this repository that is neither listed, nor a word, nor in the table;
-- a page has an entry or a word that none of its contracts needs;
+- a page lists a word, a definition, a type or a limit that none of the page's contracts needs;
 - a word has no law, or its law does not exist, is on neither page, or does not mention the word;
 - the table of conditions differs from `Reason`, its numbers, or the definitions of the conditions;
 - a page shows a wrong number of lines, or the number for DOUBT is above 600.
@@ -237,7 +237,8 @@ class Page:
         self.stops = {*self.words, *self.tabled, *({*before.there, *before.words}.difference(self.there) if before else ())}
 
     def needed(self):
-        """Returns the names that the page's contracts need, in order. Names in `stops` are returned, but not followed."""
+        """Returns the names that the page's contracts need, each after the names that it depends on. Names in `stops` are
+        returned, but not followed."""
         found = (it for root in self.contracts for it in closure(self.specs, root, self.stops))
         return [it for it in dict.fromkeys(found) if it not in self.contracts]
 
@@ -262,7 +263,7 @@ class Page:
         return lines[: next((n for n, it in enumerate(lines) if not it.lstrip().startswith("--")), 0) + 1]
 
     def count(self):
-        """Returns the number of lines of definitions and contracts; headings are not counted."""
+        """Returns the number of printed lines: definitions, contracts, words and rows of the table, without headings."""
         return sum(not it.startswith("==") for it in self.shown())
 
 

@@ -11,7 +11,7 @@ named, examples/embed/main.txt is skipped. The script compares
 - each page in PAGES with the results of its commands. The blocks of a page run in order, by `sh` and then by `bash`, in a
   folder with the repository's files except crates/. The commands must not add or remove a file there. The last command of a
   block must return the status that the paragraph before the block names, or 0; all other commands must return 0. If a block of
-  output follows, the commands must print exactly this output; ` ..` at the end of a line matches the rest of the line. If no
+  output follows, it must equal standard output and then standard error; ` ..` at the end of a line matches the rest. If no
   output follows, standard error may contain only the lines for refusals, too loose rows and refused events. `./build && ` at
   the start of a block is removed. A block with another command that proves (`rt`, ./build, the gate) is skipped;
 - each fact that docs/GUIDE.md shows in JSON with the facts in examples/. Sheets that the guide shows must be accepted;
@@ -62,7 +62,7 @@ ODD_UNITS = ('fact "TS1": 12 NameForm', 'fact "TS2": 26 NumberForm', 'fact "TS3"
 EMPTY = ('{"documentInfo":{"documentType":"https://xbrl.org/2021/xbrl-json","features":{"xbrl:allowedDuplicates":"none"},'
          '"namespaces":{"xbrl":"https://xbrl.org/2021"},"taxonomy":[]},"facts":{}}')
 CUT = " .."
-# a taxonomy with the names in tests/normalise/vendors/sheet.json
+# a schema that declares the concepts and the dimension of tests/normalise/vendors/sheet.json
 SCHEMA = """<xs:schema xmlns:xs="http://www.w3.org/2001/XMLSchema" xmlns:xbrli="http://www.xbrl.org/2003/instance"
     xmlns:xbrldt="http://xbrl.org/2005/xbrldt" targetNamespace="http://statfeed.example/taxonomy">
     <xs:element name="Sales" type="xbrli:monetaryItemType" substitutionGroup="xbrli:item"/>
@@ -132,7 +132,7 @@ def whole_lines(text):
 
 
 def commands(text):
-    """Returns the commands on lines of their own, each as a block with status 0 and no shown output."""
+    """Returns the lines of a text that are commands, each as a block with status 0 and no shown output."""
     return [([it], 0, None) for it in whole_lines(text) if it.startswith(STARTS)]
 
 

@@ -5,9 +5,9 @@
 
 A node of a fold merges one group. The script draws reports that overlap, agree, contradict each other, or are refused. The
 results of examples/fold/Makefile and examples/fold/fold_dask.py must equal the bytes of one run. The Makefile runs with three
-numbers of branches, and fold_dask.py with three numbers of files per node. The script also tests late reports, files with odd
-names, and nodes that fail or are stopped. If Dask is not installed, a substitute of two functions runs the nodes in turn. Nodes
-that call the library are skipped if there is no lib/libxbrlmerge.so, which ./build --library makes.
+numbers of branches, and fold_dask.py with three numbers of files per node. The script also tests late, changed and removed
+reports, files with odd names, and nodes that fail or are stopped. If Dask is not installed, a substitute of two functions runs
+the nodes in turn. Nodes that call the library are skipped if there is no lib/libxbrlmerge.so, which ./build --library makes.
 
 Status 0: all is as expected. 1: something is not; each fault is printed. 2: the program is not built.
 """
@@ -92,7 +92,7 @@ def paths():
 
 
 def one_run():
-    """Returns the text of one run over the folder, and the refused files."""
+    """Returns the text that one run makes of all files in `in`, and the refused files."""
     files = paths()
     done = subprocess.run([os.environ["XBRLMERGE"], "merge", "--sheet", "sheet.json", "--", *files], capture_output=True)
     refused = [files[int(line.split(":")[0].split()[1]) - 1] for line in done.stderr.decode().splitlines()]

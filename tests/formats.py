@@ -134,8 +134,8 @@ def sources_of(lines):
 
 
 def is_guarded(plain, guarded):
-    """Returns whether the cells differ only by a ' before texts. A text must have a ' if a spreadsheet would read it as a
-    formula, unless the text is a number."""
+    """Returns whether the cells differ only by a ' at the start of values and identifiers. There must be a ' if a spreadsheet
+    would read the cell as a formula, unless the cell is a number or begins with a ' already."""
     one, two = (list(csv.reader(io.StringIO(text, newline=""))) for text in (plain, guarded))
     numeric = {"decimals", "common_low", "common_high"}
     for cells, others in zip(one, two):

@@ -18,7 +18,7 @@ import time
 PARTS = ("proof", "tests", "edits", "runs")
 HEAD = f"{'crate':<14}{'part':<7}{'from':>8}{'to':>8}{'seconds':>9}{'processor':>11}"
 TICKS = os.sysconf("SC_CLK_TCK")
-# lines that the gate prints about runs. Runs are the last parts of the gate, one after another
+# lines that the gate prints when a program or the tests of a crate have run; these runs come last, one after another
 RUN = re.compile(r"(?:rt: )?(\w+) ran[ ,(]|(?:rt: )?(\w+): its tests (?:passed|FAILED)")
 ENDED = re.compile(r"\d+ passed, (\d+) failed")
 

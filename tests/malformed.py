@@ -51,7 +51,7 @@ VALUES = {"numeric": ("0", "-12.5", "1000000", "+0.0570", ".5", "999999999999999
           "text": ("", "Blue", "a\"b\\", "\u0001 \u00e9\n", "\U0001f40b")}
 UNITS = ("x:b*x:a", "(x:a*x:b)/x:c", "xbrli:pure", "xbrli:pure/x:c")
 PERIODS = ("2020-12-31T24:00:00", "2020-01-01T00:00:00/2020-12-31T24:00:00", "0001-01-01T00:00:00/9999-12-31T23:59:59")
-# replacements for a value or a piece of text
+# replacements for values, numbers and keys; escapes to insert; and runs to repeat
 OTHER_VALUES = (b"null", b"true", b"[]", b"{}", b"7", b'""', b'" "', b'":"', b'"m:"', b'"q:A"', b'"m:A"', b'"m:T"',
                 b'"xbrl:note"', b'"none"', b'"complete"', b'"numeric"', b'"text"', b'"1e2"', b'"1234567890123456789"',
                 b'"https://xbrl.org/2021"', b'"2020-12-31"', b'"2021-01-01T00:00:00/2020-01-01T00:00:00"', b'"x:a/"',
@@ -256,8 +256,8 @@ class Batch:
         write("broken", self.content)
 
     def of_report(self, chance, drawn=drawn_report):
-        """Tests a broken report between two good ones. Reading it in pieces must have the same result, and `check` must print
-        the same refusal."""
+        """Tests a broken report between two good ones. Reading it in pieces must have the same result. `check` must accept it
+        if `merge` does, and otherwise print the same refusal."""
         self.write_broken(chance, drawn(chance), self.one)
         status, text, lines, told = self.run("merge", "--sheet", "sheet", "one", "broken", "two")
         self.expect_reports(status, lines, told, 3)

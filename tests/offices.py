@@ -9,8 +9,8 @@ and `check`. They follow a drawn schedule: they take reports, and exchange texts
 repeated or reordered, and an office may lose everything. A sent text must be canonical and declare the strictest level that
 its facts satisfy, as computed from the definition. Some texts are then sent in the earlier form, without a level.
 
-Status 0: all is as expected. 1: something is not, and is printed with the seed and the schedule; or a counted event, such as a
-restart, is missing in a run of 200 schedules or more. 2: there is no program.
+Status 0: all is as expected. 1: something is not; the first fault is printed with the seed and the schedule; or a counted
+event, such as a restart, is missing in a run of 200 schedules or more. 2: there is no program.
 """
 import argparse
 import fractions
@@ -177,7 +177,7 @@ class Schedule:
         self.counts["contradictions sent"] += level == "all"
 
     def checked(self, sent, kind):
-        """Returns the level of a sent text, which must be of this kind."""
+        """Returns the level that `check` prints for a sent text, which must be of this kind: `canonical` or `other`."""
         status, line, lines = run(self.program, "check", "--sheet", "sheet.json", sent)
         told = ACCEPTED.fullmatch(line.decode())
         as_expected = (status, lines) == (0, "") and told is not None and told.group(2) == kind

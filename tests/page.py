@@ -75,7 +75,8 @@ def run(words, seconds=120, wanted=0):
 
 
 def build(room):
-    """Makes the page. Returns its path and, by row number, the pairs of facts that contradict each other."""
+    """Makes the page of examples/. Returns its path and, for each contradiction, the row number and the identifiers of the
+    pair."""
     page, lines, program = os.path.join(room, "example", "page.html"), os.path.join(room, "lines"), built_program()
     run([sys.executable, TOOL, "--program", program, "--sheet", SHEET, "-o", os.path.dirname(page), *REPORTS], wanted=1)
     with open(lines, "wb") as file:
@@ -109,7 +110,8 @@ def colours(picture):
 
 
 def look_at_example(words, room, kept):
-    """Returns the faults of the page of examples/. If there are none and `kept` is a path, copies the light picture there."""
+    """Returns the faults of the page of examples/. If there are none and `kept` is a path, copies the picture of the light
+    theme there."""
     page, rows = build(room)
     content = run([*words, "--window-size=1100,1200", "--dump-dom", f"file://{page}"]).decode()
     sections = {part.split('"')[0]: part for part in content.split(' id="row')[1:]}

@@ -64,7 +64,7 @@ def anchors(path):
 
 
 def broken_links(path):
-    """Returns a line for each relative link of a page if the link's file or heading does not exist."""
+    """Returns a line for each relative link of a page that leads to no file, or to no heading of a page."""
     text, broken = CODE.sub("", CODE_BLOCK.sub("", content(path))), []
     for link in (it for it in LINK.findall(text) if not ELSEWHERE.match(it)):
         name, _, anchor = link.partition("#")

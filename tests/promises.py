@@ -44,7 +44,7 @@ class Promise:
 
 
 class Library:
-    """The promises of a crate's public functions, and the names of its other functions."""
+    """The promises of a crate's public functions and laws, and the names of its other functions and laws."""
 
     def __init__(self, crate):
         found = EXPORT.findall(content(f"crates/{crate}/src/lib.rt"))

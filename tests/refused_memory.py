@@ -11,9 +11,10 @@ setup got none (`refused here`). If the test prints neither, the request counts 
 for every command. It must print the line `out of memory` and end with status 3, or end as if nothing was refused. Before
 `out of memory`, it may write a first part of its text. Two kinds of requests can be refused without harm: those for the key of
 a cache while a report is read, and those for clap's search for similar words. So in the tests of crates that read reports, no
-request counts as passed over. JOBS processes run in parallel, as many as there are processors by default. If a test makes more
-than 5,000 requests, only each 7th is refused from request 2,001 on. Fewer are refused if a test makes more than 50,000 requests,
-or if its runs are long. If some requests are left out, a line reports which were refused.
+request counts as passed over. Nor does it in the tests of DEVICE_FAILS_TOO. JOBS processes run in parallel, as many as there
+are processors by default. If a test makes more than 5,000 requests, only each 7th is refused from request 2,001 on. Fewer are
+refused if a test makes more than 50,000 requests, or if its runs are long. If some requests are left out, a line reports which
+were refused.
 
 Status 0: nothing failed and nothing was passed over. 1: something failed or was passed over. 2: a name is unknown, there is no
 cc, or tests or the program are not built or are older than the sources.
@@ -200,7 +201,8 @@ def refuse(task):
 
 
 def count_requests(task):
-    """Counts the requests of a subject with nothing refused. A second run, set to refuse the next request, must not make it."""
+    """Counts the requests of a subject with nothing refused. A second run, set to refuse the request after the last one, must
+    make the same number of requests and refuse none."""
     library, subject = task
     started = time.monotonic()
     ran = run(library, subject, 0)

@@ -8,7 +8,7 @@ make_sheet reads taxonomies and sheets; contradictions reads taxonomies with lab
 the file, or both. Each run must end within 10 seconds of processor time and 1 GiB of memory, with status 0, 1 or 3. Its lines on
 standard error must be printable, and it must not raise an exception that the tool does not expect. With status 0 or 1 all
 outputs must be complete, and a second run of normalise on its output must change nothing. With status 3 no output may change.
-The tools run in this process. One case in 20 also runs as a separate process, which must have the same result. JOBS processes
+The tools run inside this script. One case in 20 also runs a tool as a process, which must have the same result. JOBS processes
 run in parallel, as many as there are processors by default. CASE runs only the case with this number.
 
 Status 0: all is as expected. 1: something is not, or a usual result is missing in a run of 5,000 cases or more. The first 20

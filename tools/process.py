@@ -40,7 +40,7 @@ def run(main: Callable[[], Status]) -> NoReturn:
 
     An exception of `main` becomes lines on standard error and NOT_DONE, so it never leads to status 1. SystemExit, which
     argparse raises, becomes USAGE or DONE. A failed write to standard output or standard error leads to NOT_DONE. After a
-    signal in STOPPING the process cleans up, and then ends by that signal.
+    signal in STOPPING that is not ignored at the start, the process cleans up, and then ends by that signal.
     """
     fill_standard_files()
     handled = [number for number in STOPPING if signal.getsignal(number) is not signal.SIG_IGN]  # SIGHUP stays ignored under `nohup`
@@ -118,15 +118,15 @@ def signals_held() -> Iterator[None]:
 def fill_standard_files() -> None:
     """Opens the null device in place of each closed standard stream: standard input for writing, the others for reading.
 
-    So each use of such a stream fails. Otherwise the next opened file would get the number of a closed stream, and lines for
-    that stream would be written to the file. Standard output and standard error are buffered, even if PYTHONUNBUFFERED is set:
-    an unbuffered stream may take a part of the bytes and raise no exception.
+    So each use of such a stream fails. Otherwise the next opened file would get the file descriptor of a closed stream, and
+    lines for that stream would be written to the file. Standard output and standard error are buffered, even if
+    PYTHONUNBUFFERED is set: an unbuffered stream may take a part of the bytes and raise no exception.
     """
     for number, mode in enumerate((os.O_WRONLY, os.O_RDONLY, os.O_RDONLY)):
         try:
             os.fstat(number)
         except OSError:
-            os.open(os.devnull, mode)  # takes the lowest free number, which is this one
+            os.open(os.devnull, mode)  # takes the lowest free file descriptor, which is this one
     sys.stdout = open(1, "w", closefd=False)
     sys.stderr = open(2, "w", closefd=False, errors="backslashreplace")
 

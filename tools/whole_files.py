@@ -44,7 +44,7 @@ class Output:
 
 
 def write_files(texts: Iterable[tuple[str, Iterable[str]]]) -> None:
-    """Writes all files or none. `texts` lists their paths and pieces.
+    """Writes all files or none. `texts` contains the path and the pieces of each file.
 
     Each file is written in a new folder beside its place, then moved to its place. It gets the owner, the group and the
     permissions of the file that it replaces, each if permitted, but no setuid, setgid or sticky bit. A signal that
@@ -94,7 +94,8 @@ def copy_permissions(place: str, file: int) -> None:
 
 
 def put_in_place(outputs: list[Output]) -> None:
-    """Moves all outputs to their places. If a move fails, undoes the earlier moves, and raises OSError."""
+    """Moves all outputs to their places. If a move fails, undoes the earlier moves, and raises OSError. Also raises OSError if
+    two outputs have one place."""
     if len({output.place for output in outputs}) < len(outputs):
         raise OSError("two outputs are one file")
     for output in outputs[:-1]:  # the last move is never undone, because none follows it

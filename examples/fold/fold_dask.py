@@ -2,9 +2,9 @@
 """Merges reports in two levels on Dask: examples/fold/fold_dask.py [--calls] SHEET OUT WIDTH FILE ..
 
 Each step of the first level merges up to WIDTH files, and the last step merges their results. A step is a process that writes
-to a file. With --calls, it is a call of the Python module xbrlmerge, whose result goes to the last step as bytes. On a cluster,
-make a Client first, and let all machines share SHEET, OUT and the files. Set TMPDIR to a folder that all machines share, or
-with --calls install the module on each machine.
+to a file. With --calls, a step is a call of the Python module xbrlmerge, and its result goes to the last step as bytes. On a
+cluster, make a Client first, and let all machines share SHEET, OUT and the files. Set TMPDIR to a folder that all machines
+share, or with --calls install the module on each machine.
 Status 0: OUT contains every report. 1: reports were refused, as standard error shows, and OUT contains the others; or a step
 failed: then do not use OUT, which may be missing, old or incomplete (with --calls it is unchanged). 2: an argument is missing,
 or WIDTH is not a whole number from 1.
@@ -22,8 +22,8 @@ NODE = os.path.join(os.path.dirname(os.path.abspath(__file__)), "merge_files")
 
 @dask.delayed
 def merge(sheet, out, files, most, _after=()):
-    """Merges files after the earlier steps. Only steps of the first level may return status 1, because the output of
-    a step is not refused."""
+    """Merges files after the earlier steps. `most` is the highest allowed status: 1 on the first level, where reports may be
+    refused, and 0 in the last step, because the output of a step is not refused."""
     status = subprocess.run([NODE, sheet, out, *files]).returncode
     if not 0 <= status <= most:
         raise SystemExit(f"{out} is not made: status {status}")
@@ -48,7 +48,7 @@ def merge_here(sheet, files):
 
 @dask.delayed
 def join_here(sheet, lower):
-    """Merges the results of steps with a call. A complete result is never refused."""
+    """Merges the results of the first level with a call. A merged report is never refused under the same sheet."""
     import xbrlmerge
 
     merged = xbrlmerge.merge(sheet, [text for text, _ in lower])

@@ -82,7 +82,7 @@ class Merged:
     def rows(self) -> List[Dict[str, Any]]:
         """Returns a record for each fact, for example for pandas.DataFrame.
 
-        A record has the identifier, the value, the decimals, the core dimensions, and the other dimensions under their names.
+        A record has the identifier as `fact`, the value, the decimals, and each core or other dimension under its name.
         Decimals and core dimensions that the fact lacks are None. A value is the text in the report, or None for a nil fact.
         Names have the prefixes that the documentInfo of this report binds, such as n1; another report may bind them to other
         namespaces.
@@ -183,10 +183,10 @@ def sources(sheet: Given, reports: Iterable[Given]) -> Sources:
 def verdict_columns(sheet: Given, reports: Iterable[Given]) -> Columns:
     """Returns the verdicts as columns with an item for each fact.
 
-    The columns are: the number and the verdict of the row, the canonical identifier of the fact, its dimensions with names
-    as {URI}local, its value and decimals, and the evidence of the row. `dimensions` contains the taxonomy-defined ones, as a JSON
-    object. Absent items, and the value of a nil fact, are None. Other values of facts, `common_low` and `common_high` are texts,
-    so that no digit is lost. Raises SheetRefused, MemoryError, OSError and TypeError.
+    The columns are: the number and the verdict of the row, the canonical identifier of the fact, its dimensions, value and
+    decimals, and the evidence of the row. Each core dimension has a column; `dimensions` contains the taxonomy-defined ones as
+    a JSON object. Names are spelled {URI}local. Absent items, and the value of a nil fact, are None. Other values of facts,
+    `common_low` and `common_high` are texts, so that no digit is lost. Raises SheetRefused, MemoryError, OSError and TypeError.
     """
     answer = _library.verdicts_json(_bytes(sheet), _each(reports))
     text = _text(answer)
@@ -227,7 +227,7 @@ def _bytes(given: Given) -> bytes:
 
 
 def _each(reports: Iterable[Given]) -> List[bytes]:
-    """Returns the bytes of each report. A single str or bytes is rejected, because iterating over it would succeed."""
+    """Returns the bytes of each report. A single file or report is rejected: iterating over a str or bytes would succeed."""
     if isinstance(reports, (str, bytes, bytearray, memoryview, os.PathLike)):
         raise TypeError("reports must be a list of files or bytes")
     return [_bytes(it) for it in reports]

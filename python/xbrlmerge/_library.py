@@ -16,7 +16,10 @@ LONGEST_NAME = 64
 
 
 def _load() -> ctypes.CDLL:
-    """Loads the first of these that exists: the library that XBRLMERGE_LIBRARY names, the one in the wheel, the one in lib/."""
+    """Loads the first of these that exists: the library that XBRLMERGE_LIBRARY names, the one in the wheel, the one in lib/.
+
+    Raises ImportError if none exists, or if Python does not run with 64 bits on a little-endian processor.
+    """
     here = os.path.dirname(os.path.abspath(__file__))
     places = (os.environ.get("XBRLMERGE_LIBRARY", ""), os.path.join(here, NAME), os.path.join(here, "..", "..", "lib", NAME))
     found = next((place for place in places if place and os.path.exists(place)), None)
@@ -54,7 +57,7 @@ Row = Tuple[int, int, int]
 
 
 class Answer(NamedTuple):
-    """The result of a call: its status, the text, the number in `needed`, and the refused reports."""
+    """The result of a call: its status, the text, the number that the call wrote to `needed`, and the refused reports."""
 
     status: int
     text: bytes

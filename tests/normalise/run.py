@@ -5,8 +5,8 @@
 
 Each report in cases.jsonl is normalised with its options. `check` must accept or refuse the result as the case requires, and
 the output files must equal the files beside the report. If nothing is lost and the report was accepted before, `check`,
-`verdicts` and `merge` must print the same for the report and the result. If normalising respells a set of names, only
-`check` must print the same.
+`verdicts` and `merge` must print the same for the report and the result. If normalising also respells a set of names, only
+`check` must print the same for both.
 
 The script also draws a tidy and an untidy report from each of DRAWN seeds, 200 by default. The tidy report must be accepted,
 and is also spelled as another tool might spell it. After normalising, the program must print the same for both spellings as for
@@ -49,7 +49,7 @@ class Room:
         return done.returncode, done.stdout, done.stderr.decode()
 
     def said(self, sheet, report):
-        """Returns the statuses and outputs of three commands for a report."""
+        """Returns the statuses and outputs of `check`, `verdicts` and `merge` for a report."""
         return [self.run(command, sheet, report) for command in ("check", "verdicts", "merge")]
 
     def normalise(self, report, sheet, *options):

@@ -54,7 +54,8 @@ class Hostile(ToolTest):
         self.sheet, self.near = self.write("sheet.json", json.dumps(SHEET)), self.place("near.csv")
 
     def words(self, facts, is_near=False, providers="ab"):
-        """Writes facts, their lines and their providers, which take turns row by row. Returns the arguments of a run."""
+        """Writes a merged text of the facts, its verdicts and its sources. The providers take turns row by row. Returns the
+        arguments of a run."""
         names = [f"f{rank:0{len(str(len(facts)))}}" for rank in range(1, len(facts) + 1)]
         tree = {"documentInfo": {"namespaces": URIS}, "facts": dict(zip(names, facts))}
         merged, lines, sources, start = self.write("merged.json", json.dumps(tree)), [], [], 0

@@ -160,8 +160,8 @@ class Large(test_contradictions.ToolTest):
         self.check_order(page, cells)
 
     def check_order(self, page, cells):
-        """Checks that the page has the 100 rows with the largest relative differences, then the index, then each other row
-        once as the text of a data block."""
+        """Checks the order of the page: 100 rows, first those with a text or nil, then those with the largest relative
+        differences; the index; and each other row once, as the text of a data block."""
         first, index, rest = re.split(r'<h2>By concept</h2>|<h2>The other rows</h2>', page)
         rows = [re.findall(r'<section class="row \w+" id="row(\d+)">', each) for each in (first, index, rest)]
         self.assertEqual([len(each) for each in rows], [100, 0, self.COUNT - 100])

@@ -1,4 +1,5 @@
-"""Tests of tools/make_sheet and read_labels on files designed to take long, to read other files, or to make the tool fail."""
+"""Tests of tools/make_sheet, and of `read_labels` of tools/contradictions, on files designed to take long, to make a tool read
+other files, or to make it fail."""
 import json
 import os
 import resource

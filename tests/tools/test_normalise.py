@@ -85,7 +85,7 @@ class Reports(ToolTest):
                 stem = os.path.join(REPORTS, case["report"])
                 sheet = os.path.join(os.path.dirname(stem), "sheet.json")
                 wanted = content(f"{stem}.changes.jsonl")
-                # a stub runs here; tests/normalise/run checks --drop-unreadable with the real program
+                # a stub runs here; the script tests/normalise/run checks the option --drop-unreadable with the real program
                 dropped = [change for change in map(json.loads, wanted.splitlines()) if change["rule"] == "drop-unreadable"]
                 options = [word for word in case["options"] if word != "--drop-unreadable"]
                 if options != case["options"]:

@@ -6,7 +6,7 @@ from in_process import content
 
 
 def found(path, pattern):
-    """Returns the text that the pattern's group matches, at each place in a file."""
+    """Returns the text of the pattern's group for each match in a file."""
     return re.findall(pattern, content(path), re.MULTILINE)
 
 

@@ -117,7 +117,7 @@ def counted(count: int, word: str, words: Optional[str] = None) -> str:
 
 @contextlib.contextmanager
 def output_folder(path: str) -> Iterator[None]:
-    """Makes a folder unless it exists. If the block fails, a folder that was made here is removed."""
+    """Makes a folder unless it exists. If the block fails, a folder that was made here is removed, if it is empty."""
     is_made = not os.path.isdir(path)
     if is_made and os.path.lexists(path):
         raise NotDone(f"{path} is not a folder; -o needs one")

@@ -43,7 +43,7 @@ class Labelled(Taxonomy):
             self.identified[place, part.identifier] = part.name
 
     def name_at(self, href: str, base: str) -> Optional[Name]:
-        """Returns the name to which a reference in the document at `base` leads, or None."""
+        """Returns the name of the element to which a reference in the document at `base` leads, or None."""
         location, _, identifier = href.partition("#")
         return self.identified.get((self.rewrites.place_of(location, base)[0], identifier))
 

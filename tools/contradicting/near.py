@@ -60,7 +60,7 @@ class Near:
         return [(*pair, found[pair]) for pair in sorted(found)]
 
     def groups(self) -> Iterator[list[int]]:
-        """Yields groups of rows that are equal in all dimensions but one: the numbers of the rows, in order.
+        """Yields the groups that the class describes: for each, the numbers of its rows, in order.
 
         Dimensions are compared by a sum of hashes, so leaving one out is a subtraction. Hashes may collide, so `difference`
         checks the result.

@@ -61,7 +61,7 @@ class Normalised:
 
 
 def shown(change: dict[str, Tree], key: str) -> str:
-    """Returns the value under a key of a change, as text."""
+    """Returns the text of a cell: a member of a change, as JSON for the keys in VALUES, or an empty text without the member."""
     value = change.get(key)
     if key in VALUES and key in change:
         return text_of(value)

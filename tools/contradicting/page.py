@@ -59,7 +59,8 @@ characters near the first difference; contradictions.csv has them whole.</p>
 
 
 def counts(reader: Reader, refusals: Refusals) -> Iterator[tuple[int, str]]:
-    """Yields the counts: rows by verdict, rows with one fact from one provider, and refused reports."""
+    """Yields the counts with their words: rows by verdict, rows with one fact from one provider if providers are known, and
+    refused reports if there are any."""
     yield from ((reader.counts[verdict], word) for verdict, word in WORDS.items())
     if reader.providers:
         yield reader.counts["alone"], f"of these reported by {reader.said_by(1)}"
@@ -68,7 +69,7 @@ def counts(reader: Reader, refusals: Refusals) -> Iterator[tuple[int, str]]:
 
 
 def refused(refusals: Refusals) -> Iterator[str]:
-    """Yields the pieces that list the refused reports, each with its first faults."""
+    """Yields the pieces that list the names that the sheet lacks, and the refused reports, each with its first faults."""
     if refusals.reports:
         yield '<section class="refused"><h2>Refused reports</h2><p>The page has no figures from these reports.</p>'
         yield "".join(f"<p>{html.escape(printable(line))}</p>" for line in refusals.lacking_lines())
@@ -207,7 +208,8 @@ def details(row: Row) -> Iterator[tuple[str, str]]:
 
 
 def drawn(fact: Fact, line: NumberLine) -> str:
-    """Returns the drawing of a fact's interval on a number line, to scale, with the gap. A nil fact gets a note instead."""
+    """Returns the drawing of a fact's interval on a number line, to scale, with the gap if there is one. A nil fact gets a note
+    instead."""
     if not isinstance(fact.value, Decimal):
         return '<td class="line nil"><i>not reported as a number</i>'
     low, high = fact.interval()

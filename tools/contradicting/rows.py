@@ -131,7 +131,7 @@ class Reader:
     def rows(self, path: str) -> list[Row]:
         """Returns the rows that are contradictions, and counts and lists all rows.
 
-        Errors: NotDone if a verdict or a source does not match the facts.
+        Errors: NotDone if an input cannot be read or is malformed, or if a verdict or a source does not match the facts.
         """
         kept, groups = [], itertools.groupby(self.text.facts(), dimensions_given)
         with using(path), open(path, encoding="utf-8", newline="\n") as file:

@@ -68,8 +68,8 @@ class Sources:
 
 
 class OwnTexts:
-    """A merged report for each provider, made from the provider's own reports. It lacks the facts' identifiers in these
-    reports."""
+    """A merged report for each provider, made from the provider's own reports. It does not contain the identifiers that facts
+    have in these reports."""
 
     def __init__(self, providers: list[Provider]) -> None:
         self.providers, self.names = providers, [provider.name for provider in providers]
@@ -93,7 +93,7 @@ def providers(holders: Holders) -> str:
 
 
 def identifiers(holders: Holders) -> str:
-    """Returns each provider's identifiers as a text, if they are known."""
+    """Returns a text with each provider and its identifiers of the fact. Providers without known identifiers are left out."""
     return "; ".join(f"{holder.name}: {', '.join(holder.identifiers)}" for holder in holders if holder.identifiers)
 
 

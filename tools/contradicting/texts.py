@@ -22,7 +22,7 @@ DIGITS = 18  # the most characters of a whole number that is parsed; longer ones
 
 @contextlib.contextmanager
 def using(path: str) -> Iterator[None]:
-    """Turns an exception into NotDone, with the name of the file."""
+    """Turns an exception that a bad file can cause into NotDone, with the name of the file."""
     try:
         yield
     except (OSError, ValueError, LookupError, TypeError, AttributeError, ArithmeticError, RecursionError) as fault:
@@ -171,7 +171,7 @@ class Provider:
         return f"{self.text.path}: a fact does not match {self.merged}"
 
     def said(self, tree: Tree) -> bool:
-        """Returns whether the provider reported a fact of the merged report. Ask for each fact once, in order."""
+        """Returns whether the provider reported a fact of the full merged report. Ask for each fact once, in order."""
         is_said = bool(self.head == tree)
         if is_said:
             self.advance()
@@ -184,7 +184,7 @@ class Provider:
                 raise ValueError("it is missing there, or is in the wrong place")
 
     def respelled(self, tree: Tree) -> Tree:
-        """Returns a fact with the prefixes of the merged report."""
+        """Returns a fact of the provider with the prefixes of the full merged report."""
         dimensions = {}
         for key, member in tree["dimensions"].items():
             if key not in CORE:
@@ -204,7 +204,7 @@ class Provider:
         return bool(self.sheet.dimensions[self.text.name(axis)] == "explicit")
 
     def spelled(self, text: str) -> str:
-        """Returns a name or an entity with the prefix of the merged report."""
+        """Returns a name or an entity with the prefix that the full merged report gives its namespace."""
         prefix, _, local = text.partition(":")
         if prefix not in self.spellings:
             self.spellings[prefix] = self.prefixes[self.text.uris[prefix]]

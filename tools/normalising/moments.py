@@ -15,7 +15,7 @@ Rewriting = Callable[["re.Match[str]", bool], Optional[str]]
 def each_moment(period: str, rewritten: Rewriting) -> str:
     """Returns a period with its moments rewritten by a function. Parts that are not moments stay.
 
-    A text of more than two parts is returned unchanged.
+    A text with more than two parts, separated by `/`, is returned unchanged.
     """
     texts = period.split("/")
     if len(texts) > 2:

@@ -36,7 +36,8 @@ class Normaliser:
         self.sheet, self.options, self.program = sheet, options, program
 
     def normalise(self, tree: Tree, length: int = 0) -> Log:
-        """Changes the tree of a report. Returns the lines for changes, and for the parts that a rule had to leave, in order.
+        """Changes the tree of a report. Returns the lines for the changes, and for the parts that a rule had to leave: those of
+        the document, then those of each fact in order.
 
         Errors: NotDone, OSError.
         """
@@ -197,7 +198,8 @@ def kind_of(name: Optional[Name], kinds: Kinds) -> Optional[str]:
 
 
 def trimmed(key: str, text: str) -> str:
-    """Returns a text without white space around its tokens. Space at the end of an entity is part of it, and stays."""
+    """Returns a text without white space around its tokens, except space at the end of an entity, which belongs to its
+    identifier."""
     if key == "entity":
         return text.lstrip(SPACE)
     signs = {"period": "([/])", "unit": "([*/()])"}.get(key)
@@ -230,8 +232,8 @@ def plain_number(scientific: re.Match[str]) -> Optional[str]:
 
 
 def full_name(item: str, uris: Uris) -> Optional[tuple[str, str]]:
-    """Returns the URI and the local part of an item in a set. None if the item is not a name, or if its prefix is not
-    bound or is bound to a URI with white space."""
+    """Returns the URI and the local part of an item in a set, which is PREFIX:LOCAL or URI#LOCAL. None if the item is neither,
+    or if the prefix is not bound or is bound to a URI with white space."""
     if "#" in item:
         uri, _, local = item.rpartition("#")
         return (uri, local) if uri and local else None

@@ -42,14 +42,14 @@ class Files:
         return [word]
 
     def schemas(self) -> list[str]:
-        """Returns the files that are named themselves, and all files whose name ends in .xsd."""
+        """Returns the files that are named themselves, and the .xsd files of the named folders and packages."""
         return [place for place in self.listed if place in self.named or place.lower().endswith(".xsd")]
 
     def catalogs(self) -> list[str]:
         return [place for place in self.listed if place.endswith(CATALOG)]
 
     def linkbases(self) -> list[str]:
-        """Returns the files whose name ends in .xml."""
+        """Returns the .xml files among the named files, and those of the named folders and packages."""
         return sorted(place for place in self.listed if place.lower().endswith(".xml"))
 
     def found(self, place: str, origin: str) -> Optional[str]:

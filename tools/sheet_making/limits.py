@@ -28,7 +28,7 @@ class Limits:
 
 @contextlib.contextmanager
 def reading(path: str) -> Iterator[None]:
-    """Turns an exception into NotDone, with the name of the file."""
+    """Turns each exception except NotDone into NotDone, with the name of the file."""
     try:
         yield
     except NotDone:
