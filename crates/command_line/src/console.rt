@@ -69,7 +69,8 @@ impl<E: Write> Console<E> {
         }
     }
 
-    /// Erases the progress line, prints the refused reports or the error, and returns the exit status.
+    /// Erases the progress line, prints the refused reports or the error, if there are any, and
+    /// returns the exit status.
     pub(crate) fn tell(&mut self, done: &Result<Success, Error<'_>>) -> u8 {
         self.clear();
         match done {

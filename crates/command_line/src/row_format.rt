@@ -14,7 +14,7 @@ pub(crate) enum PrintFormat {
 
 const FORMAT: &str = "format";
 
-/// The option for texts that a spreadsheet would read as formulas.
+/// The option that marks texts in CSV that a spreadsheet would read as formulas.
 const SPREADSHEET: &str = "spreadsheet";
 
 static FORMATS: [&str; 3] = ["lines", "json", "csv"];

@@ -8,8 +8,8 @@ use oim_report::{after_mark, sheet_part};
 use serde_json::Value;
 use std::alloc::{AllocError, Global};
 
-/// Returns a line that names the file and states why the sheet is refused, with the part at fault.
-/// The parser's message and a guess at the file's kind follow, if there are any. For an accepted
+/// Returns a line that names the file and states why the sheet is refused. The line shows the part
+/// at fault, the parser's message and a guess at the file's kind, if there are any. For an accepted
 /// sheet, the line states that the sheet has no fault (own).
 ///
 /// Errors: out of memory.

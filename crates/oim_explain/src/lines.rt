@@ -17,7 +17,7 @@ pub enum Format {
 pub struct Input<'n> {
     /// The number of the report, from 1; None for a sheet.
     pub report: Option<u64>,
-    /// The name that is printed with each fault.
+    /// The name of the file, which is printed with each fault.
     pub name: &'n str,
     pub format: Format,
 }

@@ -1,4 +1,4 @@
--- A report is accepted exactly if it is JSON, no condition applies, and its level allows its facts.
+-- A report is accepted exactly if its bytes are JSON, no condition applies, and the declared level allows its facts.
 use Rattle.std.proofs.Common.{◌≡◌, ℕ, ◌+◌, List, [], ◌∷◌, map, Bool, true, false, cond, Option, Some, None, Ok, Err, refl, sym, ap, ◌∙◌}
 use Rattle.std.specs.List.{AllByRecursion}
 use Rattle.std.specs.Ordering.{is_lt}

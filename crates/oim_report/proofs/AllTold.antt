@@ -1,4 +1,5 @@
--- `told` lists the conditions that apply to a fact object, and the shown conditions of a document.
+-- For a fact object, `told` lists the conditions in `of_fact` that apply. For a document, `told` lists the conditions in
+-- `of_document` that are shown.
 use Rattle.std.proofs.Common.{◌≡◌, List, [], ◌∷◌, refl}
 use Rattle.std.specs.List.{filter}
 use Rattle.oim_names.specs.Bindings.{Binding}

@@ -8,7 +8,8 @@ use Rattle.oim_value.specs.declared.level.Level.{Level}
 use Rattle.oim_report.specs.Json.{Given, given}
 use Rattle.oim_report.specs.Info.{declarations, is_allowed_duplicates, said_level}
 
--- the level after these declarations, or None if a declaration is refused
+-- the level after these declarations, given the level that was declared before, if any; None if a declaration is refused or is
+-- not the first
 abbrev pub level_after : Option Level → List Given → Option Level
 level_after None gs = said_level gs
 level_after (Some l) [] = Some l

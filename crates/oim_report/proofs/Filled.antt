@@ -1,4 +1,4 @@
--- The test for objects that are not empty.
+-- The code's test for objects that are not empty agrees with `has_member`.
 use Rattle.std.proofs.Common.{◌≡◌, not, Bool, true, false, List, [], ◌∷◌, length, Some, refl, rules, arith}
 use Rattle.std.specs.Prelude.{IsTrue}
 use Rattle.serde_json.specs.View.{members_view}

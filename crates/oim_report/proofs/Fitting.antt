@@ -136,8 +136,8 @@ dimensions_clean ms = record {
   defined = defined_clean ms;
 }
 
--- the value and the dimensions of a fact object, except the period, are UTF-8 if they are texts; the keys of
--- taxonomy-defined dimensions are UTF-8
+-- the value, the concept, the entity, the language, the unit and the taxonomy-defined members of a fact object are UTF-8 if
+-- they are texts; the keys of taxonomy-defined dimensions are UTF-8
 pub record AreClean (p : FactParts) : Type 0 where
   pub value : IsClean p.value
   pub dimensions : (ds : DimensionParts) → p.dimensions ≡ Some ds → AreCleanDimensions ds

@@ -1,4 +1,4 @@
--- Of the reasons that apply, the first in the table has the smallest number.
+-- Of the reasons that apply, the first in `reasons` has the smallest number, and `told` lists it first.
 use Rattle.std.proofs.Common.{◌≡◌, ◌⊎◌, inl, inr, ⊎_elim, ℕ, zero, suc, ◌+◌, ◌≤◌, ◌<◌, List, [], ◌∷◌, length, map, slice_index, Contains, Bool, true, false, not, ◌||◌, cond, subst, refl, sym, ap, ◌∙◌, arith}
 use Rattle.std.specs.Prelude.{◌↔◌, ◌==◌, ◌&&◌, Option, Some, None, IsTrue}
 use Rattle.std.specs.Option.{option_map_or}

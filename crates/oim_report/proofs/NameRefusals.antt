@@ -10,7 +10,7 @@ use Rattle.oim_names.specs.declared.reason.Reason.{Reason}
 use Rattle.oim_names.specs.declared.reason.Reason.TheVariants.{NameForm, UnboundPrefix, ReservedNamespace}
 use Rattle.oim_report.specs.Names.{names_refusal, refuses_some}
 
--- of the three reasons, the first that applies to some name
+-- the first of the three reasons whose test passes
 abbrev pub by_any : Bool → Bool → Bool → Option Reason
 by_any form prefix namespace =
     if form then Some NameForm else (if prefix then Some UnboundPrefix else (if namespace then Some ReservedNamespace else None))

@@ -120,7 +120,7 @@ one_apart l facts place f here (p ∷ ps) within h =
     either true b x y is later h = ap (λ z. z || y) is ∙ later h
     either false b x y is later h = ap (λ z. z || y) is
 
--- the limit forbids one of the facts beside the fact at which the level exceeds the limit
+-- if the level exceeds the limit after the fact f, the limit forbids f beside some fact
 pub passed_above : (facts : List Fact) (order rest : List ℕ) (i : ℕ) (limit : Level) (last f : Fact) (shared later : Option Interval) (level found : Level) → IsOrderOf facts order → i < length rest → get_or rest i 0 < length facts → f ≡ get_or facts (get_or rest i 0) f
     → is_lt (level_cmp limit level) ≡ false → is_lt (level_cmp limit found) ≡ true → (passed : Passed facts order rest i last shared level) → ((fs : List Fact) → walk last shared level (f ∷ fs) ≡ walk f later found fs)
     → list_any (λ one. are_apart limit facts one (get_or rest i 0)) order ≡ true

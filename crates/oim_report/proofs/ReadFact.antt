@@ -1,4 +1,4 @@
--- A written fact is read back as the same fact.
+-- If a fact fits a sheet and its names are spelled as in `SpellsFact`, its object is read back as the fact.
 use Rattle.std.proofs.Common.{◌≡◌, ℕ, List, false, ◌||◌, Option, Some, None, Ok, refl, ap, ◌∙◌}
 use Rattle.std.specs.Prelude.{option_and_then, IfSome}
 use Rattle.oim_names.specs.QName.{QName}

@@ -1,4 +1,4 @@
--- Reading a period or a number returns a reason exactly if the table's condition for this reason applies.
+-- Reading a period or a number returns a reason exactly if the condition of `Holds` for this reason applies.
 use Rattle.std.proofs.Common.{◌≡◌, ℕ, ℤ, List, Bool, true, false, not, ◌||◌, ◌&&◌, Ok, Err, refl}
 use Rattle.std.specs.Prelude.{Option, Some, None, is_none, int_lt, if◌then◌else◌}
 use Rattle.std.specs.Option.{option_eq}

@@ -10,7 +10,7 @@ use Rattle.serde_json.specs.declared.value.Value.{Value}
 use Rattle.url.specs.Parts.{Parts}
 use Rattle.oim_report.specs.Info.{said_reference, said_references}
 
--- the references of the second argument and the kept references of these items, or None if an item is refused
+-- the texts in the second argument, followed by the kept texts of these items; None if an item is refused
 abbrev pub kept_after : Option Parts → List (List ℕ) → Items → Option (List (List ℕ))
 kept_after base done no_items = Some done
 kept_after base done (item d ds) = option_and_then (λ t. kept_after base (done ++ t ∷ []) ds) (said_reference base d)

@@ -80,8 +80,8 @@ walk-other last f shared level fs h =
 
 -- ---- properties of the facts so far
 
--- no fact so far has greater dimensions than the last fact; a later fact with the same dimensions and a greater value is
--- consistent with all facts so far exactly if its interval meets `shared`
+-- no fact so far has greater dimensions than the last fact; `Consistent` allows a later fact with the same dimensions and a
+-- greater value beside all facts so far exactly if its interval meets `shared`
 pub record Knows (before : List Fact) (last : Fact) (shared : Option Interval) : Type 0 where
   pub below : list_all (λ f. not (is_gt (dims f last))) (before ++ last ∷ []) ≡ true
   pub sharing : (h : Fact) → dims last h ≡ Equal → value_cmp last.value h.value ≡ Less → list_all (λ f. allows Consistent f h) (before ++ last ∷ []) ≡ both_meet shared (interval_at h.value)

@@ -116,7 +116,7 @@ shaped v d l c e p u t none =
     let one = or_parts v d two.0 in
     record { value_is = one.0; dimensions_is = one.1; links_is = two.1; concept_is = three.1; entity_is = four.1; period_is = five.1; unit_is = six.1; language_is = seven.1 }
 
--- ---- the table, for an object whose dimensions are an object
+-- ---- the conditions of `Holds`, for a fact object with an object `dimensions`
 
 module _ (sheet : Sheet) (bs : List Binding) (fms ms : Members) where
   abbrev fact : Data

@@ -43,7 +43,7 @@ hex_ascii x h = grind (arith, nat_tests, h)
 hex_small : (x : ℕ) → is_digit x 16 ≡ true → digit_value x < 16
 hex_small x h = ltb-true (digit_value x) 16 h
 
--- four hex digits, and a number of 16 bits
+-- a, b, c and d are hex digits, and u is less than 2^16
 record Spelled (a b c d u : ℕ) : Type 0 where
   a_is : is_digit a 16 ≡ true
   b_is : is_digit b 16 ≡ true

@@ -1,4 +1,4 @@
--- The UTF-8 test in `json` agrees with the definition.
+-- The test `is_utf8` in `json_text` agrees with `IsUtf8`.
 use Rattle.std.proofs.Common.{◌≡◌, ℕ, List, Bool, true, false, cond, Option, None, refl, ap}
 use Rattle.std.specs.Str.{IsUtf8, is_utf8}
 use Rattle.std.proofs.lemmas.Str.{IsUtf8-from_is_utf8, is_utf8-from_IsUtf8}

@@ -1,4 +1,4 @@
--- The derived comparisons agree with the definitions.
+-- The derived comparisons of values, dimensions and levels agree with the definitions.
 use Rattle.std.proofs.Common.{◌≡◌, cond, refl, ap, ◌∙◌}
 use Rattle.std.specs.Ordering.{is_eq, is_lt, ord_max, partial_lt}
 use Rattle.oim_value.specs.Level.{level_cmp}

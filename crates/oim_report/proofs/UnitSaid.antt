@@ -1,4 +1,5 @@
--- If a text denotes a unit, `unit_of` returns this unit.
+-- If a text denotes a unit that satisfies `IsUnit`, `unit_of` returns this unit. For `pure` alone, `unit_of` returns
+-- `Some None`.
 use Rattle.std.proofs.Common.{◌≡◌, ◌≢◌, ℕ, zero, suc, ◌+◌, List, [], ◌∷◌, true, false, refl, ap, ◌∙◌, arith}
 use Rattle.std.specs.Prelude.{Option, Some, None, IfSome, option_map}
 use Rattle.std.specs.List.{AllZip}

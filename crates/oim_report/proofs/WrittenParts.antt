@@ -1,4 +1,4 @@
--- The members of a written fact's object.
+-- If a fact fits a sheet and its names are spelled as in `SpellsFact`, its object has the parts in `parts_given`.
 use Rattle.std.proofs.Common.{◌≡◌, ◌≢◌, ℕ, List, [], ◌∷◌, codes, true, false, Option, Some, None, refl, ap, ◌∙◌, pos, negsuc}
 use Rattle.std.specs.Prelude.{All, IfSome, IsUtf8, ◌&&◌}
 use Rattle.std.specs.Option.{option_map}

@@ -32,7 +32,7 @@ allows_values Complete v w = is_eq (value_cmp v w)
 allows_values Consistent v w = values_meet v w
 allows_values All v w = true
 
--- every level allows two facts with different dimensions
+-- whether a level allows two facts; every level allows facts with different dimensions
 abbrev pub allows : Level → Fact → Fact → Bool
 allows l f g = not (are_duplicates f g) || allows_values l f.value g.value
 

@@ -26,7 +26,7 @@ use Rattle.oim_report.specs.Json.{Given, absent, nil, text, whole, other}
 use Rattle.oim_report.specs.Parts.{DimensionParts, FactParts}
 use Rattle.oim_report.specs.Sheet.{Sheet}
 
--- the value is a text, and the relation holds for the text
+-- the value is a text for which `Says` holds
 abbrev pub GivesText : Given → (List ℕ → Type 0) → Type 0
 GivesText (text t) Says = Says t
 GivesText absent Says = ⊥
@@ -34,7 +34,7 @@ GivesText nil Says = ⊥
 GivesText (whole n) Says = ⊥
 GivesText other Says = ⊥
 
--- the value is a text for which the relation holds, or the value is absent and IfAbsent holds
+-- the value is a text for which `Says` holds, or the value is absent and `IfAbsent` holds
 abbrev pub GivesTextOr : Type 0 → Given → (List ℕ → Type 0) → Type 0
 GivesTextOr IfAbsent absent Says = IfAbsent
 GivesTextOr IfAbsent (text t) Says = Says t
@@ -42,7 +42,7 @@ GivesTextOr IfAbsent nil Says = ⊥
 GivesTextOr IfAbsent (whole n) Says = ⊥
 GivesTextOr IfAbsent other Says = ⊥
 
--- the optional core dimensions; an absent period is forever
+-- the optional core dimensions; if absent, the period is `Forever`, and each other dimension is None
 abbrev pub SaysEntity : List Binding → Given → Option QName → Type 0
 SaysEntity bs g said = GivesTextOr (said ≡ None) g (λ t. (n : QName) × (said ≡ Some n) × ExpandsEntity bs t n)
 

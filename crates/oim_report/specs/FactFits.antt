@@ -86,7 +86,7 @@ pub record DimensionFits (sheet : Sheet) (e : QName × Member) : Type 0 where
 
 -- ---- values
 
--- a value is nil or has the kind of its concept: a short number with decimals in range, a UTF-8 text or a name
+-- a value is nil or has the kind of its concept: a short number whose decimals are infinite or in range, a UTF-8 text or a name
 abbrev pub ValueFits : ConceptKind → Value → Type 0
 ValueFits kind Nil = ⊤
 ValueFits Numeric (Number units places) = IsShort units × AreDecimals places

@@ -33,7 +33,7 @@ module _ (spelled : QName → List ℕ) where
   member_data (MemberText t) = string t
   member_data (MemberName n) = string (spelled n)
 
-  -- adds the taxonomy-defined dimensions to other members
+  -- adds the taxonomy-defined dimensions to the members `ms`
   abbrev pub with_defined : List (QName × Member) → Members → Members
   with_defined [] ms = ms
   with_defined (e ∷ es) ms = put (spelled e.0) (member_data e.1) (with_defined es ms)

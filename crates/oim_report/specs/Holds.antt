@@ -75,7 +75,7 @@ abbrev pub misfits : DimensionKind → Data → Bool
 misfits Explicit v = no_text v
 misfits Typed v = no_text_or_null v
 
--- a fact object with these dimensions
+-- `dimensions` has the members of the fact's object `dimensions`, or none if there is no such object
 module _ (sheet : Sheet) (bs : List Binding) (fact : Data) (dimensions : Members) where
   -- the value at a key of the dimensions, and its text
   abbrev pub at : List ℕ → Option Data

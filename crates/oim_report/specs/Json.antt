@@ -22,7 +22,8 @@ json bytes = json_text (without_mark bytes)
 
 -- ---- the value at a key
 
--- a value that may be absent; a text is a UTF-8 string, and every string that was read is UTF-8
+-- a JSON value that may be absent: `nil` is null, `text` is a UTF-8 string, and `whole` is a number that `serde_json` reads as
+-- an integer; every string that was read is UTF-8
 
 pub data Given : Type 0 where
   absent : Given

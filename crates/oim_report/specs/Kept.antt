@@ -25,8 +25,8 @@ web_text None = None
 web_text (Some url) = if is_web_text (serialize url) then Some (serialize url) else None
 
 -- the kept text of a reference: an http or https URL is kept as its serialization, and another URL as it is spelled. A reference
--- that is not a URL is resolved against the base URL to an http or https URL, and the serialization of that URL is kept. Without
--- a base URL, the reference is kept as it is spelled.
+-- that is not a URL is kept as it is spelled if there is no base URL. Otherwise it is resolved against the base URL to an http
+-- or https URL, and the serialization of that URL is kept.
 abbrev pub kept_by : Parsed Parts → Option Parts → List ℕ → Option (List ℕ)
 kept_by (Ok url) base reference = if is_web url then web_text (Some url) else Some reference
 kept_by (Err e) None reference = Some reference

@@ -11,7 +11,7 @@ use Rattle.oim_report.specs.Json.{given, text_of}
 abbrev pub binds_nothing : List ℕ → Data → Bool
 binds_nothing key d = not (is_part key) || option_map_or (λ u. bytes_eq u []) (text_of (given d)) true
 
--- a value that is not a text becomes an empty URI; the condition Namespace applies to the entry
+-- the bindings of all entries; a value that is not a text becomes an empty URI, and the condition `Namespace` then applies
 abbrev pub bindings_in : Members → List Binding
 bindings_in no_members = []
 bindings_in (member key d ms) = (record { prefix = key; uri = unwrap_or (text_of (given d)) [] }) ∷ bindings_in ms

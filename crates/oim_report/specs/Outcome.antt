@@ -122,7 +122,7 @@ pub record RefusesOne (sheet : Sheet) (bs : List Binding) (earlier : ℕ) (objec
   pub refused : IsLeast (holds sheet bs object) reason
   pub answer : r ≡ at (AtFact (earlier + length before)) reason
 
--- the level of the document's facts is above the declared one
+-- r is the refusal of a document because the level of its facts is above the declared one
 pub record RefusesLevel (sheet : Sheet) (bytes : List ℕ) (r : Refusal) : Type 0 where
   pub document : Document
   pub said : SaysDocument sheet bytes document

@@ -65,7 +65,7 @@ parts_of ms = record {
 abbrev pub fact_parts : Data → Option FactParts
 fact_parts d = option_map parts_of (as_object d)
 
--- the dimensions are an object, and there are no misshapen or unknown parts, links or notes
+-- `dimensions` is an object, `links` is absent or an object without members, there is no `noteId`, and no key is unknown
 pub record HasForm (p : FactParts) (ds : DimensionParts) : Type 0 where
   pub there : p.dimensions ≡ Some ds
   pub shaped : p.misshapen ≡ false

@@ -9,7 +9,7 @@ use Rattle.serde_json.specs.Read.{max_depth}
 use Rattle.serde_json.specs.Written.{compact_text, has_float}
 use Rattle.oim_report.specs.Json.{json}
 
--- an integer that can be written and read
+-- an integer that can be written and read: from -2^63 to 2^64 - 1
 abbrev pub IsWhole : Num → Type 0
 IsWhole (unsigned n) = n < 2 ^ 64
 IsWhole (negative (pos n)) = ⊥
@@ -66,7 +66,7 @@ pub record IsPlainJson (d : Data) (most : ℕ) : Type 0 where
 abbrev pub PlainTextReadsBack : Type 0
 PlainTextReadsBack = (ms : Members) → IsPlainJson (object ms) max_depth → json (compact_text (object ms)) ≡ Some (object ms)
 
--- a plain value has no float, so `serde_json` writes its compact text
+-- a plain value has no float, so its compact text is the one that `serde_json` writes
 abbrev pub PlainHasNoFloat : Type 0
 PlainHasNoFloat = (d : Data) → IsPlain d → has_float d ≡ false
 

@@ -1,8 +1,8 @@
--- A value or its refusal (own).
+-- A value, or the reason to refuse it (own).
 use Rattle.std.specs.Prelude.{Option, Some, None, Result, Ok, Err}
 use Rattle.oim_names.specs.declared.reason.Reason.{Reason}
 
--- a value, or a refusal if there is one
+-- the value, or the reason if there is one
 abbrev pub unless : {A : Type 0} → Option Reason → A → Result A Reason
 unless None a = Ok a
 unless (Some reason) a = Err reason

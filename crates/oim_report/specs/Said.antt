@@ -66,7 +66,7 @@ said_language kind = said_text None (λ t. if not (same_concept_kind Numeric kin
 
 -- ---- units
 
--- None if one of the texts does not expand
+-- the names that the texts expand to; None if one of the texts does not expand
 abbrev pub all_named : List Binding → List (List ℕ) → Option (List QName)
 all_named bs [] = Some []
 all_named bs (t ∷ ts) = option_and_then (λ n. option_map (λ ns. n ∷ ns) (all_named bs ts)) (named bs t)
@@ -104,7 +104,7 @@ said_member bs (Some Typed) (text t) = Some (MemberText t)
 said_member bs (Some Typed) nil = Some NoMember
 said_member bs kind g = None
 
--- adds to `es` the members that several keys denote; None if a key denotes no member
+-- adds to `es` a dimension and its member for each key with its value; None if a key or value is not accepted
 abbrev pub members_with : Sheet → List Binding → List (QName × Member) → List (List ℕ × Given) → Option (List (QName × Member))
 members_with sheet bs es [] = Some es
 members_with sheet bs es (d ∷ ds) =
@@ -113,7 +113,7 @@ members_with sheet bs es (d ∷ ds) =
 abbrev pub dimension_names : List Binding → List (List ℕ × Given) → List QName
 dimension_names bs defined = filter_map (λ d. named bs d.0) defined
 
--- the members that several keys denote, if no dimension is repeated
+-- the dimensions that the keys denote, with their members; None if a dimension is repeated, or a key or value is not accepted
 abbrev pub said_members : Sheet → List Binding → List (List ℕ × Given) → Option (List (QName × Member))
 said_members sheet bs ds = if comes_again (dimension_names bs ds) then None else members_with sheet bs [] ds
 

@@ -241,6 +241,6 @@ sheet_shown tree UnboundPrefix = refused_key tree UnboundPrefix
 sheet_shown tree ReservedNamespace = refused_key tree ReservedNamespace
 sheet_shown tree r = nothing
 
--- the refusal of a sheet, with the part that is shown for it
+-- the reason to refuse a sheet and the part that is shown for the reason, or None if no condition applies
 abbrev pub sheet_part : Data → Option (Reason × Shown)
 sheet_part tree = option_map (λ r. (r, sheet_shown tree r)) (least (sheet_holds tree))

@@ -139,22 +139,23 @@ pub fn outcomes_want_no_memory()
     ensures { OutcomesWantNoMemory }
 {}
 
-/// Suppose that each name of a fact is spelled with a prefix of ASCII letters and digits that is
-/// bound to the name's URI. If the fact fits a sheet, its object has the parts that `parts_given`
-/// lists.
+/// Suppose that each name of a fact is spelled with a prefix of one or more ASCII letters and
+/// digits that is bound to the name's URI. If the fact fits a sheet, its object has the parts
+/// that `parts_given` lists.
 pub fn fact_object_has_parts()
     ensures { FactObjectHasParts }
 {}
 
-/// Take a fact as in `fact_object_has_parts`. No condition on form or names applies to its object.
+/// Take a fact as in `fact_object_has_parts`. Its object has the form of a fact (`AreFormed`), and
+/// no condition on names applies to the object.
 pub fn written_facts_are_accepted()
     ensures form { FormsAreAccepted }
     ensures names { NamesAreAccepted }
 {}
 
-/// Suppose that each name of a fact is spelled with a prefix of ASCII letters and digits that is
-/// bound to the name's URI. If the fact fits a sheet, its object denotes the fact, and no condition
-/// applies to the object.
+/// Suppose that each name of a fact is spelled with a prefix of one or more ASCII letters and
+/// digits that is bound to the name's URI. If the fact fits a sheet, its object denotes the fact,
+/// and no condition applies to the object.
 pub fn fact_object_reads_back()
     ensures { FactObjectReadsBack }
 {}
@@ -193,9 +194,9 @@ pub fn least_is_answered()
     ensures { LeastIsAnswered }
 {}
 
-/// Suppose that two pieces can each be read alone, and each ends with a closing brace. With a comma
-/// between them, they are read as the members of both pieces (RFC 8259, section 4; `serde_json`
-/// keeps the last value of a repeated key).
+/// Suppose that two pieces can each be read alone, and that each has a member and ends with a
+/// closing brace. With a comma between them, they are read as the members of both pieces (RFC 8259,
+/// section 4; `serde_json` keeps the last value of a repeated key).
 pub fn pieces_are_the_whole()
     ensures { PiecesAreTheWhole }
 {}

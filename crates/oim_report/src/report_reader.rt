@@ -39,9 +39,10 @@ pub fn read_report<'s>(alloc: Global, sheet: &'s Sheet, bytes: &[u8]) -> Result<
 }
 
 /// Reads reports under one sheet, one after another. Reports often bind the same prefixes to the
-/// same URIs, and then a text means the same in all these reports. While these bindings stay the
-/// same, the reader caches the meanings of texts, so facts of many reports share the memory of
-/// names. Contracts represent a reader by its sheet.
+/// same URIs, and then a text means the same in all these reports. So the reader caches the
+/// meanings of texts, and facts of many reports share the memory of names. Before a report is read,
+/// the caches are emptied if its bindings differ or a cache is full. Contracts represent a reader
+/// by its sheet.
 #[derive(Drop)]
 pub struct ReportReader<'s> {
     alloc: Global,

@@ -144,7 +144,7 @@ impl Counts {
     }
 }
 
-/// Writes the lines and returns their number.
+/// Writes the lines about one file and returns their number.
 fn put_explained<'n, S: Sink>(
     out: &mut S,
     explained: Result<Explained, AllocError>,

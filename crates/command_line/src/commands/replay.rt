@@ -135,8 +135,8 @@ fn events_argument<'w>(alloc: Global) -> Arg<'w> {
         .help("The file of the schedule, with one event per line")
 }
 
-/// Errors: out of memory, and `Device` with the number of bytes taken of one text. `write_out`
-/// replaces this number with the number of bytes taken of all texts.
+/// Errors: out of memory, and `Device` with the number of bytes taken of one text or line end.
+/// `write_out` replaces this number with the number of bytes taken of all texts.
 fn put_replicas<S: Sink>(
     alloc: Global,
     out: &mut S,

@@ -48,7 +48,8 @@ fn run_in(rt: &HostRuntime, input: TestReader<'_>, room: usize) -> Result<Ran, A
     Ok(ran)
 }
 
-/// If a result differs, the actual status is printed.
+/// Returns whether the program gives these results for a bundle. If not, the actual status is
+/// printed.
 fn gives(
     rt: &HostRuntime,
     parts: &[&str],
@@ -81,7 +82,7 @@ fn no_report_gives_the_empty_text(rt: HostRuntime) -> Result<(), Fail> {
 /// The merged text of one fact, with the value 100.
 const HUNDRED_TEXT: &[&str] = &[HEAD, ONE_URI, MIDDLE, WRITTEN_HUNDRED, END];
 
-/// Three facts. The prefix of the second is not bound.
+/// Three facts. The prefix of the second fact's concept is not bound.
 const SECOND_UNBOUND: &str =
     r#""a":{"value":"1","dimensions":{"concept":"eg:A"}},"b":{"value":"1","dimensions":{"concept":"q:A"}},"c":{"value":"2","dimensions":{"concept":"eg:A"}}"#;
 

@@ -21,7 +21,7 @@ module _ {K Y : Type 0} where
   abbrev pub IsGroupOf : FinMap name_cmp K → List ℕ → Option (BTreeMap (String Y) (QName × K)) → Type 0
   IsGroupOf m u group = (l : List ℕ) → (option_map (λ e. e.1) (in_group group l) ≡ map.get m (record { uri = u; local_part = l })) × IfSome (in_group group l) (λ e. e.0 ≡ record { uri = u; local_part = l })
 
-  -- the first group has each name of the second, with the same kind
+  -- `group` has each name of `other`, with the same kind
   abbrev pub HasEach : Option (BTreeMap (String Y) (QName × K)) → BTreeMap (String Y) (QName × K) → Type 0
   HasEach group other = (l : List ℕ) (k : K) → option_map (λ e. e.1) (get_by_text other l) ≡ Some k → option_map (λ e. e.1) (in_group group l) ≡ Some k
 

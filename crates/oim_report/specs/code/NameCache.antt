@@ -21,7 +21,7 @@ module _ {K : Type 0} (m : FinMap name_cmp K) (bs : List Binding) where
   abbrev pub NamesListed : List ℕ → Bor QName × K → Type 0
   NamesListed t e = (named bs t ≡ Some e.0.now) × (kind_of t ≡ Some e.1)
 
-  -- the group has the names of the namespace that the prefix is bound to
+  -- if the prefix is bound to a URI, the group has exactly the names that the map has with this URI
   abbrev pub IsReached : {Y : Type 0} → List ℕ → Option (Bor (BTreeMap (String Y) (QName × K))) → Type 0
   IsReached p group = (u : List ℕ) → uri_of bs p ≡ Some u → IsGroupOf m u (option_copied group)
 

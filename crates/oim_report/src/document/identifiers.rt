@@ -10,7 +10,7 @@ use std::alloc::Global;
 
 /// Returns the identifiers of a report's facts, in byte order (xBRL-JSON 1.0, section 2).
 /// `Report::facts` has the same order if the report is accepted. If the bytes are JSON without an
-/// object `facts`, the list is empty. Only `NotJson` is tested.
+/// object `facts`, the list is empty. `NotJson` is the only condition that is tested.
 ///
 /// Errors: `NotJson` if the bytes are not JSON; `OutOfMemory`.
 pub fn fact_identifiers(alloc: Global, bytes: &[u8]) -> Result<Vec<Text>, Reason>

@@ -27,9 +27,9 @@ use std::alloc::Global;
 use std::marker::Model;
 
 /// Reads facts under a sheet and the prefixes of a report. Reports often bind the same prefixes to
-/// the same URIs, and then a text means the same in all these reports. While these bindings stay
-/// the same, the reader caches the meanings of texts. Contracts represent a reader by its sheet and
-/// its prefixes.
+/// the same URIs, and then a text means the same in all these reports. So the reader caches the
+/// meanings of texts; `turn_to` empties the caches if necessary. Contracts represent a reader by
+/// its sheet and its prefixes.
 #[derive(Drop)]
 pub(crate) struct FactReader<'s> {
     alloc: Global,

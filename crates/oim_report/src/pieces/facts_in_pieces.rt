@@ -12,8 +12,8 @@ use oim_dims::Fact;
 use serde_json::{Map, Value};
 use std::alloc::Global;
 
-/// Returns the facts in byte order of their identifiers. The result is `None` if a piece cannot be
-/// read, a fact is refused, or a request for memory is refused.
+/// Returns the facts in `text`, in byte order of their identifiers. The result is `None` if a piece
+/// cannot be read, a fact is refused, or a request for memory is refused.
 pub(crate) fn read_facts_in_pieces(
     alloc: Global,
     reader: &mut FactReader<'_>,

@@ -27,7 +27,7 @@ struct Split<'t> {
 }
 
 /// Splits a document, or returns `None` if it cannot be split or a request for memory is refused.
-/// If the text of the facts can be parsed as a piece, the whole document can be parsed.
+/// If `facts` of the result can be parsed as a piece, the whole document can be parsed.
 pub(crate) fn read_outline(alloc: Global, text: &str) -> Option<Outline<'_>>
     ensures { IfSome result (λ o. IsOutline text.now (view o.tree) o.facts.now) }
 {

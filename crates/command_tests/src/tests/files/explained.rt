@@ -92,7 +92,7 @@ pub(super) const EXPLAINED: [Row; 13] = [
     ("explain --sheet sheet unbound -o said", 1, &[], ""),
 ];
 
-/// The content of the file `said`, which the last row writes.
+/// The content of the file `said`, which the last row of `EXPLAINED` writes.
 pub(super) const SAID: &[&str] = &[
     "unbound: fact \"a\": 13 UnboundPrefix: the prefix of \"q:A\" is not bound\n",
     "reports: 1, with faults: 1, faults: 1\n",

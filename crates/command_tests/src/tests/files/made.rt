@@ -12,8 +12,8 @@ pub(super) const FOLDER: &str = "out/made";
 const OTHER_INFO: &str =
     r#"{"documentInfo":{"documentType":"https://xbrl.org/2021/xbrl-json","namespaces":{"zz":"http://example.org/t"}},"facts":{"#;
 
-/// The name of each file, and its text in two parts. `zz` has the fact of `100` with another
-/// prefix.
+/// The name of each file, and its text in two parts. The file `zz` has the same fact as the file
+/// `100`, with another prefix.
 const FILES: [(&str, &str, &str); 24] = [
     ("sheet", "", SHEET),
     (

@@ -181,7 +181,7 @@ pub(super) const CHECKED: [Row; 7] = [
     ("check --sheet sheet empty", 1, &[], NOT_JSON),
 ];
 
-/// The arguments name an output file. Runs that end with status 2 or 3 leave this file unchanged.
+/// Each row names an output file. Runs that end with status 2 or 3 leave the file `out` unchanged.
 pub(super) const WRITTEN: [Row; 6] = [
     ("merge --sheet sheet empty 100 -o out", 1, &[], NOT_JSON),
     (

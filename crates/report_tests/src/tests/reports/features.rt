@@ -69,7 +69,7 @@ const FEATURES: [Table; 4] = [
         )],
         end: REPEATED,
     },
-    // the feature may not be repeated
+    // the feature must not be declared under two prefixes
     Table {
         start: r#"{"documentInfo":{"documentType":"https://xbrl.org/2021/xbrl-json","namespaces":{"xbrl":"https://xbrl.org/2021","y":"https://xbrl.org/2021"},"features":{"#,
         rows: &[
@@ -100,7 +100,7 @@ const DUPLICATES: [Table; 5] = [
         ],
         end: r#"}},"facts":{"a":{"value":"1","decimals":0,"dimensions":{"concept":"eg:A"}},"b":{"value":"1","decimals":0,"dimensions":{"concept":"eg:A"}}}}"#,
     },
-    // unequal facts that meet need `consistent`
+    // unequal facts whose values meet need `consistent`
     Table {
         start: DECLARED,
         rows: &[
@@ -109,7 +109,7 @@ const DUPLICATES: [Table; 5] = [
         ],
         end: r#"}},"facts":{"a":{"value":"1","decimals":0,"dimensions":{"concept":"eg:A"}},"b":{"value":"1","dimensions":{"concept":"eg:A"}}}}"#,
     },
-    // facts that do not meet need `all`
+    // facts whose values do not meet need `all`
     Table {
         start: DECLARED,
         rows: &[

@@ -4,7 +4,7 @@ use std::alloc::AllocError;
 use std::test::Fail;
 
 // The parts of a report: between `start` and `end`, `piece` is repeated, and `closing` follows as
-// often.
+// often. `counts` lists numbers of repeats with their outcomes.
 struct Long<'t> {
     start: &'t str,
     piece: &'t str,

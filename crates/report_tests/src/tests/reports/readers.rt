@@ -6,7 +6,7 @@ use oim_report::{Refusal, Report, ReportReader};
 use std::test::Fail;
 use test_helpers::asked_again::{is_want_of_memory, joined, read_sheet, tell_refused};
 
-// A report of one fact, without the URI that `x` is bound to.
+// The parts of a report with one fact, before and after the URI that `x` is bound to.
 const START: &str =
     r#"{"documentInfo":{"documentType":"https://xbrl.org/2021/xbrl-json","namespaces":{"eg":"http://example.org/t","x":""#;
 
