@@ -45,14 +45,16 @@ class Normaliser:
             raise NotDone("it is not a report: its root is not an object")
         whole = Log()
         drop_unknown_members(Part(tree, (), whole), "report")
-        information, facts = tree.get("documentInfo"), tree.get("facts")
+        information = tree.get("documentInfo")
         uris: Uris = {}
         if isinstance(information, dict):
             drop_unknown_members(Part(information, ("documentInfo",), whole), "documentInfo")
             uris = uris_of(information.get("namespaces"))
         logs: dict[str, Log] = {}
-        if isinstance(facts, dict):
-            reader, tree["facts"] = FactReader(self.sheet, self.options, uris, GROWTH * length + SMALL), {}
+        facts: dict[str, Tree] = {}
+        if isinstance(tree.get("facts"), dict):
+            facts, tree["facts"] = tree["facts"], {}
+            reader = FactReader(self.sheet, self.options, uris, GROWTH * length + SMALL)
             for number, (name, fact) in enumerate(facts.items(), 1):
                 logs[name] = Log(name, number)
                 reader.read(name, fact, logs[name], tree["facts"])
