@@ -203,7 +203,7 @@ def dask_words():
 
 
 def on_dask(words, width, wanted):
-    """Compares folds on Dask with one run of the program. Each node of the first fold is a process. If the library is
+    """Compares folds on Dask, or on its substitute, with one run of the program. Each node of the first fold is a process. If the library is
     built, each node of a second fold is a call."""
     done = run(*words, "sheet.json", "dask.json", str(width), *paths())
     compare(f"Dask, {width} files a node", done, "dask.json", wanted)

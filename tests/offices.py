@@ -9,8 +9,8 @@ and `check`. They follow a drawn schedule: they take reports, and exchange texts
 repeated or reordered, and an office may lose everything. A sent text must be canonical and declare the strictest level that
 its facts satisfy, as computed from the definition. Some texts are then sent in the earlier form, without a level.
 
-Status 0: all is as expected. 1: something is not; the first fault is printed with the seed and the schedule; or a counted
-event, such as a restart, is missing in a run of 200 schedules or more. 2: there is no program.
+Status 0: all is as expected. 1: something is not, or a counted event, such as a restart, is missing in a run of 200 schedules
+or more. The first fault is printed with the seed and the schedule. 2: there is no program.
 """
 import argparse
 import fractions

@@ -1,4 +1,4 @@
-"""Expanded names of concepts, dimensions and XML elements."""
+"""Expanded names: a namespace and a local part."""
 from __future__ import annotations
 
 import re

@@ -112,7 +112,7 @@ class Long(ToolTest):
 
 
 class Exact(ToolTest):
-    """Cases in which a careless rule would give a wrong result without a message."""
+    """Cases in which a careless tool would give a wrong result, a wrong status, or a line with control characters."""
 
     def setUp(self):
         super().setUp()

@@ -88,7 +88,7 @@ EachFactIsSaid = (sheet : Sheet) (reports : List (List ℕ)) (f : Fact) → Cont
 abbrev pub EachMentionIsTold : Type 0
 EachMentionIsTold = (sheet : Sheet) (reports : List (List ℕ)) → IsPermutation (mentions sheet reports) (mentions_by_fact sheet reports)
 
--- the mention has the number of the report, the identifier of the object, and the fact that the object reports
+-- the mention has the number of the report, the identifier of the object, and the object's fact
 pub record IsMentionOf (sheet : Sheet) (bs : List Binding) (n : ℕ) (object : List ℕ × Data) (m : Mention) : Type 0 where
   pub report : m.report ≡ n
   pub identifier : m.identifier ≡ object.0

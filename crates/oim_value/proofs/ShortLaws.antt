@@ -80,7 +80,7 @@ counted_integer (suc k) (suc q) small within =
     let some : length (decimal (suc q)) ≤ suc k = length-decimal-le_wide (suc k) (suc q) (omega arith) small (omega arith) in
     omega (arith, length-without_leading (decimal (suc q)))
 
--- leading zeros up to p + 1 digits do not change the value of a number below 10^(p + 1)
+-- padding a number below 10^(p + 1) with leading zeros to p + 1 digits does not change its value
 zeros_before : (p v : ℕ) → v < 10 ^ suc p → suc p ≤ MOST_DIGITS → (list_all is_ascii_digit (with_leading_zeros (suc p) (decimal v)) ≡ true) × (length (with_leading_zeros (suc p) (decimal v)) ≡ suc p) × (digits_value_after 10 0 (with_leading_zeros (suc p) (decimal v)) ≡ v)
 zeros_before p v small within =
     let most : 10 ^ suc p ≤ 10 ^ MOST_DIGITS = ten_to (suc p) MOST_DIGITS within in

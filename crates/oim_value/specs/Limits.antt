@@ -9,11 +9,11 @@ pub record LimitsAre : Type 0 where
   pub places : UNIT_PLACES ≡ 19
   pub decimals : MOST_DECIMALS ≡ pos 18
 
--- a text is short exactly if it has at most 18 significant digits
+-- a text is short exactly if at most 18 of its digits are significant, as `counted` counts them
 abbrev pub DigitsAreFew : Type 0
 DigitsAreFew = (t : List ℕ) → IsTrue (is_short t) ↔ (counted t ≤ 18)
 
--- the text of the number 1 denotes 10^19 units
+-- the text "1" denotes 10^19 units of 10^-19
 abbrev pub OneIsUnits : Type 0
 OneIsUnits = Denotes (codes "1") (pos (10 ^ 19))
 

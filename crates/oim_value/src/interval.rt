@@ -16,7 +16,7 @@ pub struct Interval {
     pub high: i128,
 }
 
-/// Returns the numbers that may have been rounded to a value with these decimals. The interval
+/// Returns the numbers that may have been rounded to this value with these decimals. The interval
 /// extends half of the last decimal place to each side. For infinite decimals, it contains only the
 /// value.
 pub fn interval_of(value: Fixed, decimals: Decimals) -> Interval

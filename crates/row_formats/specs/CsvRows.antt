@@ -73,7 +73,7 @@ abbrev pub decimals_text : Option ℤ → List ℕ
 decimals_text None = []
 decimals_text (Some d) = signed_decimal d
 
--- three fields: the value, empty for nil; `true` for nil, otherwise empty; and the decimals, empty unless they are finite
+-- three fields: the value (empty for nil), `true` for nil and otherwise empty, and the decimals (empty unless they are finite)
 abbrev pub value_fields : Bool → Value → List (List ℕ)
 value_fields spreadsheet Nil = [] ∷ codes "true" ∷ [] ∷ []
 value_fields spreadsheet (Number units places) = plain units ∷ [] ∷ decimals_text places ∷ []

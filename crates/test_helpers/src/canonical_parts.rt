@@ -1,4 +1,4 @@
-// Parts of the texts that tests expect, both in the canonical form and in the earlier form.
+// Parts of texts in the canonical form and in the earlier form, which tests read or expect.
 
 /// The text before the namespaces if no two facts have the same dimensions.
 pub const HEAD: &str =

@@ -55,8 +55,8 @@ pub(crate) fn of<'w>(matches: &ArgMatches<'w>) -> Option<Subcommand<'w>> {
     matches.get_str(REPORT).map(Subcommand::Check)
 }
 
-/// Reads the report with this name and writes a line to `out` if the report is accepted. A refused
-/// report is returned as report 1.
+/// Reads the report with this name and writes a line to `out` if the report is accepted. A refusal
+/// is returned with the report number 1.
 ///
 /// Errors: `Unread`, `TooLong`, out of memory, and `Device`.
 pub(crate) fn run<'n, F: Files, E: Write, S: Sink>(

@@ -4,7 +4,7 @@ ghost use Rattle.oim_merge.specs.Sources.{SourceText};
 use crate::sources::placed_mention::PlacedMention;
 use std::alloc::{AllocError, Global};
 
-/// A format of sources: one text for each fact object in an accepted report.
+/// A format of sources: a header, and one text for each fact object in an accepted report.
 pub trait SourceFormat {
     /// The text before the first source.
     ghost header: { Self → List ℕ };

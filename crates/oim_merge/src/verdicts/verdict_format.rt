@@ -6,7 +6,7 @@ use crate::verdicts::judged_row::JudgedRow;
 use oim_write::Scratch;
 use std::alloc::{AllocError, Global};
 
-/// A format of verdicts: one text for each row of a base.
+/// A format of verdicts: a header, and one text for each row of a base.
 pub trait VerdictFormat {
     /// The text before the first row.
     ghost header: { Self → List ℕ };

@@ -72,7 +72,7 @@ fn write_all<S: Sink, F: VerdictFormat>(
     ensures err { IfErr result (λ fault. AppendsFrontOfRows (F.header format.now) (F.row_text format.now) base.now.body (S.told out.old) (S.told out.new) (written_of fault)) }
     ensures failures { S.failures out.new ≡ failures_after_write result (S.failures out.old) }
 {
-    // each row has evidence, because the facts fit the sheet
+    // the contract of `sheet` states that the facts fit the sheet, so each row has evidence
     let _sheet = base.sheet();
     let Ok(mut buffer) = SinkBuffer::new(alloc) else {
         return Err(WriteFault::OutOfMemory(0));

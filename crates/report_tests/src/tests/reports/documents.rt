@@ -144,7 +144,7 @@ const MEMBERS: [Table; 4] = [
 ];
 
 const INFO: [Table; 3] = [
-    // prefixes are bound to URIs
+    // a prefix is well-formed, and its URI is a text that is not empty
     Table {
         start: r#"{"documentInfo":{"documentType":"https://xbrl.org/2021/xbrl-json","namespaces":{"#,
         rows: &[
