@@ -57,7 +57,7 @@ abbrev pub UnitFits : ConceptKind → Option Measures → Type 0
 UnitFits kind None = ⊤
 UnitFits kind (Some m) = MeasuresFit kind m
 
--- a text has the form of a language and is in lower case, and the concept is not numeric
+-- the text `l` has the form of a language and is in lower case, and the concept is not numeric
 pub record IsLanguageOf (kind : ConceptKind) (l : List ℕ) : Type 0 where
   pub form : IsTrue (is_language l)
   pub lower : str_to_ascii_lowercase l ≡ l
@@ -69,7 +69,7 @@ LanguageFits kind (Some l) = IsLanguageOf kind l
 
 -- ---- members
 
--- the member of an explicit dimension is a name; the member of a typed dimension is a UTF-8 text or nil
+-- the member of an explicit dimension is a name that a text can spell; the member of a typed dimension is a UTF-8 text or nil
 abbrev pub MemberFits : DimensionKind → Member → Type 0
 MemberFits Explicit (MemberName n) = FitsName n
 MemberFits Explicit (MemberText t) = ⊥
@@ -86,7 +86,8 @@ pub record DimensionFits (sheet : Sheet) (e : QName × Member) : Type 0 where
 
 -- ---- values
 
--- a value is nil or has the kind of its concept: a short number whose decimals are infinite or in range, a UTF-8 text or a name
+-- a value is nil or has the kind of its concept: a short number whose decimals are infinite or in range, a UTF-8 text, or a name
+-- that a text can spell
 abbrev pub ValueFits : ConceptKind → Value → Type 0
 ValueFits kind Nil = ⊤
 ValueFits Numeric (Number units places) = IsShort units × AreDecimals places

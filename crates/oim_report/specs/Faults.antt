@@ -54,7 +54,7 @@ tree_faults sheet tree =
     or_else (map (at AtDocument) (told (document_holds tree)))
     (or_else (faults_from sheet (bindings_of tree) 1 (values (facts_of tree))) (level_faults sheet tree))
 
--- bytes that are not JSON have one fault only
+-- the faults of a report; `NotJson` is the only fault of bytes that are not JSON
 unfoldable pub faults : Sheet → List ℕ → List Refusal
 faults sheet bytes = option_map_or (tree_faults sheet) (json bytes) (at AtDocument NotJson ∷ [])
 

@@ -105,7 +105,7 @@ module _ (sheet : Sheet) (bs : List Binding) (fact : Data) (dimensions : Members
   abbrev pub explicit_text : List ℕ × Data → Option (List ℕ)
   explicit_text m = if is_some_and (same_dimension_kind Explicit) (dimension_kind m.0) then as_text m.1 else None
 
-  -- the texts of the fact that must have the form of a name or an entity, each with that form
+  -- the texts of the fact that must be names or entities, each with the test of its form
   abbrev pub names : List Spelled
   names =
       map a_name (option_to_list (text_at (codes "concept")))
@@ -153,7 +153,7 @@ holds sheet bs fact = holds_with sheet bs fact (members (object_at (codes "dimen
 -- ---- documents
 
 module _ (tree : Data) where
-  -- the URL that relative references are resolved against
+  -- the URL that relative references are resolved against; None if `baseURL` is absent or refused
   abbrev pub base : Option Parts
   base = option_and_then base_url (option_and_then as_text (info (codes "baseURL") tree))
 

@@ -65,7 +65,7 @@ abbrev pub declarations : List Binding → Members → List Given
 declarations bs no_members = []
 declarations bs (member key d ms) = if is_allowed_duplicates bs key then given d ∷ declarations bs ms else declarations bs ms
 
--- the level in the only declaration; without a declaration, all duplicates are allowed (own)
+-- the level in the only declaration; `All` without a declaration (own); None if there are several or the value is not a level
 abbrev pub said_level : List Given → Option Level
 said_level [] = Some All
 said_level (g ∷ []) = option_and_then level_with (text_of g)

@@ -12,7 +12,7 @@ use Rattle.serde_json.specs.Read.{read}
 abbrev pub without_mark : List ℕ → List ℕ
 without_mark bytes = if bytes_eq (take 3 bytes) (0xef ∷ 0xbb ∷ 0xbf ∷ []) then drop 3 bytes else bytes
 
--- the value of a text that is UTF-8 and JSON
+-- the value of a text, or None if the text is not UTF-8 or not JSON
 abbrev pub json_text : List ℕ → Option Data
 json_text text = if is_utf8 text then read text else None
 
@@ -22,8 +22,8 @@ json bytes = json_text (without_mark bytes)
 
 -- ---- the value at a key
 
--- a JSON value that may be absent: `nil` is null, `text` is a UTF-8 string, and `whole` is a number that `serde_json` reads as
--- an integer; every string that was read is UTF-8
+-- a JSON value that may be absent: `nil` is null, `text` is a UTF-8 string, `whole` is a number that `serde_json` reads as an
+-- integer, and `other` is any other value; every string that was read is UTF-8
 
 pub data Given : Type 0 where
   absent : Given
@@ -106,8 +106,8 @@ has_member ms = any_in (λ key d. true) ms
 
 -- ---- keys
 
--- a key has a colon. In `dimensions`, the key then names a taxonomy-defined dimension; in other objects with known keys, it belongs to
--- an extension (own).
+-- a key has a colon. A key with a colon names a taxonomy-defined dimension in `dimensions`, and belongs to an extension in other
+-- objects with known keys (own).
 abbrev pub has_colon : List ℕ → Bool
 has_colon key = list_any is_colon key
 

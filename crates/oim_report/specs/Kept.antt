@@ -19,14 +19,14 @@ web_url (Err e) = None
 abbrev pub is_web_text : List ℕ → Bool
 is_web_text text = is_utf8 text && option_map_or (λ url. bytes_eq (serialize url) text) (web_url (parse_url None text)) false
 
--- the text of an http or https URL (URL Standard, section 4.5)
+-- the serialization of an http or https URL (URL Standard, section 4.5)
 abbrev pub web_text : Option Parts → Option (List ℕ)
 web_text None = None
 web_text (Some url) = if is_web_text (serialize url) then Some (serialize url) else None
 
 -- the kept text of a reference: an http or https URL is kept as its serialization, and another URL as it is spelled. A reference
--- that is not a URL is kept as it is spelled if there is no base URL. Otherwise it is resolved against the base URL to an http
--- or https URL, and the serialization of that URL is kept.
+-- that is not a URL is kept as it is spelled if there is no base URL. If there is a base URL, a reference that is not a URL is
+-- resolved against it to an http or https URL, and the serialization of that URL is kept.
 abbrev pub kept_by : Parsed Parts → Option Parts → List ℕ → Option (List ℕ)
 kept_by (Ok url) base reference = if is_web url then web_text (Some url) else Some reference
 kept_by (Err e) None reference = Some reference

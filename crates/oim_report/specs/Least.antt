@@ -1,4 +1,5 @@
--- The refusal is the lowest-numbered condition that applies. The faults are all conditions that apply and are not hidden (own).
+-- A sheet, document or fact is refused for the lowest-numbered condition that applies to it. The faults of a document or fact
+-- are all conditions that apply to it and are not hidden (own).
 use Rattle.std.specs.Prelude.{◌≡◌, ◌↔◌, ◌≤◌, List, [], ◌∷◌, map, Contains, Bool, false, not, ◌&&◌, IsTrue, Option, Some, None}
 use Rattle.std.specs.List.{filter, find, list_any}
 use Rattle.std.specs.List.Sorted.{IsStrictlyIncreasing}

@@ -1,4 +1,4 @@
--- The limits of a file (own; `serde_json` limits the nesting of JSON).
+-- The limits on the length of URLs and references (own) and on the nesting of JSON (the limit of `serde_json`).
 use Rattle.std.specs.Prelude.{◌≡◌, ◌↔◌, ℕ, ◌≤◌, IsTrue, List, length, Some}
 use Rattle.serde_json.specs.Data.{Data, object, Members, depth}
 use Rattle.serde_json.specs.Written.{compact_text}

@@ -5,8 +5,8 @@ use Rattle.serde_json.specs.Data.{Data, Members, no_members, member}
 use Rattle.serde_json.specs.Find.{get_member, as_object}
 use Rattle.oim_report.specs.Json.{Given, given, given_at, any_member, has_member, has_colon, is_absent, is_unknown, is_no_object}
 
--- the members of `dimensions`: the core dimensions, and the taxonomy-defined dimensions in byte order of their keys; `unknown`
--- states that some other key has no colon
+-- the members of `dimensions`: the core dimensions, and the taxonomy-defined dimensions in the order of the members; `unknown` is
+-- true if some other key has no colon
 pub record DimensionParts : Type 0 where
   pub concept : Given
   pub entity : Given
@@ -37,9 +37,9 @@ dimension_parts ms = record {
   unknown = any_member (is_unknown core_keys) ms;
 }
 
--- the members of a fact object: its value, its decimals, and its dimensions if they are an object. `linked` states that `links`
--- has a member. `misshapen` states that `dimensions` or `links` exists and is not an object. `unknown` states that some other key
--- has no colon.
+-- the members of a fact object: its value, its decimals, and its dimensions if they are an object. `linked` is true if `links`
+-- has a member. `misshapen` is true if `dimensions` or `links` exists and is not an object. `unknown` is true if a key other than
+-- `fact_keys` has no colon.
 pub record FactParts : Type 0 where
   pub value : Given
   pub decimals : Given

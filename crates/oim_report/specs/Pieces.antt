@@ -34,6 +34,6 @@ abbrev pub put_all : Members → Members → Members
 put_all no_members onto = onto
 put_all (member k d ms) onto = put_all ms (put k d onto)
 
--- two pieces with a comma between them are a piece with the members of both, as in `serde_json` (RFC 8259, section 4)
+-- two pieces with a comma between them are a piece with the members of both, joined as in `put_all`
 abbrev pub PiecesAreTheWhole : Type 0
 PiecesAreTheWhole = (a b : List ℕ) (found more : Members) → IsPiece a found → IsPiece b more → IsPiece (a ++ 44 ∷ b) (put_all more found)

@@ -1,4 +1,4 @@
--- If a fact fits a sheet and its names are spelled with bound prefixes, its object is read as the fact (own).
+-- If a fact fits a sheet and its names are spelled as in `SpellsFact`, its object is read as the fact (own).
 use Rattle.std.specs.Prelude.{◌≡◌, ◌≢◌, ◌||◌, ⊤, ℕ, List, [], ◌∷◌, ◌++◌, All, IsTrue, Option, Some, None, Ok, IfSome, false}
 use Rattle.std.specs.List.{list_all}
 use Rattle.std.specs.Char.{is_ascii_alphanumeric}

@@ -76,7 +76,7 @@ module _ {K : Type 0} (kind_named : List ℕ → Option K) (same : K → K → B
   entry (Some n) None = []
   entry None k = []
 
-  -- the names that keys spell, each with its kind
+  -- the names that keys spell, each with its kind; a key that is not a name, or whose value names no kind, is skipped
   abbrev pub entries_in : List Binding → Members → List (QName × K)
   entries_in bs no_members = []
   entries_in bs (member key d ms) = entry (named bs key) (kind_in d) ++ entries_in bs ms
@@ -105,7 +105,7 @@ sheet_keys = codes "namespaces" ∷ codes "concepts" ∷ codes "dimensions" ∷ 
 abbrev pub sheet_names : Data → List Spelled
 sheet_names tree = key_names (sheet_concepts tree) ++ key_names (sheet_dimensions tree)
 
--- a condition without a clause here never applies to a sheet
+-- a condition without a clause in `sheet_holds` never applies to a sheet
 unfoldable pub sheet_holds : Data → Reason → Bool
 sheet_holds tree MemberForm =
     not (is_object tree) || is_no_object (get (codes "namespaces") tree) || is_no_object (get (codes "concepts") tree) || is_no_object (get (codes "dimensions") tree)

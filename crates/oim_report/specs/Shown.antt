@@ -63,7 +63,7 @@ seen (Value v) = value (view v.now)
 seen (Member k v) = entry (k.now, view v.now)
 seen (Two k l) = two k.now l.now
 
--- the part, if the condition applies
+-- the part, if `holds` is true
 abbrev pub when : Bool → Shown → Option Shown
 when holds part = if holds then Some part else None
 
@@ -102,7 +102,7 @@ repeated bs before (m ∷ ms) = option_map_or (λ n. if list_any (λ o. is_eq (n
 
 -- ---- facts
 
--- the first core dimension that is not a text
+-- the first of the concept, entity, period, unit and language that is not a text, or `nothing`
 abbrev pub textless : Members → Shown
 textless ms = first_of (map (λ k. (is_some_and no_text (get_member k ms), no_string k)) (codes "concept" ∷ codes "entity" ∷ codes "period" ∷ codes "unit" ∷ codes "language" ∷ []))
 

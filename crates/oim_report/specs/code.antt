@@ -1,4 +1,4 @@
--- Definitions that no public contract uses: how values are stored, and intermediate laws.
+-- Definitions that no public contract uses, such as stored forms of values, tests of parts and intermediate laws.
 pub mod Beside
 pub mod Findings
 pub mod FoundFacts

@@ -3,6 +3,6 @@
 pub enum DimensionKind {
     /// Names: `explicit` in a sheet.
     Explicit,
-    /// Texts, or nil: `typed` in a sheet.
+    /// Texts, or null: `typed` in a sheet.
     Typed,
 }

@@ -23,8 +23,8 @@ ghost use Rattle.oim_report.specs.ReadBack.{FactObjectHasParts, FactObjectIsPlai
 
 use url::Url;
 
-/// The text of an http or https URL is UTF-8 and parses as that URL. So this text is the kept text
-/// of the URL (URL Standard, sections 4.4 and 4.5).
+/// The serialization of an http or https URL is UTF-8 and parses as that URL. So the serialization
+/// is the kept text of the URL (URL Standard, sections 4.4 and 4.5).
 pub fn web_texts_read_back(url: &Url)
     ensures utf8 { IsTrue (is_web url.now) → IsTrue (is_utf8 (serialize url.now)) }
     ensures parsed { IsTrue (is_web url.now) → parse_url None (serialize url.now) ≡ Ok url.now }
@@ -33,8 +33,8 @@ pub fn web_texts_read_back(url: &Url)
     let _text = url.as_str();
 }
 
-/// `named` returns exactly the name that a text expands to. `entity_named` does the same for
-/// entities.
+/// `named` returns a name exactly if the text expands to that name. `entity_named` does the same
+/// for entities.
 pub fn names_are_expanded()
     ensures names { (bs : List Binding) (t : List ℕ) (n : QName) → (named bs t ≡ Some n) ↔ Expands bs t n }
     ensures entities { (bs : List Binding) (t : List ℕ) (n : QName) → (entity_named bs t ≡ Some n) ↔ ExpandsEntity bs t n }
@@ -146,8 +146,9 @@ pub fn fact_object_has_parts()
     ensures { FactObjectHasParts }
 {}
 
-/// Take a fact as in `fact_object_has_parts`. Its object has the form of a fact (`AreFormed`), and
-/// no condition on names applies to the object.
+/// Suppose that a fact fits a sheet and its names are spelled as in `fact_object_has_parts`. Then
+/// its object has the form of a fact (`AreFormed`), and no condition on names applies to the
+/// object.
 pub fn written_facts_are_accepted()
     ensures form { FormsAreAccepted }
     ensures names { NamesAreAccepted }
@@ -181,15 +182,16 @@ pub fn plain_text_reads_back()
     ensures whole { PlainHasNoFloat }
 {}
 
-/// Take a fact as in `fact_object_has_parts`. Its object is plain and at most two levels deep, so
-/// the compact text of the object is read as that object.
+/// Suppose that a fact fits a sheet and its names are spelled as in `fact_object_has_parts`. Then
+/// its object is plain, has UTF-8 strings and keys, and is at most two levels deep. So the compact
+/// text of the object is read as that object (`plain_text_reads_back`).
 pub fn fact_object_is_plain()
     ensures { FactObjectIsPlain }
 {}
 
 /// `least` returns the lowest-numbered condition that applies. `told` lists the conditions that
-/// apply and are not hidden (`Namespace` hides `Feature`). Their numbers strictly ascend, and the
-/// first condition is the one that `least` returns.
+/// apply and are not hidden (`Namespace` hides `Feature`). The numbers of the listed conditions
+/// strictly ascend, and the first condition is the one that `least` returns.
 pub fn least_is_answered()
     ensures { LeastIsAnswered }
 {}

@@ -4,8 +4,8 @@ pub const MOST_REFERENCE_BYTES: usize = 65_536;
 /// The greatest number of levels of nested arrays and objects, which is the limit of `serde_json`.
 pub const MOST_LEVELS: usize = 127;
 
-/// The greatest number of texts in a cache. The limit bounds the memory, and the time of a search
-/// among texts with the same hash.
+/// The greatest number of texts in a cache. The limit bounds the memory of the cache, and the time
+/// of a search among texts with the same hash.
 pub const MOST_MEANINGS: usize = 1_024;
 
 /// The greatest length in bytes of a text in a cache. The limit bounds the memory of the caches,

@@ -8,7 +8,7 @@ use std::cmp::Ordering;
 pub(crate) fn order_of(alloc: Global, facts: &[Fact]) -> Result<Vec<usize>, AllocError>
     ensures { IfOk result (λ places. IsOrderOf facts.now places.items) }
 {
-    // if memory is refused, `collect` would request a smaller amount
+    // `collect` is not used: if its request for memory is refused, it requests a smaller amount
     let mut places: Vec<usize> = Vec::with_capacity(alloc, facts.len())?;
     places.extend(0..facts.len())?;
     places.sort_unstable_by(|i, j| compared(facts, *i, *j));

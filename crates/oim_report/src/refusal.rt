@@ -31,7 +31,7 @@ impl Refusal {
     }
 }
 
-/// The refusal has the document as its place.
+/// Converts a reason into a refusal that has the document as its place.
 impl From<Reason> for Refusal {
     ghost from_gives = { λ reason refusal. refusal ≡ at Document reason };
 

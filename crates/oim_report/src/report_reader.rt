@@ -40,9 +40,10 @@ pub fn read_report<'s>(alloc: Global, sheet: &'s Sheet, bytes: &[u8]) -> Result<
 
 /// Reads reports under one sheet, one after another. Reports often bind the same prefixes to the
 /// same URIs, and then a text means the same in all these reports. So the reader caches the
-/// meanings of texts, and facts of many reports share the memory of names. Before a report is read,
-/// the caches are emptied if its bindings differ or a cache is full. Contracts represent a reader
-/// by its sheet.
+/// meanings of texts, and facts of many reports share the memory of names. Before the facts of a
+/// report are read, the caches are emptied if a cache is full, or if the report binds prefixes
+/// differently than the last report whose facts were read. Contracts represent a reader by its
+/// sheet.
 #[derive(Drop)]
 pub struct ReportReader<'s> {
     alloc: Global,
@@ -136,8 +137,8 @@ impl<'s> ReportReader<'s> {
 
     /// Does the same as `read`, but parses the facts in pieces. Only one piece at a time is in
     /// memory as a tree. The result is `None` if the text has fewer than `LEAST_IN_PIECES` bytes or
-    /// cannot be read in pieces, or if the report or a request for memory is refused. `read` then
-    /// reads the whole text.
+    /// cannot be read in pieces, or if the report or a request for memory is refused. After `None`,
+    /// `read` reads the whole text.
     fn read_in_pieces(&mut self, bytes: &[u8]) -> Option<Report<'s>>
         ensures same { self.new ≡ self.old }
         ensures ok { IfSome result (λ r. outcome self.old bytes.now ≡ Ok r.document) }

@@ -21,7 +21,7 @@ abbrev pub both_meet : Option Interval → Option Interval → Bool
 both_meet (Some i) (Some j) = intervals_meet i j
 both_meet i j = false
 
--- `last` is the greatest of the other values, and `common` is the common part of their intervals; the level of all values is the
--- maximum of the level of the other values and this level
+-- the level of v beside other values. `last` is the greatest of the other values, and `common` is the common part of their
+-- intervals. The level of all values is the maximum of the level of the other values and this level.
 abbrev pub level_beside : Value → Option Interval → Value → Level
 level_beside last common v = if is_eq (value_cmp last v) then Complete else (if both_meet common (interval_at v) then Consistent else All)

@@ -1,4 +1,4 @@
--- How a text is cut into pieces (own).
+-- How the members of `facts` are cut into pieces, and how a document is split around `facts` (own).
 use Rattle.std.specs.Prelude.{◌≡◌, ℕ, codes, List, [], ◌∷◌, ◌++◌, true, Option, Some, None, ⊤}
 use Rattle.json.specs.Word.{is_space}
 use Rattle.serde_json.specs.Data.{Data, object, Members, no_members, member, put}
@@ -50,12 +50,12 @@ pub record BeforeSpaces (text front : List ℕ) : Type 0 where
 abbrev pub facts_text : List ℕ → List ℕ → List ℕ → List ℕ → List ℕ
 facts_text s3 s4 facts s5 = facts_key ++ (s3 ++ 58 ∷ (s4 ++ 123 ∷ (facts ++ (s5 ++ 125 ∷ []))))
 
--- if `before` exists, it precedes `rest`, with a comma between them
+-- if `before` exists, it precedes `rest`, with white space and a comma between them
 abbrev pub with_before : Option (List ℕ) → List ℕ → List ℕ → List ℕ
 with_before None spaces rest = rest
 with_before (Some before) spaces rest = before ++ (spaces ++ 44 ∷ rest)
 
--- if `behind` exists, it follows `front`, with a comma between them
+-- if `behind` exists, it follows `front`, with white space and a comma between them
 abbrev pub with_behind : List ℕ → List ℕ → Option (List ℕ) → List ℕ
 with_behind front spaces None = front
 with_behind front spaces (Some behind) = front ++ (spaces ++ 44 ∷ behind)
@@ -86,7 +86,7 @@ pub record IsTail (text facts : List ℕ) (behind : Option (List ℕ)) : Type 0 
   pub splits : text ≡ s3 ++ 58 ∷ (s4 ++ 123 ∷ (facts ++ (s5 ++ 125 ∷ rest)))
   pub ends : IsEnd rest behind
 
--- the texts of the members before, in and after `facts`
+-- `before`, `facts` and `behind` are the texts of a document's members before, in and after its member `facts`
 pub record IsSplit (text : List ℕ) (before : Option (List ℕ)) (facts : List ℕ) (behind : Option (List ℕ)) : Type 0 where
   pub head : List ℕ
   pub tail : List ℕ

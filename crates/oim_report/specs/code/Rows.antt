@@ -26,7 +26,8 @@ is_defined key = has_colon key && is_utf8 key
 abbrev pub first_defined : (List ℕ → Data → Bool) → Members → Option (List ℕ × Data)
 first_defined test ms = find (λ m. is_defined m.0 && test m.0 m.1) (entries ms)
 
--- the texts that must be names: the key of a taxonomy-defined dimension, and the member if the dimension is explicit
+-- the texts that must be names: the key of a taxonomy-defined dimension, and the member if it is a text and the sheet lists the
+-- dimension as explicit
 abbrev pub names_at : Sheet → List Binding → List ℕ × Data → List Spelled
 names_at sheet bs m = if is_defined m.0 then a_name m.0 ∷ map a_name (option_to_list (explicit_text sheet bs null no_members m)) else []
 

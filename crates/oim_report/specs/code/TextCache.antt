@@ -12,7 +12,7 @@ use Rattle.oim_report.specs.declared.fact.text_cache.TextCache.{TextCache}
 abbrev pub meaning : {A : Type 0} → TextCache A → List ℕ → Option A
 meaning g t = get_by_text g.meanings t
 
--- h has the meanings of g, or those of g updated with the meaning a for the text t
+-- the cache h has the meanings of the cache g, either unchanged or updated with the meaning a for the text t
 abbrev pub Adds : {A : Type 0} → TextCache A → List ℕ → A → TextCache A → Type 0
 Adds g t a h = ((u : List ℕ) → meaning h u ≡ meaning g u) ⊎ ((u : List ℕ) → meaning h u ≡ update bytes_eq (meaning g) t (Some a) u)
 

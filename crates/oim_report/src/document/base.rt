@@ -40,7 +40,7 @@ pub(crate) fn is_web(url: &Url) -> bool
     matches!(url.scheme(), "http" | "https")
 }
 
-/// Reads the `baseURL` of a report (xBRL-JSON 1.0). It must be an http or https URL of at most
+/// Reads the `baseURL` of a report (xBRL-JSON 1.0), which must be an http or https URL of at most
 /// `MOST_REFERENCE_BYTES` bytes (own).
 pub(crate) fn read_base(alloc: Global, text: &str) -> Result<Base, Reason>
     ensures ok { IfOk result (λ base. base_url text.now ≡ Some base) }

@@ -14,7 +14,8 @@ use serde_json::{Map, Value};
 const RESERVED: &str = "https://xbrl.org/2021";
 
 /// Reads the level that the feature `xbrl:allowedDuplicates` declares (OIM Common 1.0). Without the
-/// feature, all duplicates are allowed.
+/// feature, all duplicates are allowed. The feature is refused if it is repeated or its value is
+/// not a level.
 pub(crate) fn read_level(aliases: &Aliases, tree: &Value) -> Result<Level, Reason>
     ensures level { result_ok result ≡ said_level (declarations aliases.now (features_of (view tree.now))) }
     ensures refused { IfErr result (λ r. r ≡ Reason.Feature) }

@@ -12,8 +12,8 @@ use serde_json::{Map, Value};
 use std::alloc::Global;
 use std::str;
 
-/// Parses a JSON value in UTF-8 (RFC 8259) with at most `MOST_LEVELS` levels. One byte order mark
-/// may precede it.
+/// Parses a JSON value in UTF-8 (RFC 8259) with at most `MOST_LEVELS` levels. A byte order mark
+/// before the value is skipped.
 pub(crate) fn read_json(alloc: Global, bytes: &[u8]) -> Result<Value, Reason>
     ensures value { IfOk result (λ v. json bytes.now ≡ Some (view v)) }
     ensures refused { IfErr result

@@ -1,6 +1,6 @@
-//! Looks up the meaning of a text in a cache. A missing text is read and, if it is accepted, passed
-//! to `TextCache::add`. A condition that needs more than the text, such as `UnitOnOther`, is tested
-//! for each fact.
+//! Looks up the meaning of a text in a cache. A text that the cache lacks is read and, if it is
+//! accepted, passed to `TextCache::add`. A condition that needs more than the text, such as
+//! `UnitOnOther`, is tested for each fact.
 
 ghost use Rattle.std.specs.Prelude.{◌≡◌, ◌⊎◌, Some, IsTrue, IfOk, IfErr, IfSome};
 ghost use Rattle.std.specs.Str.{str_to_ascii_lowercase};

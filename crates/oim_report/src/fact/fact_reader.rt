@@ -70,8 +70,9 @@ impl<'s> FactReader<'s> {
         self.sheet
     }
 
-    /// Prepares for the prefixes of the next report. The caches are emptied if the prefixes differ,
-    /// or if a cache is full, because a full cache takes no new texts.
+    /// Prepares for the prefixes of the next report. The caches are emptied if the report binds
+    /// prefixes differently than the reader, or if a cache is full, because a full cache takes no
+    /// new texts.
     pub(crate) fn turn_to(&mut self, aliases: Aliases)
         ensures { self.new ≡ record self.old { aliases = aliases } }
     {

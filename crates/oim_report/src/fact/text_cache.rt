@@ -6,8 +6,8 @@ use crate::limits::{MOST_MEANING_BYTES, MOST_MEANINGS};
 use std::alloc::Global;
 use std::collections::HashMap;
 
-/// A cache of texts and their meanings, so that a repeated text is not read again. It contains
-/// copies of the texts, so it can outlive a piece of a report.
+/// A cache of texts and their meanings, so that a repeated text is not read again. The cache
+/// contains copies of the texts, so it can outlive a piece of a report.
 #[derive(Drop)]
 pub(crate) struct TextCache<T> {
     alloc: Global,

@@ -7,9 +7,9 @@ use crate::pieces::spaces::strip_front;
 use serde_json::{Map, Value};
 use std::alloc::Global;
 
-/// Reads the first piece of `text`, and also returns the rest of `text` after the comma. The piece
-/// has at least `size` bytes and ends before a comma, or it is the whole text. The result is `None`
-/// if the piece cannot be read or a request for memory is refused.
+/// Reads the first piece of `text`. The piece has at least `size` bytes and ends before a comma, or
+/// it is the whole text. If the piece ends before a comma, the text after this comma is returned
+/// too. The result is `None` if the piece cannot be read or a request for memory is refused.
 pub(crate) fn read_next<'t>(
     alloc: Global,
     buffer: &mut String,
@@ -46,8 +46,9 @@ fn cut_at_comma(text: &str, at: usize) -> Option<(&str, &str)>
     Some((front, rest))
 }
 
-// Guesses the end of a piece of `size` bytes or more: a comma between a closing brace and a fact. A
-// wrong guess costs only time, because a report with an unreadable piece is read as a whole.
+// Guesses the end of a piece of `size` bytes or more: a comma directly after a closing brace and
+// before a fact. A wrong guess costs only time, because a report with an unreadable piece is read
+// as a whole.
 fn guess_end(text: &str, size: usize) -> Option<usize> {
     let bytes = text.as_bytes();
     let mut after_brace = false;
@@ -67,7 +68,7 @@ fn begins_fact(text: &str) -> bool {
     }
 }
 
-// Returns the key at the start of the text, if a colon and an opening brace follow.
+// Returns the key at the start of the text, if a colon and an opening brace follow the key.
 fn key_of_object(text: &str) -> Option<&str> {
     let (key, rest) = strip_front(text, "\"")?.split_once('"')?;
     let _members = strip_front(strip_front(rest, ":")?, "{")?;

@@ -56,7 +56,8 @@ fn split_document(text: &str) -> Option<Split<'_>>
     })
 }
 
-// Returns `Some(None)` if there are no members before `facts`.
+// Returns the text of the members before `facts`, `Some(None)` if there are no such members, or
+// `None` if `text` is not the beginning of an object.
 fn split_head(text: &str) -> Option<Option<&str>>
     ensures { IfSome result (λ b. IsHead text.now (option_map (λ t. t.now) b)) }
 {
@@ -87,7 +88,8 @@ fn cut_at_brace(text: &str, at: usize) -> Option<(&str, &str)>
     Some((front, rest))
 }
 
-// Returns `Some(None)` if there are no members after `facts`.
+// Returns the text of the members after `facts`, `Some(None)` if there are no such members, or
+// `None` if `text` is not the end of an object.
 fn split_end(text: &str) -> Option<Option<&str>>
     ensures { IfSome result (λ b. IsEnd text.now (option_map (λ t. t.now) b)) }
 {

@@ -7,7 +7,7 @@ use serde_json::{Map, Value};
 use std::alloc::Global;
 
 /// Reads a piece as the members of the only object of an array. Members of `facts` are then nested
-/// as deep as in the report.
+/// as deep as in the report, so the limit on levels is the same.
 pub(crate) fn read_piece(
     alloc: Global,
     buffer: &mut String,

@@ -66,7 +66,8 @@ fn list_all<K: Kind>(
     Ok(gathered.into_table()?)
 }
 
-// Keys with the same prefix are adjacent, so the group changes at most once per prefix.
+// Keys are in byte order, so keys with the same prefix are adjacent, and the group changes at most
+// once per prefix.
 fn turn<K: Kind>(
     gathered: &mut NameTableBuilder<K>,
     last: Option<&str>,
