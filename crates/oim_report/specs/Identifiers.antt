@@ -37,7 +37,7 @@ pub record Identify (sheet : Sheet) (bytes : List ℕ) (document : Document) (is
   pub are : identifiers_in (entries (facts_of tree)) ≡ is
   pub say : AllZip (IdentifierSays sheet (bindings_of tree)) (entries (facts_of tree)) document.facts
 
--- the identifiers in the bytes of an accepted report identify its facts
+-- the identifiers in the bytes of an accepted report are the identifiers of its facts, as in `Identify`
 abbrev pub EachFactHasAnIdentifier : Type 0
 EachFactHasAnIdentifier =
     (sheet : Sheet) (bytes : List ℕ) (d : Document) → outcome sheet bytes ≡ Ok d → (is : List (List ℕ)) × (identifiers bytes ≡ Some is) × Identify sheet bytes d is

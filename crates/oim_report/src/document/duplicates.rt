@@ -32,8 +32,8 @@ pub(crate) fn level_of(facts: &[Fact], order: &[usize]) -> Level
 
 /// Returns the level of the facts. If the level is above `limit`, the error is the index of the
 /// first fact, in sorted order, that `limit` does not allow beside an earlier fact. One visit to
-/// each fact suffices, because values meet pairwise exactly if all are equal, or all are numbers
-/// whose intervals have a common part.
+/// each fact suffices, because every two values meet exactly if all values are equal, or all are
+/// numbers whose intervals have a common part.
 pub(crate) fn level_within(limit: Level, facts: &[Fact], order: &[usize]) -> Result<Level, usize>
     requires { IsOrderOf facts.now order.now }
     ensures level { IfOk result (λ level. level ≡ level_of facts.now) }

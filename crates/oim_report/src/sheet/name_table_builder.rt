@@ -11,7 +11,8 @@ use std::marker::Model;
 use std::mem::replace;
 
 /// Collects names and their kinds while the keys of an object are read. The group of the current
-/// namespace is separate, so names are added to this group without comparing URIs.
+/// namespace is kept apart from the other groups, so names are added to this group without
+/// comparing URIs.
 #[derive(Drop)]
 pub(crate) struct NameTableBuilder<K: Kind> {
     alloc: Global,
