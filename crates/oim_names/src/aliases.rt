@@ -242,8 +242,8 @@ impl Aliases {
     }
 
     /// Returns the prefix, a colon and the local part of the name. The prefix need not be bound. If
-    /// `expand` or `expand_entity` returned the name and the prefix is bound to the name's URI, that
-    /// function reads the text as this name.
+    /// `expand` or `expand_entity` returned the name and the prefix is bound to the name's URI,
+    /// that function reads the text as this name.
     ///
     /// Errors: out of memory.
     pub fn spell(&self, prefix: &str, name: &Name) -> Result<Text, AllocError>
