@@ -13,7 +13,7 @@ use Rattle.merge_laws.specs.Sorted.{IsRising, item_at, has_key, entry_key}
 use Rattle.merge_laws.specs.Union.{with_item}
 use Rattle.merge_laws.specs.code.Items.{Below, none_below, turned_less, turned_greater}
 
--- the result of a search shows whether the list has the key, and at which index
+-- the result of a search shows whether the list has the key, and the index of the key or of its insertion
 pub tells_ok : (b : Bool) (p i : ℕ) → ◌≡◌ {A = Result ℕ ℕ} (Ok i) (cond b (Ok p) (Err p)) → (b ≡ true) × (p ≡ i)
 tells_ok true p i is = (refl, ap (λ r. elim r [ Ok n ↦ n | Err n ↦ p ]) (sym is))
 tells_ok false p i is = absurd (true≢false (ap (λ r. elim r [ Ok n ↦ true | Err n ↦ false ]) is))

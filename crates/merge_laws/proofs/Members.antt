@@ -58,7 +58,7 @@ pub all_in_turn : {A : Type 0} (P : A → Type 0) (xs : List A) → All P xs →
 all_in_turn P [] h = tt
 all_in_turn P (x ∷ xs) h = (h zero x (omega arith), all_in_turn P xs (λ k d lt. h (suc k) d (omega (arith, lt))))
 
--- if merging keeps a property that all entries of two maps have, all entries of their union have it
+-- if merging keeps a property, `put` and the union of two maps keep it for all entries
 module _ {K V : Type 0} {R : K → K → Ordering} (exact : (x y : K) → R x y ≡ Equal → x ≡ y) (merged : V → V → V) (P : K → V → Type 0) (closed : (k : K) (v w : V) → P k v → P k w → P k (merged v w)) where
   abbrev pub Has : K × V → Type 0
   Has e = P e.0 e.1

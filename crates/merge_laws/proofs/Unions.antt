@@ -30,7 +30,7 @@ module _ {K : Type 0} {R : K → K → Ordering} (o : IsTotalOrder R) where
   set_of_other exact [] ys none h = set_commutes o exact [] ys (nothing_rises itself o) h
   set_of_other exact (x ∷ xs) ys none h = absurd (omega (arith, none))
 
-  -- the result is a set whether or not memory was refused
+  -- after a call that merges ys into the set xs, the items are a set, whether or not memory was refused
   pub set_stays : {A B : Type 0} (r : Result A B) (xs ys zs : List K) → IsSet R xs → IsSet R ys → OnOk r (zs ≡ set_union R xs ys) → OnErr r (zs ≡ xs) → IsSet R zs
   set_stays (Ok a) xs ys zs g h made kept = subst (IsSet R) (sym made) (set_closed o xs ys g h)
   set_stays (Err e) xs ys zs g h made kept = subst (IsSet R) (sym kept) g

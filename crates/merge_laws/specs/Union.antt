@@ -60,7 +60,8 @@ module _ {K : Type 0} (R : K → K → Ordering) where
   SetWithHasItem = (xs : List K) (x : K) → IsSet R xs → IsSetOfBoth xs (x ∷ []) (set_with R x xs)
 
 module _ {K V : Type 0} (R : K → K → Ordering) (merged : V → V → V) where
-  -- `map` has exactly the keys of the maps es and fs; the two values at a shared key are merged, and other values do not change
+  -- the keys of `map` ascend, and are exactly the keys of es and fs; the two values at a shared key are merged; other values do
+  -- not change
   pub record IsMapOfBoth (es fs map : List (K × V)) : Type 0 where
     pub rises : IsRising R entry_key map
     pub values : (k : K) → value_at R k map ≡ either_or_both merged (value_at R k es) (value_at R k fs)

@@ -15,8 +15,8 @@ pub fn set_has_both<T: Key>()
 {}
 
 /// The union of two maps has the keys of both. If both maps have a key, its value is the merge of
-/// the two values. Otherwise, the value does not change. `put` is a union with a map of one entry.
-/// A look-up finds a value at a key exactly if the map has an entry with this key and value.
+/// the two values. The values at other keys do not change. `put` is a union with a map of one
+/// entry. A look-up finds a value at a key exactly if the map has an entry with this key and value.
 pub fn map_has_both<K: Key, V: Merge>()
     ensures told { MapTellsEntry K.cmp V.merged }
     ensures union { MapUnionHasBoth K.cmp V.merged }
@@ -40,21 +40,22 @@ pub fn set_is_its_members<T: Key>()
     ensures { SetIsItsMembers T.cmp }
 {}
 
-/// Two maps are equal if they have the same value, or none, at each key.
+/// Two maps are equal if, at each key, both have the same value or both have none.
 pub fn map_is_its_values<K: Key, V: Merge>()
     ensures { MapIsItsValues K.cmp V }
 {}
 
-/// Take a test of entries. Assume that if two values at one key pass the test, their merge passes
-/// it. If all entries of two maps pass the test, all entries of their union pass it. If all entries
-/// of a map and a new entry pass the test, all entries after `put` pass it.
+/// Merging keeps a test if the merge of two values at one key passes the test whenever both values
+/// do. If all entries of two maps pass a test that merging keeps, all entries of their union pass
+/// it. If all entries of a map and a new entry pass a test that merging keeps, all entries after
+/// `put` pass it.
 pub fn map_keeps_what_merging_keeps<K: Key, V: Merge>()
     ensures union { MapUnionKeeps K.cmp V.merged }
     ensures put { MapWithKeeps K.cmp V.merged }
 {}
 
-/// The summary of two concatenated lists is the merge of their summaries. The same holds for the
-/// union of two sets. A summary does not depend on the order or repetition of values.
+/// The summary of two concatenated lists, or of the union of two sets, is the merge of their
+/// summaries. A summary does not depend on the order or repetition of values.
 pub fn summary_is_of_members()
     ensures one { SummaryOfOne }
     ensures both { SummaryOfBoth }

@@ -3,8 +3,8 @@ ghost use Rattle.std.specs.Prelude.{◌≡◌, OnOk, OnErr};
 use oim_names::Copied;
 use std::alloc::{AllocError, Global};
 
-/// A value that merges with others of its type. The result does not depend on the order, grouping or
-/// repetition of the values.
+/// A value that merges with others of its type. The merge of several values does not depend on
+/// their order, grouping or repetition.
 pub trait Merge: Copied {
     /// The property that every value of the type has.
     ghost is_known: { Self → Type 0 };

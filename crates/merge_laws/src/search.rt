@@ -37,7 +37,8 @@ impl<K: Key, V> Keyed<K> for (K, V) {
     }
 }
 
-/// A key above the last one takes a single comparison, so adding keys in order needs no search.
+/// A key above the last key takes a single comparison, so adding ascending keys needs no binary
+/// search.
 pub(crate) fn find<K: Key, E: Keyed<K>>(items: &[E], key: &K) -> Result<usize, usize>
     requires { IsRising K.cmp E.key_of items.now }
     ensures place { result ≡ found_at K.cmp E.key_of key.now items.now }
@@ -49,8 +50,8 @@ pub(crate) fn find<K: Key, E: Keyed<K>>(items: &[E], key: &K) -> Result<usize, u
     }
 }
 
-/// Searches from index `from`, and about doubles the step each time, so a key near that index takes
-/// few steps.
+/// Searches from index `from`, and about doubles the step each time, so a key near that index is
+/// found in few steps.
 pub(crate) fn find_from<K: Key, E: Keyed<K>>(
     items: &[E],
     key: &K,

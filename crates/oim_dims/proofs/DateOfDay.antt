@@ -67,7 +67,7 @@ month_holds y z within m g =
       | inr le ↦ let e : m ≡ 12 = omega (arith, g.high) in let here' = rw e at here in (here, rw e (omega (arith, signed_arith, within, days_from_civil-day_count (pos y) 1 1, days_from_civil-day_count (pos y) 12 1, day_count-last_of_year (pos y), day_count-day (pos y) 12 31 1 (omega arith) (omega arith))))
     ]
 
--- the date with the day that is found for z has the day number z
+-- z is the day number of the date that has the day of the month found for z
 day_holds : (y m : ℕ) (z : ℤ) → z <ℤ (days_from_civil (pos y) m 1 +ℤ pos (days_in_month (pos y) m)) → (n : ℕ) → IsGreatest (λ j. int_le (days_from_civil (pos y) m j) z) 31 1 n → (n ≤ days_in_month (pos y) m) × (days_from_civil (pos y) m n ≡ z)
 day_holds y m z within n g =
     let here : days_from_civil (pos y) m n ≤ℤ z = le_is _ _ g.here in

@@ -69,7 +69,7 @@ not_there : (b : Bool) → (b ≡ true → ⊥) → b ≡ false
 not_there true h = absurd (h refl)
 not_there false h = refl
 
--- names still ascend after a new name is inserted, whether or not memory was refused
+-- after a call that inserts a new name, the names ascend, whether or not memory was refused
 pub still_rises : {T E : Type 0} (r : Result T E) (new es : List (QName × Member)) (place : ℕ) (n : QName) (m : Member) → rises es ≡ true → (has_name n es ≡ true → ⊥) → insert es place (n, m) ≡ with_member n m es → OnOk r (new ≡ insert es place (n, m)) → OnErr r (new ≡ es) → rises new ≡ true
 still_rises (Ok x) new es place n m h none is ok err = rw (ok, is) (rises_with n m es h (not_there (has_name n es) none))
 still_rises (Err e) new es place n m h none is ok err = rw err h

@@ -55,7 +55,7 @@ IsMoment = IsBetween FIRST_MOMENT LAST_MOMENT
 abbrev pub second_at : List ℕ → ℤ
 second_at t = day_number t *ℤ pos DAY_SECONDS +ℤ pos (second_of_day t)
 
--- a date-time before the year 10000
+-- the text is a date-time, and its second lies in the years 0001 to 9999
 abbrev pub is_date_time : List ℕ → Bool
 is_date_time t = has_picture t && has_date t && has_time t && int_le (second_at t) LAST_MOMENT
 

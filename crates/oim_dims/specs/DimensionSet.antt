@@ -50,7 +50,7 @@ pub record IsDimensionSet (d : DimensionSet) : Type 0 where
 abbrev pub NamesAreThere : Type 0
 NamesAreThere = (n : QName) (es : List (QName × Member)) → IsTrue (has_name n es) ↔ ((m : Member) × Contains es (n, m))
 
--- the new list is in the order of names, and has exactly the old members and e
+-- the names of the new list ascend strictly, and the list has exactly the old members and e
 pub record IsOneMore (old new : List (QName × Member)) (e : QName × Member) : Type 0 where
   pub rises : IsTrue (rises new)
   pub members : (f : QName × Member) → Contains new f ↔ (Contains old f ⊎ (f ≡ e))

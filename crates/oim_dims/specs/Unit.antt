@@ -15,7 +15,7 @@ use Rattle.oim_names.specs.declared.reason.Reason.TheVariants.{UnitForm, NameFor
 abbrev pub is_mark : ℕ → Bool
 is_mark c = c == 40 || c == 41 || c == 42 || c == 47
 
--- a side without its outer parentheses
+-- a side without its outer parentheses, if it has both
 abbrev pub inner : List ℕ → List ℕ
 inner s = if slice_index s 0 == 40 && slice_index s (length s - 1) == 41 then slice_range s 1 (length s - 1) else s
 

@@ -8,7 +8,7 @@ use std::alloc::{AllocError, Global};
 /// A fact: its dimensions and its value. Facts are ordered by dimensions, then by value.
 #[derive(Debug, Drop, PartialEq, Eq, PartialOrd, Ord)]
 pub struct Fact {
-    /// The concept, entity, period, unit, language and other dimensions.
+    /// The core dimensions and the taxonomy-defined dimensions.
     pub dimensions: Dimensions,
     /// The value, with its decimals if it is a number.
     pub value: Value,

@@ -34,8 +34,8 @@ pub fn languages_are_kept()
 {}
 
 /// If each measure's text expands to the measure and contains none of `*`, `/`, `(` and `)`, the
-/// unit's text denotes only that unit. If bindings can write a unit, the texts of its measures
-/// satisfy both conditions.
+/// unit's text denotes only that unit. If bindings can write a unit, the texts that `measure_text`
+/// returns expand to its measures and contain none of these four characters.
 pub fn units_read_back()
     ensures back { UnitsReadBack }
     ensures spelled { BindingsSpell }

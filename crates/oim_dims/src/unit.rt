@@ -53,14 +53,14 @@ impl Unit {
         let _numerators = &self.numerators;
     }
 
-    /// Returns the measures of the numerator in the order of names. There is at least one.
+    /// Returns the measures of the numerator, at least one, in the order of names.
     pub fn numerators(&self) -> &[Name]
         ensures { result.now ≡ self.now.numerators }
     {
         self.numerators.as_slice()
     }
 
-    /// Returns the measures of the denominator in the order of names. There may be none.
+    /// Returns the measures of the denominator, possibly none, in the order of names.
     pub fn denominators(&self) -> &[Name]
         ensures { result.now ≡ self.now.denominators }
     {

@@ -8,7 +8,8 @@ use oim_names::{Aliases, Name, Text};
 use std::alloc::{AllocError, Global};
 
 /// Returns the text of a unit (xBRL-JSON 1.0) under these aliases. The measures of each side are in
-/// the order of names. Reading the text returns the unit. `can_write_unit` tests the precondition.
+/// the order of names. Reading the text under these aliases returns the unit. `can_write_unit`
+/// tests the precondition.
 ///
 /// Errors: out of memory.
 pub fn write_unit(alloc: Global, aliases: &Aliases, unit: &Unit) -> Result<Text, AllocError>

@@ -110,8 +110,8 @@ impl Aliases {
         self.uri_text(prefix).map(|uri| uri.as_str())
     }
 
-    /// Returns a `Text`, so that names can share the URI. If the cache has the index of the prefix,
-    /// the map is not searched.
+    /// Returns the URI that the prefix is bound to, as a `Text` that names can share. If the cache
+    /// has the index of the prefix, the map is not searched.
     fn uri_text(&self, prefix: &str) -> Option<&Text>
         ensures found { option_copied result ≡ uri_of self.now prefix.now }
         ensures filled { IfSome result (λ uri. uri.now ≢ []) }
@@ -242,8 +242,8 @@ impl Aliases {
     }
 
     /// Returns the prefix, a colon and the local part of the name. The prefix need not be bound. If
-    /// `expand` returned the name and the prefix is bound to the name's URI, `expand` reads this
-    /// text as the same name. The same holds for `expand_entity`.
+    /// `expand` or `expand_entity` returned the name and the prefix is bound to the name's URI,
+    /// that function reads the text as this name.
     ///
     /// Errors: out of memory.
     pub fn spell(&self, prefix: &str, name: &Name) -> Result<Text, AllocError>

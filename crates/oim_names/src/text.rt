@@ -39,7 +39,7 @@ impl Text {
     pub fn from_string(alloc: Global, text: String) -> Result<Text, AllocError>
         ensures { IfOk result (λ made. made ≡ string_bytes text) }
     {
-        // This call proves that the bytes are UTF-8: its contract says so.
+        // The contract of `as_str` states that the bytes are UTF-8.
         let _utf8 = text.as_str();
         let text = Rc::new(alloc, text)?;
         Ok(Text { text })

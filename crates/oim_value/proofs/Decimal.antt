@@ -34,8 +34,8 @@ decimal_after n (c ∷ cs) some e small =
     ∙ ap (λ ds. ds ++ cs) (decimal_step_wide m (omega arith) (omega (arith, after_grows m cs)) ∙ (λ i. decimal (front i) ++ (last i ∷ [])))
     ∙ append_assoc (decimal n) (c ∷ []) cs
 
--- `decimal` turns the value of a numeral back into the numeral. The value has at most 64 digits; the numeral has no leading
--- zero or is a single zero.
+-- `decimal` turns the value of a numeral back into the numeral, if the value has at most 64 digits, and the numeral has no
+-- leading zero or is a single zero
 pub decimal_of_digits : (ds : List ℕ) → list_all is_ascii_digit ds ≡ true → 0 < length ds → (get_or ds 0 0 ≡ 48 → length ds ≡ 1) → digits_value_after 10 0 ds < 10 ^ 64 → decimal (digits_value_after 10 0 ds) ≡ ds
 decimal_of_digits [] e some lone small = absurd (omega arith)
 decimal_of_digits (c ∷ []) e some lone small =

@@ -77,7 +77,7 @@ abbrev pub number_refusal : List ℕ → Option Reason
 number_refusal t =
     if not (is_number t) then Some NumberForm else (if not (is_short t) then Some NumberDigits else None)
 
--- a short number (own): a number of at most MOST_DIGITS digits, with the point moved left by at most MOST_DIGITS places
+-- a short number (own): an integer of at most MOST_DIGITS digits, with the point moved left by at most MOST_DIGITS places
 pub record IsShort (units : ℤ) : Type 0 where
   pub number : ℕ
   pub places : ℕ

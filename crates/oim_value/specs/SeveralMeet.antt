@@ -54,7 +54,7 @@ has_high z other = false
 abbrev pub place_of_greatest_low : Interval → List Value → ℕ
 place_of_greatest_low e = position_or_len (has_low e.low)
 
--- the same for the high end
+-- the index of the first value whose interval has the high end of e, or the length if there is none
 abbrev pub place_of_least_high : Interval → List Value → ℕ
 place_of_least_high e = position_or_len (has_high e.high)
 

@@ -8,7 +8,7 @@ pub use Rattle.oim_names.specs.QName.{name_cmp}
 use Rattle.oim_value.specs.declared.value.Value.{Value}
 use Rattle.oim_value.specs.declared.value.Value.TheVariants.{Nil, Number, Text as AText, Name as AName}
 
--- finite decimals by number, then infinite ones
+-- finite decimals are ordered by number; infinite decimals are last
 abbrev pub decimals_cmp : Option ℤ → Option ℤ → Ordering
 decimals_cmp (Some d) (Some e) = int_cmp d e
 decimals_cmp (Some d) None = Less

@@ -92,7 +92,7 @@ pub fn interval_is_half_a_place()
 {}
 
 /// The interval of a number contains exactly the numbers that differ from that number by at most
-/// the half width. So it contains the number itself and is not empty.
+/// the half width. So the interval contains the number itself, and is not empty.
 pub fn interval_has_what_is_near()
     ensures near { WithinIsNear }
     ensures number { IntervalHasNumber }
@@ -106,7 +106,7 @@ pub fn interval_ends_are_bounded()
     ensures { IntervalEndsAreBounded }
 {}
 
-/// The common part of intervals does not depend on grouping, order or repetition.
+/// The common part of several intervals does not depend on their grouping, order or repetition.
 pub fn common_ignores_order()
     ensures associative { CommonIsAssociative }
     ensures commutative { CommonIsCommutative }
@@ -131,15 +131,15 @@ pub fn values_meet_both_ways()
     ensures symmetric { MeetsIsSymmetric }
 {}
 
-/// Each value of a list meets each later one exactly if every two members meet. So order and
-/// repeats do not matter.
+/// Each value of a list meets each later value exactly if every two members meet. So the order and
+/// the repeats of a list do not matter.
 pub fn each_two_meet_by_members()
     ensures { EachTwoMeetByMembers }
 {}
 
 /// One or more intervals have one greatest low end and one least high end. The numbers between
-/// these ends are exactly the numbers in every interval. No other non-empty interval contains
-/// exactly these numbers.
+/// these ends are exactly the numbers that lie in all intervals. No other non-empty interval
+/// contains exactly these numbers.
 pub fn ends_are_common_interval()
     ensures exist { EndsExist }
     ensures one { EndsAreOne }

@@ -22,7 +22,7 @@ module _ {K E : Type 0} {R : K → K → Ordering} (key : E → K) (o : IsTotalO
     | false ↦ λ t. found q es a.1
   ] refl
 
-  -- if joining two items keeps the property P, inserting an item keeps it for all items; the next law states the same for unions
+  -- if joining two items keeps the property P, inserting an item with P keeps P for all items; the next law is about unions
   pub all_with : (closed : (x y : E) → P x → P y → P (join x y)) → (x : E) (es : List E) → P x → AllByRecursion P es → AllByRecursion P (with_item R key join x es)
   all_with closed x [] p a = (p, tt)
   all_with closed x (e ∷ es) p a =

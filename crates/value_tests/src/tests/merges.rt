@@ -182,8 +182,8 @@ fn items_in_order_make_a_set(rt: HostRuntime) -> Result<(), Fail> {
     Ok(())
 }
 
-// The function of a law does nothing. Each is called once, so that generic laws are compiled for
-// concrete types.
+// The function of a law does nothing. The test calls each function of a law once, so that generic
+// laws are compiled for concrete types.
 #[test]
 fn laws_hold() {
     laws::set_has_both::<Text>();

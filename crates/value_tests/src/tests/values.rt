@@ -8,7 +8,7 @@ use std::test::Fail;
 
 pub(crate) const UNIT: i128 = 10_000_000_000_000_000_000;
 
-/// The greatest number: eighteen nines.
+/// The greatest number, eighteen nines, in units of 10^-19.
 const GREATEST: i128 = 999_999_999_999_999_999 * UNIT;
 
 // `tests/refused_memory` refuses one request for memory in a run. The test then prints `refused`

@@ -2,7 +2,7 @@ use Rattle.std.proofs.Common.{◌≡◌, ◌+◌, ◌-◌, ◌<◌, ◌≤◌, �
 use Rattle.std.specs.Prelude.{reverse}
 use Rattle.merge_laws.proofs.insertion.lift.Given as goal
 
--- `above` has the moved items in reverse order
+-- `above` ends with the moved items, in reverse order
 abbrev pub invariant-loop-above : goal.invariant-loop-above
 invariant-loop-above g l = record {
   moved : (es : List g.row.E.Denot) × (l.initial.items.items ≡ l.items.items ++ es) × (reverse l.above.items ≡ es ++ reverse l.initial.above.items);

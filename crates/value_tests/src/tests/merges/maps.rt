@@ -38,7 +38,8 @@ fn has_items(map: &ItemsAt, key: &Text, items: &[&str]) -> bool {
     }
 }
 
-// Returns whether a map has exactly these items at a key. Without items, the key must be missing.
+// Returns whether a map has exactly these items at a key. If `items` is empty, the key must be
+// missing.
 fn has_at(rt: &HostRuntime, map: &ItemsAt, key: &str, items: &[&str]) -> Result<bool, AllocError> {
     let key = text(rt, key)?;
     Ok(has_items(map, &key, items))

@@ -44,7 +44,8 @@ fn has_ends(
     Ok(summary.ends() == Some(Interval { low, high }) && !summary.nil())
 }
 
-// Numbers that are merged with 100, then the greatest low end and the least high end in units.
+// Numbers whose summaries are merged with the summary of 100, and the greatest low end and the
+// least high end in units of 10^-19.
 const ENDS: [(&[Rounded], i128, i128); 5] = [
     (&[("100", 0)], 995 * (UNIT / 10), 1005 * (UNIT / 10)),
     (&[("102", 0)], 1015 * (UNIT / 10), 1005 * (UNIT / 10)),
