@@ -29,13 +29,20 @@ pub fn fact_part<'a>(
         aliases,
         object,
     };
-    match reason {
-        Reason::DimensionValue => fact.misfit(alloc),
-        _ => Ok(fact.plain_part(alloc, reason)),
-    }
+    fact.part(alloc, reason)
 }
 
 impl<'a> FactInScope<'_, 'a> {
+    pub(crate) fn part(&self, alloc: Global, reason: Reason) -> Result<Option<Part<'a>>, AllocError>
+        ensures { IfOk result (λ part. option_map seen part
+            ≡ fact_part self.now.sheet.now self.now.aliases.now (view self.now.object.now) reason) }
+    {
+        match reason {
+            Reason::DimensionValue => self.misfit(alloc),
+            _ => Ok(self.plain_part(alloc, reason)),
+        }
+    }
+
     #[tactic(auto, unfolding(crate::specs::Holds::holds, crate::specs::Shown::fact_shown), using(crate::proofs::ShownParts::name_shown))]
     fn plain_part(&self, alloc: Global, reason: Reason) -> Option<Part<'a>>
         requires { reason ≢ Reason.DimensionValue }

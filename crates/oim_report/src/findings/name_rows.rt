@@ -141,10 +141,7 @@ fn refused_unit<'a>(aliases: &Aliases, unit: Option<&'a Value>, reason: Reason) 
         let all = map a_name (option_map_or pieces found []) in
         option_map seen result ≡ option_map name (find (refuses reason aliases.now) all) }
 {
-    match text(unit) {
-        Some(text) => piece_of(aliases, text, reason),
-        None => None,
-    }
+    piece_of(aliases, text(unit)?, reason)
 }
 
 fn piece_of<'a>(aliases: &Aliases, text: &'a str, reason: Reason) -> Option<Part<'a>>
