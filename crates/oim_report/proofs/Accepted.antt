@@ -76,8 +76,7 @@ pub record HasAccepted (sheet : Sheet) (bs : List Binding) (d : Data) (f : Fact)
 
 ok_or : (r : Option Reason) (o : Option Fact) (f : Fact) → fact_or r o ≡ Ok f → o ≡ Some f
 ok_or None (Some g) f e = cc
-ok_or None None f e = absurd (cc)
-ok_or (Some r) o f e = absurd (cc)
+ok_or r o f e = absurd (cc)
 
 pub accepted : (sheet : Sheet) (bs : List Binding) (d : Data) (f : Fact) → fact_outcome sheet bs d ≡ Ok f → HasAccepted sheet bs d f
 accepted sheet bs d f e =

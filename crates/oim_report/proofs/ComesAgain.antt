@@ -7,7 +7,7 @@ use Rattle.std.specs.List.{list_any}
 use Rattle.std.specs.Ordering.{is_eq, ordering_reverse}
 use Rattle.std.specs.Result.{result_ok}
 use Rattle.std.specs.declared.cmp.Ordering.{Ordering}
-use Rattle.std.specs.declared.cmp.Ordering.TheVariants.{Less, Equal, Greater}
+use Rattle.std.specs.declared.cmp.Ordering.TheVariants.{Less}
 use Rattle.oim_names.specs.QName.{QName, is_name}
 use Rattle.oim_names.specs.Bindings.{Binding}
 use Rattle.oim_names.specs.Expansion.{name_refusal}
@@ -25,8 +25,7 @@ again_after m ns = list_any (λ n. map.contains_key m n) ns || comes_again ns
 
 same_back : (r : Ordering) → is_eq (ordering_reverse r) ≡ is_eq r
 same_back Less = refl
-same_back Equal = refl
-same_back Greater = refl
+same_back r = refl
 
 turned : (m n : QName) → is_eq (name_cmp m n) ≡ is_eq (name_cmp n m)
 turned m n = ap is_eq (name_total.antisymm m n) ∙ same_back (name_cmp n m)
@@ -34,13 +33,11 @@ turned m n = ap is_eq (name_total.antisymm m n) ∙ same_back (name_cmp n m)
 mixed : (a b c d : Bool) → ((a || b) || (c || d)) ≡ ((a || c) || (b || d))
 mixed true b c d = refl
 mixed false true true d = refl
-mixed false true false d = refl
-mixed false false c d = refl
+mixed a b c d = refl
 
 regrouped : (same before again : Bool) → ((same || before) || again) ≡ ((false || before) || (same || again))
 regrouped true true again = refl
-regrouped true false again = refl
-regrouped false before again = refl
+regrouped same before again = refl
 
 module _ {K : Type 0} where
   nowhere : (m : FinMap name_cmp K) (ns : List QName) → m ≡ map.empty → list_any (λ n. map.contains_key m n) ns ≡ false

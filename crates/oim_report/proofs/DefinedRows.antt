@@ -35,14 +35,10 @@ unlisted_shown test ms =
     ∙ ap (λ b. when b (option_map_or (λ m. name (a_name m.0)) first nothing)) (found_any (λ m. test m.0 m.1) (defined_members ms))
 
 pub either_shown : (o p : Option (List ℕ × Data)) (a b : Bool) (f g : List ℕ × Data → Shown) → is_some o ≡ a → is_some p ≡ b → option_or (option_map f o) (option_map g p) ≡ when (a || b) (option_map_or f o (option_map_or g p nothing))
-either_shown None None true b f g h k = absurd (cc)
-either_shown None None false true f g h k = absurd (cc)
 either_shown None None false false f g h k = refl
-either_shown None (Some q) true b f g h k = absurd (cc)
 either_shown None (Some q) false true f g h k = refl
-either_shown None (Some q) false false f g h k = absurd (cc)
 either_shown (Some m) p true b f g h k = refl
-either_shown (Some m) p false b f g h k = absurd (cc)
+either_shown o p a b f g h k = absurd (cc)
 
 module _ (sheet : Sheet) (bs : List Binding) (ms : Members) where
   abbrev misfit : List ℕ × Data → Bool

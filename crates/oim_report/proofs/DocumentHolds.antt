@@ -89,9 +89,8 @@ base_is (Some d) h =
     by_given (λ g t w n. is_none (said_base g) ≡ false → said_base g ≡ Some (option_and_then base_url t)) (λ k. absurd (cc)) (λ t k. mapped_some (base_url t) k) (λ n k. absurd (cc)) (λ k. absurd (cc)) d h
 
 kept_or : (short : Bool) (k : Option (List ℕ)) → is_none (if not (short && is_text_within_limit k) then None else k) ≡ not (short && is_text_within_limit k)
-kept_or false k = refl
-kept_or true None = refl
 kept_or true (Some t) = elim (is_within_limit t) as (λ b. is_none (if not b then None else Some t) ≡ not b) [ true ↦ refl | false ↦ refl ]
+kept_or short k = refl
 
 pub one_reference : (b : Option Parts) (d : Data) → is_none (said_reference b d) ≡ option_map_or (is_reference_refused b) (as_text d) true
 one_reference b d =

@@ -1,5 +1,5 @@
 -- A report that is read in pieces has the outcome of the whole report.
-use Rattle.std.proofs.Common.{◌≡◌, ℕ, List, [], ◌∷◌, Bool, true, false, Option, Some, None, Result, Ok, Err, refl, sym, ap, ◌∙◌, subst}
+use Rattle.std.proofs.Common.{◌≡◌, ℕ, List, [], ◌∷◌, Bool, false, Option, Some, None, Result, Ok, Err, refl, sym, ap, ◌∙◌, subst}
 use Rattle.std.specs.Prelude.{codes, not, is_none, option_and_then, if◌then◌else◌, IfOk, IfSome, MatchResult, IsUtf8}
 use Rattle.std.specs.Option.{unwrap_or}
 use Rattle.std.specs.Ordering.{is_lt}
@@ -95,10 +95,8 @@ module _ (ms fs : Members) where
   type_same = ap (λ o. not (is_text document_type (given_of o))) (info_same (codes "documentType"))
 
 three : (a b c : Bool) → first_holding ((a, MemberForm) ∷ (b, UnknownMember) ∷ (c, DocumentType) ∷ []) ≡ None → (a ≡ false) × (b ≡ false) × (c ≡ false)
-three true b c e = absurd (cc)
-three false true c e = absurd (cc)
-three false false true e = absurd (cc)
 three false false false e = (refl, refl, refl)
+three a b c e = absurd (cc)
 
 pub not_refused_whole : (ms fs : Members) → document_refusal (object ms) ≡ None → document_refusal (whole ms fs) ≡ None
 not_refused_whole ms fs e =

@@ -30,11 +30,8 @@ use Rattle.oim_report.proofs.AcceptedFacts.{facts_are_said, facts_fit, ok_of}
 use Rattle.oim_report.proofs.Fitting.{AreNamespaces, bindings_are}
 
 four : (a b c d : Bool) → first_holding ((a, Namespace) ∷ (b, BaseUrl) ∷ (c, TaxonomyUrl) ∷ (d, Feature) ∷ []) ≡ None → (a ≡ false) × (b ≡ false) × (c ≡ false) × (d ≡ false)
-four true b c d e = absurd (cc)
-four false true c d e = absurd (cc)
-four false false true d e = absurd (cc)
-four false false false true e = absurd (cc)
 four false false false false e = (refl, refl, refl, refl)
+four a b c d e = absurd (cc)
 
 in_members : (o : Option Members) → any_in binds_nothing o ≡ false → any_member binds_nothing (members o) ≡ false
 in_members None e = refl

@@ -81,8 +81,7 @@ map_none place (s ∷ rs) h = absurd (cc)
 
 said_of : (r : Option Reason) (o : Option Fact) (f : Fact) → fact_or r o ≡ Ok f → o ≡ Some f
 said_of None (Some g) f e = cc
-said_of None None f e = absurd (cc)
-said_of (Some r) o f e = absurd (cc)
+said_of r o f e = absurd (cc)
 
 facts_are : (sheet : Sheet) (bs : List Binding) (n : ℕ) (ds : List Data) (fs : List Fact) → all_or_first n (map (fact_outcome sheet bs) ds) ≡ Ok fs → filter_map (λ d. option_and_then (said_fact sheet bs) (fact_parts d)) ds ≡ fs
 facts_are sheet bs n [] fs e = cc

@@ -6,7 +6,6 @@ use Rattle.serde_json.proofs.Views.{Entry}
 use Rattle.oim_report.specs.Json.{has_member}
 
 pub filled_members : (es : List Entry) (empty : Bool) → (IsTrue empty → length es ≡ 0) → (length es ≡ 0 → IsTrue empty) → not empty ≡ has_member (Some (members_view es))
-filled_members [] true p q = refl
 filled_members [] false p q = absurd (let t = q refl in search rules)
 filled_members (e ∷ es) true p q = absurd (let t : length (e ∷ es) ≡ 0 = p (search rules) in omega arith)
-filled_members (e ∷ es) false p q = refl
+filled_members es empty p q = refl

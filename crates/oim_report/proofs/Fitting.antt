@@ -30,7 +30,7 @@ use Rattle.oim_report.specs.declared.concept_kind.ConceptKind.{ConceptKind}
 use Rattle.oim_report.specs.declared.concept_kind.ConceptKind.TheVariants.{Numeric, Text, Name}
 use Rattle.oim_report.specs.Fact.{GivesText, SaysDecimals, SaysNumber, SaysValue}
 use Rattle.oim_report.specs.FactFits.{EntityFits, FitsEntity, FitsName, IsNamespace, LanguageFits, ValueFits}
-use Rattle.oim_report.specs.Json.{Given, absent, nil, text, whole, other, any_member, given, given_at, given_of, has_colon, text_of}
+use Rattle.oim_report.specs.Json.{Given, absent, text, whole, any_member, given, given_at, given_of, has_colon, text_of}
 use Rattle.oim_report.specs.Names.{entity_named, named}
 use Rattle.oim_report.specs.Parts.{DimensionParts, FactParts, defined_in, dimension_parts, fact_parts, parts_of}
 use Rattle.oim_report.specs.Said.{said_concept, said_entity, said_language, said_period}
@@ -166,19 +166,15 @@ concept_fits bs g n are clean e =
 
 pub said_entity_fits : (bs : List Binding) (g : Given) (said : Option QName) → AreNamespaces bs → IsClean g → said_entity bs g ≡ Some said → EntityFits said
 said_entity_fits bs absent said are clean e = let same : None ≡ said = cc in subst EntityFits same tt
-said_entity_fits bs nil said are clean e = absurd (cc)
 said_entity_fits bs (text t) said are clean e =
     let n = map_some Some (entity_named bs t) said e in
     subst EntityFits n.2 (entity_fits bs t n.0 are (clean t refl) (stands is_entity bs t n.0 n.1))
-said_entity_fits bs (whole n) said are clean e = absurd (cc)
-said_entity_fits bs other said are clean e = absurd (cc)
+said_entity_fits bs g said are clean e = absurd (cc)
 
 pub said_period_is : (g : Given) (said : Period) → said_period g ≡ Some said → IsPeriod said
 said_period_is absent said e = let same : Forever ≡ said = cc in subst IsPeriod same (record { moments = tt; forward = tt })
-said_period_is nil said e = absurd (cc)
 said_period_is (text t) said e = read_period_is t said (period_ok (period_of t) said e)
-said_period_is (whole n) said e = absurd (cc)
-said_period_is other said e = absurd (cc)
+said_period_is g said e = absurd (cc)
 
 lower_fits : (kind : ConceptKind) (t : List ℕ) (said : Option (List ℕ)) → kind ≢ Numeric → IsTrue (is_language t) × (said ≡ Some (str_to_ascii_lowercase t)) → LanguageFits kind said
 lower_fits kind t said apart both =
@@ -187,46 +183,28 @@ lower_fits kind t said apart both =
 
 pub said_language_fits : (kind : ConceptKind) (g : Given) (said : Option (List ℕ)) → said_language kind g ≡ Some said → LanguageFits kind said
 said_language_fits kind absent said e = let same : None ≡ said = cc in subst (LanguageFits kind) same tt
-said_language_fits kind nil said e = absurd (cc)
-said_language_fits Numeric (text t) said e = absurd (cc)
 said_language_fits Text (text t) said e = lower_fits Text t said (λ same. absurd (cc)) (language_says Text (text t) said e)
 said_language_fits Name (text t) said e = lower_fits Name t said (λ same. absurd (cc)) (language_says Name (text t) said e)
-said_language_fits kind (whole n) said e = absurd (cc)
-said_language_fits kind other said e = absurd (cc)
+said_language_fits kind g said e = absurd (cc)
 
 -- ---- values
 
 decimals_are : (g : Given) (places : Option ℤ) → SaysDecimals g places → AreDecimals places
 decimals_are absent places e = subst AreDecimals (sym e) tt
-decimals_are nil places e = absurd e
-decimals_are (text t) places e = absurd e
 decimals_are (whole n) places e = subst AreDecimals (sym e.1) e.0
-decimals_are other places e = absurd e
+decimals_are g places e = absurd e
 
 number_is_short : (g : Given) (units : ℤ) → GivesText g (λ t. SaysNumber t units) → IsShort units
-number_is_short absent units e = absurd e
-number_is_short nil units e = absurd e
 number_is_short (text t) units e = short_is_kept t units e.denoted e.short
-number_is_short (whole n) units e = absurd e
-number_is_short other units e = absurd e
+number_is_short g units e = absurd e
 
 gives_name : (bs : List Binding) (g : Given) (n : QName) → AreNamespaces bs → IsClean g → GivesText g (λ t. Expands bs t n) → FitsName n
-gives_name bs absent n are clean e = absurd e
-gives_name bs nil n are clean e = absurd e
 gives_name bs (text t) n are clean e = name_fits bs t n are (clean t refl) e
-gives_name bs (whole m) n are clean e = absurd e
-gives_name bs other n are clean e = absurd e
+gives_name bs g n are clean e = absurd e
 
 pub value_fits : (bs : List Binding) (kind : ConceptKind) (g decimals : Given) (v : Value) → AreNamespaces bs → IsClean g → SaysValue bs kind g decimals v → ValueFits kind v
-value_fits bs Numeric g decimals Nil are clean e = tt
-value_fits bs Text g decimals Nil are clean e = tt
-value_fits bs Name g decimals Nil are clean e = tt
+value_fits bs kind g decimals Nil are clean e = tt
 value_fits bs Numeric g decimals (Number units places) are clean e = (number_is_short g units e.0, decimals_are decimals places e.1)
-value_fits bs Numeric g decimals (AText t) are clean e = absurd e
-value_fits bs Numeric g decimals (AName n) are clean e = absurd e
-value_fits bs Text g decimals (Number units places) are clean e = absurd e
 value_fits bs Text g decimals (AText t) are clean e = clean t e
-value_fits bs Text g decimals (AName n) are clean e = absurd e
-value_fits bs Name g decimals (Number units places) are clean e = absurd e
-value_fits bs Name g decimals (AText t) are clean e = absurd e
 value_fits bs Name g decimals (AName n) are clean e = gives_name bs g n are clean e
+value_fits bs kind g decimals v are clean e = absurd e

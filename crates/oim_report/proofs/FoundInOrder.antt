@@ -26,22 +26,16 @@ module _ (sheet : Sheet) (bs : List Binding) where
 
   pub found_append : (ms ns : Members) (ss ts : List (String Global)) (fs gs : List Fact) → AreFound sheet bs ms ss fs → AreFound sheet bs ns ts gs → AreFound sheet bs (append ms ns) (ss ++ ts) (fs ++ gs)
   found_append no_members ns [] ts [] gs h k = k
-  found_append no_members ns [] ts (f ∷ fs) gs h k = absurd h
-  found_append no_members ns (s ∷ ss) ts fs gs h k = absurd h
-  found_append (member l d ms) ns [] ts fs gs h k = absurd h
-  found_append (member l d ms) ns (s ∷ ss) ts [] gs h k = absurd h
   found_append (member l d ms) ns (s ∷ ss) ts (f ∷ fs) gs h k = (h.0, h.1, found_append ms ns ss ts fs gs h.2 k)
+  found_append ms ns ss ts fs gs h k = absurd h
 
   -- ---- the facts that the pieces denote
 
   said_from : (n : ℕ) (ms : Members) (ss : List (String Global)) (fs : List Fact) → AreFound sheet bs ms ss fs → all_or_first n (map (fact_outcome sheet bs) (values ms)) ≡ Ok fs
   said_from n no_members [] [] h = refl
-  said_from n no_members [] (f ∷ fs) h = absurd h
-  said_from n no_members (s ∷ ss) fs h = absurd h
-  said_from n (member k d ms) [] fs h = absurd h
-  said_from n (member k d ms) (s ∷ ss) [] h = absurd h
   said_from n (member k d ms) (s ∷ ss) (f ∷ fs) h =
       ap (λ o. all_or_first n (o ∷ map (fact_outcome sheet bs) (values ms))) h.1 ∙ ap (map_ok (λ gs. f ∷ gs)) (said_from (n + 1) ms ss fs h.2)
+  said_from n ms ss fs h = absurd h
 
   pub found_said : (ms : Members) (ss : List (String Global)) (fs : List Fact) → AreFound sheet bs ms ss fs → facts_said sheet bs ms ≡ Ok fs
   found_said ms ss fs h = said_from 1 ms ss fs h
@@ -50,8 +44,7 @@ module _ (sheet : Sheet) (bs : List Binding) where
 
   less : (o : Ordering) → is_lt o ≡ true → o ≡ Less
   less Less e = refl
-  less Equal e = absurd (false≢true e)
-  less Greater e = absurd (false≢true e)
+  less o e = absurd (false≢true e)
 
   both_true : (a b : Bool) → cond a b false ≡ true → (a ≡ true) × (b ≡ true)
   both_true true b e = (refl, e)
@@ -59,21 +52,17 @@ module _ (sheet : Sheet) (bs : List Binding) where
 
   rise_behind : (k : List ℕ) (ms : Members) (ss : List (String Global)) (fs : List Fact) → AreFound sheet bs ms ss fs → rise_after (Some k) ss ≡ true → IsBefore k ms × IsRising ms
   rise_behind k no_members [] [] h e = (tt, tt)
-  rise_behind k no_members [] (f ∷ fs) h e = absurd h
-  rise_behind k no_members (s ∷ ss) fs h e = absurd h
-  rise_behind k (member l d ms) [] fs h e = absurd h
-  rise_behind k (member l d ms) (s ∷ ss) [] h e = absurd h
   rise_behind k (member l d ms) (s ∷ ss) (f ∷ fs) h e =
       let t = both_true (is_above (Some k) (string_bytes s)) (rise_after (Some (string_bytes s)) ss) e in
       let rest = rise_behind l ms ss fs h.2 (ap (λ x. rise_after (Some x) ss) (sym h.0) ∙ t.1) in
       let below : slice_cmp nat_cmp k l ≡ Less = less (slice_cmp nat_cmp k l) (ap (λ x. is_lt (slice_cmp nat_cmp k x)) (sym h.0) ∙ t.0) in
       ((below, before_all k l ms below rest.0), rest)
+  rise_behind k ms ss fs h e = absurd h
 
   rises : (ms : Members) (ss : List (String Global)) (fs : List Fact) → AreFound sheet bs ms ss fs → rise_after None ss ≡ true → IsRising ms
   rises no_members ss fs h e = tt
-  rises (member l d ms) [] fs h e = absurd h
-  rises (member l d ms) (s ∷ ss) [] h e = absurd h
   rises (member l d ms) (s ∷ ss) (f ∷ fs) h e = rise_behind l ms ss fs h.2 (ap (λ x. rise_after (Some x) ss) (sym h.0) ∙ e)
+  rises (member l d ms) ss fs h e = absurd h
 
   pub rising_said : (ms : Members) (ss : List (String Global)) (fs : List Fact) → AreFound sheet bs ms ss fs → rise_after None ss ≡ true → facts_said sheet bs (put_all ms no_members) ≡ Ok fs
   rising_said ms ss fs h e = ap (facts_said sheet bs) (rising_stays ms (rises ms ss fs h e)) ∙ found_said ms ss fs h
@@ -95,8 +84,6 @@ module _ (sheet : Sheet) (bs : List Binding) where
 
   pub kept_put : (k : List ℕ) (d : Data) (s : String Global) (f : Fact) (ms : Members) (es : List (String Global × Fact)) → string_bytes s ≡ k → fact_outcome sheet bs d ≡ Ok f → AreKept ms es → AreKept (put k d ms) (insert_entry string_cmp es s f)
   kept_put k d s f no_members [] e o h = (e, o, tt)
-  kept_put k d s f no_members (x ∷ es) e o h = absurd h
-  kept_put k d s f (member l y ms) [] e o h = absurd h
   kept_put k d s f (member l y ms) (x ∷ es) e o h =
       let here = ap (λ z. slice_cmp nat_cmp z (string_bytes x.0)) e ∙ ap (slice_cmp nat_cmp k) h.0 in
       elim (slice_cmp nat_cmp k l) as (λ p. slice_cmp nat_cmp k l ≡ p → AreKept (match_ordering p (member k d (member l y ms)) (member l d ms) (member l y (put k d ms))) (insert_entry string_cmp (x ∷ es) s f)) [
@@ -104,6 +91,7 @@ module _ (sheet : Sheet) (bs : List Binding) where
         | Equal ↦ λ p. subst (λ q. AreKept (member l d ms) (match_ordering q ((s, f) ∷ x ∷ es) ((x.0, f) ∷ es) (x ∷ insert_entry string_cmp es s f))) (sym (here ∙ p)) (h.0, o, h.2)
         | Greater ↦ λ p. subst (λ q. AreKept (member l y (put k d ms)) (match_ordering q ((s, f) ∷ x ∷ es) ((x.0, f) ∷ es) (x ∷ insert_entry string_cmp es s f))) (sym (here ∙ p)) (h.0, h.1, kept_put k d s f ms es e o h.2)
       ] refl
+  kept_put k d s f ms es e o h = absurd h
 
 -- ---- the steps of the loops
 
@@ -127,28 +115,23 @@ at_index xs i x l e = drop_more xs i x l ∙ ap (λ y. y ∷ drop (i + 1) xs) (s
 -- ---- facts that are stored one after another
 
 abbrev pub put_entries : List (String Global) → List Fact → List (String Global × Fact) → List (String Global × Fact)
-put_entries [] fs es = es
-put_entries (s ∷ ss) [] es = es
 put_entries (s ∷ ss) (f ∷ fs) es = put_entries ss fs (insert_entry string_cmp es s f)
+put_entries o fs es = es
 
 pub put_one_more : (ss : List (String Global)) (fs : List Fact) (s : String Global) (f : Fact) (es : List (String Global × Fact)) → length fs ≡ length ss → put_entries (ss ++ s ∷ []) (fs ++ f ∷ []) es ≡ insert_entry string_cmp (put_entries ss fs es) s f
 put_one_more [] [] s f es l = refl
-put_one_more [] (g ∷ fs) s f es l = absurd (omega (arith, l))
-put_one_more (t ∷ ss) [] s f es l = absurd (omega (arith, l))
 put_one_more (t ∷ ss) (g ∷ fs) s f es l = put_one_more ss fs s f (insert_entry string_cmp es t g) (omega (arith, l))
+put_one_more ss fs s f es l = absurd (omega (arith, l))
 
 put_enough : (ss : List (String Global)) (fs rest : List Fact) (es : List (String Global × Fact)) → length fs ≡ length ss → put_entries ss (fs ++ rest) es ≡ put_entries ss fs es
 put_enough [] [] rest es l = refl
-put_enough [] (g ∷ fs) rest es l = absurd (omega (arith, l))
-put_enough (t ∷ ss) [] rest es l = absurd (omega (arith, l))
 put_enough (t ∷ ss) (g ∷ fs) rest es l = put_enough ss fs rest (insert_entry string_cmp es t g) (omega (arith, l))
+put_enough ss fs rest es l = absurd (omega (arith, l))
 
 kept_all : (sheet : Sheet) (bs : List Binding) (ms now : Members) (ss : List (String Global)) (fs : List Fact) (es : List (String Global × Fact)) → AreFound sheet bs ms ss fs → AreKept sheet bs now es → AreKept sheet bs (put_all ms now) (put_entries ss fs es)
 kept_all sheet bs no_members now [] fs es h k = k
-kept_all sheet bs no_members now (s ∷ ss) fs es h k = absurd h
-kept_all sheet bs (member l d ms) now [] fs es h k = absurd h
-kept_all sheet bs (member l d ms) now (s ∷ ss) [] es h k = absurd h
 kept_all sheet bs (member l d ms) now (s ∷ ss) (f ∷ fs) es h k = kept_all sheet bs ms (put l d now) ss fs (insert_entry string_cmp es s f) h.2 (kept_put sheet bs l d s f now es h.0 h.1 k)
+kept_all sheet bs ms now ss fs es h k = absurd h
 
 pub all_kept : (sheet : Sheet) (bs : List Binding) (ms : Members) (ss : List (String Global)) (fs taken rest : List Fact) (es : List (String Global × Fact)) → AreFound sheet bs ms ss fs → fs ≡ taken ++ rest → length taken ≡ length ss → es ≡ put_entries ss taken []
     → AreKept sheet bs (put_all ms no_members) es

@@ -1,9 +1,9 @@
 -- Unless memory runs out, reading a part of a document returns the part's defined value, or refuses the part if no value is
 -- defined.
-use Rattle.std.proofs.Common.{◌≡◌, ◌≢◌, ◌⊎◌, inl, inr, List, [], ◌∷◌, Bool, true, false, not, ◌&&◌, ◌==◌, length, subst, arith, Result, Ok, Err, refl, sym, ap}
+use Rattle.std.proofs.Common.{◌≡◌, ◌≢◌, ◌⊎◌, inl, inr, List, [], ◌∷◌, Bool, true, false, not, ◌==◌, length, subst, arith, Result, Ok, Err, refl, sym, ap}
 use Rattle.std.specs.Prelude.{Option, Some, None, if◌then◌else◌, is_none, is_some, IfOk, IfErr}
 use Rattle.std.proofs.lemmas.Bool.Decides.{nat_tests}
-use Rattle.std.specs.Option.{option_flatten, option_map_or, unwrap_or}
+use Rattle.std.specs.Option.{option_flatten, unwrap_or}
 use Rattle.std.specs.Result.{result_ok}
 use Rattle.oim_names.specs.declared.reason.Reason.{Reason}
 use Rattle.oim_names.specs.declared.reason.Reason.TheVariants.{OutOfMemory}
@@ -28,19 +28,10 @@ pub where_bad : {A : Type 0} (bad : Bool) (bs : A) (r other : Reason) → (r ≡
 where_bad bad bs r other (inl memory) = inl memory
 where_bad bad bs r other (inr refused) = inr (refused.0, ap (λ b. if b then None else Some bs) refused.1)
 
-pub none_where_bad : {A : Type 0} (bad : Bool) (bs : A) → is_none (if bad then None else Some bs) ≡ bad
-none_where_bad true bs = refl
-none_where_bad false bs = refl
-
-pub where_good : {A : Type 0} (bad : Bool) (bs : A) (test : A → Bool) → option_map_or test (if bad then None else Some bs) false ≡ (not bad && test bs)
-where_good true bs test = refl
-where_good false bs test = refl
-
 pub from_some : {A : Type 0} (o : Option A) (b : Bool) → is_some o ≡ not b → b ≡ is_none o
-from_some None true h = refl
 from_some None false h = absurd (cc)
 from_some (Some a) true h = absurd (cc)
-from_some (Some a) false h = refl
+from_some o b h = refl
 
 pub flat : {A : Type 0} (o : Option (Option A)) → option_flatten o ≡ unwrap_or o None
 flat None = refl

@@ -93,10 +93,7 @@ concept_free sheet bs (text t) kind e =
       names = name_free is_name bs t n.0 n.1;
       listed = ap (is_some_and (λ m. is_none (map_of.get sheet.concepts m))) n.1 ∙ ap is_none n.2;
     }
-concept_free sheet bs absent kind e = absurd (cc)
-concept_free sheet bs nil kind e = absurd (cc)
-concept_free sheet bs (whole n) kind e = absurd (cc)
-concept_free sheet bs other kind e = absurd (cc)
+concept_free sheet bs g kind e = absurd (cc)
 
 pub record ConceptSaid (sheet : Sheet) (bs : List Binding) (g : Given) : Type 0 where
   pub name : QName
@@ -113,9 +110,7 @@ text_concept sheet bs t free =
 pub concept_said : (sheet : Sheet) (bs : List Binding) (g : Given) → ConceptFree sheet bs g → ConceptSaid sheet bs g
 concept_said sheet bs (text t) free = text_concept sheet bs t free
 concept_said sheet bs absent free = let no : true ≡ false = free.present in absurd (cc)
-concept_said sheet bs nil free = let no : true ≡ false = free.is_text in absurd (cc)
-concept_said sheet bs (whole n) free = let no : true ≡ false = free.is_text in absurd (cc)
-concept_said sheet bs other free = let no : true ≡ false = free.is_text in absurd (cc)
+concept_said sheet bs g free = let no : true ≡ false = free.is_text in absurd (cc)
 
 pub record EntityFree (bs : List Binding) (g : Given) : Type 0 where
   pub is_text : is_no_text g ≡ false
@@ -124,16 +119,12 @@ pub record EntityFree (bs : List Binding) (g : Given) : Type 0 where
 pub entity_free : (bs : List Binding) (g : Given) (said : Option QName) → said_entity bs g ≡ Some said → EntityFree bs g
 entity_free bs absent said e = record { is_text = refl; names = refl }
 entity_free bs (text t) said e = let n = map_some Some (entity_named bs t) said e in record { is_text = refl; names = name_free is_entity bs t n.0 n.1 }
-entity_free bs nil said e = absurd (cc)
-entity_free bs (whole n) said e = absurd (cc)
-entity_free bs other said e = absurd (cc)
+entity_free bs g said e = absurd (cc)
 
 pub entity_said : (bs : List Binding) (g : Given) → EntityFree bs g → (said : Option QName) × (said_entity bs g ≡ Some said)
 entity_said bs absent free = (None, refl)
 entity_said bs (text t) free = let n = name_said is_entity bs t free.names in (Some n.0, ap (option_map Some) n.1)
-entity_said bs nil free = let no : true ≡ false = free.is_text in absurd (cc)
-entity_said bs (whole n) free = let no : true ≡ false = free.is_text in absurd (cc)
-entity_said bs other free = let no : true ≡ false = free.is_text in absurd (cc)
+entity_said bs g free = let no : true ≡ false = free.is_text in absurd (cc)
 
 pub record PeriodFree (g : Given) : Type 0 where
   pub is_text : is_no_text g ≡ false
@@ -145,9 +136,8 @@ forward true same p q said e = absurd (cc)
 forward false same p q said e = refl
 
 moments_free : (start end : Option ℤ) (said : Period) → result_ok (from_to start end) ≡ Some said → ((is_none start || is_none end) ≡ false) × (is_some_and (λ s. is_some_and (λ e. int_lt e s) end) start ≡ false)
-moments_free None end said e = absurd (cc)
-moments_free (Some s) None said e = absurd (cc)
 moments_free (Some s) (Some t) said e = (refl, forward (int_lt t s) (int_eq s t) (Instant s) (Duration s t) said e)
+moments_free start end said e = absurd (cc)
 
 one_of : (before same : Bool) (p q : Period) → before ≡ false → (said : Period) × (result_ok (if before then Err PeriodOrder else (if same then Ok p else Ok q)) ≡ Some said)
 one_of true same p q e = absurd (cc)
@@ -155,23 +145,18 @@ one_of false true p q e = (p, refl)
 one_of false false p q e = (q, refl)
 
 moments_said : (start end : Option ℤ) → (is_none start || is_none end) ≡ false → is_some_and (λ s. is_some_and (λ e. int_lt e s) end) start ≡ false → (said : Period) × (result_ok (from_to start end) ≡ Some said)
-moments_said None end form order = absurd (cc)
-moments_said (Some s) None form order = absurd (cc)
 moments_said (Some s) (Some t) form order = one_of (int_lt t s) (int_eq s t) (Instant s) (Duration s t) order
+moments_said start end form order = absurd (cc)
 
 pub period_free : (g : Given) (said : Period) → said_period g ≡ Some said → PeriodFree g
 period_free absent said e = record { is_text = refl; form = refl; order = refl }
 period_free (text t) said e = let both = moments_free (moment_of (start_part t)) (moment_of (end_part t)) said e in record { is_text = refl; form = both.0; order = both.1 }
-period_free nil said e = absurd (cc)
-period_free (whole n) said e = absurd (cc)
-period_free other said e = absurd (cc)
+period_free g said e = absurd (cc)
 
 pub period_said : (g : Given) → PeriodFree g → (said : Period) × (said_period g ≡ Some said)
 period_said absent free = (Forever, refl)
 period_said (text t) free = moments_said (moment_of (start_part t)) (moment_of (end_part t)) free.form free.order
-period_said nil free = let no : true ≡ false = free.is_text in absurd (cc)
-period_said (whole n) free = let no : true ≡ false = free.is_text in absurd (cc)
-period_said other free = let no : true ≡ false = free.is_text in absurd (cc)
+period_said g free = let no : true ≡ false = free.is_text in absurd (cc)
 
 -- the part is present, although the concept is not numeric
 abbrev pub is_misplaced : ConceptKind → Given → Bool
@@ -208,20 +193,13 @@ unit_free bs kind absent u e = record { is_text = refl; names = refl; form = ref
 unit_free bs Numeric (text t) u e =
     let both = sides_free (is_unit_text t) bs (numerator_pieces t) (denominator_pieces t) u e in
     record { is_text = refl; names = both.0; form = both.1; numeric = refl }
-unit_free bs Text (text t) u e = absurd (cc)
-unit_free bs Name (text t) u e = absurd (cc)
-unit_free bs kind nil u e = absurd (cc)
-unit_free bs kind (whole n) u e = absurd (cc)
-unit_free bs kind other u e = absurd (cc)
+unit_free bs kind g u e = absurd (cc)
 
 pub unit_said : (bs : List Binding) (kind : ConceptKind) (g : Given) → UnitFree bs kind g → (u : Option Measures) × (said_unit bs kind g ≡ Some u)
 unit_said bs kind absent free = (None, refl)
 unit_said bs Numeric (text t) free = sides_said (is_unit_text t) bs (numerator_pieces t) (denominator_pieces t) free.names free.form
-unit_said bs Text (text t) free = let no : true ≡ false = free.numeric in absurd (cc)
-unit_said bs Name (text t) free = let no : true ≡ false = free.numeric in absurd (cc)
-unit_said bs kind nil free = let no : true ≡ false = free.is_text in absurd (cc)
-unit_said bs kind (whole n) free = let no : true ≡ false = free.is_text in absurd (cc)
-unit_said bs kind other free = let no : true ≡ false = free.is_text in absurd (cc)
+unit_said bs kind (text t) free = let no : true ≡ false = free.numeric in absurd (cc)
+unit_said bs kind g free = let no : true ≡ false = free.is_text in absurd (cc)
 
 pub record LanguageFree (kind : ConceptKind) (g : Given) : Type 0 where
   pub is_text : is_no_text g ≡ false
@@ -238,21 +216,15 @@ lower_said false t is = absurd (cc)
 
 pub language_free : (kind : ConceptKind) (g : Given) (said : Option (List ℕ)) → said_language kind g ≡ Some said → LanguageFree kind g
 language_free kind absent said e = record { is_text = refl; form = refl; not_numeric = refl }
-language_free Numeric (text t) said e = absurd (cc)
 language_free Text (text t) said e = record { is_text = refl; form = lower_free (is_language t) (str_to_ascii_lowercase t) said e; not_numeric = refl }
 language_free Name (text t) said e = record { is_text = refl; form = lower_free (is_language t) (str_to_ascii_lowercase t) said e; not_numeric = refl }
-language_free kind nil said e = absurd (cc)
-language_free kind (whole n) said e = absurd (cc)
-language_free kind other said e = absurd (cc)
+language_free kind g said e = absurd (cc)
 
 pub language_said : (kind : ConceptKind) (g : Given) → LanguageFree kind g → (said : Option (List ℕ)) × (said_language kind g ≡ Some said)
 language_said kind absent free = (None, refl)
 language_said Numeric (text t) free = let no : true ≡ false = free.not_numeric in absurd (cc)
-language_said Text (text t) free = lower_said (is_language t) (str_to_ascii_lowercase t) free.form
-language_said Name (text t) free = lower_said (is_language t) (str_to_ascii_lowercase t) free.form
-language_said kind nil free = let no : true ≡ false = free.is_text in absurd (cc)
-language_said kind (whole n) free = let no : true ≡ false = free.is_text in absurd (cc)
-language_said kind other free = let no : true ≡ false = free.is_text in absurd (cc)
+language_said kind (text t) free = lower_said (is_language t) (str_to_ascii_lowercase t) free.form
+language_said kind g free = let no : true ≡ false = free.is_text in absurd (cc)
 
 pub record ValueFree (bs : List Binding) (kind : ConceptKind) (g : Given) : Type 0 where
   pub present : is_absent g ≡ false
@@ -263,28 +235,23 @@ pub record ValueFree (bs : List Binding) (kind : ConceptKind) (g : Given) : Type
 
 number_free : (number short : Bool) (v said : Value) → (if number && short then Some v else None) ≡ Some said → (not number ≡ false) × ((number && not short) ≡ false)
 number_free true true v said e = (refl, refl)
-number_free true false v said e = absurd (cc)
-number_free false short v said e = absurd (cc)
+number_free number short v said e = absurd (cc)
 
 number_said : (number short : Bool) (v : Value) → not number ≡ false → (number && not short) ≡ false → (said : Value) × ((if number && short then Some v else None) ≡ Some said)
 number_said true true v form few = (v, refl)
-number_said true false v form few = absurd (cc)
-number_said false short v form few = absurd (cc)
+number_said number short v form few = absurd (cc)
 
 pub value_free : (bs : List Binding) (kind : ConceptKind) (g : Given) (places : Option ℤ) (v : Value) → value_with bs kind g places ≡ Some v → ValueFree bs kind g
 value_free bs Numeric (text t) places v e =
     let both = number_free (is_number t) (is_short t) (Number (units_of t) places) v e in
     record { present = refl; form = refl; number = both.0; digits = both.1; names = refl }
-value_free bs Text (text t) places v e = record { present = refl; form = refl; number = refl; digits = refl; names = refl }
 value_free bs Name (text t) places v e =
     let n = map_some AName (named bs t) v e in
     record { present = refl; form = refl; number = refl; digits = refl; names = name_free is_name bs t n.0 n.1 }
-value_free bs Numeric nil places v e = record { present = refl; form = refl; number = refl; digits = refl; names = refl }
-value_free bs Text nil places v e = record { present = refl; form = refl; number = refl; digits = refl; names = refl }
-value_free bs Name nil places v e = record { present = refl; form = refl; number = refl; digits = refl; names = refl }
 value_free bs kind absent places v e = absurd (cc)
 value_free bs kind (whole n) places v e = absurd (cc)
 value_free bs kind other places v e = absurd (cc)
+value_free bs kind g places v e = record { present = refl; form = refl; number = refl; digits = refl; names = refl }
 
 pub value_said : (bs : List Binding) (kind : ConceptKind) (g : Given) (places : Option ℤ) → ValueFree bs kind g → (v : Value) × (value_with bs kind g places ≡ Some v)
 value_said bs Numeric (text t) places free = number_said (is_number t) (is_short t) (Number (units_of t) places) free.number free.digits
@@ -292,8 +259,7 @@ value_said bs Text (text t) places free = (AText t, refl)
 value_said bs Name (text t) places free = let n = name_said is_name bs t free.names in (AName n.0, ap (option_map AName) n.1)
 value_said bs kind nil places free = (Nil, refl)
 value_said bs kind absent places free = let no : true ≡ false = free.present in absurd (cc)
-value_said bs kind (whole n) places free = let no : true ≡ false = free.form in absurd (cc)
-value_said bs kind other places free = let no : true ≡ false = free.form in absurd (cc)
+value_said bs kind g places free = let no : true ≡ false = free.form in absurd (cc)
 
 pub record DecimalsFree (kind : ConceptKind) (g : Given) : Type 0 where
   pub form : no_whole g ≡ false
@@ -311,20 +277,13 @@ places_said false n is = absurd (cc)
 pub decimals_free : (kind : ConceptKind) (g : Given) (places : Option ℤ) → said_decimals kind g ≡ Some places → DecimalsFree kind g
 decimals_free kind absent places e = record { form = refl; range = refl; numeric = refl }
 decimals_free Numeric (whole n) places e = record { form = refl; range = places_free (is_finite_decimals n) n places e; numeric = refl }
-decimals_free Text (whole n) places e = absurd (cc)
-decimals_free Name (whole n) places e = absurd (cc)
-decimals_free kind nil places e = absurd (cc)
-decimals_free kind (text t) places e = absurd (cc)
-decimals_free kind other places e = absurd (cc)
+decimals_free kind g places e = absurd (cc)
 
 pub decimals_said : (kind : ConceptKind) (g : Given) → DecimalsFree kind g → (places : Option ℤ) × (said_decimals kind g ≡ Some places)
 decimals_said kind absent free = (None, refl)
 decimals_said Numeric (whole n) free = places_said (is_finite_decimals n) n free.range
-decimals_said Text (whole n) free = let no : true ≡ false = free.numeric in absurd (cc)
-decimals_said Name (whole n) free = let no : true ≡ false = free.numeric in absurd (cc)
-decimals_said kind nil free = let no : true ≡ false = free.form in absurd (cc)
-decimals_said kind (text t) free = let no : true ≡ false = free.form in absurd (cc)
-decimals_said kind other free = let no : true ≡ false = free.form in absurd (cc)
+decimals_said kind (whole n) free = let no : true ≡ false = free.numeric in absurd (cc)
+decimals_said kind g free = let no : true ≡ false = free.form in absurd (cc)
 
 abbrev member_names : Option DimensionKind → Option (List ℕ) → List Spelled
 member_names kind t = map a_name (option_to_list (if is_some_and (same_dimension_kind Explicit) kind then t else None))

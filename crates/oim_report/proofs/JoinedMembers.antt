@@ -30,12 +30,9 @@ nobad_last (t ∷ ts) us h = nobad_last ts us h.1
 
 mutual
   nobad-json : (v : Json) → NoBad (json_tokens v)
-  nobad-json j.null = (refl, tt)
-  nobad-json (j.boolean b) = (refl, tt)
-  nobad-json (j.number s) = (refl, tt)
-  nobad-json (j.string s) = (refl, tt)
   nobad-json (j.array vs) = (refl, nobad-items vs)
   nobad-json (j.object ms) = (refl, nobad-members ms)
+  nobad-json v = (refl, tt)
 
   nobad-items : (vs : Items) → NoBad (items_tokens vs)
   nobad-items j.no_items = (refl, tt)
@@ -48,16 +45,8 @@ mutual
 -- ---- lexemes whose tokens are not bad are good
 
 good_or_bad : (t : Token) → (is_good t ≡ true) ⊎ (t ≡ bad)
-good_or_bad begin_object = inl refl
-good_or_bad end_object = inl refl
-good_or_bad begin_array = inl refl
-good_or_bad end_array = inl refl
-good_or_bad (key s) = inl refl
-good_or_bad (string s) = inl refl
-good_or_bad (number s) = inl refl
-good_or_bad (boolean b) = inl refl
-good_or_bad null = inl refl
 good_or_bad bad = inr refl
+good_or_bad t = inl refl
 
 rest_of : (b : Bool) (t : Token) (k : Place → List Token) (next : Place) → NoBad (if_allowed b t k next) → NoBad (k next)
 rest_of true t k next h = h.1
@@ -68,13 +57,12 @@ behind p begin_object c k h = (fresh, rest_of (may_begin p) begin_object k fresh
 behind p end_object c k h = (after_value, rest_of (may_close p) end_object k after_value h)
 behind p begin_array c k h = (fresh, rest_of (may_begin p) begin_array k fresh h)
 behind p end_array c k h = (after_value, rest_of (may_close p) end_array k after_value h)
-behind p (key s) c k h = absurd (false≢true h.0)
 behind p (string s) true k h = (after_key, rest_of (may_begin p) (key s) k after_key h)
 behind p (string s) false k h = (after_value, rest_of (may_begin p) (string s) k after_value h)
 behind p (number s) c k h = (after_value, rest_of (may_begin p) (number s) k after_value h)
 behind p (boolean b) c k h = (after_value, rest_of (may_begin p) (boolean b) k after_value h)
 behind p null c k h = (after_value, rest_of (may_begin p) null k after_value h)
-behind p bad c k h = absurd (false≢true h.0)
+behind p t c k h = absurd (false≢true h.0)
 
 good_token : (p : Place) (t : Token) (ls : List Lexeme) → NoBad (punctuate p (token t ∷ ls)) → (is_good t ≡ true) ⊎ (t ≡ bad) → is_good t ≡ true
 good_token p t ls h (inl g) = g
@@ -88,14 +76,9 @@ good_lexemes p [] h = tt
 good_lexemes p (token t ∷ ls) h =
     let next = behind p t (begins_colon ls) (λ q. punctuate q ls) (subst NoBad (at_token p t ls) h) in
     (good_token p t ls h (good_or_bad t), good_lexemes next.0 ls next.1)
-good_lexemes fresh (comma ∷ ls) h = absurd (false≢true h.0)
 good_lexemes after_value (comma ∷ ls) h = good_lexemes after_comma ls h
-good_lexemes after_comma (comma ∷ ls) h = absurd (false≢true h.0)
-good_lexemes after_key (comma ∷ ls) h = absurd (false≢true h.0)
-good_lexemes fresh (colon ∷ ls) h = absurd (false≢true h.0)
-good_lexemes after_value (colon ∷ ls) h = absurd (false≢true h.0)
-good_lexemes after_comma (colon ∷ ls) h = absurd (false≢true h.0)
 good_lexemes after_key (colon ∷ ls) h = good_lexemes fresh ls h
+good_lexemes p (l ∷ ls) h = absurd (false≢true h.0)
 
 -- ---- members, without the closing brace
 
@@ -125,12 +108,9 @@ opened-append o (t ∷ ts) us = opened-append (opens t) ts us
 
 mutual
   shut-json : (o : Bool) (v : Json) → opened o (json_tokens v) ≡ false
-  shut-json o j.null = refl
-  shut-json o (j.boolean b) = refl
-  shut-json o (j.number s) = refl
-  shut-json o (j.string s) = refl
   shut-json o (j.array vs) = shut-items true vs
   shut-json o (j.object ms) = shut-members true ms
+  shut-json o v = refl
 
   shut-items : (o : Bool) (vs : Items) → opened o (items_tokens vs) ≡ false
   shut-items o j.no_items = refl
@@ -196,14 +176,11 @@ closes_at fresh (j.member k v ms) ts some f e =
     absurd (false≢true (sym (ap (opened true) same ∙ opened-append true (json_tokens v) (body ms) ∙ shut-body _ ms (shut-json true v)) ∙ f refl))
 closes_at after_value ms ts some f e =
     (refl, append_cancel_right ts (body ms) (end_object ∷ end_array ∷ []) (e ∙ ap (λ l. l ++ end_array ∷ []) (closed_body ms) ∙ append_assoc (body ms) (end_object ∷ []) (end_array ∷ [])))
-closes_at after_comma ms ts some f e = absurd (false≢true (nobad_last ts (bad ∷ []) (subst NoBad (sym e) (inner_good ms))).0)
-closes_at after_key ms ts some f e = absurd (false≢true (nobad_last ts (bad ∷ []) (subst NoBad (sym e) (inner_good ms))).0)
+closes_at p ms ts some f e = absurd (false≢true (nobad_last ts (bad ∷ []) (subst NoBad (sym e) (inner_good ms))).0)
 
 fresh_opened : (p : Place) (o : Bool) → Fits p o → p ≡ fresh → o ≡ true
 fresh_opened fresh o f e = f
-fresh_opened after_value o f e = Prim.cc
-fresh_opened after_comma o f e = Prim.cc
-fresh_opened after_key o f e = Prim.cc
+fresh_opened p o f e = Prim.cc
 
 pub members_of : (d : ℕ) (a : List ℕ) (ms : Members) → Closed a → HasSome ms → Reads d a ms → Members_of a ms
 members_of d a ms c some e =
@@ -221,37 +198,19 @@ members_of d a ms c some e =
 -- ---- the joined text
 
 abbrev pub IsKeyed : List Token → Type 0
-IsKeyed [] = ⊥
-IsKeyed (begin_object ∷ ts) = ⊥
-IsKeyed (end_object ∷ ts) = ⊥
-IsKeyed (begin_array ∷ ts) = ⊥
-IsKeyed (end_array ∷ ts) = ⊥
 IsKeyed (key s ∷ ts) = ⊤
-IsKeyed (string s ∷ ts) = ⊥
-IsKeyed (number s ∷ ts) = ⊥
-IsKeyed (boolean b ∷ ts) = ⊥
-IsKeyed (null ∷ ts) = ⊥
-IsKeyed (bad ∷ ts) = ⊥
+IsKeyed o = ⊥
 
 placed_alike : (t : Token) (c : Bool) (k : Place → List Token) → IsKeyed (place_token fresh t c k) → place_token after_comma t c k ≡ place_token fresh t c k
-placed_alike begin_object c k h = refl
 placed_alike end_object c k h = absurd h
-placed_alike begin_array c k h = refl
 placed_alike end_array c k h = absurd h
-placed_alike (key s) c k h = refl
 placed_alike (string s) true k h = refl
-placed_alike (string s) false k h = refl
-placed_alike (number s) c k h = refl
-placed_alike (boolean b) c k h = refl
-placed_alike null c k h = refl
-placed_alike bad c k h = refl
+placed_alike t c k h = refl
 
 pub behind_comma : (ls : List Lexeme) → IsKeyed (punctuate fresh ls) → punctuate after_comma ls ≡ punctuate fresh ls
 unfolding punctuate
-behind_comma [] h = absurd h
 behind_comma (token t ∷ ls) h = placed_alike t (begins_colon ls) (λ n. punctuate n ls) h
-behind_comma (comma ∷ ls) h = absurd h
-behind_comma (colon ∷ ls) h = absurd h
+behind_comma ls h = absurd h
 
 pub keyed : (ms : Members) (ts : List Token) → HasSome ms → IsKeyed (members_tokens ms ++ ts)
 keyed j.no_members ts h = absurd h

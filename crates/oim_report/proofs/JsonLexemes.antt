@@ -8,7 +8,7 @@ use Rattle.std.specs.Char.{is_digit, encode_utf8}
 use Rattle.json.specs.Token.{string}
 use Rattle.json.specs.Text.{code_unit, short_escape, is_high_surrogate, is_low_surrogate, surrogate_pair, Within, plain, after_backslash, after_u, after_high, prepend, content}
 use Rattle.json.specs.Word.{is_operator, is_space, word}
-use Rattle.json.specs.Lex.{Lexeme, token, comma, colon, Class, quote, backslash, operator, space, other, class, operator_lexeme, string_token, Mode, between, in_word, in_string, in_escape, lex_byte, lex}
+use Rattle.json.specs.Lex.{Lexeme, token, Class, quote, backslash, operator, space, other, class, operator_lexeme, string_token, Mode, between, in_word, in_string, in_escape, lex_byte, lex}
 use Rattle.json.specs.Align.{is_good}
 use Rattle.oim_report.specs.code.Pieces.{Closed}
 use Rattle.oim_report.proofs.JsonStrings.{turn, run, is_between, mode, Keeps, keeps-content, stays, hex_stays, all_hex, is_found}
@@ -25,17 +25,12 @@ record Closes (w : Within) (ys : List ℕ) : Type 0 where
 
 lex_class : (c : Class) (x : ℕ) (xs : List ℕ) (k : Mode → List Lexeme) → lex_byte in_string c x xs k ≡ k (turn in_string c)
 lex_class quote x xs k = refl
-lex_class backslash x xs k = refl
-lex_class operator x xs k = refl
-lex_class space x xs k = refl
-lex_class other x xs k = refl
+lex_class c x xs k = refl
 
 lex_turn : (w : Within) (x : ℕ) (z : List ℕ) → lex (mode w) (x ∷ z) ≡ lex (turn (mode w) (class x)) z
 unfolding lex
-lex_turn plain x z = lex_class (class x) x z (λ n. lex n z)
 lex_turn after_backslash x z = refl
-lex_turn after_u x z = lex_class (class x) x z (λ n. lex n z)
-lex_turn (after_high h) x z = lex_class (class x) x z (λ n. lex n z)
+lex_turn w x z = lex_class (class x) x z (λ n. lex n z)
 
 step : (w w' : Within) (x : ℕ) (ys : List ℕ) → turn (mode w) (class x) ≡ mode w' → Closes w' ys → Closes w (x ∷ ys)
 step w w' x ys e c = record {
@@ -77,31 +72,20 @@ six h s u a b c d xs e f k = step (after_high h) after_backslash s _ (turn_backs
 
 closes : (w : Within) (ys s : List ℕ) → content w ys ≡ Some s → Closes w ys
 unfolding content lex
-closes plain [] s h = no s _ h
 closes plain (x ∷ xs) s h =
     by (x == 34) _ _ s _ (λ e i. record { q = []; r = xs; at = ap (λ y. y ∷ xs) (eqb-true x 34 e); ends = refl; lexed = λ z. refl })
     (λ e. by (x == 92) _ _ s _ (λ b i. step plain after_backslash x xs (turn_backslash x b) (closes after_backslash xs s i))
     (λ b. by (nat_lt x 32) _ _ s _ (λ l i. no s _ i) (λ l. some_of (x ∷ []) _ s _ (λ u i. step plain plain x xs (stays x e b) (closes plain xs u i))))) h
-closes after_backslash [] s h = no s _ h
 closes after_backslash (x ∷ xs) s h =
     by (x == 117) _ _ s _ (λ e i. step after_backslash after_u x xs refl (closes after_u xs s i))
     (λ e. then_of _ (short_escape x) s _ (λ f c. some_of (c ∷ []) _ s _ (λ u i. step after_backslash plain x xs refl (closes plain xs u i)))) h
-closes after_u [] s h = no s _ h
-closes after_u (a ∷ []) s h = no s _ h
-closes after_u (a ∷ b ∷ []) s h = no s _ h
-closes after_u (a ∷ b ∷ c ∷ []) s h = no s _ h
 closes after_u (a ∷ b ∷ c ∷ d ∷ xs) s h =
     then_of _ (code_unit a b c d) s _ (λ f u. by (is_high_surrogate u) _ _ s _ (λ e i. four (after_high u) a b c d xs refl f (closes (after_high u) xs s i))
     (λ e. by (is_low_surrogate u) _ _ s _ (λ l i. no s _ i) (λ l. some_of (encode_utf8 u) _ s _ (λ v i. four plain a b c d xs refl f (closes plain xs v i))))) h
-closes (after_high k) [] s h = no s _ h
-closes (after_high k) (y ∷ []) s h = no s _ h
-closes (after_high k) (y ∷ u ∷ []) s h = no s _ h
-closes (after_high k) (y ∷ u ∷ a ∷ []) s h = no s _ h
-closes (after_high k) (y ∷ u ∷ a ∷ b ∷ []) s h = no s _ h
-closes (after_high k) (y ∷ u ∷ a ∷ b ∷ c ∷ []) s h = no s _ h
 closes (after_high k) (y ∷ u ∷ a ∷ b ∷ c ∷ d ∷ xs) s h =
     by ((y == 92) && (u == 117)) _ _ s _ (λ e. then_of _ (code_unit a b c d) s _ (λ f l. by (is_low_surrogate l) _ _ s _
     (λ n. some_of (encode_utf8 (surrogate_pair k l)) _ s _ (λ v i. six k y u a b c d xs (and_parts _ _ e).0 f (closes plain xs v i))) (λ n i. no s _ i))) (λ e i. no s _ i) h
+closes w ys s h = no s _ h
 
 -- ---- a string ends before a text without quotes
 
@@ -148,11 +132,9 @@ cases false P f g = g refl
 
 passed : (q b o s : Bool) (x : ℕ) (xs : List ℕ) (k : Mode → List Lexeme) → (o || s) ≡ false
     → lex_byte in_word (cond q quote (cond b backslash (cond o operator (cond s space other)))) x xs k ≡ k in_word
-passed true b o s x xs k e = refl
-passed false true o s x xs k e = refl
 passed false false true s x xs k e = absurd (true≢false e)
 passed false false false true x xs k e = absurd (true≢false e)
-passed false false false false x xs k e = refl
+passed q b o s x xs k e = refl
 
 skip_word : (x : ℕ) (xs : List ℕ) → is_end x ≡ false → lex in_word (x ∷ xs) ≡ lex in_word xs
 unfolding lex
@@ -179,8 +161,7 @@ stops (x ∷ y ∷ xs) h ne = cases (is_end x) _ (here x (y ∷ xs)) (λ e. late
 abbrev pub AllGood : List Lexeme → Type 0
 AllGood [] = ⊤
 AllGood (token t ∷ ls) = (is_good t ≡ true) × AllGood ls
-AllGood (comma ∷ ls) = AllGood ls
-AllGood (colon ∷ ls) = AllGood ls
+AllGood (l ∷ ls) = AllGood ls
 
 pub record Piece (a : List ℕ) : Type 0 where
   pub ls : List Lexeme
@@ -188,8 +169,7 @@ pub record Piece (a : List ℕ) : Type 0 where
 
 good_rest : (l : Lexeme) (ls : List Lexeme) → AllGood (l ∷ ls) → AllGood ls
 good_rest (token t) ls h = h.1
-good_rest comma ls h = h
-good_rest colon ls h = h
+good_rest l ls h = h
 
 good_string : (o : Option (List ℕ)) → is_good (string_token o) ≡ true → (s : List ℕ) × (o ≡ Some s)
 good_string None h = absurd (false≢true h)

@@ -4,7 +4,7 @@ use Rattle.std.proofs.lemmas.List.Elements.{All-cons}
 use Rattle.std.specs.Prelude.{ℤ, All, option_and_then}
 use Rattle.std.specs.Option.{option_map, option_map_or}
 use Rattle.std.specs.Str.{is_utf8}
-use Rattle.serde_json.specs.Data.{Data, null, boolean, number, string, array, object, Items, no_items, item}
+use Rattle.serde_json.specs.Data.{Data, number, string, Items, no_items, item}
 use Rattle.serde_json.specs.Find.{as_integer}
 use Rattle.url.specs.Parts.{Parts}
 use Rattle.oim_report.specs.Info.{accepted_reference, base_said, references_said, said_reference, said_references, taxonomy_of}
@@ -21,12 +21,9 @@ string_utf8 s t true u e = let same : s ≡ t = cc in ap is_utf8 (sym same) ∙ 
 string_utf8 s t false u e = absurd (cc)
 
 pub text_utf8 : (d : Data) (t : List ℕ) → text_of (given d) ≡ Some t → is_utf8 t ≡ true
-text_utf8 null t e = absurd (cc)
-text_utf8 (boolean b) t e = absurd (cc)
 text_utf8 (number n) t e = no_text (as_integer n) t e
 text_utf8 (string s) t e = string_utf8 s t (is_utf8 s) refl e
-text_utf8 (array ds) t e = absurd (cc)
-text_utf8 (object ms) t e = absurd (cc)
+text_utf8 d t e = absurd (cc)
 
 accepted_is : (base : Option Parts) (t r : List ℕ) (refused : Bool) → is_reference_refused base t ≡ refused → cond refused None (kept base t) ≡ Some r → (is_reference_refused base t ≡ false) × (kept base t ≡ Some r)
 accepted_is base t r true u e = absurd (cc)
@@ -45,11 +42,10 @@ item_kept : (base : Option Parts) (d : Data) (r : List ℕ) → said_reference b
 item_kept base d r e = of_text base (text_of (given d)) r (text_utf8 d) e
 
 both_kept : (o : Option (List ℕ)) (os : Option (List (List ℕ))) (rs : List (List ℕ)) → ((r : List ℕ) → o ≡ Some r → IsKeptReference r) → ((qs : List (List ℕ)) → os ≡ Some qs → All IsKeptReference qs) → option_and_then (λ t. option_map (λ ts. t ∷ ts) os) o ≡ Some rs → All IsKeptReference rs
-both_kept None os rs first rest e = absurd (cc)
-both_kept (Some r) None rs first rest e = absurd (cc)
 both_kept (Some r) (Some qs) rs first rest e =
     let same : r ∷ qs ≡ rs = cc in
     subst (All IsKeptReference) same (All-cons IsKeptReference r qs (first r refl) (rest qs refl))
+both_kept o os rs first rest e = absurd (cc)
 
 items_kept : (base : Option Parts) (ds : Items) (rs : List (List ℕ)) → said_references base ds ≡ Some rs → All IsKeptReference rs
 items_kept base no_items rs e = let same : [] ≡ rs = cc in subst (All IsKeptReference) same (λ k d lt. absurd (omega (arith, lt)))

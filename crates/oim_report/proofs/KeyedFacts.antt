@@ -1,9 +1,9 @@
 -- An accepted report has an identifier for each fact.
-use Rattle.std.proofs.Common.{◌≡◌, ℕ, List, [], ◌∷◌, Some, refl}
+use Rattle.std.proofs.Common.{◌≡◌, ℕ, List, ◌∷◌, Some, refl}
 use Rattle.std.specs.List.{AllZip}
 use Rattle.oim_names.specs.Bindings.{Binding}
 use Rattle.oim_dims.specs.declared.fact.Fact.{Fact}
-use Rattle.serde_json.specs.Data.{Members, no_members, member}
+use Rattle.serde_json.specs.Data.{Members, member}
 use Rattle.oim_report.specs.Document.{Document, ObjectSays, SaysDocument}
 use Rattle.oim_report.specs.Identifiers.{EachFactHasAnIdentifier, Identify, IdentifierSays, identifiers, identifiers_in}
 use Rattle.oim_report.specs.Json.{entries, values}
@@ -12,9 +12,8 @@ use Rattle.oim_report.specs.Sheet.{Sheet}
 use Rattle.oim_report.proofs.Documents.{outcomes_are_said}
 
 keyed_say : (sheet : Sheet) (bs : List Binding) (ms : Members) (fs : List Fact) → AllZip (ObjectSays sheet bs) (values ms) fs → AllZip (IdentifierSays sheet bs) (entries ms) fs
-keyed_say sheet bs no_members fs says = says
-keyed_say sheet bs (member key d ms) [] says = says
 keyed_say sheet bs (member key d ms) (f ∷ fs) says = (says.0, keyed_say sheet bs ms fs says.1)
+keyed_say sheet bs ms fs says = says
 
 identified : (sheet : Sheet) (bytes : List ℕ) (d : Document) → SaysDocument sheet bytes d → (is : List (List ℕ)) × (identifiers bytes ≡ Some is) × Identify sheet bytes d is
 identified sheet bytes d says =

@@ -8,7 +8,7 @@ use Rattle.std.specs.Cmp.Lexicographic.{slice_cmp}
 use Rattle.std.specs.Str.{is_utf8}
 use Rattle.json.specs.Json as json
 use Rattle.json.specs.Lex.{tokens}
-use Rattle.serde_json.specs.Data.{Data, null, boolean, number, string, array, object, Members, no_members, member, put}
+use Rattle.serde_json.specs.Data.{Data, number, array, object, Members, no_members, member, put}
 use Rattle.serde_json.specs.Find.{get_member, as_object}
 use Rattle.serde_json.specs.Read.{of_json, of_items, of_members, number_of, read, max_depth}
 use Rattle.oim_report.specs.Identifiers.{identifiers_in, IdentifiersRise}
@@ -33,12 +33,10 @@ members_ascend json.no_members found h = h
 members_ascend (json.member k j ms) found h = has_then (λ d. ⊤) Ascends _ (λ d x. members_ascend ms (put k d found) (ascends_put k d found h)) (of_json j) (any (of_json j))
 
 object_ascends : (j : json.Json) → Has ObjectAscends (of_json j)
-object_ascends json.null = tt
-object_ascends (json.boolean b) = tt
 object_ascends (json.number s) = has_mapped (λ n. ⊤) ObjectAscends number (λ n x. tt) (number_of s) (any (number_of s))
-object_ascends (json.string s) = tt
 object_ascends (json.array js) = has_mapped (λ ds. ⊤) ObjectAscends array (λ ds x. tt) (of_items js) (any (of_items js))
 object_ascends (json.object ms) = has_mapped Ascends ObjectAscends object (λ m x. x) (of_members ms no_members) (members_ascend ms no_members tt)
+object_ascends j = tt
 
 each_put : (k : List ℕ) (d : Data) (ms : Members) → ObjectAscends d → EachAscends ms → EachAscends (put k d ms)
 each_put k d no_members x h = (x, tt)
@@ -54,12 +52,10 @@ each_ascends json.no_members found h = h
 each_ascends (json.member k j ms) found h = has_then ObjectAscends EachAscends _ (λ d x. each_ascends ms (put k d found) (each_put k d found x h)) (of_json j) (object_ascends j)
 
 has_ascending : (j : json.Json) → Has HasAscending (of_json j)
-has_ascending json.null = tt
-has_ascending (json.boolean b) = tt
 has_ascending (json.number s) = has_mapped (λ n. ⊤) HasAscending number (λ n x. tt) (number_of s) (any (number_of s))
-has_ascending (json.string s) = tt
 has_ascending (json.array js) = has_mapped (λ ds. ⊤) HasAscending array (λ ds x. tt) (of_items js) (any (of_items js))
 has_ascending (json.object ms) = has_mapped EachAscends HasAscending object (λ m x. x) (of_members ms no_members) (each_ascends ms no_members tt)
+has_ascending j = tt
 
 by_test : (b : Bool) (o : Option Data) → Has HasAscending o → Has HasAscending (cond b o None)
 by_test true o h = h
@@ -84,12 +80,8 @@ or_none None h = tt
 or_none (Some ms) h = h
 
 facts_ascend : (tree : Data) → HasAscending tree → Ascends (facts_of tree)
-facts_ascend null h = tt
-facts_ascend (boolean b) h = tt
-facts_ascend (number n) h = tt
-facts_ascend (string s) h = tt
-facts_ascend (array ds) h = tt
 facts_ascend (object ms) h = or_none _ (has_then ObjectAscends Ascends as_object (λ d x. x) (get_member (codes "facts") ms) (found_ascends (codes "facts") ms h))
+facts_ascend tree h = tt
 
 before_keys : (k : List ℕ) (ms : Members) → IsBefore k ms → AllByRecursion (λ l. slice_cmp nat_cmp k l ≡ Less) (identifiers_in (entries ms))
 before_keys k no_members h = tt

@@ -188,8 +188,7 @@ module _ (h : Reason → Bool) where
 
   shown_parts : (hidden there : Bool) → (not hidden && there) ≡ true → (hidden ≡ false) × (there ≡ true)
   shown_parts false true e = (refl, refl)
-  shown_parts false false e = absurd (cc)
-  shown_parts true there e = absurd (cc)
+  shown_parts hidden there e = absurd (cc)
 
   shown_both : (hidden there : Bool) → hidden ≡ false → there ≡ true → (not hidden && there) ≡ true
   shown_both hidden there e f = λ i. not (e i) && f i

@@ -33,8 +33,7 @@ module _ {K : Type 0} (kind_named : List ℕ → Option K) (same : K → K → B
 
   at_entry : (o : Option QName) (p : Option K) (es : List (QName × K)) (n : QName) (k : K) → find name_cmp n (entry kind_named same o p ++ es) ≡ Some k → ((o ≡ Some n) × (p ≡ Some k)) ⊎ (find name_cmp n es ≡ Some k)
   at_entry (Some m) (Some j) es n k e = by_tie (eq_by_cmp name_cmp n m) n m j k (find name_cmp n es) refl e
-  at_entry (Some m) None es n k e = inr e
-  at_entry None p es n k e = inr e
+  at_entry o p es n k e = inr e
 
   later : (key : List ℕ) (d : Data) (ms : Members) (n : QName) (k : K) → SaysKind kind_named bs ms n k → SaysKind kind_named bs (member key d ms) n k
   later key d ms n k s = record { key = s.key; value = s.value; stands = inr s.stands; name = s.name; kind = s.kind }
@@ -50,8 +49,7 @@ module _ {K : Type 0} (kind_named : List ℕ → Option K) (same : K → K → B
 
   past_entry : (test : QName × K → Bool) (o : Option QName) (p : Option K) (es : List (QName × K)) → list_any test (entry kind_named same o p ++ es) ≡ false → list_any test es ≡ false
   past_entry test (Some m) (Some j) es e = (or_parts (test (m, j)) (list_any test es) e).1
-  past_entry test (Some m) None es e = e
-  past_entry test None p es e = e
+  past_entry test o p es e = e
 
   none_passes : (test : QName × K → Bool) (ms : Members) (key : List ℕ) (value : Data) (n : QName) (k : K) → StandsIn key value ms → named bs key ≡ Some n → kind_in kind_named same value ≡ Some k → list_any test (entries_in kind_named same bs ms) ≡ false → test (n, k) ≡ false
   none_passes test no_members key value n k stands name kind e = absurd stands

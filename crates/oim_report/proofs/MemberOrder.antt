@@ -18,8 +18,7 @@ Entry = QName × Member
 
 pub less_is : (o : Ordering) → is_lt o ≡ true → o ≡ Less
 less_is Less h = refl
-less_is Equal h = cc
-less_is Greater h = cc
+less_is o h = cc
 
 one_way : (a b : QName) → a ≢ b → is_lt (name_cmp a b) ≡ false → is_lt (name_cmp b a) ≡ true
 one_way a b other h =

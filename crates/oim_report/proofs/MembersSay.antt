@@ -21,7 +21,7 @@ use Rattle.oim_report.specs.declared.dimension_kind.DimensionKind.{DimensionKind
 use Rattle.oim_report.specs.declared.dimension_kind.DimensionKind.TheVariants.{Explicit, Typed}
 use Rattle.oim_report.specs.Fact.{SaysDimension, SaysMember, SaysMembers}
 use Rattle.oim_report.specs.FactFits.{DimensionFits, MemberFits}
-use Rattle.oim_report.specs.Json.{Given, absent, nil, text, whole, other}
+use Rattle.oim_report.specs.Json.{Given, nil, text}
 use Rattle.oim_report.specs.Names.{comes_again, named}
 use Rattle.oim_report.specs.Said.{dimension_kind, dimension_names, members_with, said_member, said_members}
 use Rattle.oim_report.specs.Sheet.{Sheet}
@@ -33,15 +33,9 @@ use Rattle.oim_report.proofs.Naming.{stands}
 
 member_says : (bs : List Binding) (k : DimensionKind) (g : Given) (m : Member) → said_member bs (Some k) g ≡ Some m → SaysMember bs k g m
 member_says bs Explicit (text t) m e = let n = map_some MemberName (named bs t) m e in subst (SaysMember bs Explicit (text t)) n.2 (stands is_name bs t n.0 n.1)
-member_says bs Explicit absent m e = absurd (cc)
-member_says bs Explicit nil m e = absurd (cc)
-member_says bs Explicit (whole n) m e = absurd (cc)
-member_says bs Explicit other m e = absurd (cc)
 member_says bs Typed (text t) m e = let same : MemberText t ≡ m = cc in subst (SaysMember bs Typed (text t)) same refl
 member_says bs Typed nil m e = let same : NoMember ≡ m = cc in subst (SaysMember bs Typed nil) same refl
-member_says bs Typed absent m e = absurd (cc)
-member_says bs Typed (whole n) m e = absurd (cc)
-member_says bs Typed other m e = absurd (cc)
+member_says bs k g m e = absurd (cc)
 
 of_kind : (o : Option DimensionKind) (bs : List Binding) (g : Given) (m : Member) → said_member bs o g ≡ Some m → (k : DimensionKind) × (o ≡ Some k) × SaysMember bs k g m
 of_kind None bs g m e = absurd (cc)
@@ -61,9 +55,6 @@ dimension_says sheet bs d n m name says =
 
 abbrev IsApart : List Binding → List (QName × Member) → List (List ℕ × Given) → Type 0
 IsApart bs es ds = (n : QName) → Contains (dimension_names bs ds) n → ¬ (IsTrue (has_name n es))
-
-abbrev SaysEach : Sheet → List Binding → List (List ℕ × Given) → List (QName × Member) → Type 0
-SaysEach sheet bs ds es = (d : List ℕ × Given) → Contains ds d → (e : QName × Member) × Contains es e × SaysDimension sheet bs d e
 
 pub record IsWalked (sheet : Sheet) (bs : List Binding) (ds : List (List ℕ × Given)) (old new : List (QName × Member)) : Type 0 where
   pub rising : IsTrue (rises new)
@@ -96,10 +87,6 @@ not_among n p [] e c = absurd (none_in p c)
 not_among n p (m ∷ ms) e c =
     let both = or_parts (is_eq (name_cmp n m)) (list_any (λ q. is_eq (name_cmp n q)) ms) e in
     ⊎_elim (λ same is. (let tie : is_eq (name_cmp n m) ≡ true = ap is_eq (ap (name_cmp n) (same ∙ is) ∙ tied_itself name_total n) in absurd (cc))) (λ later. not_among n p ms both.1 later) (first_or_later m p ms c)
-
-not_true : (b : Bool) → b ≡ false → ¬ (IsTrue b)
-not_true true e = λ h. absurd (cc)
-not_true false e = λ h. absurd (cc)
 
 walk : (sheet : Sheet) (bs : List Binding) (ds : List (List ℕ × Given)) (es new : List (QName × Member)) → IsTrue (rises es) → comes_again (dimension_names bs ds) ≡ false → IsApart bs es ds → members_with sheet bs es ds ≡ Some new → IsWalked sheet bs ds es new
 walk sheet bs [] es new up once apart e =
@@ -166,16 +153,11 @@ members_say sheet bs ds es e =
 -- ---- each member fits
 
 member_fits : (bs : List Binding) (k : DimensionKind) (g : Given) (m : Member) → AreNamespaces bs → IsClean g → SaysMember bs k g m → MemberFits k m
-member_fits bs Explicit (text t) (MemberName n) are clean e = name_fits bs t n are (clean t refl) e
-member_fits bs Explicit absent (MemberName n) are clean e = absurd e
-member_fits bs Explicit nil (MemberName n) are clean e = absurd e
-member_fits bs Explicit (whole i) (MemberName n) are clean e = absurd e
-member_fits bs Explicit other (MemberName n) are clean e = absurd e
-member_fits bs Explicit g (MemberText t) are clean e = absurd e
 member_fits bs Explicit g NoMember are clean e = absurd e
-member_fits bs Typed g (MemberName n) are clean e = absurd e
+member_fits bs Explicit (text t) (MemberName n) are clean e = name_fits bs t n are (clean t refl) e
 member_fits bs Typed g (MemberText t) are clean e = clean t e
 member_fits bs Typed g NoMember are clean e = tt
+member_fits bs k g m are clean e = absurd e
 
 dimension_fits : (sheet : Sheet) (bs : List Binding) (d : List ℕ × Given) (e : QName × Member) → AreNamespaces bs → IsUtf8 d.0 × IsClean d.1 → SaysDimension sheet bs d e → DimensionFits sheet e
 dimension_fits sheet bs d e are clean says = record {

@@ -16,26 +16,20 @@ by_any form prefix namespace =
     if form then Some NameForm else (if prefix then Some UnboundPrefix else (if namespace then Some ReservedNamespace else None))
 
 by_none : (a b c : Bool) → by_any a b c ≡ None → (a ≡ false) × (b ≡ false) × (c ≡ false)
-by_none true b c e = absurd (cc)
-by_none false true c e = absurd (cc)
-by_none false false true e = absurd (cc)
 by_none false false false e = (refl, refl, refl)
+by_none a b c e = absurd (cc)
 
 abbrev of_one : Bool → Bool → Bool → Option Reason
 of_one named unbound reserved =
     if named then (if unbound then Some UnboundPrefix else (if reserved then Some ReservedNamespace else None)) else Some NameForm
 
 one_free : (a u r : Bool) → of_one a u r ≡ None → (not a ≡ false) × ((a && u) ≡ false) × ((a && r) ≡ false)
-one_free false u r e = absurd (cc)
-one_free true true r e = absurd (cc)
-one_free true false true e = absurd (cc)
 one_free true false false e = (refl, refl, refl)
+one_free a u r e = absurd (cc)
 
 free_one : (a u r : Bool) → not a ≡ false → (a && u) ≡ false → (a && r) ≡ false → of_one a u r ≡ None
-free_one false u r h k l = absurd (cc)
-free_one true true r h k l = absurd (cc)
-free_one true false true h k l = absurd (cc)
 free_one true false false h k l = refl
+free_one a u r h k l = absurd (cc)
 
 -- no name of the list is refused
 pub record AreFree (bs : List Binding) (ns : List Spelled) : Type 0 where

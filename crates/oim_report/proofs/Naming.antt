@@ -32,11 +32,10 @@ in_allowed u t n h =
     ] refl h
 
 made : (form : Bool) (uri : Option (List ℕ)) (t : List ℕ) (n : QName) → (if form then option_and_then (λ u. in_namespace u t) uri else None) ≡ Some n → IsMade form uri t n
-made false uri t n h = absurd (cc)
-made true None t n h = absurd (cc)
 made true (Some u) t n h =
     let is = in_allowed u t n h in
     record { form = refl; uri = ap Some is.0; allowed = subst (λ v. v ≢ reserved_uri) is.0 is.1; part = is.2 }
+made form uri t n h = absurd (cc)
 
 pub stands : (has_form : List ℕ → Bool) (bs : List Binding) (t : List ℕ) (n : QName) → named_as has_form bs t ≡ Some n → ExpandsAs has_form bs t n
 stands has_form bs t n h =

@@ -26,7 +26,7 @@ use Rattle.oim_report.specs.declared.concept_kind.ConceptKind.TheVariants.{Numer
 use Rattle.oim_report.specs.Document.{ObjectSays, SaysOneDocument}
 use Rattle.oim_report.specs.Fact.{GivesText, GivesTextOr, SaysDecimals, SaysDimensions, SaysEntity, SaysFact, SaysLanguage, SaysNumber, SaysPeriod, SaysUnit, SaysValue}
 use Rattle.oim_report.specs.Info.{bindings_of, facts_of, references_said, level_said}
-use Rattle.oim_report.specs.Json.{Given, absent, nil, text, whole, other, json, values}
+use Rattle.oim_report.specs.Json.{Given, absent, nil, text, whole, json, values}
 use Rattle.oim_report.specs.Parts.{DimensionParts, FactParts, fact_parts}
 use Rattle.oim_report.specs.Sheet.{Sheet}
 use Rattle.oim_report.proofs.OneMembers.{given_name, no_text, one_list, one_some, one_text}
@@ -34,9 +34,7 @@ use Rattle.oim_report.proofs.OneMembers.{given_name, no_text, one_list, one_some
 one_text_or : (C IfP IfQ : Type 0) (g : Given) (P Q : List ℕ → Type 0) → GivesTextOr IfP g P → GivesTextOr IfQ g Q → (IfP → IfQ → C) → ((t : List ℕ) → P t → Q t → C) → C
 one_text_or C IfP IfQ absent P Q a b none both = none a b
 one_text_or C IfP IfQ (text t) P Q a b none both = both t a b
-one_text_or C IfP IfQ nil P Q a b none both = absurd a
-one_text_or C IfP IfQ (whole n) P Q a b none both = absurd a
-one_text_or C IfP IfQ other P Q a b none both = absurd a
+one_text_or C IfP IfQ g P Q a b none both = absurd a
 
 one_entity : (bs : List Binding) (g : Given) (x y : Option QName) → SaysEntity bs g x → SaysEntity bs g y → x ≡ y
 one_entity bs g x y a b =
@@ -84,9 +82,7 @@ one_set sheet bs ds x y a b =
 one_places : (g : Given) (x y : Option ℤ) → SaysDecimals g x → SaysDecimals g y → x ≡ y
 one_places absent x y a b = a ∙ sym b
 one_places (whole n) x y a b = a.1 ∙ sym b.1
-one_places nil x y a b = absurd a
-one_places (text t) x y a b = absurd a
-one_places other x y a b = absurd a
+one_places g x y a b = absurd a
 
 one_number : (g : Given) (m n : ℤ) → GivesText g (λ t. SaysNumber t m) → GivesText g (λ t. SaysNumber t n) → m ≡ n
 one_number g m n a b = one_text (m ≡ n) g (λ t. SaysNumber t m) (λ t. SaysNumber t n) a b (λ t p q. denotes_one t m n p.denoted q.denoted)
@@ -102,24 +98,19 @@ one_value bs k g decimals Nil Nil a b = refl
 one_value bs Numeric g decimals Nil (Number n q) a b = absurd (no_text g (λ t. SaysNumber t n) a b.0)
 one_value bs Numeric g decimals (Number m p) Nil a b = absurd (no_text g (λ t. SaysNumber t m) b a.0)
 one_value bs Numeric g decimals (Number m p) (Number n q) a b = let units = one_number g m n a.0 b.0 in let places = one_places decimals p q a.1 b.1 in λ i. Number (units i) (places i)
-one_value bs Numeric g decimals (AText s) w a b = absurd a
-one_value bs Numeric g decimals (AName m) w a b = absurd a
 one_value bs Numeric g decimals v (AText t) a b = absurd b
 one_value bs Numeric g decimals v (AName n) a b = absurd b
 one_value bs Text g decimals Nil (AText t) a b = absurd (no_string g t a b)
 one_value bs Text g decimals (AText s) Nil a b = absurd (no_string g s b a)
 one_value bs Text g decimals (AText s) (AText t) a b = ap AText (one_string g s t a b)
-one_value bs Text g decimals (Number m p) w a b = absurd a
-one_value bs Text g decimals (AName m) w a b = absurd a
 one_value bs Text g decimals v (Number n q) a b = absurd b
 one_value bs Text g decimals v (AName n) a b = absurd b
 one_value bs Name g decimals Nil (AName n) a b = absurd (no_text g (λ t. Expands bs t n) a b)
 one_value bs Name g decimals (AName m) Nil a b = absurd (no_text g (λ t. Expands bs t m) b a)
 one_value bs Name g decimals (AName m) (AName n) a b = ap AName (given_name bs g m n a b)
-one_value bs Name g decimals (Number m p) w a b = absurd a
-one_value bs Name g decimals (AText s) w a b = absurd a
 one_value bs Name g decimals v (Number n q) a b = absurd b
 one_value bs Name g decimals v (AText t) a b = absurd b
+one_value bs k g decimals v w a b = absurd a
 
 one_fact : (sheet : Sheet) (bs : List Binding) (p : FactParts) (f g : Fact) → SaysFact sheet bs p f → SaysFact sheet bs p g → f ≡ g
 one_fact sheet bs p f g a b =
@@ -136,14 +127,13 @@ one_said sheet bs d f g a b =
 
 same_facts : (sheet : Sheet) (bs : List Binding) (objects : List Data) (fs gs : List Fact) → AllZip (ObjectSays sheet bs) objects fs → AllZip (ObjectSays sheet bs) objects gs → fs ≡ gs
 same_facts sheet bs [] [] [] a b = refl
-same_facts sheet bs [] [] (g ∷ gs) a b = absurd b
 same_facts sheet bs [] (f ∷ fs) gs a b = absurd a
 same_facts sheet bs (d ∷ ds) [] gs a b = absurd a
-same_facts sheet bs (d ∷ ds) (f ∷ fs) [] a b = absurd b
 same_facts sheet bs (d ∷ ds) (f ∷ fs) (g ∷ gs) a b =
     let one = one_said sheet bs d f g a.0 b.0 in
     let rest = same_facts sheet bs ds fs gs a.1 b.1 in
     λ i. one i ∷ rest i
+same_facts sheet bs objects fs gs a b = absurd b
 
 pub says_one_document : SaysOneDocument
 says_one_document sheet bytes d e a b =

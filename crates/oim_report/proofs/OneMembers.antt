@@ -3,7 +3,7 @@ use Rattle.std.proofs.Common.{◌≡◌, ⊎_elim, ℕ, List, [], ◌∷◌, tru
 use Rattle.std.specs.Prelude.{Any, Contains, IsTrue}
 use Rattle.std.specs.Ordering.{is_lt}
 use Rattle.std.specs.declared.cmp.Ordering.{Ordering}
-use Rattle.std.specs.declared.cmp.Ordering.TheVariants.{Less, Equal, Greater}
+use Rattle.std.specs.declared.cmp.Ordering.TheVariants.{Less}
 use Rattle.std.specs.Cmp.{tied_itself}
 use Rattle.std.specs.FinMap as map
 use Rattle.std.proofs.lemmas.Bool.{and_parts}
@@ -20,14 +20,13 @@ use Rattle.oim_dims.specs.declared.member.Member.TheVariants.{Nil as NoMember, T
 use Rattle.oim_report.specs.declared.dimension_kind.DimensionKind.{DimensionKind}
 use Rattle.oim_report.specs.declared.dimension_kind.DimensionKind.TheVariants.{Explicit, Typed}
 use Rattle.oim_report.specs.Fact.{GivesText, SaysDimension, SaysMember, SaysMembers}
-use Rattle.oim_report.specs.Json.{Given, absent, nil, text, whole, other}
+use Rattle.oim_report.specs.Json.{Given, nil, text}
 use Rattle.oim_report.specs.Sheet.{Sheet}
 use Rattle.oim_report.proofs.MembersSay.{first_in, later_in, first_or_later, none_in}
 
 less_is : (o : Ordering) → is_lt o ≡ true → o ≡ Less
 less_is Less h = refl
-less_is Equal h = cc
-less_is Greater h = cc
+less_is o h = cc
 
 below_each : (n : QName) (es : List (QName × Member)) (x : QName × Member) → is_below n es ≡ true → Contains es x → name_cmp n x.0 ≡ Less
 below_each n [] x below c = absurd (none_in x c)
@@ -77,34 +76,25 @@ one_some o x y p q = cc
 
 pub no_text : (g : Given) (Says : List ℕ → Type 0) → g ≡ nil → GivesText g Says → ⊥
 no_text (text t) Says e h = absurd (cc)
-no_text absent Says e h = h
-no_text nil Says e h = h
-no_text (whole n) Says e h = h
-no_text other Says e h = h
+no_text g Says e h = h
 
 pub one_text : (C : Type 0) (g : Given) (P Q : List ℕ → Type 0) → GivesText g P → GivesText g Q → ((t : List ℕ) → P t → Q t → C) → C
 one_text C (text t) P Q a b both = both t a b
-one_text C absent P Q a b both = absurd a
-one_text C nil P Q a b both = absurd a
-one_text C (whole n) P Q a b both = absurd a
-one_text C other P Q a b both = absurd a
+one_text C g P Q a b both = absurd a
 
 pub given_name : (bs : List Binding) (g : Given) (m n : QName) → GivesText g (λ t. Expands bs t m) → GivesText g (λ t. Expands bs t n) → m ≡ n
 given_name bs g m n a b = one_text (m ≡ n) g (λ t. Expands bs t m) (λ t. Expands bs t n) a b (λ t p q. names_one is_name bs t m n p q)
 
 one_member : (bs : List Binding) (k : DimensionKind) (g : Given) (m n : Member) → SaysMember bs k g m → SaysMember bs k g n → m ≡ n
 one_member bs Explicit g (MemberName m) (MemberName n) a b = ap MemberName (given_name bs g m n a b)
-one_member bs Explicit g (MemberName m) (MemberText t) a b = absurd b
-one_member bs Explicit g (MemberName m) NoMember a b = absurd b
 one_member bs Explicit g (MemberText s) n a b = absurd a
 one_member bs Explicit g NoMember n a b = absurd a
 one_member bs Typed g (MemberName m) n a b = absurd a
-one_member bs Typed g (MemberText s) (MemberName n) a b = absurd b
 one_member bs Typed g (MemberText s) (MemberText t) a b = let same : text s ≡ text t = sym a ∙ b in cc
 one_member bs Typed g (MemberText s) NoMember a b = let same : text s ≡ nil = sym a ∙ b in absurd (cc)
-one_member bs Typed g NoMember (MemberName n) a b = absurd b
 one_member bs Typed g NoMember (MemberText t) a b = let same : nil ≡ text t = sym a ∙ b in absurd (cc)
 one_member bs Typed g NoMember NoMember a b = refl
+one_member bs k g m n a b = absurd b
 
 one_dimension : (sheet : Sheet) (bs : List Binding) (d : List ℕ × Given) (e f : QName × Member) → SaysDimension sheet bs d e → SaysDimension sheet bs d f → e ≡ f
 one_dimension sheet bs d e f a b =

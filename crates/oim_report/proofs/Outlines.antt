@@ -8,7 +8,7 @@ use Rattle.serde_json.specs.Data.{Data, object, Members, no_members, member, put
 use Rattle.serde_json.specs.Read.{read}
 use Rattle.serde_json.specs.Find.{get, get_member}
 use Rattle.oim_report.specs.Pieces.{one_data, IsPiece, put_all}
-use Rattle.oim_report.specs.code.Pieces.{IsOutline, AfterSpaces, BeforeSpaces, IsHead, IsEnd, IsTail, IsSplit, IsBeside, facts_key, facts_text, with_before, with_behind}
+use Rattle.oim_report.specs.code.Pieces.{IsOutline, AfterSpaces, BeforeSpaces, IsEnd, IsTail, IsSplit, IsBeside, facts_key, facts_text, with_before, with_behind}
 use Rattle.oim_report.proofs.MembersPut.{IsRising, Lacks, lacks_parts, put_all_later, put_onto, rising_found}
 use Rattle.oim_report.proofs.PiecesInTurn.{both_pieces, alone_same, piece_as}
 use Rattle.oim_report.proofs.AroundFacts.{Gives, piece_gives, less_deep, led_gives, both_give, facts_give, document_gives}
@@ -28,45 +28,6 @@ lacks q no_members e = tt
 lacks q (member l d ms) e = let n = not_equal q l d (get_member q ms) e in (n.0, lacks q ms n.1)
 
 -- ---- the steps of the split
-
-pub head_alone : (text rest : List ℕ) → AfterSpaces text (123 ∷ rest) → (front : List ℕ) → BeforeSpaces rest front → front ≡ [] → IsHead text None
-head_alone text rest b front t e = record {
-  s0 = b.spaces;
-  s1 = [];
-  s2 = t.spaces;
-  are = (b.are, tt, t.are);
-  splits = b.splits ∙ ap (λ l. b.spaces ++ 123 ∷ l) (t.splits ∙ ap (λ l. l ++ t.spaces) e);
-}
-
-pub head_with : (text rest front before : List ℕ) (inner : List ℕ) → AfterSpaces text (123 ∷ rest) → BeforeSpaces rest front → front ≡ inner ++ 44 ∷ [] → BeforeSpaces inner before → IsHead text (Some before)
-head_with text rest front before inner b t e i = record {
-  s0 = b.spaces;
-  s1 = i.spaces;
-  s2 = t.spaces;
-  are = (b.are, i.are, t.are);
-  splits =
-      b.splits ∙ ap (λ l. b.spaces ++ 123 ∷ l)
-      (t.splits ∙ ap (λ l. l ++ t.spaces) (e ∙ ap (λ l. l ++ 44 ∷ []) i.splits ∙ append_assoc before i.spaces (44 ∷ [])) ∙ append_assoc before (i.spaces ++ 44 ∷ []) t.spaces
-      ∙ ap (λ l. before ++ l) (append_assoc i.spaces (44 ∷ []) t.spaces));
-}
-
-pub end_alone : (text inner front : List ℕ) → BeforeSpaces text (inner ++ 125 ∷ []) → BeforeSpaces inner front → front ≡ [] → IsEnd text None
-end_alone text inner front b t e = record {
-  s6 = [];
-  s7 = t.spaces;
-  s8 = b.spaces;
-  are = (tt, t.are, b.are);
-  splits = b.splits ∙ append_assoc inner (125 ∷ []) b.spaces ∙ ap (λ l. l ++ 125 ∷ b.spaces) (t.splits ∙ ap (λ l. l ++ t.spaces) e);
-}
-
-pub end_with : (text inner front behind : List ℕ) → BeforeSpaces text (inner ++ 125 ∷ []) → BeforeSpaces inner front → AfterSpaces front (44 ∷ behind) → IsEnd text (Some behind)
-end_with text inner front behind b t f = record {
-  s6 = f.spaces;
-  s7 = t.spaces;
-  s8 = b.spaces;
-  are = (f.are, t.are, b.are);
-  splits = b.splits ∙ append_assoc inner (125 ∷ []) b.spaces ∙ ap (λ l. l ++ 125 ∷ b.spaces) (t.splits ∙ ap (λ l. l ++ t.spaces) f.splits) ∙ append_assoc (f.spaces ++ 44 ∷ behind) t.spaces (125 ∷ b.spaces);
-}
 
 pub tail_is : (text t1 t2 front facts rest : List ℕ) (behind : Option (List ℕ)) → AfterSpaces text (58 ∷ t1) → AfterSpaces t1 (123 ∷ t2) → t2 ≡ front ++ 125 ∷ rest → BeforeSpaces front facts → IsEnd rest behind → IsTail text facts behind
 tail_is text t1 t2 front facts rest behind a b s t ends = record {

@@ -56,10 +56,9 @@ turned_values : (v w : Value) → is_eq (value_cmp v w) ≡ true → is_eq (valu
 turned_values v w h = ap is_eq (tied_back value_cmp_total v w ((Equal-is _).0 h))
 
 allows_values_turns : (l : Level) (v w : Value) → allows_values l v w ≡ allows_values l w v
-allows_values_turns Unique v w = refl
 allows_values_turns Complete v w = both_ways _ _ (turned_values v w) (turned_values w v)
 allows_values_turns Consistent v w = values_meet_turns v w
-allows_values_turns AllLevel v w = refl
+allows_values_turns l v w = refl
 
 allows_turns : (l : Level) (f g : Fact) → allows l f g ≡ allows l g f
 allows_turns l f g =
@@ -142,7 +141,6 @@ strictest_passes l true true true p q = strictest_unique l
     strictest_unique Complete = refl
     strictest_unique Consistent = refl
     strictest_unique AllLevel = refl
-strictest_passes l true true false p q = nothing (q refl)
 strictest_passes l true false s p q = nothing (p refl)
 strictest_passes l false true true p q = strictest_complete l
   where
@@ -151,7 +149,6 @@ strictest_passes l false true true p q = strictest_complete l
     strictest_complete Complete = refl
     strictest_complete Consistent = refl
     strictest_complete AllLevel = refl
-strictest_passes l false true false p q = nothing (q refl)
 strictest_passes l false false true p q = strictest_consistent l
   where
     strictest_consistent : (l : Level) → is_le (level_cmp Consistent l) ≡ test_at l false false true
@@ -166,12 +163,11 @@ strictest_passes l false false false p q = strictest_all l
     strictest_all Complete = refl
     strictest_all Consistent = refl
     strictest_all AllLevel = refl
+strictest_passes l u true false p q = nothing (q refl)
 
 test_at_is : (l : Level) (fs : List Fact) → test_at l (allows_each Unique fs) (allows_each Complete fs) (allows_each Consistent fs) ≡ allows_each l fs
-test_at_is Unique fs = refl
-test_at_is Complete fs = refl
-test_at_is Consistent fs = refl
 test_at_is AllLevel fs = sym (all_are_allowed fs)
+test_at_is l fs = refl
 
 pub passes_is : (l : Level) (fs : List Fact) → is_le (level_cmp (level_of fs) l) ≡ allows_each l fs
 unfolding level_of
@@ -188,8 +184,7 @@ level_is_strictest l fs = (
 regrouped : (a b c d : Bool) → ((a && (b && true)) && (c && d)) ≡ ((a && c) && (b && d))
 regrouped true true c d = refl
 regrouped true false true d = refl
-regrouped true false false d = refl
-regrouped false b c d = refl
+regrouped a b c d = refl
 
 and_true : (a : Bool) → (a && true) ≡ a
 and_true true = refl

@@ -1,5 +1,5 @@
 -- The loop over sorted facts: the level so far is the level of the facts so far.
-use Rattle.std.proofs.Common.{◌≡◌, ℕ, ◌<◌, ◌≤◌, ◌+◌, Bool, true, false, not, ◌&&◌, List, [], ◌∷◌, ◌++◌, append_assoc, append-nil, length, drop, get_or, refl, sym, ap, subst, ◌∙◌, All, Option, Some, None, slice_get, ◌||◌}
+use Rattle.std.proofs.Common.{◌≡◌, ℕ, ◌<◌, ◌≤◌, ◌+◌, Bool, true, false, not, ◌&&◌, List, [], ◌∷◌, ◌++◌, append_assoc, append-nil, length, drop, get_or, refl, sym, ap, subst, ◌∙◌, All, Option, Some, slice_get, ◌||◌}
 use Rattle.std.specs.List.{list_all, list_any}
 use Rattle.std.specs.Ordering.{is_le, is_lt}
 use Rattle.std.proofs.lemmas.Bool.{false≢true}
@@ -148,6 +148,5 @@ none_apart facts place (p ∷ ps) = ap (λ b. b || list_any (λ one. are_apart A
     free false = refl
 
     never : (a b : Option Fact) → option_map_or (λ f. option_map_or (λ g. not (allows AllLevel f g)) b false) a false ≡ false
-    never None b = refl
-    never (Some f) None = refl
     never (Some f) (Some g) = free (are_duplicates f g)
+    never a b = refl

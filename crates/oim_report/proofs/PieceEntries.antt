@@ -10,11 +10,9 @@ use Rattle.serde_json.proofs.Views.{Entry, view-Array, view-Object}
 use Rattle.oim_report.specs.Pieces.{alone, one_data, HasMember, EndsWithBrace, IsPiece}
 
 closed_at : (xs : List ℕ) (n : ℕ) → suc n ≡ length xs → slice_get xs n ≡ Some 125 → EndsWithBrace xs
-closed_at [] n l h = absurd (omega (arith, l))
 closed_at (x ∷ []) zero l h = Prim.cc
-closed_at (x ∷ []) (suc n) l h = absurd (omega (arith, l))
-closed_at (x ∷ y ∷ xs) zero l h = absurd (omega (arith, l))
 closed_at (x ∷ y ∷ xs) (suc n) l h = closed_at (y ∷ xs) n (omega (arith, l)) h
+closed_at xs n l h = absurd (omega (arith, l))
 
 pub closed_last : (xs : List ℕ) → slice_get xs (length xs - 1) ≡ Some 125 → EndsWithBrace xs
 closed_last [] h = absurd (Prim.cc)

@@ -1,5 +1,5 @@
 -- How `serde_json` reads the text of an array that contains one object.
-use Rattle.std.proofs.Common.{◌≡◌, ℕ, List, [], ◌∷◌, Option, Some, None, option_map, option_and_then, refl, ap, ◌∙◌}
+use Rattle.std.proofs.Common.{◌≡◌, ℕ, List, [], Option, Some, None, option_map, option_and_then, refl, ap, ◌∙◌}
 use Rattle.json.specs.Token.{Token}
 use Rattle.json.specs.Lex.{tokens}
 use Rattle.json.specs.Json as j
@@ -36,16 +36,14 @@ no_more (j.item v vs) e =
     absurd (Prim.cc)
 
 of_object : (v : Json) (found : d.Members) → of_json v ≡ Some (d.object found) → (ms : Members) × (v ≡ j.object ms) × (of_members ms d.no_members ≡ Some found)
-of_object j.null found e = absurd (Prim.cc)
-of_object (j.boolean b) found e = absurd (Prim.cc)
 of_object (j.number s) found e = let n = number_only s _ e in let is : d.number n.0 ≡ d.object found = n.1 in absurd (Prim.cc)
-of_object (j.string s) found e = absurd (Prim.cc)
 of_object (j.array vs) found e = let m = mapped_some d.array (of_items vs) _ e in let is : d.array m.0 ≡ d.object found = m.2 in absurd (Prim.cc)
 of_object (j.object ms) found e =
     let m = mapped_some d.object (of_members ms d.no_members) _ e in
     let is : d.object m.0 ≡ d.object found = m.2 in
     let same : m.0 ≡ found = Prim.cc in
     (ms, refl, m.1 ∙ ap (λ f. Some f) same)
+of_object v found e = absurd (Prim.cc)
 
 of_one : (vs : Items) (found : d.Members) → of_items vs ≡ Some (d.item (d.object found) d.no_items) → (ms : Members) × (vs ≡ j.item (j.object ms) j.no_items) × (of_members ms d.no_members ≡ Some found)
 of_one j.no_items found e = absurd (Prim.cc)
@@ -60,10 +58,7 @@ of_one (j.item v vs) found e =
     (o.0, (λ i. j.item (o.1 i) (none i)), o.2)
 
 of_array : (v : Json) (found : d.Members) → of_json v ≡ Some (one_data found) → (ms : Members) × (v ≡ one ms) × (of_members ms d.no_members ≡ Some found)
-of_array j.null found e = absurd (Prim.cc)
-of_array (j.boolean b) found e = absurd (Prim.cc)
 of_array (j.number s) found e = let n = number_only s _ e in let is : d.number n.0 ≡ one_data found = n.1 in absurd (Prim.cc)
-of_array (j.string s) found e = absurd (Prim.cc)
 of_array (j.array vs) found e =
     let m = mapped_some d.array (of_items vs) _ e in
     let is : d.array m.0 ≡ one_data found = m.2 in
@@ -71,11 +66,11 @@ of_array (j.array vs) found e =
     let o = of_one vs found (m.1 ∙ ap (λ x. Some x) same) in
     (o.0, ap j.array o.1, o.2)
 of_array (j.object ms) found e = let m = mapped_some d.object (of_members ms d.no_members) _ e in let is : d.object m.0 ≡ one_data found = m.2 in absurd (Prim.cc)
+of_array v found e = absurd (Prim.cc)
 
 whole_some : (o : Option (Json × List Token)) (x : Data) → option_and_then of_json (option_and_then (λ p. if_last p.0 p.1) o) ≡ Some x → (v : Json) × (o ≡ Some (v, [])) × (of_json v ≡ Some x)
-whole_some None x e = absurd (Prim.cc)
 whole_some (Some (v, [])) x e = (v, refl, e)
-whole_some (Some (v, t ∷ ts)) x e = absurd (Prim.cc)
+whole_some o x e = absurd (Prim.cc)
 
 pub read_as : (a : List ℕ) (found : d.Members) → read (alone a) ≡ Some (one_data found) → ReadAs a found
 read_as a found e =

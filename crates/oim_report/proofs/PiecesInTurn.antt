@@ -83,8 +83,7 @@ with_piece text left piece (member k d ms) ns up p =
 
 up_to : (text rest done : List ℕ) (ms ns : Members) → HasMember ns → text ≡ done ++ 44 ∷ rest → IsPiece done (put_all (append ms ns) no_members) → IsUpTo text rest (append ms ns)
 up_to text rest done no_members no_members some s p = absurd some
-up_to text rest done no_members (member k d ns) some s p = (done, s, p)
-up_to text rest done (member k d ms) ns some s p = (done, s, p)
+up_to text rest done ms ns some s p = (done, s, p)
 
 pub one_more : (text left rest : List ℕ) (ms ns : Members) → IsUpTo text left ms → IsNext left ns (Some rest) → IsUpTo text rest (append ms ns)
 one_more text left rest ms ns up n =

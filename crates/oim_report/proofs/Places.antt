@@ -6,7 +6,7 @@ use Rattle.std.specs.Cmp.Lexicographic.{options_total}
 use Rattle.std.specs.Option.{option_cmp}
 use Rattle.std.specs.Ordering.{is_gt, is_lt, ordering_reverse}
 use Rattle.std.specs.declared.cmp.Ordering.{Ordering}
-use Rattle.std.specs.declared.cmp.Ordering.TheVariants.{Less, Equal, Greater}
+use Rattle.std.specs.declared.cmp.Ordering.TheVariants.{Less}
 use Rattle.std.proofs.lemmas.List.Elements.{All-head, All-tail, All-from_get_or}
 use Rattle.std.proofs.lemmas.List.FromFn.{fill_by_all, length-range_with_len, get_or-range_with_len}
 use Rattle.std.proofs.lemmas.List.Sorted.{All-permutation, IsPermutation-map, length_permutation, ranks_by}
@@ -51,8 +51,7 @@ level_at_order facts d places order = level_ignores_order facts (facts_at facts 
 
 turned : (r : Ordering) → is_lt r ≡ false → is_gt (ordering_reverse r) ≡ false
 turned Less h = h
-turned Equal h = refl
-turned Greater h = refl
+turned r h = refl
 
 sorted_tail : (facts : List Fact) (place : ℕ) (places : List ℕ) → IsSorted (place_cmp facts) (place ∷ places) → IsSorted (place_cmp facts) places
 sorted_tail facts place places up k d low within =

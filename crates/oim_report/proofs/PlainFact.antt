@@ -78,11 +78,9 @@ kept_text k (Some t) ms n utf8 here h = kept_put k (string t) ms n utf8 (text_ke
 
 member_kept : (bs : List Binding) (spelled : QName → List ℕ) (kind : DimensionKind) (m : Member) → MemberFits kind m → SpellsMember bs spelled m → IsKept (member_data spelled m) 0
 member_kept bs spelled Explicit (MemberName n) fits s = text_kept (spelled n) 0 (spelled_utf8 bs spelled n s fits.utf8)
-member_kept bs spelled Explicit (MemberText t) fits s = absurd fits
-member_kept bs spelled Explicit NoMember fits s = absurd fits
-member_kept bs spelled Typed (MemberName n) fits s = absurd fits
 member_kept bs spelled Typed (MemberText t) fits s = text_kept t 0 fits
 member_kept bs spelled Typed NoMember fits s = record { plain = tt; utf8 = tt; shallow = omega arith }
+member_kept bs spelled kind m fits s = absurd fits
 
 record IsWritten (spelled : QName → List ℕ) (e : QName × Member) : Type 0 where
   key : IsUtf8 (spelled e.0)
@@ -114,14 +112,9 @@ dimensions_kept spelled d h =
 value_kept : (bs : List Binding) (spelled : QName → List ℕ) (kind : ConceptKind) (v : Value) → ValueFits kind v → SpellsValue bs spelled v → IsKept (value_data spelled v) 1
 value_kept bs spelled kind Nil fits s = record { plain = tt; utf8 = tt; shallow = omega arith }
 value_kept bs spelled Numeric (Number units places) fits s = text_kept (plain units) 1 (plain_utf8 units fits.0)
-value_kept bs spelled Text (Number units places) fits s = absurd fits
-value_kept bs spelled Name (Number units places) fits s = absurd fits
-value_kept bs spelled Numeric (AText t) fits s = absurd fits
 value_kept bs spelled Text (AText t) fits s = text_kept t 1 fits
-value_kept bs spelled Name (AText t) fits s = absurd fits
-value_kept bs spelled Numeric (AName n) fits s = absurd fits
-value_kept bs spelled Text (AName n) fits s = absurd fits
 value_kept bs spelled Name (AName n) fits s = text_kept (spelled n) 1 (spelled_utf8 bs spelled n s fits.utf8)
+value_kept bs spelled kind v fits s = absurd fits
 
 few_whole : (d : ℤ) → is_finite_decimals d ≡ true → IsWhole (of_integer d)
 few_whole (pos n) h = omega (arith, leb-true n (unsigned_abs MOST_DECIMALS) h)
@@ -131,13 +124,10 @@ decimals_kept : (d : ℤ) → is_finite_decimals d ≡ true → IsKept (number (
 decimals_kept d h = record { plain = few_whole d h; utf8 = tt; shallow = omega arith }
 
 with_decimals_kept : (spelled : QName → List ℕ) (kind : ConceptKind) (v : Value) (ms : Members) → ValueFits kind v → AreKept ms 1 → AreKept (with_decimals spelled v ms) 1
-with_decimals_kept spelled kind Nil ms fits h = h
-with_decimals_kept spelled kind (AText t) ms fits h = h
-with_decimals_kept spelled kind (AName n) ms fits h = h
-with_decimals_kept spelled kind (Number units None) ms fits h = h
 with_decimals_kept spelled Numeric (Number units (Some d)) ms fits h = kept_put (codes "decimals") (number (of_integer d)) ms 1 (IsUtf8-are_ascii _ refl) (decimals_kept d fits.1) h
 with_decimals_kept spelled Text (Number units (Some d)) ms fits h = absurd fits
 with_decimals_kept spelled Name (Number units (Some d)) ms fits h = absurd fits
+with_decimals_kept spelled kind v ms fits h = h
 
 pub fact_plain : FactObjectIsPlain
 fact_plain sheet bs spelled f fits s =

@@ -5,12 +5,12 @@ use Rattle.oim_names.specs.QName.{QName}
 use Rattle.oim_names.specs.Bindings.{Binding}
 use Rattle.oim_names.specs.declared.reason.Reason.TheVariants.{NameForm, UnboundPrefix, ReservedNamespace}
 use Rattle.oim_value.specs.declared.value.Value.{Value}
-use Rattle.oim_value.specs.declared.value.Value.TheVariants.{Nil, Number, Text as AText, Name as AName}
+use Rattle.oim_value.specs.declared.value.Value.TheVariants.{Nil}
 use Rattle.oim_dims.specs.Period.{IsPeriod, HasMoments, period_text, EndsAfterStart}
 use Rattle.oim_dims.specs.Unit.{Measures}
 use Rattle.oim_dims.specs.declared.fact.Fact.{Fact}
 use Rattle.oim_dims.specs.declared.period.Period.{Period}
-use Rattle.oim_dims.specs.declared.period.Period.TheVariants.{Forever, Instant, Duration}
+use Rattle.oim_dims.specs.declared.period.Period.TheVariants.{Forever}
 use Rattle.oim_report.specs.declared.concept_kind.ConceptKind.{ConceptKind}
 use Rattle.oim_report.specs.Parts.{DimensionParts, FactParts, fact_parts}
 use Rattle.oim_report.specs.Fact.{SaysFact, SaysDimensions}
@@ -35,9 +35,7 @@ text_or_nothing (Some t) = refl
 
 value_there : (spelled : QName → List ℕ) (v : Value) → is_absent (value_given spelled v) ≡ false
 value_there spelled Nil = refl
-value_there spelled (Number units places) = refl
-value_there spelled (AText t) = refl
-value_there spelled (AName n) = refl
+value_there spelled v = refl
 
 pub form_accepted : FormsAreAccepted
 form_accepted spelled f =
@@ -50,8 +48,7 @@ form_accepted spelled f =
 
 is_period : (p : Period) → HasMoments p → EndsAfterStart p → IsPeriod p
 is_period Forever h fits = record { moments = h; forward = fits }
-is_period (Instant m) h fits = record { moments = h; forward = fits }
-is_period (Duration start end) h fits = record { moments = h; forward = fits }
+is_period p h fits = record { moments = h; forward = fits }
 
 measures_fit : (kind : ConceptKind) (m : Option Measures) → UnitFits kind m → IfSome m (MeasuresFit kind)
 measures_fit kind None fits = tt

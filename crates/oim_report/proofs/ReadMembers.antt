@@ -39,24 +39,19 @@ Keyed = List ℕ × Given
 
 member_said : (bs : List Binding) (spelled : QName → List ℕ) (kind : DimensionKind) (m : Member) → MemberFits kind m → SpellsMember bs spelled m → said_member bs (Some kind) (member_given spelled m) ≡ Some m
 member_said bs spelled Explicit (MemberName n) fits s = ap (option_map MemberName) (name_back bs spelled n fits s)
-member_said bs spelled Explicit (MemberText t) fits s = absurd fits
-member_said bs spelled Explicit NoMember fits s = absurd fits
-member_said bs spelled Typed (MemberName n) fits s = absurd fits
 member_said bs spelled Typed (MemberText t) fits s = refl
 member_said bs spelled Typed NoMember fits s = refl
+member_said bs spelled kind m fits s = absurd fits
 
 says_member : (bs : List Binding) (spelled : QName → List ℕ) (kind : DimensionKind) (m : Member) → MemberFits kind m → SpellsMember bs spelled m → SaysMember bs kind (member_given spelled m) m
 says_member bs spelled Explicit (MemberName n) fits s = expands bs spelled n s fits
-says_member bs spelled Explicit (MemberText t) fits s = absurd fits
-says_member bs spelled Explicit NoMember fits s = absurd fits
-says_member bs spelled Typed (MemberName n) fits s = absurd fits
 says_member bs spelled Typed (MemberText t) fits s = refl
 says_member bs spelled Typed NoMember fits s = refl
+says_member bs spelled kind m fits s = absurd fits
 
 same_steps : {A B C : Type 0} (a : Option A) (b : Option B) (f g : A → B → Option C) → ((x : A) → a ≡ Some x → (y : B) → f x y ≡ g x y) → option_and_then (λ x. option_and_then (f x) b) a ≡ option_and_then (λ x. option_and_then (g x) b) a
-same_steps None b f g h = refl
-same_steps (Some x) None f g h = refl
 same_steps (Some x) (Some y) f g h = h x refl y
+same_steps a b f g h = refl
 
 module _ (sheet : Sheet) (bs : List Binding) where
   abbrev NamesNo : QName → Keyed → Type 0

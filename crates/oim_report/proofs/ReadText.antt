@@ -10,7 +10,7 @@ use Rattle.json.specs.Tree as tree
 use Rattle.json.proofs.Printed.Tokens.{tokens-print}
 use Rattle.json.proofs.Printed.Trees.{value-json_tokens, ArePrintable-json_tokens}
 use Rattle.json.proofs.Printed.Decimals.{IsNumber-decimal, IsNumber-signed_decimal}
-use Rattle.serde_json.specs.Data.{Num, unsigned, negative, float, Data, null, boolean, number, string, array, object, Items, no_items, item, Members, no_members, member, put, depth, items_depth, members_depth}
+use Rattle.serde_json.specs.Data.{Num, unsigned, negative, float, Data, number, array, object, Items, no_items, item, Members, no_members, member, put, depth, items_depth, members_depth}
 use Rattle.serde_json.specs.Read.{number_of, of_json, of_items, of_members, read, max_depth}
 use Rattle.serde_json.specs.Written.{number_text, outline, items_outline, members_outline, compact_text}
 use Rattle.serde_json.proofs.Numbers.{number_of-decimal, number_of-negative}
@@ -61,18 +61,15 @@ precedes_none (member k d ms) = (tt, precedes_none ms)
 
 number_back : (n : Num) → IsWhole n → number_of (number_text n) ≡ Some n
 number_back (unsigned n) h = number_of-decimal n h
-number_back (negative (pos n)) h = absurd h
 number_back (negative (negsuc n)) h = number_of-negative n h
-number_back (float x) h = absurd h
+number_back n h = absurd h
 
 mutual
   pub of_json-outline : (d : Data) → IsPlain d → of_json (outline d) ≡ Some d
-  of_json-outline null h = refl
-  of_json-outline (boolean b) h = refl
   of_json-outline (number n) h = ap (option_map number) (number_back n h)
-  of_json-outline (string s) h = refl
   of_json-outline (array ds) h = ap (option_map array) (of_items-outline ds h)
   of_json-outline (object ms) h = ap (option_map object) (of_members-outline ms no_members h (precedes_none ms))
+  of_json-outline d h = refl
 
   of_items-outline : (ds : Items) → ItemsArePlain ds → of_items (items_outline ds) ≡ Some ds
   of_items-outline no_items h = refl
@@ -92,15 +89,13 @@ mutual
 
 mutual
   numbers : (d : Data) → IsPlain d → tree.HasNumbers (outline d)
-  numbers null h = tt
-  numbers (boolean b) h = tt
   numbers (number (unsigned n)) h = IsNumber-decimal n h
   numbers (number (negative (pos n))) h = absurd h
   numbers (number (negative (negsuc n))) h = IsNumber-signed_decimal (negsuc n) h
   numbers (number (float x)) h = absurd h
-  numbers (string s) h = tt
   numbers (array ds) h = items_numbers ds h
   numbers (object ms) h = members_numbers ms h
+  numbers d h = tt
 
   items_numbers : (ds : Items) → ItemsArePlain ds → tree.ItemsHaveNumbers (items_outline ds)
   items_numbers no_items h = tt
@@ -112,12 +107,9 @@ mutual
 
 mutual
   depth-outline : (d : Data) → tree.depth (outline d) ≡ depth d
-  depth-outline null = refl
-  depth-outline (boolean b) = refl
-  depth-outline (number n) = refl
-  depth-outline (string s) = refl
   depth-outline (array ds) = ap suc (items_depth-outline ds)
   depth-outline (object ms) = ap suc (members_depth-outline ms)
+  depth-outline d = refl
 
   items_depth-outline : (ds : Items) → tree.items_depth (items_outline ds) ≡ items_depth ds
   items_depth-outline no_items = refl

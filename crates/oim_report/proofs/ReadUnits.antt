@@ -79,10 +79,9 @@ ordered [] = tt
 ordered (n ∷ ns) = ordered_with n (in_order ns) (ordered ns)
 
 sorted : (ns : List QName) → Ordered ns → (k : ℕ) (d : QName) → suc k < length ns → is_lt (name_cmp (get_or ns (suc k) d) (get_or ns k d)) ≡ false
-sorted [] h k d within = absurd (omega arith)
-sorted (n ∷ []) h k d within = absurd (omega arith)
 sorted (n ∷ m ∷ ms) h zero d within = h.0
 sorted (n ∷ m ∷ ms) h (suc k) d within = sorted (m ∷ ms) h.1 k d (omega arith)
+sorted ns h k d within = absurd (omega arith)
 
 is_sorted : (ns : List QName) → Ordered ns → IsSorted name_cmp ns
 is_sorted ns h k d low within = let e : k + 1 ≡ suc k = omega arith in rw e (sorted ns h k d (omega arith))
@@ -106,11 +105,10 @@ in_one_order spelled names same up = sorted_once name_cmp name_total exact_name 
 
 each_named : (bs : List Binding) (ps : List (List ℕ)) (ns : List QName) → AllZip (Expands bs) ps ns → all_named bs ps ≡ Some ns
 each_named bs [] [] z = refl
-each_named bs [] (n ∷ ns) z = absurd z
-each_named bs (p ∷ ps) [] z = absurd z
 each_named bs (p ∷ ps) (n ∷ ns) z =
     ap (option_and_then (λ m. option_map (λ ms. m ∷ ms) (all_named bs ps))) (named_back is_name bs p n z.0)
     ∙ ap (option_map (λ ms. n ∷ ms)) (each_named bs ps ns z.1)
+each_named bs ps ns z = absurd z
 
 side_back : (bs : List Binding) (ps : List (List ℕ)) (ns : List QName) → NamesEach bs ps ns → IsSorted name_cmp ns → side_of bs ps ≡ Some ns
 side_back bs ps ns h up = ap (option_map in_order) (each_named bs ps h.spelled h.expands) ∙ ap Some (in_one_order h.spelled ns h.same up)
@@ -119,15 +117,13 @@ abbrev measures : List QName → List QName → Measures
 measures ns ds = record { numerators = ns; denominators = ds }
 
 with_back : (ns ds : List QName) → measures ns ds ≢ pure_alone → unit_with ns ds ≡ Some (measures ns ds)
-with_back [] ds other = refl
-with_back (n ∷ m ∷ ns) ds other = refl
-with_back (n ∷ []) (d ∷ ds) other = refl
 with_back (n ∷ []) [] other =
     elim (name_cmp n pure_name) as (λ o. name_cmp n pure_name ≡ o → cond (is_eq o) None (Some (measures (n ∷ []) [])) ≡ Some (measures (n ∷ []) [])) [
       | Less ↦ λ o. refl
       | Equal ↦ λ o. let same : n ≡ pure_name = exact_name n pure_name o in absurd (other (λ i. measures (same i ∷ []) []))
       | Greater ↦ λ o. refl
     ] refl
+with_back ns ds other = refl
 
 unit_said : (bs : List Binding) (t : List ℕ) (m : Measures) → HasMeasures bs t m → IsUnit m → unit_of bs t ≡ Some (Some m)
 unit_said bs t m h is =

@@ -24,21 +24,13 @@ use Rattle.oim_report.proofs.Utf8Parts.{both_utf8}
 -- ---- lexemes
 
 abbrev TokenHas : Token → Type 0
-TokenHas Token.begin_object = ⊤
-TokenHas Token.end_object = ⊤
-TokenHas Token.begin_array = ⊤
-TokenHas Token.end_array = ⊤
 TokenHas (Token.key s) = IsUtf8 s
 TokenHas (Token.string s) = IsUtf8 s
-TokenHas (Token.number s) = ⊤
-TokenHas (Token.boolean b) = ⊤
-TokenHas Token.null = ⊤
-TokenHas Token.bad = ⊤
+TokenHas o = ⊤
 
 abbrev LexemeHas : Lexeme → Type 0
 LexemeHas (token t) = TokenHas t
-LexemeHas comma = ⊤
-LexemeHas colon = ⊤
+LexemeHas o = ⊤
 
 abbrev LexemesHave : List Lexeme → Type 0
 LexemesHave [] = ⊤
@@ -88,10 +80,7 @@ byte_has in_word space x xs k u h = h between
 byte_has in_word other x xs k u h = h in_word
 byte_has in_string quote x xs k u h = h between
 byte_has in_string backslash x xs k u h = h in_escape
-byte_has in_string operator x xs k u h = h in_string
-byte_has in_string space x xs k u h = h in_string
-byte_has in_string other x xs k u h = h in_string
-byte_has in_escape c x xs k u h = h in_string
+byte_has m c x xs k u h = h in_string
 
 is_quote : (q b o s : Bool) → cond q quote (cond b backslash (cond o operator (cond s space other))) ≡ quote → q ≡ true
 is_quote true b o s e = refl
@@ -122,10 +111,8 @@ place_has p Token.end_array b k h r = allowed_has (may_close p) _ k after_value 
 place_has p (Token.key s) b k h r = (tt, tt)
 place_has p (Token.string s) true k h r = allowed_has (may_begin p) _ k after_key h (r after_key)
 place_has p (Token.string s) false k h r = allowed_has (may_begin p) _ k after_value h (r after_value)
-place_has p (Token.number s) b k h r = allowed_has (may_begin p) _ k after_value tt (r after_value)
-place_has p (Token.boolean c) b k h r = allowed_has (may_begin p) _ k after_value tt (r after_value)
-place_has p Token.null b k h r = allowed_has (may_begin p) _ k after_value tt (r after_value)
 place_has p Token.bad b k h r = (tt, tt)
+place_has p t b k h r = allowed_has (may_begin p) _ k after_value tt (r after_value)
 
 punctuate_has : (p : Place) (ls : List Lexeme) → LexemesHave ls → TokensHave (punctuate p ls)
 unfolding punctuate
@@ -150,12 +137,10 @@ punctuate_has after_key (colon ∷ ls) h = punctuate_has fresh ls h.1
 
 abbrev mutual
   JsonHas : json.Json → Type 0
-  JsonHas json.null = ⊤
-  JsonHas (json.boolean b) = ⊤
-  JsonHas (json.number s) = ⊤
   JsonHas (json.string s) = IsUtf8 s
   JsonHas (json.array js) = JsonItemsHave js
   JsonHas (json.object ms) = JsonMembersHave ms
+  JsonHas o = ⊤
 
   JsonItemsHave : json.Items → Type 0
   JsonItemsHave json.no_items = ⊤
@@ -186,34 +171,17 @@ RestHas None = ⊤
 RestHas (Some ts) = TokensHave ts
 
 end_has : (ts : List Token) → TokensHave ts → RestHas (after_end_array ts)
-end_has [] h = tt
-end_has (Token.begin_object ∷ ts) h = tt
-end_has (Token.end_object ∷ ts) h = tt
-end_has (Token.begin_array ∷ ts) h = tt
 end_has (Token.end_array ∷ ts) h = h.1
-end_has (Token.key s ∷ ts) h = tt
-end_has (Token.string s ∷ ts) h = tt
-end_has (Token.number s ∷ ts) h = tt
-end_has (Token.boolean b ∷ ts) h = tt
-end_has (Token.null ∷ ts) h = tt
-end_has (Token.bad ∷ ts) h = tt
+end_has ts h = tt
 
 abbrev KeyHas : Option (List ℕ) → Type 0
 KeyHas None = ⊤
 KeyHas (Some k) = IsUtf8 k
 
 key_has : Reads KeyHas read_key
-key_has [] h = tt
-key_has (Token.begin_object ∷ ts) h = tt
 key_has (Token.end_object ∷ ts) h = (tt, h.1)
-key_has (Token.begin_array ∷ ts) h = tt
-key_has (Token.end_array ∷ ts) h = tt
 key_has (Token.key s ∷ ts) h = h
-key_has (Token.string s ∷ ts) h = tt
-key_has (Token.number s ∷ ts) h = tt
-key_has (Token.boolean b ∷ ts) h = tt
-key_has (Token.null ∷ ts) h = tt
-key_has (Token.bad ∷ ts) h = tt
+key_has o h = tt
 
 module _ (p : Parse json.Json) (reads : Reads JsonHas p) where
   item_turn : (more : Parse json.Items) → Reads JsonItemsHave more → (ts : List Token) → TokensHave ts → (o : Option (List Token)) → RestHas o → Read JsonItemsHave (items_step p more ts o)
@@ -236,17 +204,13 @@ module _ (p : Parse json.Json) (reads : Reads JsonHas p) where
   members_have (suc n) ts h = member_turn (members p n) (members_have n) (read_key ts) (key_has ts h)
 
 with_has : (a : Parse json.Items) (o : Parse json.Members) → Reads JsonItemsHave a → Reads JsonMembersHave o → Reads JsonHas (value_with a o)
-with_has a o x y [] h = tt
 with_has a o x y (Token.begin_object ∷ ts) h = mapped JsonMembersHave JsonHas json.object (λ m z. z) (o ts) (y ts h.1)
-with_has a o x y (Token.end_object ∷ ts) h = tt
 with_has a o x y (Token.begin_array ∷ ts) h = mapped JsonItemsHave JsonHas json.array (λ m z. z) (a ts) (x ts h.1)
-with_has a o x y (Token.end_array ∷ ts) h = tt
-with_has a o x y (Token.key s ∷ ts) h = tt
 with_has a o x y (Token.string s ∷ ts) h = h
 with_has a o x y (Token.number s ∷ ts) h = (tt, h.1)
 with_has a o x y (Token.boolean b ∷ ts) h = (tt, h.1)
 with_has a o x y (Token.null ∷ ts) h = (tt, h.1)
-with_has a o x y (Token.bad ∷ ts) h = tt
+with_has a o x y d h = tt
 
 value_has : (n : ℕ) → Reads JsonHas (value n)
 unfolding value
@@ -282,12 +246,11 @@ any (Some a) = tt
 
 mutual
   json_has : (j : json.Json) → JsonHas j → Has HasUtf8 (of_json j)
-  json_has json.null h = tt
-  json_has (json.boolean b) h = tt
   json_has (json.number s) h = has_mapped (λ n. ⊤) HasUtf8 number (λ n x. tt) (number_of s) (any (number_of s))
   json_has (json.string s) h = h
   json_has (json.array js) h = has_mapped ItemsHaveUtf8 HasUtf8 _ (λ ds x. x) (of_items js) (json_items_have js h)
   json_has (json.object ms) h = has_mapped MembersHaveUtf8 HasUtf8 _ (λ ds x. x) (of_members ms no_members) (json_members_have ms no_members h tt)
+  json_has j h = tt
 
   json_items_have : (js : json.Items) → JsonItemsHave js → Has ItemsHaveUtf8 (of_items js)
   json_items_have json.no_items h = tt

@@ -1,5 +1,5 @@
 -- A written value is read back, whether it is nil, a number with its decimals, a text or a name.
-use Rattle.std.proofs.Common.{◌≡◌, ℤ, List, Bool, true, false, not, cond, Option, Some, None, refl, sym, ap, ◌∙◌}
+use Rattle.std.proofs.Common.{◌≡◌, ℤ, List, Bool, true, not, cond, Option, Some, None, refl, sym, ap, ◌∙◌}
 use Rattle.std.specs.Prelude.{◌&&◌, if◌then◌else◌, option_and_then, option_map}
 use Rattle.oim_names.specs.Bindings.{Binding}
 use Rattle.oim_names.specs.declared.reason.Reason.TheVariants.{NumberForm, NumberDigits}
@@ -18,8 +18,7 @@ use Rattle.oim_report.proofs.Spelled.{expands, name_back}
 
 short_of : (a b : Bool) → cond (not a) (Some NumberForm) (cond (not b) (Some NumberDigits) None) ≡ None → b ≡ true
 short_of true true h = refl
-short_of true false h = cc
-short_of false b h = cc
+short_of a b h = cc
 
 module _ (units : ℤ) (short : IsShort units) where
   says : SaysNumber (plain units) units
@@ -37,9 +36,7 @@ module _ (units : ℤ) (short : IsShort units) where
       (λ i. if form i && few i then Some (Number (units_of (plain units)) places) else None) ∙ ap (λ u. Some (Number u places)) same
 
 pub value_part_back : ValuesReadBack
-value_part_back bs spelled Numeric Nil fits s = record { says = refl; said = refl }
-value_part_back bs spelled Text Nil fits s = record { says = refl; said = refl }
-value_part_back bs spelled Name Nil fits s = record { says = refl; said = refl }
+value_part_back bs spelled kind Nil fits s = record { says = refl; said = refl }
 value_part_back bs spelled Numeric (Number units None) fits s = record {
   says = (says units fits.0, refl);
   said = said units fits.0 bs None;
@@ -50,14 +47,9 @@ value_part_back bs spelled Numeric (Number units (Some d)) fits s =
       says = (says units fits.0, (few, refl));
       said = ap (λ b. option_and_then (λ (places : Option ℤ). text_said bs Numeric places (plain units)) (if b then Some (Some d) else None)) few ∙ said units fits.0 bs (Some d);
     }
-value_part_back bs spelled Text (Number units places) fits s = absurd fits
-value_part_back bs spelled Name (Number units places) fits s = absurd fits
-value_part_back bs spelled Numeric (AText t) fits s = absurd fits
 value_part_back bs spelled Text (AText t) fits s = record { says = refl; said = refl }
-value_part_back bs spelled Name (AText t) fits s = absurd fits
-value_part_back bs spelled Numeric (AName n) fits s = absurd fits
-value_part_back bs spelled Text (AName n) fits s = absurd fits
 value_part_back bs spelled Name (AName n) fits s = record {
   says = expands bs spelled n s fits;
   said = ap (option_map AName) (name_back bs spelled n fits s);
 }
+value_part_back bs spelled o d fits s = absurd fits

@@ -1,5 +1,5 @@
 -- The number or the unit that is read from a text is the one that the text denotes.
-use Rattle.std.proofs.Common.{◌≡◌, ℕ, ℤ, List, Bool, true, false, not, ◌&&◌, cond, Result, Ok, Err, refl, sym, ap, ◌∙◌}
+use Rattle.std.proofs.Common.{◌≡◌, ℕ, ℤ, List, Bool, true, not, ◌&&◌, cond, Result, Ok, Err, refl, sym, ap, ◌∙◌}
 use Rattle.std.specs.Prelude.{Option, Some, None, IfOk, IfSome, if◌then◌else◌}
 use Rattle.oim_names.specs.Bindings.{Binding}
 use Rattle.oim_names.specs.declared.reason.Reason.{Reason}
@@ -17,8 +17,7 @@ use Rattle.oim_report.proofs.UnitSaid.{unit_is}
 
 both : (number short : Bool) → cond (not number) (Some NumberForm) (cond (not short) (Some NumberDigits) None) ≡ None → (number && short) ≡ true
 both true true h = refl
-both true false h = absurd (cc)
-both false short h = absurd (cc)
+both number short h = absurd (cc)
 
 pub number_said : (bs : List Binding) (kind : ConceptKind) (t : List ℕ) (units : ℤ) (places : Option ℤ) → kind ≡ Numeric → Denotes t units → number_refusal t ≡ None → text_said bs kind places t ≡ Some (Number units places)
 number_said bs kind t units places is says none =

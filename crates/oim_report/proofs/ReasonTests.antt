@@ -28,14 +28,12 @@ formed false true p q = refl
 formed false false p q = refl
 
 form_between : (start end : Option ℤ) → answers (result_err (from_to start end)) PeriodForm ≡ (is_none start || is_none end)
-form_between None end = refl
-form_between (Some s) None = refl
 form_between (Some s) (Some e) = formed (int_lt e s) (int_eq s e) (Instant s) (Duration s e)
+form_between start end = refl
 
 order_between : (start end : Option ℤ) → answers (result_err (from_to start end)) PeriodOrder ≡ is_some_and (λ s. is_some_and (λ e. int_lt e s) end) start
-order_between None end = refl
-order_between (Some s) None = refl
 order_between (Some s) (Some e) = ordered (int_lt e s) (int_eq s e) (Instant s) (Duration s e)
+order_between start end = refl
 
 pub period_form : (t : List ℕ) → answers (result_err (period_of t)) PeriodForm ≡ lacks_moment t
 period_form t = form_between (moment_of (start_part t)) (moment_of (end_part t))

@@ -32,14 +32,12 @@ gone : {P : Type 0} → false ≡ true → P
 gone h = absurd (false≢true h)
 
 first_up : (a b : Ordering) → is_gt (ordering_then a b) ≡ false → is_gt a ≡ false
-first_up Less b h = refl
-first_up Equal b h = refl
 first_up Greater b h = h
+first_up a b h = refl
 
 second_up : (a b : Ordering) → a ≡ Equal → is_gt (ordering_then a b) ≡ false → is_gt b ≡ false
-second_up Less b e h = cc
 second_up Equal b e h = h
-second_up Greater b e h = cc
+second_up a b e h = cc
 
 less_from : (a : Ordering) → is_gt a ≡ false → is_eq a ≡ false → a ≡ Less
 less_from Less up other = refl
@@ -186,11 +184,9 @@ again l before last h = absorbed _ _ (λ each. each_push (λ g. allows l g last)
     absorbed false b f = refl
 
 repeated : (u c s : Bool) → (u ≡ true → c ≡ true) → strictest false c s ≡ ord_max level_cmp (strictest u c s) Complete
-repeated true true s p = refl
 repeated true false s p = gone (p refl)
-repeated false true s p = refl
 repeated false false true p = refl
-repeated false false false p = refl
+repeated u c s p = refl
 
 differing : (u c s m : Bool) → (u ≡ true → c ≡ true) → (c ≡ true → s ≡ true) → strictest false false (s && m) ≡ ord_max level_cmp (strictest u c s) (cond m Consistent AllLevel)
 differing true true true true p q = refl

@@ -16,7 +16,7 @@ use Rattle.oim_dims.specs.DimensionSet.{DimensionSet}
 use Rattle.oim_dims.specs.Language.{is_language}
 use Rattle.oim_dims.specs.Unit.{is_unit_text}
 use Rattle.oim_dims.specs.declared.fact.Fact.{Fact}
-use Rattle.serde_json.specs.Data.{Data, Members, null, boolean, number, string, array, object}
+use Rattle.serde_json.specs.Data.{Data, Members, object}
 use Rattle.serde_json.specs.Find.{as_object, get_member}
 use Rattle.oim_report.specs.declared.concept_kind.ConceptKind.{ConceptKind}
 use Rattle.oim_report.specs.declared.concept_kind.ConceptKind.TheVariants.{Numeric, Text, Name}
@@ -318,11 +318,7 @@ pub said_free : (sheet : Sheet) (bs : List Binding) (d : Data) (p : FactParts) (
 said_free sheet bs (object fms) p ds f are form said =
     let same : p ≡ parts_of fms = cc in
     free_object sheet bs fms ds f (subst (λ q. HasForm q ds) same form) (ap (λ q. fact_of sheet bs q ds) (sym same) ∙ said)
-said_free sheet bs null p ds f are form said = absurd (cc)
-said_free sheet bs (boolean b) p ds f are form said = absurd (cc)
-said_free sheet bs (number n) p ds f are form said = absurd (cc)
-said_free sheet bs (string s) p ds f are form said = absurd (cc)
-said_free sheet bs (array items) p ds f are form said = absurd (cc)
+said_free sheet bs d p ds f are form said = absurd (cc)
 
 pub said_outcome : (sheet : Sheet) (bs : List Binding) (d : Data) (p : FactParts) (ds : DimensionParts) (f : Fact) → fact_parts d ≡ Some p → HasForm p ds → fact_of sheet bs p ds ≡ Some f → fact_outcome sheet bs d ≡ Ok f
 said_outcome sheet bs d p ds f are form said =
@@ -333,13 +329,8 @@ said_outcome sheet bs d p ds f are form said =
 -- ---- a fact object to which no condition applies
 
 dimensions_are : (o : Option Data) → is_no_object o ≡ false → is_none o ≡ false → (ms : Members) × (option_and_then as_object o ≡ Some ms)
-dimensions_are None shaped some = absurd (cc)
 dimensions_are (Some (object ms)) shaped some = (ms, refl)
-dimensions_are (Some null) shaped some = absurd (cc)
-dimensions_are (Some (boolean b)) shaped some = absurd (cc)
-dimensions_are (Some (number n)) shaped some = absurd (cc)
-dimensions_are (Some (string s)) shaped some = absurd (cc)
-dimensions_are (Some (array items)) shaped some = absurd (cc)
+dimensions_are o shaped some = absurd (cc)
 
 object_is_said : (sheet : Sheet) (bs : List Binding) (fms : Members) → IsFree sheet bs (object fms) → (f : Fact) × (said_fact sheet bs (parts_of fms) ≡ Some f)
 unfolding holds
@@ -355,8 +346,4 @@ object_is_said sheet bs fms free =
 pub facts_are_said : FactsAreSaid
 unfolding holds
 facts_are_said sheet bs (object fms) free = object_is_said sheet bs fms free
-facts_are_said sheet bs null free = let no : true ≡ false = free MemberForm in absurd (cc)
-facts_are_said sheet bs (boolean b) free = let no : true ≡ false = free MemberForm in absurd (cc)
-facts_are_said sheet bs (number n) free = let no : true ≡ false = free MemberForm in absurd (cc)
-facts_are_said sheet bs (string s) free = let no : true ≡ false = free MemberForm in absurd (cc)
-facts_are_said sheet bs (array items) free = let no : true ≡ false = free MemberForm in absurd (cc)
+facts_are_said sheet bs o free = let no : true ≡ false = free MemberForm in absurd (cc)

@@ -21,18 +21,15 @@ use Rattle.oim_dims.specs.declared.period.Period.TheVariants.{Forever}
 use Rattle.oim_report.specs.declared.concept_kind.ConceptKind.{ConceptKind}
 use Rattle.oim_report.specs.declared.concept_kind.ConceptKind.TheVariants.{Numeric, Text, Name}
 use Rattle.oim_report.specs.Fact.{GivesText, SaysDecimals, SaysEntity, SaysLanguage, SaysPeriod, SaysValue}
-use Rattle.oim_report.specs.Json.{Given, absent, nil, text, whole, other, text_of}
+use Rattle.oim_report.specs.Json.{Given, absent, nil, text, whole, text_of}
 use Rattle.oim_report.specs.Names.{entity_named, named}
 use Rattle.oim_report.specs.Said.{said_concept, said_decimals, said_entity, said_language, said_period, said_value, value_with}
 use Rattle.oim_report.proofs.Accepted.{and_then_some, map_some}
 use Rattle.oim_report.proofs.Naming.{stands}
 
 pub text_is : (g : Given) (t : List ℕ) → text_of g ≡ Some t → g ≡ text t
-text_is absent t e = absurd (cc)
-text_is nil t e = absurd (cc)
 text_is (text s) t e = cc
-text_is (whole n) t e = absurd (cc)
-text_is other t e = absurd (cc)
+text_is g t e = absurd (cc)
 
 gives : (g : Given) (P : List ℕ → Type 0) (t : List ℕ) → g ≡ text t → P t → GivesText g P
 gives g P t is p = subst (λ h. GivesText h P) (sym is) p
@@ -44,12 +41,10 @@ concept_says bs g n e =
 
 pub entity_says : (bs : List Binding) (g : Given) (said : Option QName) → said_entity bs g ≡ Some said → SaysEntity bs g said
 entity_says bs absent said e = (let same : None ≡ said = cc in sym same)
-entity_says bs nil said e = absurd (cc)
 entity_says bs (text t) said e =
     let n = map_some Some (entity_named bs t) said e in
     (n.0, sym n.2, stands is_entity bs t n.0 n.1)
-entity_says bs (whole n) said e = absurd (cc)
-entity_says bs other said e = absurd (cc)
+entity_says bs g said e = absurd (cc)
 
 pub period_ok : (r : Result Period Reason) (p : Period) → result_ok r ≡ Some p → r ≡ Ok p
 period_ok (Ok q) p e = cc
@@ -57,10 +52,8 @@ period_ok (Err r) p e = absurd (cc)
 
 pub period_says : (g : Given) (said : Period) → said_period g ≡ Some said → SaysPeriod g said
 period_says absent said e = (let same : Forever ≡ said = cc in sym same)
-period_says nil said e = absurd (cc)
 period_says (text t) said e = period_ok (period_of t) said e
-period_says (whole n) said e = absurd (cc)
-period_says other said e = absurd (cc)
+period_says g said e = absurd (cc)
 
 lower : (t : List ℕ) (said : Option (List ℕ)) (b : Bool) → is_language t ≡ b → cond b (Some (Some (str_to_ascii_lowercase t))) None ≡ Some said → IsTrue (is_language t) × (said ≡ Some (str_to_ascii_lowercase t))
 lower t said true u e = (u, cc)
@@ -68,12 +61,9 @@ lower t said false u e = absurd (cc)
 
 pub language_says : (kind : ConceptKind) (g : Given) (said : Option (List ℕ)) → said_language kind g ≡ Some said → SaysLanguage g said
 language_says kind absent said e = (let same : None ≡ said = cc in sym same)
-language_says kind nil said e = absurd (cc)
-language_says Numeric (text t) said e = absurd (cc)
 language_says Text (text t) said e = lower t said (is_language t) refl e
 language_says Name (text t) said e = lower t said (is_language t) refl e
-language_says kind (whole n) said e = absurd (cc)
-language_says kind other said e = absurd (cc)
+language_says kind g said e = absurd (cc)
 
 in_range : (n : ℤ) (places : Option ℤ) (b : Bool) → is_finite_decimals n ≡ b → cond b (Some (Some n)) None ≡ Some places → SaysDecimals (whole n) places
 in_range n places true u e = (u, cc)
@@ -81,10 +71,8 @@ in_range n places false u e = absurd (cc)
 
 decimals_say : (g : Given) (places : Option ℤ) → said_decimals Numeric g ≡ Some places → SaysDecimals g places
 decimals_say absent places e = (let same : None ≡ places = cc in sym same)
-decimals_say nil places e = absurd (cc)
-decimals_say (text t) places e = absurd (cc)
 decimals_say (whole n) places e = in_range n places (is_finite_decimals n) refl e
-decimals_say other places e = absurd (cc)
+decimals_say g places e = absurd (cc)
 
 module _ (bs : List Binding) (decimals : Given) (places : Option ℤ) (v : Value) where
   number_says : (t : List ℕ) (form short : Bool) → is_number t ≡ form → is_short t ≡ short → SaysDecimals decimals places → cond (form && short) (Some (Number (units_of t) places)) None ≡ Some v → SaysValue bs Numeric (text t) decimals v
@@ -106,9 +94,7 @@ module _ (bs : List Binding) (decimals : Given) (places : Option ℤ) (v : Value
   says_with Numeric nil d e = let is : Nil ≡ v = cc in subst (SaysValue bs Numeric nil decimals) is refl
   says_with Text nil d e = let is : Nil ≡ v = cc in subst (SaysValue bs Text nil decimals) is refl
   says_with Name nil d e = let is : Nil ≡ v = cc in subst (SaysValue bs Name nil decimals) is refl
-  says_with kind absent d e = absurd (cc)
-  says_with kind (whole n) d e = absurd (cc)
-  says_with kind other d e = absurd (cc)
+  says_with kind g d e = absurd (cc)
 
 pub value_says : (bs : List Binding) (kind : ConceptKind) (g decimals : Given) (v : Value) → said_value bs kind g decimals ≡ Some v → SaysValue bs kind g decimals v
 value_says bs kind g decimals v e =

@@ -18,9 +18,8 @@ use Rattle.oim_report.specs.Shown.{Shown, entry, first_shown, kindless, name, no
 
 pub or_nothing : {A : Type 0} (o : Option Part) (f : A → Shown) (found : Option A) → option_map seen o ≡ option_map f found → seen (unwrap_or o Nothing) ≡ option_map_or f found nothing
 or_nothing None f None is = refl
-or_nothing None f (Some a) is = absurd (cc)
-or_nothing (Some p) f None is = absurd (cc)
 or_nothing (Some p) f (Some a) is = cc
+or_nothing o f found is = absurd (cc)
 
 at_first : (x : Shown) (o p : Option Spelled) → Some x ≡ option_map name o → x ≡ option_map_or name (option_or o p) nothing
 at_first x None p is = absurd (cc)

@@ -8,7 +8,6 @@ use Rattle.oim_names.specs.Expansion.{Spelled, refuses}
 use Rattle.oim_names.specs.declared.reason.Reason.{Reason}
 use Rattle.oim_names.specs.declared.reason.Reason.TheVariants.{Feature}
 use Rattle.serde_json.specs.Data.{Data, Items, no_items, item, Members, no_members, member}
-use Rattle.oim_report.specs.declared.findings.part.Part.{Part}
 use Rattle.oim_report.specs.Holds.{any_item, document_holds}
 use Rattle.oim_report.specs.Info.{bindings_of, features_of, info, is_allowed_duplicates, namespaces_of}
 use Rattle.oim_report.specs.Json.{any_in, any_member, entries, members}
@@ -16,7 +15,7 @@ use Rattle.oim_report.specs.Names.{refuses_some}
 use Rattle.oim_report.specs.Namespaces.{binds_nothing}
 use Rattle.oim_report.specs.code.Rows.{misdeclared}
 use Rattle.oim_report.proofs.DocumentHolds.{feature_same}
-use Rattle.oim_report.specs.Shown.{Shown, declares_no_level, document_part, document_shown, entry, first_item, name, nothing, seen, value, value_or_nothing, when}
+use Rattle.oim_report.specs.Shown.{Shown, declares_no_level, document_part, document_shown, entry, first_item, name, nothing, value, value_or_nothing, when}
 
 is_found : {A : Type 0} (b : Bool) (x : A) (o : Option A) → is_some (cond b (Some x) o) ≡ (b || is_some o)
 is_found true x o = refl
@@ -66,12 +65,6 @@ find_map p f (x ∷ xs) = ap (cond (p (f x)) (Some (f x))) (find_map p f xs) ∙
 
 pub name_shown : (r : Reason) (bs : List Binding) (ns : List Spelled) → let first = find (refuses r bs) ns in option_map name first ≡ when (refuses_some r bs ns) (option_map_or name first nothing)
 name_shown r bs ns = let first = find (refuses r bs) ns in shown_found name first ∙ ap (λ b. when b (option_map_or name first nothing)) (found_any (refuses r bs) ns)
-
-pub part_some : (o : Option Part) (b : Bool) (x : Shown) → option_map seen o ≡ when b x → is_some o ≡ b
-part_some None true x is = absurd (cc)
-part_some None false x is = refl
-part_some (Some p) true x is = refl
-part_some (Some p) false x is = absurd (cc)
 
 unless_hidden : {A : Type 0} (bad c : Bool) (a : A) (f : A → Option Shown) (x : Shown) → f a ≡ when c x → option_and_then f (if bad then None else Some a) ≡ when (not (bad || false) && c) x
 unless_hidden true c a f x is = refl

@@ -93,43 +93,27 @@ IsUtf8-one c ascii =
 -- the bytes of an unfinished character; there are none after an escape has begun
 abbrev open_run : Within → List ℕ → List ℕ
 open_run plain run = run
-open_run after_backslash run = []
-open_run after_u run = []
-open_run (after_high h) run = []
+open_run o run = []
 
 abbrev IsBegun : Within → Type 0
-IsBegun plain = ⊤
-IsBegun after_backslash = ⊤
-IsBegun after_u = ⊤
 IsBegun (after_high h) = is_high_surrogate h ≡ true
+IsBegun o = ⊤
 
 pub content_utf8 : (w : Within) (run xs : List ℕ) → IsBegun w → IsUtf8 (open_run w run ++ xs) → IsUtf8Behind (open_run w run) (content w xs)
 unfolding content
-content_utf8 plain run [] begun utf8 = tt
 content_utf8 plain run (x ∷ xs) begun utf8 =
     either run (x == 34) _ _ (λ q. subst IsUtf8 (sym (append-nil run)) (both_utf8 run xs x (omega (arith, eqb-true x 34 q)) utf8).0)
     (λ q. either run (x == 92) _ _
     (λ b. let both = both_utf8 run xs x (omega (arith, eqb-true x 92 b)) utf8 in after run _ both.0 (content_utf8 after_backslash [] xs tt both.1))
     (λ b. either run (nat_lt x 32) _ _ (λ l. tt) (λ l. one_more run x _ (content_utf8 plain (run ++ x ∷ []) xs tt (subst IsUtf8 (sym (append_assoc run (x ∷ []) xs)) utf8)))))
-content_utf8 after_backslash run [] begun utf8 = tt
 content_utf8 after_backslash run (x ∷ xs) begun utf8 =
     either [] (x == 117) _ _ (λ u. content_utf8 after_u [] xs tt (behind x xs (omega (arith, eqb-true x 117 u)) utf8))
     (λ u. then _ (short_escape x) (λ c e. let low = short_ascii x c e in put_before (c ∷ []) _ (IsUtf8-one c low.1) (content_utf8 plain [] xs tt (behind x xs low.0 utf8))))
-content_utf8 after_u run [] begun utf8 = tt
-content_utf8 after_u run (a ∷ []) begun utf8 = tt
-content_utf8 after_u run (a ∷ b ∷ []) begun utf8 = tt
-content_utf8 after_u run (a ∷ b ∷ c ∷ []) begun utf8 = tt
 content_utf8 after_u run (a ∷ b ∷ c ∷ d ∷ xs) begun utf8 =
     then _ (code_unit a b c d) (λ u e. let s = spelled a b c d u e in let rest = past_unit a b c d u xs s utf8 in
     either [] (is_high_surrogate u) _ _ (λ high. content_utf8 (after_high u) [] xs high rest)
     (λ high. either [] (is_low_surrogate u) _ _ (λ low. tt)
     (λ low. put_before (encode_utf8 u) _ (IsUtf8-encode u (plain_scalar u s.small high low)) (content_utf8 plain [] xs tt rest))))
-content_utf8 (after_high h) run [] begun utf8 = tt
-content_utf8 (after_high h) run (s ∷ []) begun utf8 = tt
-content_utf8 (after_high h) run (s ∷ u ∷ []) begun utf8 = tt
-content_utf8 (after_high h) run (s ∷ u ∷ a ∷ []) begun utf8 = tt
-content_utf8 (after_high h) run (s ∷ u ∷ a ∷ b ∷ []) begun utf8 = tt
-content_utf8 (after_high h) run (s ∷ u ∷ a ∷ b ∷ c ∷ []) begun utf8 = tt
 content_utf8 (after_high h) run (s ∷ u ∷ a ∷ b ∷ c ∷ d ∷ xs) begun utf8 =
     either [] ((s == 92) && (u == 117)) _ _
     (λ e. let both = and_parts _ _ e in
@@ -138,3 +122,4 @@ content_utf8 (after_high h) run (s ∷ u ∷ a ∷ b ∷ c ∷ d ∷ xs) begun u
     (λ low. put_before (encode_utf8 (surrogate_pair h l)) _ (IsUtf8-encode (surrogate_pair h l) (pair_scalar h l begun low)) (content_utf8 plain [] xs tt (past_unit a b c d l xs (spelled a b c d l is) past)))
     (λ low. tt)))
     (λ e. tt)
+content_utf8 w run xs begun utf8 = tt

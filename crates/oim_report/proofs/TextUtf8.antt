@@ -1,6 +1,6 @@
 -- The compact text of a plain value with UTF-8 strings and keys is UTF-8. The text of such an object is read back, if the
 -- object is at most `max_depth` levels deep. A plain value has no float.
-use Rattle.std.proofs.Common.{◌≡◌, ℕ, pos, negsuc, List, [], ◌∷◌, Bool, true, false, ◌||◌, refl, ◌∙◌}
+use Rattle.std.proofs.Common.{◌≡◌, ℕ, negsuc, List, [], ◌∷◌, Bool, true, false, ◌||◌, refl, ◌∙◌}
 use Rattle.std.specs.Prelude.{IsUtf8}
 use Rattle.std.proofs.lemmas.Str.{IsUtf8-append, IsUtf8-nil, IsUtf8-from_ascii}
 use Rattle.std.proofs.lemmas.Fmt.{IsAscii-decimal, IsAscii-signed}
@@ -21,9 +21,8 @@ comma false = IsUtf8-nil
 
 number_utf8 : (n : Num) → IsWhole n → IsUtf8 (number_text n)
 number_utf8 (unsigned n) h = IsUtf8-from_ascii _ (IsAscii-decimal n h)
-number_utf8 (negative (pos n)) h = absurd h
 number_utf8 (negative (negsuc n)) h = IsUtf8-from_ascii _ (IsAscii-signed (negsuc n) h)
-number_utf8 (float x) h = absurd h
+number_utf8 n h = absurd h
 
 mutual
   pub IsUtf8-compact_text : (d : Data) → IsPlain d → HasUtf8 d → IsUtf8 (compact_text d)
@@ -50,14 +49,10 @@ or_both a b h k = rw (h, k)
 
 mutual
   pub has_float-plain : (d : Data) → IsPlain d → has_float d ≡ false
-  has_float-plain null h = refl
-  has_float-plain (boolean b) h = refl
-  has_float-plain (number (unsigned n)) h = refl
-  has_float-plain (number (negative z)) h = refl
   has_float-plain (number (float x)) h = absurd h
-  has_float-plain (string s) h = refl
   has_float-plain (array ds) h = items_plain ds h
   has_float-plain (object ms) h = members_plain ms h
+  has_float-plain d h = refl
 
   items_plain : (ds : Items) → ItemsArePlain ds → items_have_float ds ≡ false
   items_plain no_items h = refl

@@ -15,9 +15,9 @@ use Rattle.oim_dims.specs.Separators.{is_slash}
 use Rattle.oim_dims.specs.Unit.{IsMeasure, IsUnit, Measures, denominator_pieces, inner, is_mark, is_piece, numerator_pieces}
 use Rattle.oim_dims.proofs.Naming.{side_some}
 use Rattle.oim_report.specs.declared.concept_kind.ConceptKind.{ConceptKind}
-use Rattle.oim_report.specs.declared.concept_kind.ConceptKind.TheVariants.{Numeric, Text, Name}
+use Rattle.oim_report.specs.declared.concept_kind.ConceptKind.TheVariants.{Numeric}
 use Rattle.oim_report.specs.FactFits.{FitsName, UnitFits}
-use Rattle.oim_report.specs.Json.{Given, absent, nil, text, whole, other}
+use Rattle.oim_report.specs.Json.{Given, absent, text}
 use Rattle.oim_report.specs.Said.{said_unit}
 use Rattle.oim_report.proofs.Fitting.{AreNamespaces, IsClean, bound_uri, name_fits}
 use Rattle.oim_report.proofs.UnitSays.{HasSides, IsSide, alone, sides, unit}
@@ -44,11 +44,10 @@ good bs p n are piece utf8 e =
 
 each_good : (bs : List Binding) (ps : List (List ℕ)) (ns : List QName) → AreNamespaces bs → list_all is_piece ps ≡ true → All IsUtf8 ps → AllZip (Expands bs) ps ns → All IsGood ns
 each_good bs [] [] are pieces utf8 z = λ k d lt. absurd (omega (arith, lt))
-each_good bs [] (n ∷ ns) are pieces utf8 z = absurd z
-each_good bs (p ∷ ps) [] are pieces utf8 z = absurd z
 each_good bs (p ∷ ps) (n ∷ ns) are pieces utf8 z =
     let both = and_parts (is_piece p) (list_all is_piece ps) pieces in
     All-cons IsGood n ns (good bs p n are both.0 (All-head IsUtf8 p ps utf8) z.0) (each_good bs ps ns are both.1 (All-tail IsUtf8 p ps utf8) z.1)
+each_good bs ps ns are pieces utf8 z = absurd z
 
 side_good : (bs : List Binding) (ps : List (List ℕ)) (ns : List QName) → AreNamespaces bs → list_all is_piece ps ≡ true → All IsUtf8 ps → IsSide bs ps ns → All IsGood ns
 side_good bs ps ns are pieces utf8 side = All-permutation IsGood side.names.spelled ns side.names.same (each_good bs ps side.names.spelled are pieces utf8 side.names.expands)
@@ -83,12 +82,8 @@ is_unit bs t u has are utf8 = elim has.made [
 
 pub unit_is_one : (bs : List Binding) (kind : ConceptKind) (g : Given) (u : Option Measures) → AreNamespaces bs → IsClean g → said_unit bs kind g ≡ Some u → IfSome u IsUnit
 unit_is_one bs kind absent u are clean e = let same : None ≡ u = cc in subst (λ v. IfSome v IsUnit) same tt
-unit_is_one bs kind nil u are clean e = absurd (cc)
 unit_is_one bs Numeric (text t) u are clean e = is_unit bs t u (sides bs t u e) are (clean t refl)
-unit_is_one bs Text (text t) u are clean e = absurd (cc)
-unit_is_one bs Name (text t) u are clean e = absurd (cc)
-unit_is_one bs kind (whole n) u are clean e = absurd (cc)
-unit_is_one bs kind other u are clean e = absurd (cc)
+unit_is_one bs kind g u are clean e = absurd (cc)
 
 measures_fit : (bs : List Binding) (t : List ℕ) (u : Option Measures) → HasSides bs t u → AreNamespaces bs → IsUtf8 t → UnitFits Numeric u
 measures_fit bs t u has are utf8 = elim has.made [
@@ -98,9 +93,5 @@ measures_fit bs t u has are utf8 = elim has.made [
 
 pub unit_fits : (bs : List Binding) (kind : ConceptKind) (g : Given) (u : Option Measures) → AreNamespaces bs → IsClean g → said_unit bs kind g ≡ Some u → UnitFits kind u
 unit_fits bs kind absent u are clean e = let same : None ≡ u = cc in subst (UnitFits kind) same tt
-unit_fits bs kind nil u are clean e = absurd (cc)
 unit_fits bs Numeric (text t) u are clean e = measures_fit bs t u (sides bs t u e) are (clean t refl)
-unit_fits bs Text (text t) u are clean e = absurd (cc)
-unit_fits bs Name (text t) u are clean e = absurd (cc)
-unit_fits bs kind (whole n) u are clean e = absurd (cc)
-unit_fits bs kind other u are clean e = absurd (cc)
+unit_fits bs kind g u are clean e = absurd (cc)

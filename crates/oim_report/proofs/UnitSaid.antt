@@ -76,9 +76,8 @@ sorted (x ∷ xs) c = sorted_from x xs c
 
 spelled : (bs : List Binding) (ps : List (List ℕ)) (ns : List QName) → AllZip (Expands bs) ps ns → all_named bs ps ≡ Some ns
 spelled bs [] [] z = refl
-spelled bs [] (n ∷ ns) z = absurd z
-spelled bs (p ∷ ps) [] z = absurd z
 spelled bs (p ∷ ps) (n ∷ ns) z = rw (expanded is_name bs p n z.0, spelled bs ps ns z.1) refl
+spelled bs ps ns z = absurd z
 
 side : (bs : List Binding) (ps : List (List ℕ)) (ns : List QName) → NamesEach bs ps ns → IsSorted name_cmp ns → side_of bs ps ≡ Some ns
 side bs ps ns each up =
@@ -107,10 +106,8 @@ not_pure n other =
     ] refl
 
 other_unit : (ns ds : List QName) → let m : Measures = record { numerators = ns; denominators = ds } in m ≢ pure_alone → unit_with ns ds ≡ Some m
-other_unit [] ds other = refl
 other_unit (n ∷ []) [] other = cond-false _ _ _ (not_pure n (λ same. other (λ i. record { numerators = same i ∷ []; denominators = [] })))
-other_unit (n ∷ []) (d ∷ ds) other = refl
-other_unit (n ∷ m ∷ ns) ds other = refl
+other_unit ns ds other = refl
 
 pub unit_is : (bs : List Binding) (t : List ℕ) (u : Option Measures) → UnitOf bs t u → IfSome u IsUnit → unit_of bs t ≡ Some u
 unit_is bs t None says is = both_sides bs t pure_alone says alone_sorted none_sorted ∙ ap Some is_none

@@ -12,9 +12,9 @@ use Rattle.oim_names.specs.contracts.name.NameOrd.TheImpl.Laws.{total-law as nam
 use Rattle.oim_value.specs.ValueOrder.{name_cmp}
 use Rattle.oim_dims.specs.Unit.{HasMeasures, Measures, NamesEach, UnitOf, denominator_pieces, is_unit_text, numerator_pieces, pure_alone, pure_name}
 use Rattle.oim_report.specs.declared.concept_kind.ConceptKind.{ConceptKind}
-use Rattle.oim_report.specs.declared.concept_kind.ConceptKind.TheVariants.{Numeric, Text, Name}
+use Rattle.oim_report.specs.declared.concept_kind.ConceptKind.TheVariants.{Numeric}
 use Rattle.oim_report.specs.Fact.{SaysUnit}
-use Rattle.oim_report.specs.Json.{Given, absent, nil, text, whole, other}
+use Rattle.oim_report.specs.Json.{Given, absent, text}
 use Rattle.oim_report.specs.Names.{named}
 use Rattle.oim_report.specs.Said.{all_named, in_order, said_unit, side_of, unit_of, unit_with}
 use Rattle.oim_report.proofs.Accepted.{and_then_some, map_some}
@@ -100,9 +100,5 @@ unit_denoted bs t u has = elim has.made [
 
 pub unit_says : (bs : List Binding) (kind : ConceptKind) (g : Given) (u : Option Measures) → said_unit bs kind g ≡ Some u → SaysUnit bs g u
 unit_says bs kind absent u e = (let same : None ≡ u = cc in sym same)
-unit_says bs kind nil u e = absurd (cc)
 unit_says bs Numeric (text t) u e = unit_denoted bs t u (sides bs t u e)
-unit_says bs Text (text t) u e = absurd (cc)
-unit_says bs Name (text t) u e = absurd (cc)
-unit_says bs kind (whole n) u e = absurd (cc)
-unit_says bs kind other u e = absurd (cc)
+unit_says bs kind g u e = absurd (cc)

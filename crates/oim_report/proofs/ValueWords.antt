@@ -3,7 +3,7 @@ use Rattle.std.proofs.Common.{◌≡◌, ℕ, ℤ, pos, List, ◌∷◌, map, Bo
 use Rattle.std.specs.Prelude.{⊤, Option, Some, None, is_none, is_some, option_and_then, if◌then◌else◌}
 use Rattle.std.specs.List.{filter}
 use Rattle.std.specs.Str.{is_utf8}
-use Rattle.serde_json.specs.Data.{Data, Members, no_members, member, null, boolean, number, string, array, object, unsigned, negative, float}
+use Rattle.serde_json.specs.Data.{Data, Members, no_members, member, null, number, string, unsigned, negative}
 use Rattle.serde_json.specs.Find.{as_null}
 use Rattle.oim_report.specs.Json.{Given, absent, entries, given, given_of, has_colon, is_absent, is_no_text, nil, other, text, text_of, whole}
 use Rattle.oim_report.specs.Parts.{defined_in}
@@ -13,14 +13,11 @@ use Rattle.oim_report.specs.Holds.{as_text, as_whole, is_some_and, no_text, no_t
 pub by_given : (P : Given → Option (List ℕ) → Option ℤ → Option ⊤ → Type 0) → P nil None None (Some tt) → ((t : List ℕ) → P (text t) (Some t) None None) → ((n : ℤ) → P (whole n) None (Some n) None) → P other None None None
     → (d : Data) → P (given d) (as_text d) (as_whole d) (as_null d)
 by_given P of_nil of_text of_whole of_other null = of_nil
-by_given P of_nil of_text of_whole of_other (boolean b) = of_other
 by_given P of_nil of_text of_whole of_other (number (unsigned n)) = of_whole (pos n)
 by_given P of_nil of_text of_whole of_other (number (negative z)) = of_whole z
-by_given P of_nil of_text of_whole of_other (number (float x)) = of_other
 by_given P of_nil of_text of_whole of_other (string s) =
     elim (is_utf8 s) as (λ b. P (if b then text s else other) (if b then Some s else None) None None) [ true ↦ of_text s | false ↦ of_other ]
-by_given P of_nil of_text of_whole of_other (array ds) = of_other
-by_given P of_nil of_text of_whole of_other (object ms) = of_other
+by_given P of_nil of_text of_whole of_other o = of_other
 
 pub text_same : (o : Option Data) → option_and_then as_text o ≡ text_of (given_of o)
 text_same None = refl
@@ -40,22 +37,17 @@ no_text_same (Some d) = by_given (λ g t w n. is_none t ≡ is_no_text g) refl (
 
 -- there is a value that is neither a text nor null
 abbrev pub no_value : Given → Bool
-no_value absent = false
-no_value nil = false
-no_value (text t) = false
 no_value (whole n) = true
 no_value other = true
+no_value o = false
 
 pub no_value_same : (o : Option Data) → is_some_and no_text_or_null o ≡ no_value (given_of o)
 no_value_same None = refl
 no_value_same (Some d) = by_given (λ g t w n. (is_none t && is_none n) ≡ no_value g) refl (λ t. refl) (λ n. refl) refl d
 
 abbrev pub whole_of : Given → Option ℤ
-whole_of absent = None
-whole_of nil = None
-whole_of (text t) = None
 whole_of (whole n) = Some n
-whole_of other = None
+whole_of o = None
 
 pub whole_same : (o : Option Data) → option_and_then as_whole o ≡ whole_of (given_of o)
 whole_same None = refl
@@ -63,10 +55,8 @@ whole_same (Some d) = by_given (λ g t w n. w ≡ whole_of g) refl (λ t. refl) 
 
 abbrev pub no_whole : Given → Bool
 no_whole absent = false
-no_whole nil = true
-no_whole (text t) = true
 no_whole (whole n) = false
-no_whole other = true
+no_whole o = true
 
 pub no_whole_same : (o : Option Data) → is_some_and (λ v. is_none (as_whole v)) o ≡ no_whole (given_of o)
 no_whole_same None = refl

@@ -31,18 +31,7 @@ values_meet_is_meets (AName m) (AName n) = (
   λ h. exact_name m n ((Equal-is (name_cmp m n)).0 h),
   λ same. ap is_eq (subst (λ k. name_cmp m k ≡ Equal) same (value_cmp_self (AName m))),
 )
-values_meet_is_meets Nil (Number n e) = (never, absurd)
-values_meet_is_meets Nil (AText t) = (never, absurd)
-values_meet_is_meets Nil (AName n) = (never, absurd)
-values_meet_is_meets (Number m d) Nil = (never, absurd)
-values_meet_is_meets (Number m d) (AText t) = (never, absurd)
-values_meet_is_meets (Number m d) (AName n) = (never, absurd)
-values_meet_is_meets (AText s) Nil = (never, absurd)
-values_meet_is_meets (AText s) (Number n e) = (never, absurd)
-values_meet_is_meets (AText s) (AName n) = (never, absurd)
-values_meet_is_meets (AName m) Nil = (never, absurd)
-values_meet_is_meets (AName m) (Number n e) = (never, absurd)
-values_meet_is_meets (AName m) (AText t) = (never, absurd)
+values_meet_is_meets o g = (never, absurd)
 
 pub values_meet_self : (v : Value) → values_meet v v ≡ true
 values_meet_self v = (values_meet_is_meets v v).1 (meets_is_reflexive v)
@@ -58,18 +47,7 @@ lesser_meets Nil Nil h = cc
 lesser_meets (Number m d) (Number n e) h = refl
 lesser_meets (AText s) (AText t) h = sym (is_eq-slice_cmp s t) ∙ ap is_eq h
 lesser_meets (AName m) (AName n) h = ap is_eq h
-lesser_meets Nil (Number n e) h = refl
-lesser_meets Nil (AText t) h = refl
-lesser_meets Nil (AName n) h = refl
-lesser_meets (Number m d) Nil h = refl
-lesser_meets (Number m d) (AText t) h = refl
-lesser_meets (Number m d) (AName n) h = refl
-lesser_meets (AText s) Nil h = refl
-lesser_meets (AText s) (Number n e) h = refl
-lesser_meets (AText s) (AName n) h = refl
-lesser_meets (AName m) Nil h = refl
-lesser_meets (AName m) (Number n e) h = refl
-lesser_meets (AName m) (AText t) h = refl
+lesser_meets v w h = refl
 
 le_from : (x y : ℤ) → int_le x y ≡ true → x ≤ℤ y
 le_from x y h = grind (arith, ints)
@@ -102,10 +80,5 @@ never_both false = refl
 
 pub both_meet-both_common : (a b c : Option Interval) → both_meet (both_common a b) c ≡ (both_meet a c && both_meet b c)
 both_meet-both_common (Some i) (Some j) (Some k) = both_ways _ _ (meets_each i j k) (meets_common i j k)
-both_meet-both_common (Some i) (Some j) None = refl
 both_meet-both_common (Some i) None (Some k) = never_both (intervals_meet i k)
-both_meet-both_common (Some i) None None = refl
-both_meet-both_common None (Some j) (Some k) = refl
-both_meet-both_common None (Some j) None = refl
-both_meet-both_common None None (Some k) = refl
-both_meet-both_common None None None = refl
+both_meet-both_common a b c = refl

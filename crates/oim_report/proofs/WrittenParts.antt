@@ -1,5 +1,5 @@
 -- If a fact fits a sheet and its names are spelled as in `SpellsFact`, its object has the parts in `parts_given`.
-use Rattle.std.proofs.Common.{◌≡◌, ◌≢◌, ℕ, List, [], ◌∷◌, codes, true, false, Option, Some, None, refl, ap, ◌∙◌, pos, negsuc}
+use Rattle.std.proofs.Common.{◌≡◌, ◌≢◌, ℕ, List, [], ◌∷◌, codes, true, false, Option, Some, None, refl, ap, ◌∙◌, pos}
 use Rattle.std.specs.Prelude.{All, IfSome, IsUtf8, ◌&&◌}
 use Rattle.std.specs.Option.{option_map}
 use Rattle.std.specs.Str.{is_utf8}
@@ -43,25 +43,16 @@ option_back (Some t) h = given_text t h
 
 member_back : (bs : List Binding) (spelled : QName → List ℕ) (kind : DimensionKind) (m : Member) → MemberFits kind m → SpellsMember bs spelled m → given (member_data spelled m) ≡ member_given spelled m
 member_back bs spelled Explicit (MemberName n) fits s = given_text (spelled n) (spelled_utf8 bs spelled n s fits.utf8)
-member_back bs spelled Explicit (MemberText t) fits s = absurd fits
-member_back bs spelled Explicit NoMember fits s = absurd fits
-member_back bs spelled Typed (MemberName n) fits s = absurd fits
 member_back bs spelled Typed (MemberText t) fits s = given_text t fits
 member_back bs spelled Typed NoMember fits s = refl
+member_back bs spelled kind m fits s = absurd fits
 
 value_back : (bs : List Binding) (spelled : QName → List ℕ) (kind : ConceptKind) (v : Value) → ValueFits kind v → SpellsValue bs spelled v → given (value_data spelled v) ≡ value_given spelled v
-value_back bs spelled Numeric Nil fits s = refl
-value_back bs spelled Text Nil fits s = refl
-value_back bs spelled Name Nil fits s = refl
+value_back bs spelled kind Nil fits s = refl
 value_back bs spelled Numeric (Number units places) fits s = given_text (plain units) (plain_utf8 units fits.0)
-value_back bs spelled Text (Number units places) fits s = absurd fits
-value_back bs spelled Name (Number units places) fits s = absurd fits
-value_back bs spelled Numeric (AText t) fits s = absurd fits
 value_back bs spelled Text (AText t) fits s = given_text t fits
-value_back bs spelled Name (AText t) fits s = absurd fits
-value_back bs spelled Numeric (AName n) fits s = absurd fits
-value_back bs spelled Text (AName n) fits s = absurd fits
 value_back bs spelled Name (AName n) fits s = given_text (spelled n) (spelled_utf8 bs spelled n s fits.utf8)
+value_back bs spelled kind v fits s = absurd fits
 
 -- ---- the core dimensions
 
@@ -208,12 +199,8 @@ dimensions_back spelled d h =
 -- ---- the object
 
 shape : (spelled : QName → List ℕ) (v : Value) (ms : Members) → parts_of (with_decimals spelled v (put (codes "dimensions") (object ms) (put (codes "value") (value_data spelled v) no_members))) ≡ record { value = given (value_data spelled v); decimals = decimals_given spelled v; dimensions = Some (dimension_parts ms); linked = false; misshapen = false; unknown = false }
-shape spelled Nil ms = refl
-shape spelled (AText t) ms = refl
-shape spelled (AName n) ms = refl
-shape spelled (Number units None) ms = refl
 shape spelled (Number units (Some (pos d))) ms = refl
-shape spelled (Number units (Some (negsuc d))) ms = refl
+shape spelled v ms = refl
 
 pub entity_texts : (bs : List Binding) (spelled : QName → List ℕ) (n : Option QName) → EntityFits n → IfSome n (SpellsName bs spelled) → IfSome (option_spelled spelled n) IsUtf8
 entity_texts bs spelled None fits s = tt

@@ -6,6 +6,7 @@ pub(crate) mod document_faults;
 pub(crate) mod document_part;
 pub(crate) mod document_rows;
 pub(crate) mod fact_faults;
+pub(crate) mod fact_in_scope;
 pub(crate) mod fact_rows;
 pub(crate) mod facts_apart;
 pub(crate) mod facts_faults;

@@ -82,8 +82,7 @@ impl Sheet {
     pub fn concept(&self, name: &Name) -> Option<ConceptKind>
         ensures { result ≡ map.get self.now.concepts name.now }
     {
-        let (_, kind) = self.concepts.find(name.uri(), name.local())?;
-        Some(kind)
+        Some(self.concepts.find(name.uri(), name.local())?.1)
     }
 
     /// Returns the kind of a dimension's members, or `None` if the sheet does not list the
@@ -91,8 +90,7 @@ impl Sheet {
     pub fn dimension(&self, name: &Name) -> Option<DimensionKind>
         ensures { result ≡ map.get self.now.dimensions name.now }
     {
-        let (_, kind) = self.dimensions.find(name.uri(), name.local())?;
-        Some(kind)
+        Some(self.dimensions.find(name.uri(), name.local())?.1)
     }
 
     pub(crate) fn concepts(&self) -> &NameTable<ConceptKind>

@@ -91,8 +91,5 @@ pub(crate) fn has_other_type(tree: &Value) -> bool
 fn is_document_type(value: Option<&Value>) -> bool
     ensures { result ≡ is_text document_type (given_of (option_map (λ v. view v.now) value.entry)) }
 {
-    match JsonMember::of(value).text() {
-        Some(found) => found == DOCUMENT_TYPE,
-        None => false,
-    }
+    JsonMember::of(value).text() == Some(DOCUMENT_TYPE)
 }

@@ -21,10 +21,7 @@ pub(crate) fn read_level(aliases: &Aliases, tree: &Value) -> Result<Level, Reaso
     ensures refused { IfErr result (λ r. r ≡ Reason.Feature) }
 {
     match within(tree, "documentInfo", "features").and_then(Value::as_object) {
-        Some(features) => match declared_level(aliases, features) {
-            Some(level) => Ok(level),
-            None => Err(Reason::Feature),
-        },
+        Some(features) => declared_level(aliases, features).ok_or(Reason::Feature),
         None => Ok(Level::All),
     }
 }

@@ -76,10 +76,7 @@ fn by_identifier(
 fn put(found: &mut BTreeMap<String, Fact>, identifier: String, fact: Fact) -> bool
     ensures { result ≡ true → found.new.entries ≡ insert_entry string_cmp found.old.entries identifier fact }
 {
-    match found.insert(identifier, fact) {
-        Ok(_) => true,
-        Err(_) => false,
-    }
+    found.insert(identifier, fact).is_ok()
 }
 
 fn facts_of(alloc: Global, found: BTreeMap<String, Fact>) -> Option<Vec<Fact>>

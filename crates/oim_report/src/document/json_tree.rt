@@ -56,10 +56,7 @@ pub(crate) fn object_at<'a>(value: &'a Value, key: &str) -> Option<&'a Map<Strin
 pub(crate) fn within<'a>(value: &'a Value, outer: &str, key: &str) -> Option<&'a Value>
     ensures { option_map (λ v. view v.now) result ≡ within outer.now key.now (view value.now) }
 {
-    match value.get(outer) {
-        Some(object) => object.get(key),
-        None => None,
-    }
+    value.get(outer)?.get(key)
 }
 
 pub(crate) fn has_member(object: Option<&Map<String, Value>>) -> bool
@@ -89,10 +86,7 @@ pub(crate) fn unknown_in<'a>(
         let found = unknown_in (map (λ s. s.now) known.now) members in
         option_map (λ k. k.now) result ≡ option_map (λ m. m.0) found }
 {
-    match object {
-        Some(members) => unknown_key(members, known),
-        None => None,
-    }
+    unknown_key(object?, known)
 }
 
 fn unknown_key<'a>(members: &'a Map<String, Value>, known: &[&str]) -> Option<&'a str>
@@ -129,17 +123,11 @@ pub(crate) fn is_one_of(key: &str, known: &[&str]) -> bool
 pub(crate) fn is_no_object(member: Option<&Value>) -> bool
     ensures { result ≡ is_no_object (option_map (λ v. view v.now) member.entry) }
 {
-    match member {
-        Some(value) => !value.is_object(),
-        None => false,
-    }
+    member.is_some_and(|value| !value.is_object())
 }
 
 pub(crate) fn is_no_array(member: Option<&Value>) -> bool
     ensures { result ≡ is_no_array (option_map (λ v. view v.now) member.entry) }
 {
-    match member {
-        Some(value) => !value.is_array(),
-        None => false,
-    }
+    member.is_some_and(|value| !value.is_array())
 }

@@ -26,16 +26,6 @@ pub(crate) struct DimensionParts<'a> {
 }
 
 impl<'a> DimensionParts<'a> {
-    fn of(alloc: Global, value: &'a Value) -> Result<Option<DimensionParts<'a>>, AllocError>
-        ensures { IfOk result (λ parts. option_map seen_dimensions parts
-            ≡ option_map dimension_parts (as_object (view value.now))) }
-    {
-        match value.as_object() {
-            Some(members) => Ok(Some(DimensionParts::of_members(alloc, members)?)),
-            None => Ok(None),
-        }
-    }
-
     // Separates the core dimensions (OIM Common 1.0) from the other members. The keys of a map are
     // distinct, so nothing is overwritten.
     fn of_members(
@@ -144,8 +134,8 @@ fn dimensions_of<'a>(
         IfOk result (λ parts. option_map seen_dimensions parts
         ≡ option_map dimension_parts (option_and_then as_object found)) }
 {
-    match dimensions {
-        Some(value) => DimensionParts::of(alloc, value),
+    match dimensions.and_then(Value::as_object) {
+        Some(members) => Ok(Some(DimensionParts::of_members(alloc, members)?)),
         None => Ok(None),
     }
 }

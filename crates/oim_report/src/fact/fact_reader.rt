@@ -16,7 +16,7 @@ use crate::fact::fact_parts::{DimensionParts, FactParts};
 use crate::fact::fact_value::read_value;
 use crate::fact::json_member::JsonMember;
 use crate::fact::text_caches::TextCaches;
-use crate::findings::fact_faults::add_fact_faults;
+use crate::findings::fact_in_scope::FactInScope;
 use crate::findings::fault_list::Faults;
 use crate::place::Place;
 use crate::sheet::Sheet;
@@ -110,15 +110,12 @@ impl<'s> FactReader<'s> {
             ⊎ (fact_outcome self.now.sheet self.now.aliases (view object.now) ≡ Err result) }
     {
         let mut faults = Faults::new(self.alloc);
-        let place = Place::Document;
-        match add_fact_faults(
-            self.alloc,
-            self.sheet,
-            &self.aliases,
+        let fact = FactInScope {
+            sheet: self.sheet,
+            aliases: &self.aliases,
             object,
-            place,
-            &mut faults,
-        ) {
+        };
+        match fact.add_faults(self.alloc, Place::Document, &mut faults) {
             Ok(()) => match faults.as_slice().first() {
                 Some(refusal) => refusal.reason,
                 None => Reason::OutOfMemory,

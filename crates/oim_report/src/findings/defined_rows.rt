@@ -13,8 +13,8 @@ ghost use Rattle.oim_report.specs.code.Rows.{defined_members, defined_name, firs
 use crate::dimension_kind::DimensionKind;
 use crate::document::json_tree::{has_colon, object_at};
 use crate::fact::fact_values::text;
+use crate::findings::fact_in_scope::FactInScope;
 use crate::findings::part::Part;
-use crate::sheet::Sheet;
 use crate::sheet::lookup::find_dimension;
 use crate::sheet::name_table_builder::NameTableBuilder;
 use crate::unless_memory::unless_memory;
@@ -22,94 +22,79 @@ use oim_names::{Aliases, Name, Reason};
 use serde_json::{Map, Value};
 use std::alloc::{AllocError, Global};
 
+impl<'a> FactInScope<'_, 'a> {
+    #[tactic(auto, unfolding(crate::specs::Holds::holds, crate::specs::Shown::fact_shown), using(crate::proofs::DefinedRows::unlisted_shown))]
+    pub(crate) fn unlisted_dimension(&self) -> Option<Part<'a>>
+        ensures { option_map seen result ≡ fact_part self.now.sheet.now self.now.aliases.now (view self.now.object.now) Reason.UnknownDimension }
+    {
+        self.unlisted_in(object_at(self.object, "dimensions")?)
+    }
+
+    fn unlisted_in(&self, dimensions: &'a Map<String, Value>) -> Option<Part<'a>>
+        ensures { let found = first_defined (λ k d. is_unlisted self.now.sheet.now self.now.aliases.now k) (members_view dimensions.now.entries) in
+            option_map seen result ≡ option_map (λ m. name (a_name m.0)) found }
+    {
+        for (key, _value) in dimensions.iter() {
+            if self.is_unlisted_dimension(key.as_str()) {
+                return Some(Part::Name(key.as_str()));
+            }
+        }
+        None
+    }
+
+    fn is_unlisted_dimension(&self, key: &str) -> bool
+        ensures { result ≡ (is_defined key.now && is_unlisted self.now.sheet.now self.now.aliases.now key.now) }
+    {
+        is_defined(key)
+            && self.aliases.name_refusal(key).is_none()
+            && find_dimension(self.sheet, self.aliases, key).is_none()
+    }
+
+    #[tactic(auto, unfolding(crate::specs::Holds::holds, crate::specs::Shown::fact_shown))]
+    pub(crate) fn misfit(&self, alloc: Global) -> Result<Option<Part<'a>>, AllocError>
+        ensures { IfOk result (λ part. option_map seen part
+            ≡ fact_part self.now.sheet.now self.now.aliases.now (view self.now.object.now) Reason.DimensionValue) }
+    {
+        let Some(dimensions) = object_at(self.object, "dimensions") else {
+            return Ok(None);
+        };
+        if let Some(part) = self.misfit_in(dimensions) {
+            return Ok(Some(part));
+        }
+        two_keys(alloc, self.aliases, dimensions)
+    }
+
+    fn misfit_in(&self, dimensions: &'a Map<String, Value>) -> Option<Part<'a>>
+        ensures { let found = first_defined (is_misfit self.now.sheet.now self.now.aliases.now) (members_view dimensions.now.entries) in
+            option_map seen result ≡ option_map entry found }
+    {
+        for (key, value) in dimensions.iter() {
+            if self.is_misfit(key.as_str(), value) {
+                return Some(Part::Member(key.as_str(), value));
+            }
+        }
+        None
+    }
+
+    fn is_misfit(&self, key: &str, value: &Value) -> bool
+        ensures { result
+            ≡ (is_defined key.now && is_misfit self.now.sheet.now self.now.aliases.now key.now (view value.now)) }
+    {
+        if !is_defined(key) {
+            return false;
+        }
+        match find_dimension(self.sheet, self.aliases, key) {
+            Some((_name, DimensionKind::Explicit)) => text(Some(value)).is_none(),
+            Some((_name, DimensionKind::Typed)) => text(Some(value)).is_none() && !value.is_null(),
+            None => false,
+        }
+    }
+}
+
 pub(crate) fn is_defined(key: &str) -> bool
     ensures { result ≡ is_defined key.now }
 {
     has_colon(key)
-}
-
-#[tactic(auto, unfolding(crate::specs::Holds::holds, crate::specs::Shown::fact_shown), using(crate::proofs::DefinedRows::unlisted_shown))]
-pub(crate) fn unlisted_dimension<'a>(
-    sheet: &Sheet,
-    aliases: &Aliases,
-    object: &'a Value,
-) -> Option<Part<'a>>
-    ensures { option_map seen result ≡ fact_part sheet.now aliases.now (view object.now) Reason.UnknownDimension }
-{
-    unlisted_in(sheet, aliases, object_at(object, "dimensions")?)
-}
-
-fn unlisted_in<'a>(
-    sheet: &Sheet,
-    aliases: &Aliases,
-    dimensions: &'a Map<String, Value>,
-) -> Option<Part<'a>>
-    ensures { let found = first_defined (λ k d. is_unlisted sheet.now aliases.now k) (members_view dimensions.now.entries) in
-        option_map seen result ≡ option_map (λ m. name (a_name m.0)) found }
-{
-    for (key, _value) in dimensions.iter() {
-        if is_unlisted(sheet, aliases, key.as_str()) {
-            return Some(Part::Name(key.as_str()));
-        }
-    }
-    None
-}
-
-fn is_unlisted(sheet: &Sheet, aliases: &Aliases, key: &str) -> bool
-    ensures { result ≡ (is_defined key.now && is_unlisted sheet.now aliases.now key.now) }
-{
-    is_defined(key)
-        && aliases.name_refusal(key).is_none()
-        && find_dimension(sheet, aliases, key).is_none()
-}
-
-#[tactic(auto, unfolding(crate::specs::Holds::holds, crate::specs::Shown::fact_shown))]
-pub(crate) fn misfit<'a>(
-    alloc: Global,
-    sheet: &Sheet,
-    aliases: &Aliases,
-    object: &'a Value,
-) -> Result<Option<Part<'a>>, AllocError>
-    ensures { IfOk result (λ part. option_map seen part
-        ≡ fact_part sheet.now aliases.now (view object.now) Reason.DimensionValue) }
-{
-    let Some(dimensions) = object_at(object, "dimensions") else {
-        return Ok(None);
-    };
-    if let Some(part) = misfit_in(sheet, aliases, dimensions) {
-        return Ok(Some(part));
-    }
-    two_keys(alloc, aliases, dimensions)
-}
-
-fn misfit_in<'a>(
-    sheet: &Sheet,
-    aliases: &Aliases,
-    dimensions: &'a Map<String, Value>,
-) -> Option<Part<'a>>
-    ensures { let found = first_defined (is_misfit sheet.now aliases.now) (members_view dimensions.now.entries) in
-        option_map seen result ≡ option_map entry found }
-{
-    for (key, value) in dimensions.iter() {
-        if is_misfit(sheet, aliases, key.as_str(), value) {
-            return Some(Part::Member(key.as_str(), value));
-        }
-    }
-    None
-}
-
-fn is_misfit(sheet: &Sheet, aliases: &Aliases, key: &str, value: &Value) -> bool
-    ensures { result
-        ≡ (is_defined key.now && is_misfit sheet.now aliases.now key.now (view value.now)) }
-{
-    if !is_defined(key) {
-        return false;
-    }
-    match find_dimension(sheet, aliases, key) {
-        Some((_name, DimensionKind::Explicit)) => text(Some(value)).is_none(),
-        Some((_name, DimensionKind::Typed)) => text(Some(value)).is_none() && !value.is_null(),
-        None => false,
-    }
 }
 
 fn two_keys<'a>(

@@ -100,10 +100,7 @@ pub(crate) fn refused_feature(alloc: Global, tree: &Value) -> Result<Option<Part
 fn feature_under<'a>(aliases: &Option<Aliases>, tree: &'a Value) -> Option<Part<'a>>
     ensures { option_map seen result ≡ option_and_then (λ bs. misdeclared bs (view tree.now)) aliases.now }
 {
-    match aliases {
-        Some(aliases) => feature_with(aliases, tree),
-        None => None,
-    }
+    feature_with(aliases.as_ref()?, tree)
 }
 
 fn feature_with<'a>(aliases: &Aliases, tree: &'a Value) -> Option<Part<'a>>
@@ -121,13 +118,9 @@ fn misdeclared<'a>(aliases: &Aliases, tree: &'a Value) -> Part<'a>
     let Some(features) = within(tree, "documentInfo", "features") else {
         return Part::Nothing;
     };
-    match features
-        .as_object()
-        .and_then(|members| first_misdeclared(aliases, members))
-    {
-        Some(part) => part,
-        None => Part::Value(features),
-    }
+    let members = features.as_object();
+    let first = members.and_then(|members| first_misdeclared(aliases, members));
+    first.unwrap_or(Part::Value(features))
 }
 
 fn first_misdeclared<'a>(aliases: &Aliases, features: &'a Map<String, Value>) -> Option<Part<'a>>

@@ -5,76 +5,72 @@ ghost use Rattle.oim_report.specs.Holds.{holds};
 ghost use Rattle.oim_report.specs.Least.{told};
 ghost use Rattle.oim_report.specs.Outcome.{at};
 
-use crate::findings::fact_rows::fact_part;
+use crate::findings::fact_in_scope::FactInScope;
 use crate::findings::fault_list::Faults;
 use crate::place::Place;
 use crate::refusal::Refusal;
-use crate::sheet::Sheet;
-use oim_names::{Aliases, Reason};
-use serde_json::Value;
+use oim_names::Reason;
 use std::alloc::{AllocError, Global};
 
-// Adds to `faults` each condition that applies to a fact object, with `place` as its place.
-pub(crate) fn add_fact_faults(
-    alloc: Global,
-    sheet: &Sheet,
-    aliases: &Aliases,
-    object: &Value,
-    place: Place,
-    faults: &mut Faults,
-) -> Result<(), AllocError>
-    ensures { let reasons = told (holds sheet.now aliases.now (view object.now)) in
-        OnOk result (faults.new ≡ faults.old ++ map (at place) reasons) }
-{
-    let reasons = &[
-        Reason::MemberForm,
-        Reason::UnknownMember,
-        Reason::Links,
-        Reason::Notes,
-        Reason::DimensionsMissing,
-        Reason::NameForm,
-        Reason::UnboundPrefix,
-        Reason::ReservedNamespace,
-        Reason::MissingConcept,
-        Reason::UnknownConcept,
-        Reason::UnknownDimension,
-        Reason::DimensionValue,
-        Reason::PeriodForm,
-        Reason::PeriodOrder,
-        Reason::UnitForm,
-        Reason::UnitOnOther,
-        Reason::LanguageForm,
-        Reason::LanguageOnNumeric,
-        Reason::ValueForm,
-        Reason::NumberForm,
-        Reason::NumberDigits,
-        Reason::DecimalsForm,
-        Reason::DecimalsRange,
-        Reason::DecimalsOnOther,
-    ];
-    add_each(alloc, sheet, aliases, object, place, reasons, faults)
-}
-
-// Does the same as `add_fact_faults`, but only for the conditions in `reasons`.
-fn add_each(
-    alloc: Global,
-    sheet: &Sheet,
-    aliases: &Aliases,
-    object: &Value,
-    place: Place,
-    reasons: &[Reason],
-    faults: &mut Faults,
-) -> Result<(), AllocError>
-    ensures { let found = filter (holds sheet.now aliases.now (view object.now)) reasons.now in
-        OnOk result (faults.new ≡ faults.old ++ map (at place) found) }
-{
-    for reason in reasons {
-        if fact_part(alloc, sheet, aliases, object, *reason)?.is_some() {
-            faults.push(Refusal {
-                reason: *reason,
-                place,
-            })?;
-        }
+impl FactInScope<'_, '_> {
+    // Adds to `faults` each condition that applies to the fact object, with `place` as its place.
+    pub(crate) fn add_faults(
+        &self,
+        alloc: Global,
+        place: Place,
+        faults: &mut Faults,
+    ) -> Result<(), AllocError>
+        ensures { let reasons = told (holds self.now.sheet.now self.now.aliases.now (view self.now.object.now)) in
+            OnOk result (faults.new ≡ faults.old ++ map (at place) reasons) }
+    {
+        let reasons = &[
+            Reason::MemberForm,
+            Reason::UnknownMember,
+            Reason::Links,
+            Reason::Notes,
+            Reason::DimensionsMissing,
+            Reason::NameForm,
+            Reason::UnboundPrefix,
+            Reason::ReservedNamespace,
+            Reason::MissingConcept,
+            Reason::UnknownConcept,
+            Reason::UnknownDimension,
+            Reason::DimensionValue,
+            Reason::PeriodForm,
+            Reason::PeriodOrder,
+            Reason::UnitForm,
+            Reason::UnitOnOther,
+            Reason::LanguageForm,
+            Reason::LanguageOnNumeric,
+            Reason::ValueForm,
+            Reason::NumberForm,
+            Reason::NumberDigits,
+            Reason::DecimalsForm,
+            Reason::DecimalsRange,
+            Reason::DecimalsOnOther,
+        ];
+        self.add_each(alloc, place, reasons, faults)
     }
-    Ok(())
+
+    // Does the same as `add_faults`, but only for the conditions in `reasons`.
+    fn add_each(
+        &self,
+        alloc: Global,
+        place: Place,
+        reasons: &[Reason],
+        faults: &mut Faults,
+    ) -> Result<(), AllocError>
+        ensures { let found = filter (holds self.now.sheet.now self.now.aliases.now (view self.now.object.now)) reasons.now in
+            OnOk result (faults.new ≡ faults.old ++ map (at place) found) }
+    {
+        for reason in reasons {
+            if self.part(alloc, *reason)?.is_some() {
+                faults.push(Refusal {
+                    reason: *reason,
+                    place,
+                })?;
+            }
+        }
+        Ok(())
+    }
 }

@@ -2,16 +2,7 @@ ghost use Rattle.std.specs.Prelude.{◌≡◌, ◌≢◌, option_map, IfOk};
 ghost use Rattle.serde_json.specs.View.{view};
 ghost use Rattle.oim_report.specs.Shown.{fact_part, seen};
 
-use crate::findings::content_rows::{
-    backward_period, decimals_out_of_range, formless_decimals, formless_language, formless_number,
-    formless_period, formless_unit, formless_value, long_number, misplaced_decimals,
-    misplaced_language, misplaced_unit, unlisted_concept,
-};
-use crate::findings::defined_rows::{misfit, unlisted_dimension};
-use crate::findings::form_rows::{
-    linked, misshapen, noted, unknown, without_concept, without_dimensions,
-};
-use crate::findings::name_rows::refused_name;
+use crate::findings::fact_in_scope::FactInScope;
 use crate::findings::part::Part;
 use crate::sheet::Sheet;
 use oim_names::{Aliases, Reason};
@@ -33,49 +24,55 @@ pub fn fact_part<'a>(
     ensures { IfOk result (λ part. option_map seen part
         ≡ fact_part sheet.now aliases.now (view object.now) reason) }
 {
-    match reason {
-        Reason::DimensionValue => misfit(alloc, sheet, aliases, object),
-        _ => Ok(plain_part(alloc, sheet, aliases, object, reason)),
-    }
+    let fact = FactInScope {
+        sheet,
+        aliases,
+        object,
+    };
+    fact.part(alloc, reason)
 }
 
-#[tactic(auto, unfolding(crate::specs::Holds::holds, crate::specs::Shown::fact_shown))]
-fn plain_part<'a>(
-    alloc: Global,
-    sheet: &Sheet,
-    aliases: &Aliases,
-    object: &'a Value,
-    reason: Reason,
-) -> Option<Part<'a>>
-    requires { reason ≢ Reason.DimensionValue }
-    ensures { option_map seen result ≡ fact_part sheet.now aliases.now (view object.now) reason }
-{
-    match reason {
-        Reason::MemberForm => misshapen(object),
-        Reason::UnknownMember => unknown(object),
-        Reason::Links => linked(object),
-        Reason::Notes => noted(object),
-        Reason::DimensionsMissing => without_dimensions(object),
-        Reason::NameForm => refused_name(sheet, aliases, object, Reason::NameForm),
-        Reason::UnboundPrefix => refused_name(sheet, aliases, object, Reason::UnboundPrefix),
-        Reason::ReservedNamespace => {
-            refused_name(sheet, aliases, object, Reason::ReservedNamespace)
+impl<'a> FactInScope<'_, 'a> {
+    pub(crate) fn part(&self, alloc: Global, reason: Reason) -> Result<Option<Part<'a>>, AllocError>
+        ensures { IfOk result (λ part. option_map seen part
+            ≡ fact_part self.now.sheet.now self.now.aliases.now (view self.now.object.now) reason) }
+    {
+        match reason {
+            Reason::DimensionValue => self.misfit(alloc),
+            _ => Ok(self.plain_part(alloc, reason)),
         }
-        Reason::MissingConcept => without_concept(object),
-        Reason::UnknownConcept => unlisted_concept(sheet, aliases, object),
-        Reason::UnknownDimension => unlisted_dimension(sheet, aliases, object),
-        Reason::PeriodForm => formless_period(alloc, object),
-        Reason::PeriodOrder => backward_period(alloc, object),
-        Reason::UnitForm => formless_unit(object),
-        Reason::UnitOnOther => misplaced_unit(sheet, aliases, object),
-        Reason::LanguageForm => formless_language(object),
-        Reason::LanguageOnNumeric => misplaced_language(sheet, aliases, object),
-        Reason::ValueForm => formless_value(object),
-        Reason::NumberForm => formless_number(sheet, aliases, object),
-        Reason::NumberDigits => long_number(sheet, aliases, object),
-        Reason::DecimalsForm => formless_decimals(object),
-        Reason::DecimalsRange => decimals_out_of_range(object),
-        Reason::DecimalsOnOther => misplaced_decimals(sheet, aliases, object),
-        _ => None,
+    }
+
+    #[tactic(auto, unfolding(crate::specs::Holds::holds, crate::specs::Shown::fact_shown), using(crate::proofs::ShownParts::name_shown))]
+    fn plain_part(&self, alloc: Global, reason: Reason) -> Option<Part<'a>>
+        requires { reason ≢ Reason.DimensionValue }
+        ensures { option_map seen result ≡ fact_part self.now.sheet.now self.now.aliases.now (view self.now.object.now) reason }
+    {
+        match reason {
+            Reason::MemberForm => self.misshapen(),
+            Reason::UnknownMember => self.unknown(),
+            Reason::Links => self.linked(),
+            Reason::Notes => self.noted(),
+            Reason::DimensionsMissing => self.without_dimensions(),
+            Reason::NameForm => self.refused_name(Reason::NameForm),
+            Reason::UnboundPrefix => self.refused_name(Reason::UnboundPrefix),
+            Reason::ReservedNamespace => self.refused_name(Reason::ReservedNamespace),
+            Reason::MissingConcept => self.without_concept(),
+            Reason::UnknownConcept => self.unlisted_concept(),
+            Reason::UnknownDimension => self.unlisted_dimension(),
+            Reason::PeriodForm => self.formless_period(alloc),
+            Reason::PeriodOrder => self.backward_period(alloc),
+            Reason::UnitForm => self.formless_unit(),
+            Reason::UnitOnOther => self.misplaced_unit(),
+            Reason::LanguageForm => self.formless_language(),
+            Reason::LanguageOnNumeric => self.misplaced_language(),
+            Reason::ValueForm => self.formless_value(),
+            Reason::NumberForm => self.formless_number(),
+            Reason::NumberDigits => self.long_number(),
+            Reason::DecimalsForm => self.formless_decimals(),
+            Reason::DecimalsRange => self.decimals_out_of_range(),
+            Reason::DecimalsOnOther => self.misplaced_decimals(),
+            _ => None,
+        }
     }
 }

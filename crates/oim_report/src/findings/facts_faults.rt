@@ -5,7 +5,7 @@ ghost use Rattle.oim_report.specs.Info.{facts_of};
 ghost use Rattle.oim_report.specs.Json.{values};
 
 use crate::document::json_tree::object_at;
-use crate::findings::fact_faults::add_fact_faults;
+use crate::findings::fact_in_scope::FactInScope;
 use crate::findings::fault_list::Faults;
 use crate::place::Place;
 use crate::sheet::Sheet;
@@ -41,7 +41,12 @@ fn add_all(
 {
     let mut place: u64 = 1;
     for (_identifier, object) in objects.iter() {
-        add_fact_faults(alloc, sheet, aliases, object, Place::Fact(place), faults)?;
+        let fact = FactInScope {
+            sheet,
+            aliases,
+            object,
+        };
+        fact.add_faults(alloc, Place::Fact(place), faults)?;
         place += 1;
     }
     Ok(())

@@ -1,37 +1,85 @@
 //! Finds the part of a fact object that violates a condition on its form.
+#![tactic(auto, unfolding(crate::specs::Holds::holds, crate::specs::Shown::fact_shown))]
 
-ghost use Rattle.std.specs.Prelude.{◌≡◌, ◌||◌, List, codes, option_map};
-ghost use Rattle.oim_names.specs.Bindings.{Binding};
+ghost use Rattle.std.specs.Prelude.{◌≡◌, ◌||◌, codes, option_map};
 ghost use Rattle.serde_json.specs.View.{view};
 ghost use Rattle.oim_report.specs.Json.{members, object_at};
 ghost use Rattle.oim_report.specs.code.Rows.{lacks_text};
-ghost use Rattle.oim_report.specs.Sheet.{Sheet};
 ghost use Rattle.oim_report.specs.Shown.{fact_part, seen, textless, when};
 
 use crate::document::json_tree::{has_member, is_no_object, object_at, unknown_in};
 use crate::fact::fact_values::{dimension, is_no_text};
+use crate::findings::fact_in_scope::FactInScope;
 use crate::findings::part::{Part, value_if};
 use oim_names::Reason;
 use serde_json::Value;
 
-#[tactic(auto, unfolding(crate::specs::Holds::holds, crate::specs::Shown::fact_shown))]
-pub(crate) fn misshapen(object: &Value) -> Option<Part<'_>>
-    ensures { (sheet : Sheet) (bs : List Binding) →
-        option_map seen result ≡ fact_part sheet bs (view object.now) Reason.MemberForm }
-{
-    if !object.is_object() {
-        return Some(Part::Whole);
+impl<'a> FactInScope<'_, 'a> {
+    pub(crate) fn misshapen(&self) -> Option<Part<'a>>
+        ensures { option_map seen result ≡ fact_part self.now.sheet.now self.now.aliases.now (view self.now.object.now) Reason.MemberForm }
+    {
+        if !self.object.is_object() {
+            return Some(Part::Whole);
+        }
+        if self.object.get("value").is_none() {
+            return Some(Part::Missing("value"));
+        }
+        if is_no_object(self.object.get("dimensions")) {
+            return Some(Part::NoObject("dimensions"));
+        }
+        if is_no_object(self.object.get("links")) {
+            return Some(Part::NoObject("links"));
+        }
+        misshapen_dimension(self.object)
     }
-    if object.get("value").is_none() {
-        return Some(Part::Missing("value"));
+
+    #[tactic(auto, unfolding(crate::specs::Holds::holds, crate::specs::Shown::fact_shown), using(crate::proofs::DimensionAt::any_members))]
+    pub(crate) fn unknown(&self) -> Option<Part<'a>>
+        ensures { option_map seen result ≡ fact_part self.now.sheet.now self.now.aliases.now (view self.now.object.now) Reason.UnknownMember }
+    {
+        let known = &["value", "decimals", "dimensions", "links"];
+        if let Some(key) = unknown_in(self.object.as_object(), known) {
+            return Some(Part::Key(key));
+        }
+        let core = &["concept", "entity", "period", "unit", "language", "noteId"];
+        let key = unknown_in(object_at(self.object, "dimensions"), core)?;
+        Some(Part::KeyIn(key, "dimensions"))
     }
-    if is_no_object(object.get("dimensions")) {
-        return Some(Part::NoObject("dimensions"));
+
+    pub(crate) fn linked(&self) -> Option<Part<'a>>
+        ensures { option_map seen result ≡ fact_part self.now.sheet.now self.now.aliases.now (view self.now.object.now) Reason.Links }
+    {
+        value_if(
+            has_member(object_at(self.object, "links")),
+            self.object.get("links"),
+        )
     }
-    if is_no_object(object.get("links")) {
-        return Some(Part::NoObject("links"));
+
+    pub(crate) fn noted(&self) -> Option<Part<'a>>
+        ensures { option_map seen result ≡ fact_part self.now.sheet.now self.now.aliases.now (view self.now.object.now) Reason.Notes }
+    {
+        let note = dimension(self.object, "noteId")?;
+        Some(Part::Value(note))
     }
-    misshapen_dimension(object)
+
+    pub(crate) fn without_dimensions(&self) -> Option<Part<'a>>
+        ensures { option_map seen result ≡ fact_part self.now.sheet.now self.now.aliases.now (view self.now.object.now) Reason.DimensionsMissing }
+    {
+        value_if(
+            self.object.is_object() && self.object.get("dimensions").is_none(),
+            None,
+        )
+    }
+
+    pub(crate) fn without_concept(&self) -> Option<Part<'a>>
+        ensures { option_map seen result ≡ fact_part self.now.sheet.now self.now.aliases.now (view self.now.object.now) Reason.MissingConcept }
+    {
+        let has_dimensions = object_at(self.object, "dimensions").is_some();
+        value_if(
+            has_dimensions && dimension(self.object, "concept").is_none(),
+            None,
+        )
+    }
 }
 
 fn misshapen_dimension(object: &Value) -> Option<Part<'_>>
@@ -56,58 +104,4 @@ fn misshapen_dimension(object: &Value) -> Option<Part<'_>>
         return Some(Part::NoText("language"));
     }
     None
-}
-
-#[tactic(auto, unfolding(crate::specs::Holds::holds, crate::specs::Shown::fact_shown), using(crate::proofs::DimensionAt::any_members))]
-pub(crate) fn unknown(object: &Value) -> Option<Part<'_>>
-    ensures { (sheet : Sheet) (bs : List Binding) →
-        option_map seen result ≡ fact_part sheet bs (view object.now) Reason.UnknownMember }
-{
-    let known = &["value", "decimals", "dimensions", "links"];
-    if let Some(key) = unknown_in(object.as_object(), known) {
-        return Some(Part::Key(key));
-    }
-    let core = &["concept", "entity", "period", "unit", "language", "noteId"];
-    let key = unknown_in(object_at(object, "dimensions"), core)?;
-    Some(Part::KeyIn(key, "dimensions"))
-}
-
-#[tactic(auto, unfolding(crate::specs::Holds::holds, crate::specs::Shown::fact_shown))]
-pub(crate) fn linked(object: &Value) -> Option<Part<'_>>
-    ensures { (sheet : Sheet) (bs : List Binding) →
-        option_map seen result ≡ fact_part sheet bs (view object.now) Reason.Links }
-{
-    value_if(has_member(object_at(object, "links")), object.get("links"))
-}
-
-#[tactic(auto, unfolding(crate::specs::Holds::holds, crate::specs::Shown::fact_shown))]
-pub(crate) fn noted(object: &Value) -> Option<Part<'_>>
-    ensures { (sheet : Sheet) (bs : List Binding) →
-        option_map seen result ≡ fact_part sheet bs (view object.now) Reason.Notes }
-{
-    let note = dimension(object, "noteId")?;
-    Some(Part::Value(note))
-}
-
-#[tactic(auto, unfolding(crate::specs::Holds::holds, crate::specs::Shown::fact_shown))]
-pub(crate) fn without_dimensions(object: &Value) -> Option<Part<'_>>
-    ensures { (sheet : Sheet) (bs : List Binding) →
-        option_map seen result ≡ fact_part sheet bs (view object.now) Reason.DimensionsMissing }
-{
-    value_if(
-        object.is_object() && object.get("dimensions").is_none(),
-        None,
-    )
-}
-
-#[tactic(auto, unfolding(crate::specs::Holds::holds, crate::specs::Shown::fact_shown))]
-pub(crate) fn without_concept(object: &Value) -> Option<Part<'_>>
-    ensures { (sheet : Sheet) (bs : List Binding) →
-        option_map seen result ≡ fact_part sheet bs (view object.now) Reason.MissingConcept }
-{
-    let has_dimensions = object_at(object, "dimensions").is_some();
-    value_if(
-        has_dimensions && dimension(object, "concept").is_none(),
-        None,
-    )
 }

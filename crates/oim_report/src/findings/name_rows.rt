@@ -15,55 +15,86 @@ use crate::concept_kind::ConceptKind;
 use crate::dimension_kind::DimensionKind;
 use crate::document::json_tree::object_at;
 use crate::fact::fact_values::{dimension, text};
-use crate::findings::content_rows::kind_of;
 use crate::findings::defined_rows::is_defined;
+use crate::findings::fact_in_scope::FactInScope;
 use crate::findings::part::Part;
-use crate::sheet::Sheet;
 use crate::sheet::lookup::find_dimension;
 use oim_dims::{is_unit_text, refused_piece};
 use oim_names::{Aliases, Reason};
 use serde_json::{Map, Value};
 
-pub(crate) fn refused_name<'a>(
-    sheet: &Sheet,
-    aliases: &Aliases,
-    object: &'a Value,
-    reason: Reason,
-) -> Option<Part<'a>>
-    ensures { let dimensions = members (object_at (codes "dimensions") (view object.now)) in
-        let all = names sheet.now aliases.now (view object.now) dimensions in
-        option_map seen result ≡ option_map name (find (refuses reason aliases.now) all) }
-{
-    if let Some(part) = refused_text(aliases, dimension(object, "concept"), reason) {
-        return Some(part);
+impl<'a> FactInScope<'_, 'a> {
+    pub(crate) fn refused_name(&self, reason: Reason) -> Option<Part<'a>>
+        ensures { let dimensions = members (object_at (codes "dimensions") (view self.now.object.now)) in
+            let all = names self.now.sheet.now self.now.aliases.now (view self.now.object.now) dimensions in
+            option_map seen result ≡ option_map name (find (refuses reason self.now.aliases.now) all) }
+    {
+        if let Some(part) = refused_text(self.aliases, dimension(self.object, "concept"), reason) {
+            return Some(part);
+        }
+        if let Some(part) = refused_entity(self.aliases, dimension(self.object, "entity"), reason) {
+            return Some(part);
+        }
+        if let Some(part) = self.refused_dimension(reason) {
+            return Some(part);
+        }
+        if let Some(part) = refused_unit(self.aliases, dimension(self.object, "unit"), reason) {
+            return Some(part);
+        }
+        self.refused_value(reason)
     }
-    if let Some(part) = refused_entity(aliases, dimension(object, "entity"), reason) {
-        return Some(part);
-    }
-    if let Some(part) = refused_dimension(sheet, aliases, object, reason) {
-        return Some(part);
-    }
-    if let Some(part) = refused_unit(aliases, dimension(object, "unit"), reason) {
-        return Some(part);
-    }
-    refused_value(sheet, aliases, object, reason)
-}
 
-fn refused_value<'a>(
-    sheet: &Sheet,
-    aliases: &Aliases,
-    object: &'a Value,
-    reason: Reason,
-) -> Option<Part<'a>>
-    ensures { let dimensions = members (object_at (codes "dimensions") (view object.now)) in
-        let named = is_kind sheet.now aliases.now (view object.now) dimensions ConceptKind.Name in
-        let text = value_text sheet.now aliases.now (view object.now) dimensions in
-        let all = map a_name (if named then option_to_list text else []) in
-        option_map seen result ≡ option_map name (find (refuses reason aliases.now) all) }
-{
-    match kind_of(sheet, aliases, object) {
-        Some(ConceptKind::Name) => refused_text(aliases, object.get("value"), reason),
-        _ => None,
+    fn refused_dimension(&self, reason: Reason) -> Option<Part<'a>>
+        ensures { let dimensions = members (object_at (codes "dimensions") (view self.now.object.now)) in
+            let all = names_in self.now.sheet.now self.now.aliases.now dimensions in
+            option_map seen result ≡ option_map name (find (refuses reason self.now.aliases.now) all) }
+    {
+        self.refused_in(object_at(self.object, "dimensions")?, reason)
+    }
+
+    fn refused_in(&self, dimensions: &'a Map<String, Value>, reason: Reason) -> Option<Part<'a>>
+        ensures { let all = names_in self.now.sheet.now self.now.aliases.now (members_view dimensions.now.entries) in
+            option_map seen result ≡ option_map name (find (refuses reason self.now.aliases.now) all) }
+    {
+        for (key, value) in dimensions.iter() {
+            if let Some(part) = self.refused_member(key.as_str(), value, reason) {
+                return Some(part);
+            }
+        }
+        None
+    }
+
+    fn refused_member(&self, key: &'a str, value: &'a Value, reason: Reason) -> Option<Part<'a>>
+        ensures { let all = names_at self.now.sheet.now self.now.aliases.now (key.now, view value.now) in
+            option_map seen result ≡ option_map name (find (refuses reason self.now.aliases.now) all) }
+    {
+        if !is_defined(key) {
+            return None;
+        }
+        if is_refused(self.aliases, key, reason) {
+            return Some(Part::Name(key));
+        }
+        match find_dimension(self.sheet, self.aliases, key) {
+            Some((_name, DimensionKind::Explicit)) => {
+                refused_text(self.aliases, Some(value), reason)
+            }
+            _ => None,
+        }
+    }
+
+    fn refused_value(&self, reason: Reason) -> Option<Part<'a>>
+        ensures { let dimensions = members (object_at (codes "dimensions") (view self.now.object.now)) in
+            let named = is_kind self.now.sheet.now self.now.aliases.now (view self.now.object.now) dimensions ConceptKind.Name in
+            let text = value_text self.now.sheet.now self.now.aliases.now (view self.now.object.now) dimensions in
+            let all = map a_name (if named then option_to_list text else []) in
+            option_map seen result ≡ option_map name (find (refuses reason self.now.aliases.now) all) }
+    {
+        match self.kind() {
+            Some(ConceptKind::Name) => {
+                refused_text(self.aliases, self.object.get("value"), reason)
+            }
+            _ => None,
+        }
     }
 }
 
@@ -105,82 +136,12 @@ fn is_refused_entity(aliases: &Aliases, text: &str, reason: Reason) -> bool
     aliases.entity_refusal(text) == Some(reason)
 }
 
-fn refused_dimension<'a>(
-    sheet: &Sheet,
-    aliases: &Aliases,
-    object: &'a Value,
-    reason: Reason,
-) -> Option<Part<'a>>
-    ensures { let dimensions = members (object_at (codes "dimensions") (view object.now)) in
-        let all = names_in sheet.now aliases.now dimensions in
-        option_map seen result ≡ option_map name (find (refuses reason aliases.now) all) }
-{
-    refused_in(sheet, aliases, object_at(object, "dimensions")?, reason)
-}
-
-fn refused_in<'a>(
-    sheet: &Sheet,
-    aliases: &Aliases,
-    dimensions: &'a Map<String, Value>,
-    reason: Reason,
-) -> Option<Part<'a>>
-    ensures { let all = names_in sheet.now aliases.now (members_view dimensions.now.entries) in
-        option_map seen result ≡ option_map name (find (refuses reason aliases.now) all) }
-{
-    for (key, value) in dimensions.iter() {
-        if let Some(part) = refused_if_defined(sheet, aliases, key.as_str(), value, reason) {
-            return Some(part);
-        }
-    }
-    None
-}
-
-fn refused_if_defined<'a>(
-    sheet: &Sheet,
-    aliases: &Aliases,
-    key: &'a str,
-    value: &'a Value,
-    reason: Reason,
-) -> Option<Part<'a>>
-    ensures { let all = names_at sheet.now aliases.now (key.now, view value.now) in
-        option_map seen result ≡ option_map name (find (refuses reason aliases.now) all) }
-{
-    if is_defined(key) {
-        refused_member(sheet, aliases, key, value, reason)
-    } else {
-        None
-    }
-}
-
-fn refused_member<'a>(
-    sheet: &Sheet,
-    aliases: &Aliases,
-    key: &'a str,
-    value: &'a Value,
-    reason: Reason,
-) -> Option<Part<'a>>
-    requires { is_defined key.now ≡ true }
-    ensures { let all = names_at sheet.now aliases.now (key.now, view value.now) in
-        option_map seen result ≡ option_map name (find (refuses reason aliases.now) all) }
-{
-    if is_refused(aliases, key, reason) {
-        return Some(Part::Name(key));
-    }
-    match find_dimension(sheet, aliases, key) {
-        Some((_name, DimensionKind::Explicit)) => refused_text(aliases, Some(value), reason),
-        _ => None,
-    }
-}
-
 fn refused_unit<'a>(aliases: &Aliases, unit: Option<&'a Value>, reason: Reason) -> Option<Part<'a>>
     ensures { let found = option_and_then as_text (option_map (λ v. view v.now) unit.entry) in
         let all = map a_name (option_map_or pieces found []) in
         option_map seen result ≡ option_map name (find (refuses reason aliases.now) all) }
 {
-    match text(unit) {
-        Some(text) => piece_of(aliases, text, reason),
-        None => None,
-    }
+    piece_of(aliases, text(unit)?, reason)
 }
 
 fn piece_of<'a>(aliases: &Aliases, text: &'a str, reason: Reason) -> Option<Part<'a>>

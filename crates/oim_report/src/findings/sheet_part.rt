@@ -127,10 +127,7 @@ fn first_refused<'a>(
     ensures { let all = key_names (members (option_map (λ m. members_view m.now.entries) entries.entry)) in
         option_map seen result ≡ option_map name (find (refuses reason aliases.now) all) }
 {
-    match entries {
-        Some(entries) => refused_key(aliases, entries, reason),
-        None => None,
-    }
+    refused_key(aliases, entries?, reason)
 }
 
 fn refused_key<'a>(
@@ -175,10 +172,7 @@ fn first_without_kind<'a, K: Kind>(entries: Option<&'a Map<String, Value>>) -> O
     ensures { let ms = members (option_map (λ m. members_view m.now.entries) entries.entry) in
         option_map seen result ≡ option_map entry (kindless K.kind_named K.same_kind ms) }
 {
-    match entries {
-        Some(entries) => kindless_in::<K>(entries),
-        None => None,
-    }
+    kindless_in::<K>(entries?)
 }
 
 fn kindless_in<'a, K: Kind>(listed: &'a Map<String, Value>) -> Option<Part<'a>>
@@ -238,8 +232,5 @@ fn named_kind<K: Kind>(
     let Some(name) = name_of(aliases, key)? else {
         return Ok(None);
     };
-    match kind_in::<K>(value) {
-        Some(kind) => Ok(Some((name, kind))),
-        None => Ok(None),
-    }
+    Ok(kind_in::<K>(value).map(|kind| (name, kind)))
 }

@@ -20,10 +20,7 @@ pub(crate) fn read_next<'t>(
         (λ p. IsNext text.now (members_view p.0.entries) (option_map (λ r. r.now) p.1)) }
 {
     let (piece, rest) = split_piece(text, size);
-    match read_piece(alloc, buffer, piece) {
-        Some(members) => Some((members, rest)),
-        None => None,
-    }
+    Some((read_piece(alloc, buffer, piece)?, rest))
 }
 
 fn split_piece(text: &str, size: usize) -> (&str, Option<&str>)
@@ -62,10 +59,7 @@ fn guess_end(text: &str, size: usize) -> Option<usize> {
 }
 
 fn begins_fact(text: &str) -> bool {
-    match key_of_object(text) {
-        Some(key) => key != "dimensions" && key != "links",
-        None => false,
-    }
+    key_of_object(text).is_some_and(|key| key != "dimensions" && key != "links")
 }
 
 // Returns the key at the start of the text, if a colon and an opening brace follow the key.

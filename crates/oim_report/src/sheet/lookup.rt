@@ -17,10 +17,8 @@ pub(crate) fn find_named_concept<'s>(
         ≡ concept_kind sheet.now aliases.now (a_text text.now) }
     ensures name { IfSome result (λ c. named aliases.now text.now ≡ Some c.0.now) }
 {
-    match aliases.resolve(text) {
-        Ok((uri, local)) => sheet.concepts().find(uri, local),
-        Err(_) => None,
-    }
+    let (uri, local) = aliases.resolve(text).ok()?;
+    sheet.concepts().find(uri, local)
 }
 
 pub(crate) fn find_dimension<'s>(
@@ -31,8 +29,6 @@ pub(crate) fn find_dimension<'s>(
     ensures kind { option_map (λ d. d.1) result ≡ dimension_kind sheet.now aliases.now text.now }
     ensures name { IfSome result (λ d. named aliases.now text.now ≡ Some d.0.now) }
 {
-    match aliases.resolve(text) {
-        Ok((uri, local)) => sheet.dimensions().find(uri, local),
-        Err(_) => None,
-    }
+    let (uri, local) = aliases.resolve(text).ok()?;
+    sheet.dimensions().find(uri, local)
 }

@@ -86,8 +86,5 @@ fn turn<K: Kind>(
 pub(crate) fn kind_in<K: Kind>(value: &Value) -> Option<K>
     ensures { result ≡ kind_in K.kind_named K.same_kind (view value.now) }
 {
-    match JsonMember::of_value(value).text() {
-        Some(text) => K::named(text),
-        None => None,
-    }
+    K::named(JsonMember::of_value(value).text()?)
 }

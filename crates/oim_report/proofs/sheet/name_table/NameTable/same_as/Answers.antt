@@ -1,4 +1,4 @@
-use Rattle.std.proofs.Common.{true, ap, ◌∙◌}
+use Rattle.std.proofs.Common.{ap, ◌∙◌}
 use Rattle.std.specs.FinMap as map
 use Rattle.oim_report.proofs.SameNames.{within_both}
 use Rattle.oim_report.proofs.sheet.name_table.NameTable.same_as.Goals as goal

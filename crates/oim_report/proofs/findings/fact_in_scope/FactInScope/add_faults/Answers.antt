@@ -3,9 +3,9 @@ use Rattle.std.proofs.lemmas.Result.{IfOk-equal}
 use Rattle.serde_json.specs.View.{view}
 use Rattle.oim_report.specs.Outcome.{at}
 use Rattle.oim_report.proofs.AllTold.{fact_told}
-use Rattle.oim_report.proofs.findings.fact_faults.add_fact_faults.Goals as goal
+use Rattle.oim_report.proofs.findings.fact_in_scope.FactInScope.add_faults.Goals as goal
 
 pub returns : goal.returns
 returns c =
     IfOk-equal c.add_each.result c.add_each.new.faults _ _ c.add_each.ensures
-    (ap (λ rs. c.args.faults.now ++ map (at c.args.place) rs) (sym (fact_told c.args.sheet.now c.args.aliases.now (view c.args.object.now))))
+    (ap (λ rs. c.args.faults.now ++ map (at c.args.place) rs) (sym (fact_told c.args.self.now.sheet.now c.args.self.now.aliases.now (view c.args.self.now.object.now))))

@@ -9,14 +9,14 @@ use Rattle.oim_report.specs.Json.{entries, members, object_at}
 use Rattle.oim_report.specs.Shown.{beside_first, fact_shown, repeated, seen, shown_with, when}
 use Rattle.oim_report.specs.code.Rows.{defined_members}
 use Rattle.oim_report.proofs.DefinedRows.{misfit_shown}
-use Rattle.oim_report.proofs.findings.defined_rows.misfit.Goals as goal
+use Rattle.oim_report.proofs.findings.fact_in_scope.FactInScope.misfit.Goals as goal
 
 pub returns-in-Some-misfit_in : goal.returns-in-Some-misfit_in
 unfolding holds fact_shown
 returns-in-Some-misfit_in c =
-    let sheet = c.args.sheet.now in
-    let bs = c.args.aliases.now in
-    let fact = view c.args.object.now in
+    let sheet = c.args.self.now.sheet.now in
+    let bs = c.args.self.now.aliases.now in
+    let fact = view c.args.self.now.object.now in
     let ms = members_view c.in-Some.dimensions.now.entries in
     let dimensions : members (object_at (codes "dimensions") fact) ≡ ms = ap members (sym c.object_at.ensures ∙ ap (option_map (λ m. members_view m.now.entries)) c.in-Some.is) in
     let two = option_map (λ m. beside_first bs (entries ms) m.0) (repeated bs [] (defined_members ms)) in
@@ -27,9 +27,9 @@ returns-in-Some-misfit_in c =
 pub returns : goal.returns
 unfolding holds fact_shown
 returns c =
-    let sheet = c.args.sheet.now in
-    let bs = c.args.aliases.now in
-    let fact = view c.args.object.now in
+    let sheet = c.args.self.now.sheet.now in
+    let bs = c.args.self.now.aliases.now in
+    let fact = view c.args.self.now.object.now in
     let ms = members_view c.in-Some.dimensions.now.entries in
     let dimensions : members (object_at (codes "dimensions") fact) ≡ ms = ap members (sym c.object_at.ensures ∙ ap (option_map (λ m. members_view m.now.entries)) c.in-Some.is) in
     let two = option_map (λ m. beside_first bs (entries ms) m.0) (repeated bs [] (defined_members ms)) in

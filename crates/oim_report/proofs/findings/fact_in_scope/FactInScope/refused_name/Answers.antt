@@ -8,30 +8,30 @@ use Rattle.oim_report.specs.Holds.{as_text, pieces}
 use Rattle.oim_report.specs.Json.{members, object_at}
 use Rattle.oim_report.specs.Shown.{name, seen}
 use Rattle.oim_report.proofs.DefinedRows.{from_entity, from_dimensions, from_unit, from_value}
-use Rattle.oim_report.proofs.findings.name_rows.refused_name.Goals as goal
+use Rattle.oim_report.proofs.findings.fact_in_scope.FactInScope.refused_name.Goals as goal
 
 pub returns-in-Some-refused_entity : goal.returns-in-Some-refused_entity
 returns-in-Some-refused_entity c =
-    let fact = view c.args.object.now in
-    let first = find (refuses c.args.reason c.args.aliases.now) in
-    from_entity c.args.sheet.now c.args.aliases.now fact (members (object_at (codes "dimensions") fact)) c.args.reason _
+    let fact = view c.args.self.now.object.now in
+    let first = find (refuses c.args.reason c.args.self.now.aliases.now) in
+    from_entity c.args.self.now.sheet.now c.args.self.now.aliases.now fact (members (object_at (codes "dimensions") fact)) c.args.reason _
     (ap (option_map seen) (sym c.in_default.is) ∙ c.refused_text.ensures ∙ ap (λ o. option_map name (first (map a_name (option_to_list (option_and_then as_text o))))) c.dimension.ensures)
     (ap (option_map seen) (sym c.in-Some-refused_entity.is) ∙ c.refused_entity.ensures ∙ ap (λ o. option_map name (first (map an_entity (option_to_list (option_and_then as_text o))))) c.dimension-2.ensures)
 
 pub returns-in-Some-refused_dimension : goal.returns-in-Some-refused_dimension
 returns-in-Some-refused_dimension c =
-    let fact = view c.args.object.now in
-    let first = find (refuses c.args.reason c.args.aliases.now) in
-    from_dimensions c.args.sheet.now c.args.aliases.now fact (members (object_at (codes "dimensions") fact)) c.args.reason _
+    let fact = view c.args.self.now.object.now in
+    let first = find (refuses c.args.reason c.args.self.now.aliases.now) in
+    from_dimensions c.args.self.now.sheet.now c.args.self.now.aliases.now fact (members (object_at (codes "dimensions") fact)) c.args.reason _
     (ap (option_map seen) (sym c.in_default.is) ∙ c.refused_text.ensures ∙ ap (λ o. option_map name (first (map a_name (option_to_list (option_and_then as_text o))))) c.dimension.ensures)
     (ap (option_map seen) (sym c.in_default-refused_entity.is) ∙ c.refused_entity.ensures ∙ ap (λ o. option_map name (first (map an_entity (option_to_list (option_and_then as_text o))))) c.dimension-2.ensures)
     (ap (option_map seen) (sym c.in-Some-refused_dimension.is) ∙ c.refused_dimension.ensures)
 
 pub returns-in-Some-refused_unit : goal.returns-in-Some-refused_unit
 returns-in-Some-refused_unit c =
-    let fact = view c.args.object.now in
-    let first = find (refuses c.args.reason c.args.aliases.now) in
-    from_unit c.args.sheet.now c.args.aliases.now fact (members (object_at (codes "dimensions") fact)) c.args.reason _
+    let fact = view c.args.self.now.object.now in
+    let first = find (refuses c.args.reason c.args.self.now.aliases.now) in
+    from_unit c.args.self.now.sheet.now c.args.self.now.aliases.now fact (members (object_at (codes "dimensions") fact)) c.args.reason _
     (ap (option_map seen) (sym c.in_default.is) ∙ c.refused_text.ensures ∙ ap (λ o. option_map name (first (map a_name (option_to_list (option_and_then as_text o))))) c.dimension.ensures)
     (ap (option_map seen) (sym c.in_default-refused_entity.is) ∙ c.refused_entity.ensures ∙ ap (λ o. option_map name (first (map an_entity (option_to_list (option_and_then as_text o))))) c.dimension-2.ensures)
     (ap (option_map seen) (sym c.in_default-refused_dimension.is) ∙ c.refused_dimension.ensures)
@@ -39,9 +39,9 @@ returns-in-Some-refused_unit c =
 
 pub returns : goal.returns
 returns c =
-    let fact = view c.args.object.now in
-    let first = find (refuses c.args.reason c.args.aliases.now) in
-    from_value c.args.sheet.now c.args.aliases.now fact (members (object_at (codes "dimensions") fact)) c.args.reason _
+    let fact = view c.args.self.now.object.now in
+    let first = find (refuses c.args.reason c.args.self.now.aliases.now) in
+    from_value c.args.self.now.sheet.now c.args.self.now.aliases.now fact (members (object_at (codes "dimensions") fact)) c.args.reason _
     (ap (option_map seen) (sym c.in_default.is) ∙ c.refused_text.ensures ∙ ap (λ o. option_map name (first (map a_name (option_to_list (option_and_then as_text o))))) c.dimension.ensures)
     (ap (option_map seen) (sym c.in_default-refused_entity.is) ∙ c.refused_entity.ensures ∙ ap (λ o. option_map name (first (map an_entity (option_to_list (option_and_then as_text o))))) c.dimension-2.ensures)
     (ap (option_map seen) (sym c.in_default-refused_dimension.is) ∙ c.refused_dimension.ensures)
