@@ -1,4 +1,4 @@
--- Each written part is read back as that part.
+-- Each part of a fact that fits a sheet is read back as that part from its written form.
 use Rattle.std.specs.Prelude.{◌≡◌, ℕ, List, All, IsTrue, Option, Some, IfSome}
 use Rattle.std.specs.FinMap as map
 use Rattle.oim_names.specs.QName.{QName}
