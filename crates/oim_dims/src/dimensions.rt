@@ -41,8 +41,8 @@ impl Model for Dimensions {
 }
 
 impl Dimensions {
-    /// Returns a dimension set with only a concept. The period is forever. Later calls allocate
-    /// from `alloc`.
+    /// Returns a dimension set with only a concept, so the period is `Forever`. Later calls
+    /// allocate from `alloc`.
     pub fn new(alloc: Global, concept: Name) -> Dimensions
         ensures { result ≡ record { concept = concept; entity = None; period = Forever; unit = None; language = None; members = [] } }
     {

@@ -66,8 +66,8 @@ fn from_to(start: Option<Moment>, end: Option<Moment>) -> Result<Period, Reason>
     }
 }
 
-/// Returns the text of a period, or `None` for forever. Hours range from 00 to 23. Reading the text
-/// of an instant, or of a duration that ends after its start, returns the period.
+/// Returns the text of a period, with hours from 00 to 23, or `None` for `Forever`. Reading the
+/// text of an instant, or of a duration that ends after its start, returns the period.
 ///
 /// Errors: out of memory.
 pub fn write_period(alloc: Global, period: &Period) -> Result<Option<Text>, AllocError>

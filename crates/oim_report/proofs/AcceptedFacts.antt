@@ -1,5 +1,5 @@
--- Suppose that the URIs of all bindings are namespaces. If `fact_outcome` returns a fact, the object denotes this fact,
--- and the fact fits the sheet.
+-- If the URIs of all bindings are namespaces and `fact_outcome` returns a fact, the object denotes this fact, and the fact
+-- fits the sheet.
 use Rattle.std.proofs.Common.{◌≡◌, ℕ, ◌+◌, List, [], ◌∷◌, map as each_of, Some, Result, Ok, Err, refl, sym, ap, subst, ◌∙◌, arith}
 use Rattle.std.specs.Prelude.{All, option_and_then}
 use Rattle.std.specs.List.{AllZip}

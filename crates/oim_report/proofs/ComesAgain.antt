@@ -19,7 +19,7 @@ use Rattle.oim_report.specs.Names.{comes_again, named}
 use Rattle.oim_report.proofs.Naming.{stands}
 use Rattle.oim_report.proofs.RisingNames.{name_total}
 
--- some name is in the map or is repeated
+-- some name of the list is in the map, or is repeated in the list
 abbrev pub again_after : {K : Type 0} → FinMap name_cmp K → List QName → Bool
 again_after m ns = list_any (λ n. map.contains_key m n) ns || comes_again ns
 

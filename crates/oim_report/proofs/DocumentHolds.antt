@@ -69,7 +69,7 @@ type_same tree fits =
     has_one (is_none (object_at (codes "documentInfo") tree)) (has_other_type tree) there.1
     ∙ (λ i. sym (some_is (object_at (codes "documentInfo") tree)) i && not (is_some_and (λ t. bytes_eq t document_type) (sym (text_same (info (codes "documentType") tree)) i)))
 
--- ---- the base and the references
+-- ---- the base URL and the references
 
 mapped_none : {A B : Type 0} (f : A → B) (o : Option A) → is_none (option_map f o) ≡ is_none o
 mapped_none f None = refl

@@ -1,4 +1,5 @@
--- The bytes of an accepted report denote the document that is read. Its facts fit the sheet, and its references are kept texts.
+-- The bytes of an accepted report denote the document that is read. The document's facts fit the sheet, and its references
+-- are kept texts.
 use Rattle.std.proofs.Common.{◌≡◌, ℕ, List, [], ◌∷◌, Bool, true, false, cond, Option, Some, None, Result, Ok, Err, refl, ap, subst, ◌∙◌}
 use Rattle.std.specs.Prelude.{All, is_none}
 use Rattle.oim_report.specs.FactFits.{FactFits}

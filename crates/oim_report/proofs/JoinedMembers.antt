@@ -1,5 +1,5 @@
--- Suppose that a comma joins two texts of members, each with at least one member, and that the first text ends with a closing
--- brace. Then the joined text is read as the members of both texts.
+-- Two texts of members that a comma joins are read as the members of both. Each text must have a member, and the first
+-- text must end with a closing brace.
 use Rattle.std.proofs.Common.{◌≡◌, ℕ, suc, ◌-◌, ◌≤◌, Bool, true, false, List, [], ◌∷◌, ◌++◌, Some, inl, inr, ◌⊎◌, refl, sym, ap, ◌∙◌, subst, arith, append_assoc, append-nil}
 use Rattle.std.proofs.lemmas.List.{append_cancel_right}
 use Rattle.std.proofs.lemmas.Bool.{false≢true}

@@ -1,4 +1,4 @@
--- The last value at a key, while members are read one after another. Since keys ascend, it is the only value at the key.
+-- The last value at a key, while members are read one after another. Since keys ascend, no key has two values.
 use Rattle.std.proofs.Common.{◌≡◌, ◌≢◌, ℕ, List, [], ◌∷◌, true, false, cond, not, Option, Some, None, String, Global, string_bytes, string_cmp, Less, Equal, Greater, nat_cmp, is_eq, bytes_eq, refl, sym, ap, subst, ◌∙◌}
 use Rattle.std.specs.Prelude.{if◌then◌else◌, ◌&&◌}
 use Rattle.std.specs.List.{AllByRecursion, list_any}

@@ -1,4 +1,4 @@
--- Members that are added in any order are sorted by name.
+-- Members with different names can be added to a list in any order, with the same result.
 use Rattle.std.proofs.Common.{◌≡◌, ◌≢◌, ⊎_elim, true, false, cond, List, [], ◌∷◌, refl, sym, ap, ◌∙◌}
 use Rattle.std.specs.Prelude.{All}
 use Rattle.std.specs.Cmp.{tied_itself}

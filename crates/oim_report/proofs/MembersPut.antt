@@ -1,4 +1,4 @@
--- Members with different keys can be added to an object in any order.
+-- Members with different keys can be added to an object in any order, with the same result.
 use Rattle.std.proofs.Common.{◌≡◌, ℕ, List, Option, Some, None, option_and_then, refl, sym, ap, ◌∙◌, subst}
 use Rattle.std.specs.Prelude.{⊤}
 use Rattle.std.specs.Ordering.{nat_cmp, match_ordering, ordering_reverse}

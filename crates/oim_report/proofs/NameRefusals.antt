@@ -1,5 +1,5 @@
--- A list of names is refused if one of the names is refused. Of the three reasons, the first that applies to some name is
--- returned.
+-- A list of names is refused if one of the names is refused. Of `NameForm`, `UnboundPrefix` and `ReservedNamespace`, the
+-- first reason that applies to some name is returned.
 use Rattle.std.proofs.Common.{◌≡◌, List, [], ◌∷◌, ◌++◌, Bool, true, false, not, ◌||◌, ◌&&◌, refl, sym, ◌∙◌}
 use Rattle.std.specs.Prelude.{Option, Some, None, if◌then◌else◌}
 use Rattle.std.proofs.lemmas.Bool.{or_parts}
@@ -10,7 +10,7 @@ use Rattle.oim_names.specs.declared.reason.Reason.{Reason}
 use Rattle.oim_names.specs.declared.reason.Reason.TheVariants.{NameForm, UnboundPrefix, ReservedNamespace}
 use Rattle.oim_report.specs.Names.{names_refusal, refuses_some}
 
--- the first of the three reasons whose test passes
+-- the first of the reasons `NameForm`, `UnboundPrefix` and `ReservedNamespace` whose test passes
 abbrev pub by_any : Bool → Bool → Bool → Option Reason
 by_any form prefix namespace =
     if form then Some NameForm else (if prefix then Some UnboundPrefix else (if namespace then Some ReservedNamespace else None))

@@ -1,4 +1,4 @@
--- Each written part is read back as that part.
+-- If a fact fits a sheet and its names are spelled as in `SpellsFact`, each of its written parts is read back.
 use Rattle.std.specs.Prelude.{◌≡◌, ℕ, List, All, IsTrue, Option, Some, IfSome}
 use Rattle.std.specs.FinMap as map
 use Rattle.oim_names.specs.QName.{QName}

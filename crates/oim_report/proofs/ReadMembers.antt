@@ -1,4 +1,4 @@
--- The taxonomy-defined dimensions with their members are read back.
+-- The taxonomy-defined dimensions of a written fact are read back, with their members.
 use Rattle.std.proofs.Common.{◌≡◌, ◌≢◌, ℕ, suc, List, [], ◌∷◌, true, false, refl, sym, ap, ◌∙◌, arith}
 use Rattle.std.specs.Prelude.{All, Any, Contains, Option, Some, None, if◌then◌else◌, option_and_then, option_map, ⊤}
 use Rattle.std.specs.FinMap as map

@@ -1,4 +1,4 @@
--- The concept, the entity, the period and the language are read back.
+-- The concept, the entity, the period and the language of a written fact are read back.
 use Rattle.std.proofs.Common.{◌≡◌, ℕ, List, Some, None, refl, sym, ap, ◌∙◌}
 use Rattle.std.specs.Prelude.{option_and_then, option_map}
 use Rattle.std.specs.Result.{result_ok}

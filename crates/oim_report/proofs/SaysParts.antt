@@ -1,4 +1,5 @@
--- If `said_period` returns a period, `SaysPeriod` holds for it. The same is proved for the other parts.
+-- If `said_period` returns a period, `SaysPeriod` holds for it. The same is proved for the
+-- concept, the entity, the language and the value.
 use Rattle.std.proofs.Common.{◌≡◌, ℕ, ℤ, List, Bool, true, false, ◌&&◌, cond, Option, Some, None, Result, Ok, Err, refl, sym, subst}
 use Rattle.std.specs.Prelude.{IsTrue}
 use Rattle.std.specs.Option.{option_map}

@@ -1,4 +1,4 @@
--- If several parts of a sheet are at fault, the first one is shown.
+-- If several parts of a sheet are at fault, the first of these parts is shown.
 use Rattle.std.proofs.Common.{◌≡◌, ◌≢◌, List, [], ◌∷◌, ◌++◌, Bool, true, false, refl, sym, ap, ◌∙◌}
 use Rattle.std.specs.Prelude.{Option, Some, None, if◌then◌else◌, option_map}
 use Rattle.std.specs.Option.{option_map_or, option_or, unwrap_or}

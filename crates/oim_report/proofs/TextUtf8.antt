@@ -1,5 +1,5 @@
--- The compact text of a plain value with UTF-8 strings and keys is UTF-8. The text of such an object is read back, if the
--- object is at most `max_depth` levels deep. A plain value has no float.
+-- The compact text of a plain value with UTF-8 strings and keys is UTF-8. If the value is an object at most `max_depth`
+-- levels deep, the text is read back. A plain value has no float.
 use Rattle.std.proofs.Common.{◌≡◌, ℕ, negsuc, List, [], ◌∷◌, Bool, true, false, ◌||◌, refl, ◌∙◌}
 use Rattle.std.specs.Prelude.{IsUtf8}
 use Rattle.std.proofs.lemmas.Str.{IsUtf8-append, IsUtf8-nil, IsUtf8-from_ascii}

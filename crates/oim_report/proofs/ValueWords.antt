@@ -1,4 +1,4 @@
--- The conditions of `Holds` test values of type `Data`, and the reader tests values of type `Given`. Both tests agree.
+-- The conditions of `Holds` test values of type `Data`, the reader tests values of type `Given`, and the tests agree.
 use Rattle.std.proofs.Common.{◌≡◌, ℕ, ℤ, pos, List, ◌∷◌, map, Bool, true, false, not, ◌&&◌, cond, refl, ap}
 use Rattle.std.specs.Prelude.{⊤, Option, Some, None, is_none, is_some, option_and_then, if◌then◌else◌}
 use Rattle.std.specs.List.{filter}

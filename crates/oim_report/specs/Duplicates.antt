@@ -13,7 +13,7 @@ use Rattle.oim_value.specs.declared.value.Value.TheVariants.{Nil, Number, Text a
 use Rattle.oim_dims.specs.FactOrder.{dimensions_cmp}
 use Rattle.oim_dims.specs.declared.fact.Fact.{Fact}
 
--- two values meet, as in `Meets`
+-- whether two values meet, as `Meets` defines
 abbrev pub values_meet : Value → Value → Bool
 values_meet Nil Nil = true
 values_meet (Number m d) (Number n e) = intervals_meet (interval m d) (interval n e)
@@ -21,7 +21,7 @@ values_meet (AText s) (AText t) = bytes_eq s t
 values_meet (AName m) (AName n) = is_eq (name_cmp m n)
 values_meet x y = false
 
--- two facts are duplicates if they have the same dimensions
+-- whether two facts are duplicates: they have the same dimensions
 abbrev pub are_duplicates : Fact → Fact → Bool
 are_duplicates f g = is_eq (dimensions_cmp f.dimensions g.dimensions)
 

@@ -92,7 +92,7 @@ pub record SaysNumber (t : List ℕ) (units : ℤ) : Type 0 where
   pub denoted : Denotes t units
   pub short : IsTrue (is_short t)
 
--- a value is nil, or a number, a text or a name, depending on the kind of the concept
+-- a value is nil, or it is a number, a text or a name, as the kind of the concept requires
 abbrev pub SaysValue : List Binding → ConceptKind → Given → Given → Value → Type 0
 SaysValue bs kind g decimals Nil = g ≡ nil
 SaysValue bs Numeric g decimals (Number units places) = GivesText g (λ t. SaysNumber t units) × SaysDecimals decimals places

@@ -30,11 +30,11 @@ WithinEndsIsWithinEach = (is : List Interval) (e : Interval) (units : ℤ) → A
 abbrev pub EndsAreCommonInterval : Type 0
 EndsAreCommonInterval = (is : List Interval) (e : Interval) → 0 < length is → HasPoints e → ((units : ℤ) → IsWithin units e ↔ All (IsWithin units) is) → AreEnds e is
 
--- each interval meets each later one
+-- each interval of a list meets each later interval
 abbrev pub EachTwoMeet : List Interval → Type 0
 EachTwoMeet = AllPairs (λ i j. IsTrue (intervals_meet i j))
 
--- if no interval is empty, each meets each later one exactly if the greatest low end is at most the least high end
+-- if no interval is empty, every two intervals meet exactly if the greatest low end is at most the least high end
 abbrev pub AllMeetIffEndsMeet : Type 0
 AllMeetIffEndsMeet = (is : List Interval) (e : Interval) → All HasPoints is → AreEnds e is → EachTwoMeet is ↔ (e.low ≤ℤ e.high)
 

@@ -4,7 +4,7 @@ use Rattle.oim_value.specs.declared.value.Value.{Value}
 use Rattle.oim_value.specs.declared.value.Value.TheVariants.{Nil, Number, Text as AText, Name as AName}
 use Rattle.oim_value.specs.Interval.{interval, intervals_meet}
 
--- both are nil, or numbers whose intervals meet, or equal texts, or equal names
+-- both values are nil, or are numbers whose intervals meet, or are equal texts or equal names
 abbrev pub Meets : Value → Value → Type 0
 Meets Nil Nil = Unit {0}
 Meets (Number m d) (Number n e) = IsTrue (intervals_meet (interval m d) (interval n e))

@@ -3,6 +3,6 @@ use Rattle.std.specs.List.{list_any}
 use Rattle.oim_report.specs.Apart.{are_apart}
 use Rattle.oim_report.proofs.findings.facts_apart.first_beside.Given as goal
 
--- the level forbids some fact beside the fact at `last` exactly if one of the remaining facts is forbidden there
+-- the level forbids some fact beside the fact at `last` exactly if it forbids one of the remaining facts beside that fact
 abbrev pub invariant-loop-one : goal.invariant-loop-one
 invariant-loop-one l = list_any (λ one. are_apart l.level l.facts one l.last) (drop l.one-index l.order) ≡ list_any (λ one. are_apart l.level l.facts one l.last) l.order
