@@ -24,6 +24,7 @@ pub(crate) struct Info {
     pub(crate) level: Level,
 }
 
+#[tactic(auto, using(crate::proofs::DocumentHolds::document_least, crate::proofs::DocumentHolds::shape_same))]
 pub(crate) fn read_info(alloc: Global, tree: &Value) -> Result<Info, Reason>
     ensures aliases { IfOk result (λ info. info.aliases ≡ bindings_of (view tree.now)) }
     ensures references { IfOk result (λ info. references_said (view tree.now) ≡ Some info.references.items) }

@@ -4,21 +4,6 @@ use Rattle.serde_json.specs.View.{view}
 use Rattle.oim_report.proofs.DocumentHolds.{document_least, shape_refusal, shape_same}
 use Rattle.oim_report.proofs.document.info.read_info.Goals as goal
 
-pub returns-in_err-check_shape-clause-refused : goal.returns-in_err-check_shape-clause-refused
-returns-in_err-check_shape-clause-refused c =
-    let shape : result_err c.check_shape.result ≡ shape_refusal (view c.args.tree.now) = c.check_shape.ensures ∙ shape_same (view c.args.tree.now) in
-    rw (← document_least (view c.args.tree.now)) (search (rules, shape))
-
-pub returns-in_err-aliases-clause-refused : goal.returns-in_err-aliases-clause-refused
-returns-in_err-aliases-clause-refused c =
-    let shape : result_err c.check_shape.result ≡ shape_refusal (view c.args.tree.now) = c.check_shape.ensures ∙ shape_same (view c.args.tree.now) in
-    rw (← document_least (view c.args.tree.now)) (search (rules, shape))
-
-pub returns-in_err-base-clause-refused : goal.returns-in_err-base-clause-refused
-returns-in_err-base-clause-refused c =
-    let shape : result_err c.check_shape.result ≡ shape_refusal (view c.args.tree.now) = c.check_shape.ensures ∙ shape_same (view c.args.tree.now) in
-    rw (← document_least (view c.args.tree.now)) (search (rules, shape))
-
 pub returns-in_err-references-clause-refused : goal.returns-in_err-references-clause-refused
 returns-in_err-references-clause-refused c =
     let shape : result_err c.check_shape.result ≡ shape_refusal (view c.args.tree.now) = c.check_shape.ensures ∙ shape_same (view c.args.tree.now) in
