@@ -34,7 +34,7 @@ verdict_of (v ∷ w ∷ vs) = Some (if each_meet (v ∷ w ∷ vs) then Consisten
 abbrev pub verdict : List Fact → DimensionSet → Option Verdict
 verdict facts s = verdict_of (values_at s facts)
 
--- the verdict is `Inconsistent` exactly if two of the values do not meet
+-- the verdict on a dimension set is `Inconsistent` exactly if two of its values do not meet
 abbrev pub InconsistentIsApart : Type 0
 InconsistentIsApart =
     (facts : List Fact) (s : DimensionSet) →
