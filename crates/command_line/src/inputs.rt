@@ -39,8 +39,8 @@ impl<'n, F: Files, E: Write> Inputs<'n, F, E> {
         sheet_of(self.alloc, bytes.as_bytes())
     }
 
-    /// Updates the progress line, if it is shown. Then reads the report with this name and counts
-    /// it.
+    /// Updates the progress line, if the console shows one. Then reads the report with this name
+    /// and counts it.
     pub(crate) fn read_report(&mut self, name: &'n str) -> Result<Encoded, Error<'n>> {
         self.console.show(self.names.len());
         let report = self.read(name)?;

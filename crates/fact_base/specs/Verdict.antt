@@ -65,7 +65,7 @@ IsPairOf false vs i j = (i ≡ 0) × (j ≡ 1)
 abbrev pub IsShownPair : List Value → ℕ → ℕ → Type 0
 IsShownPair vs = IsPairOf (begin_with_numbers vs) vs
 
--- the values at the shown indices do not meet
+-- i and j are the shown indices, and the values at these indices do not meet
 pub record IsApartPair (vs : List Value) (i j : ℕ) : Type 0 where
   pub shown : IsShownPair vs i j
   pub apart : AreApart vs i j

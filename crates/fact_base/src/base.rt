@@ -170,7 +170,7 @@ impl<'s> Base<'s> {
         }
     }
 
-    /// Returns the number of rows. There is one for each dimension set.
+    /// Returns the number of rows. There is one row for each dimension set.
     pub fn row_count(&self) -> u64
         ensures { result ≡ length (rows_of self.now.body.facts) }
     {

@@ -120,8 +120,8 @@ pub(crate) fn push_text(alloc: Global, line: &mut String, text: &str) -> Result<
     write!(line, "{}..", Escaped(open))
 }
 
-/// Appends a value as JSON. If the value is not a text, two dots follow the first 80 characters of
-/// a longer JSON.
+/// Appends a value as JSON. If the value is not a text and its JSON has more than 80 characters,
+/// the JSON is cut, and two dots follow.
 fn push_value(alloc: Global, line: &mut String, value: &Value) -> Result<(), AllocError> {
     if let Some(text) = value.as_str() {
         return push_text(alloc, line, text);

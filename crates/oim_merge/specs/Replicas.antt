@@ -104,7 +104,7 @@ WireAgrees =
     (sheet : Sheet) (writers : List Writer) (reports : List (List ℕ)) (n : ℕ) (events : List Event) → NoneIsBad n (length reports) events →
     Agree sheet reports (world_after (reached sheet reports) n events) (world_after (wire sheet writers reports) n events)
 
--- the number of replicas does not change
+-- no schedule changes the number of replicas
 abbrev pub ReplicasStay : Type 0
 ReplicasStay =
     (sheet : Sheet) (writers : List Writer) (reports : List (List ℕ)) (n : ℕ) (events : List Event) →
