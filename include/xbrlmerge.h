@@ -4,17 +4,17 @@
 
    Memory. The caller provides all buffers. A call keeps no pointer after it returns, and returns none. If the buffer for
    the text or for the refused reports is too short, the call returns the required lengths and leaves both buffers unchanged:
-   make them long enough, and call again. If both are long enough in the first call, the text is made only once. A call
-   allocates its own memory with malloc, and frees this memory before it returns.
+   make them long enough, and call again. If both buffers are long enough in the first call, the text is made only once. A
+   call allocates its own memory with malloc, and frees this memory before it returns.
 
    Pointers. No pointer may be null, even if the length is 0: pass the address of any variable of its type instead. (The
    data() of an empty std::vector may be null.) The output (`out`, `needed`, `refusals`, `refused`, `checked`,
    `refusal`) must not overlap any other argument. During the call, nothing else may access the output, or write to the
    input. Output need not be initialised. Each pointer must be aligned for its type, as C requires.
 
-   Reports. They are concatenated in `reports`, and `ends` contains the position where each report ends, counted from the
-   start: reports of 3 and 4 bytes have the ends 3 and 7. Bytes after the last end are ignored. If an end is less than the
-   one before it, or beyond `reports_length`, the call returns XBRLMERGE_BAD_ENDS and reads neither sheet nor reports. If
+   Reports. All reports are concatenated in `reports`, and `ends` contains the position where each report ends, counted from
+   the start: reports of 3 and 4 bytes have the ends 3 and 7. Bytes after the last end are ignored. If an end is less than
+   the end before it, or beyond `reports_length`, the call returns XBRLMERGE_BAD_ENDS and reads neither sheet nor reports. If
    `allow` is not a level, the call returns XBRLMERGE_BAD_LEVEL, even if an end is wrong.
 
    Threads. Calls share no state: several threads may call at the same time. Do not call from a signal handler, or in the
@@ -44,7 +44,7 @@ enum {
     XBRLMERGE_SHEET_REFUSED = 4, /* the sheet is refused: `needed` is the number of its refusal (xbrlmerge_check sets
                                     `refusal` instead) */
     XBRLMERGE_NO_MEMORY = 5,     /* memory was refused: nothing has changed */
-    XBRLMERGE_BAD_ENDS = 6,      /* an end is less than the one before it, or beyond the reports: nothing has changed */
+    XBRLMERGE_BAD_ENDS = 6,      /* an end is less than the end before it, or beyond the reports: nothing has changed */
     XBRLMERGE_BAD_LEVEL = 7      /* `allow` is not a level: nothing has changed */
 };
 
@@ -65,16 +65,16 @@ typedef struct {
 
 /* The result for an accepted report. */
 typedef struct {
-    uint64_t facts;     /* the number of its facts, repeats included */
-    uint32_t level;     /* the strictest level that its facts satisfy: XBRLMERGE_ALLOW_NONE to _ALL */
-    uint32_t canonical; /* 1 if its bytes are the canonical text of its facts and references, otherwise 0 */
+    uint64_t facts;     /* the number of the report's facts, repeats included */
+    uint32_t level;     /* the strictest level that the facts satisfy: XBRLMERGE_ALLOW_NONE to _ALL */
+    uint32_t canonical; /* 1 if the report's bytes are the canonical text of its facts and references, otherwise 0 */
 } xbrlmerge_checked;
 
 /* Merges reports, as `merge --allow` does. The canonical text is written to the start of `out`, without a NUL or a line
-   end, and the refused reports to the start of `refusals`, in their order. `needed` is set to the number of these bytes,
-   and `refused` to the number of these records; the rest of both buffers is unchanged.
-   XBRLMERGE_TOO_LOOSE returns the refused reports too, and leaves `out` unchanged. XBRLMERGE_SHEET_REFUSED sets `refused`
-   to 0. */
+   end, and the refused reports to the start of `refusals`, in the order of reports. `needed` is set to the number of these
+   bytes, and `refused` to the number of these records; the rest of both buffers is unchanged.
+   XBRLMERGE_TOO_LOOSE returns the refused reports too, and leaves `out` unchanged. XBRLMERGE_SHEET_REFUSED sets `needed`
+   to the number of the sheet's refusal, and `refused` to 0. */
 uint32_t xbrlmerge_merge(const uint8_t *sheet, size_t sheet_length, const uint8_t *reports, size_t reports_length,
                          const size_t *ends, size_t ends_length, uint32_t allow, uint8_t *out, size_t out_length,
                          size_t *needed, xbrlmerge_refusal *refusals, size_t refusals_length, size_t *refused);
@@ -91,7 +91,8 @@ uint32_t xbrlmerge_sources(const uint8_t *sheet, size_t sheet_length, const uint
                            const size_t *ends, size_t ends_length, uint8_t *out, size_t out_length, size_t *needed,
                            xbrlmerge_refusal *refusals, size_t refusals_length, size_t *refused);
 
-/* Like xbrlmerge_verdicts and xbrlmerge_sources, but `out` gets what `--format json` prints: one JSON object per line. */
+/* Two calls that do the same as xbrlmerge_verdicts and xbrlmerge_sources, but `out` gets what `--format json` prints: one
+   JSON object per line. */
 uint32_t xbrlmerge_verdicts_json(const uint8_t *sheet, size_t sheet_length, const uint8_t *reports, size_t reports_length,
                                  const size_t *ends, size_t ends_length, uint8_t *out, size_t out_length, size_t *needed,
                                  xbrlmerge_refusal *refusals, size_t refusals_length, size_t *refused);
@@ -101,7 +102,8 @@ uint32_t xbrlmerge_sources_json(const uint8_t *sheet, size_t sheet_length, const
 
 /* Checks one report, as `check` does. If the report is accepted (XBRLMERGE_DONE), only `checked` is set. If the report is
    refused (XBRLMERGE_REFUSED), only `refusal` is set, with the report number 1. If the sheet is refused
-   (XBRLMERGE_SHEET_REFUSED), only `refusal` is set, with the report number 0. If memory was refused, neither is set. */
+   (XBRLMERGE_SHEET_REFUSED), only `refusal` is set, with the report number 0. If memory was refused, neither `checked` nor
+   `refusal` is set. */
 uint32_t xbrlmerge_check(const uint8_t *sheet, size_t sheet_length, const uint8_t *report, size_t report_length,
                          xbrlmerge_checked *checked, xbrlmerge_refusal *refusal);
 

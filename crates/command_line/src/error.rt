@@ -7,7 +7,8 @@ use std::alloc::{AllocError, AllocFailed};
 /// The result of a command that ran to its end.
 #[derive(Drop)]
 pub(crate) enum Success {
-    /// The refused reports, or the refused takes of `replay`. Help and the version have none.
+    /// The refused reports, or the refused takes of `replay`. The list is empty for help and the
+    /// version.
     Refusals(Refusals),
     /// The number of faults; a line was written for each.
     Faults(u64),
@@ -23,16 +24,19 @@ pub(crate) enum Error<'n> {
     Unread(&'n str, Option<&'static str>),
     /// The file with this name has more than `MOST_BYTES` bytes.
     TooLong(&'n str),
-    /// The file with this name should list reports. Neither the file nor the arguments name a
-    /// report.
+    /// The file with this name should list reports, but neither the file nor the arguments name
+    /// one.
     NoNames(&'n str),
     /// The file with this name cannot be written.
     Unwritten(&'n str),
-    /// The line with this number, from 1, is not an event, or names something that does not exist.
+    /// The line with this number, from 1, of the schedule is not an event, or names a report,
+    /// replica or message that does not exist.
     Event(u64),
-    /// The sheet is refused. `explain` adds a line that describes the fault.
+    /// The sheet is refused. The text, which only `explain` adds, is a line that describes the
+    /// fault.
     Sheet(Reason, Option<String>),
-    /// The row with this number is the first above the allowed level. These reports were refused.
+    /// The row with this number is the first above the allowed level. The list contains the refused
+    /// reports, if any.
     TooLoose(u64, Refusals),
     /// The output failed after this many bytes.
     Device(u64),

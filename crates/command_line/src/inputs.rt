@@ -16,13 +16,13 @@ const MOST_BYTES: u32 = 2_147_483_648;
 /// The name of standard input after `--reports-from` and in printed lines.
 pub(crate) const STANDARD_INPUT: &str = "-";
 
-/// The inputs of a command, and its progress. The sink is not a field. Otherwise the contract of
+/// The inputs of a command, and its progress. The sink is not a field: if it were, the contract of
 /// each method would have to state that the sink is unchanged.
 #[derive(Drop)]
 pub(crate) struct Inputs<'n, F, E> {
     pub alloc: Global,
     pub files: &'n F,
-    /// The bundle; not used if there are arguments.
+    /// The bundle if there are no arguments; otherwise not used.
     pub bundle: &'n [u8],
     pub names: &'n [&'n str],
     pub console: &'n mut Console<E>,
@@ -39,7 +39,8 @@ impl<'n, F: Files, E: Write> Inputs<'n, F, E> {
         sheet_of(self.alloc, bytes.as_bytes())
     }
 
-    /// Shows how many reports were read before. Then reads the report with this name and counts it.
+    /// Updates the progress line, if the console shows one. Then reads the report with this name
+    /// and counts it.
     pub(crate) fn read_report(&mut self, name: &'n str) -> Result<Encoded, Error<'n>> {
         self.console.show(self.names.len());
         let report = self.read(name)?;

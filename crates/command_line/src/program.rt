@@ -17,10 +17,10 @@ use std::rt::Files;
 /// standard input. On standard error it prints a line for each refusal (`explain` prints none), or
 /// why it stopped; if a row is above the allowed level, it prints both. If standard input is a
 /// terminal and there are no arguments, it prints that a bundle is expected. If standard error is a
-/// terminal, it also prints why a file cannot be read, if the cause is known. On this terminal,
-/// commands for several reports also show how many reports were read, unless `--quiet` is given.
-/// Returns the highest exit status that applies: 0 by default; 1 if a report was refused or
-/// `explain` found a fault; 2 if a row is above the allowed level; 3 if the program stopped for
+/// terminal, it also prints why a file cannot be read, if the cause is known. If standard error is
+/// a terminal and `--quiet` is not given, commands for several reports also show how many reports
+/// were read. Returns the highest exit status that applies: 0 by default; 1 if a report was refused
+/// or `explain` found a fault; 2 if a row is above the allowed level; 3 if the program stopped for
 /// another reason.
 pub fn run<F, W, R, O, E>(alloc: Global, files: &F, words: &[W], streams: Streams<R, O, E>) -> u8
 where

@@ -8,7 +8,7 @@ use std::alloc::{AllocError, Global};
 pub(crate) enum PrintFormat {
     /// Lines for people.
     Lines,
-    /// Rows for other programs.
+    /// JSON or CSV, for other programs.
     Rows(RowFormat),
 }
 

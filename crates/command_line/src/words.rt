@@ -13,8 +13,8 @@ use std::convert::AsStr;
 
 const PROGRAM: &str = "xbrlmerge";
 
-// Between releases, the next version with `-dev`. `tests/tools/test_version.py` compares this
-// version with the versions in other files.
+// Between releases, this constant is the next version with `-dev`. `tests/tools/test_version.py`
+// compares this version with the versions in other files.
 const VERSION: &str = "0.3.0-dev";
 
 const ABOUT: &str = "Merges xBRL-JSON reports, and finds where they contradict each other";

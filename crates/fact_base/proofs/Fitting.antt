@@ -18,7 +18,7 @@ use Rattle.fact_base.specs.code.Judged.{AreAlike, AreSummarised}
 use Rattle.fact_base.proofs.EntryFacts.{in_facts_with}
 use Rattle.fact_base.proofs.Members.{each_there}
 
--- the number that `kind_order` returns for values of this kind, or 0 without a kind
+-- the number that `kind_order` returns for values of this kind, or 0 for None
 abbrev kind_number : Option ConceptKind → ℕ
 kind_number None = 0
 kind_number (Some Numeric) = 1

@@ -118,7 +118,7 @@ sorted_set texts sorted once moved in_order is =
       λ h. subst (λ ts. Contains ts t) (sym is) (Contains-dedup nat_list_eq_equiv (λ x y same. same_bytes x y same) sorted t (Contains-permutation texts sorted t moved h)),
     ))
 
--- ---- a text that is found
+-- ---- a reference that a search finds
 
 pub found_there : (texts : List (List ℕ)) (text : List ℕ) (r : Result ℕ ℕ) → is_err r ≡ false → IsSearchInRange r (length texts) → IfOk r (HoldsAt (λ y. text_cmp y text ≡ Equal) texts) → Contains texts text
 found_there texts text (Ok i) found within holds = (i, within, text_cmp_exact (get_or texts i text) text (holds text))

@@ -1,4 +1,4 @@
--- A verdict is `Inconsistent` exactly if two of the values do not meet.
+-- The verdict on a dimension set is `Inconsistent` exactly if two of its values do not meet.
 use Rattle.std.proofs.Common.{◌≡◌, ◌≢◌, Bool, true, false, cond, ◌&&◌, List, [], ◌∷◌, Some, refl, sym, ap, subst, ◌∙◌, ⊎_elim}
 use mathlib.Core.Bool.{true≢false}
 use Rattle.std.specs.Prelude.{Contains, is_some}

@@ -2,7 +2,7 @@
 use Rattle.oim_report.specs.Sheet.{Sheet}
 use Rattle.fact_base.specs.Body.{Body}
 
--- the borrowed sheet, and the body
+-- the sheet that a base or a gathering borrows, and the body of its facts and references
 pub record Contents : Type 0 where
   pub sheet : Sheet
   pub body : Body

@@ -13,7 +13,7 @@ Summed = List Value × Summarised
 abbrev pub Entry : Type 0
 Entry = DimensionSet × Summed
 
--- the facts with these dimensions and values; the next definitions list the facts of one entry and of several
+-- one fact with these dimensions for each value; the next definitions list the facts of one entry and of several
 abbrev pub facts_with : DimensionSet → List Value → List Fact
 facts_with s vs = map (λ v. record { dimensions = s; value = v }) vs
 

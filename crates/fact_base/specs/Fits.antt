@@ -19,7 +19,7 @@ pub record Fits (sheet : Sheet) (b : Body) : Type 0 where
 abbrev pub IsAccepted : Sheet → Document → Type 0
 IsAccepted sheet d = (bytes : List ℕ) × (outcome sheet bytes ≡ Ok d)
 
--- the body of accepted documents fits their sheet
+-- the body of documents that are accepted under a sheet fits the sheet
 abbrev pub AcceptedFits : Type 0
 AcceptedFits = (sheet : Sheet) (docs : List Document) → All (IsAccepted sheet) docs → Fits sheet (body docs)
 

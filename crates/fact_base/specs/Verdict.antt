@@ -34,7 +34,7 @@ verdict_of (v ∷ w ∷ vs) = Some (if each_meet (v ∷ w ∷ vs) then Consisten
 abbrev pub verdict : List Fact → DimensionSet → Option Verdict
 verdict facts s = verdict_of (values_at s facts)
 
--- the verdict is `Inconsistent` exactly if two of the values do not meet
+-- the verdict on a dimension set is `Inconsistent` exactly if two of its values do not meet
 abbrev pub InconsistentIsApart : Type 0
 InconsistentIsApart =
     (facts : List Fact) (s : DimensionSet) →
@@ -65,7 +65,7 @@ IsPairOf false vs i j = (i ≡ 0) × (j ≡ 1)
 abbrev pub IsShownPair : List Value → ℕ → ℕ → Type 0
 IsShownPair vs = IsPairOf (begin_with_numbers vs) vs
 
--- the values at the shown indices do not meet
+-- i and j are the shown indices, and the values at these indices do not meet
 pub record IsApartPair (vs : List Value) (i j : ℕ) : Type 0 where
   pub shown : IsShownPair vs i j
   pub apart : AreApart vs i j

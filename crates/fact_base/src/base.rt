@@ -79,8 +79,8 @@ impl<'s> Base<'s> {
         }
     }
 
-    /// Returns the sheet of the reports. Each fact fits the sheet, facts and references ascend, and
-    /// resolving a reference again without a base URL changes nothing.
+    /// Returns the base's sheet. Each fact of the base fits the sheet, facts and references ascend,
+    /// and resolving a reference again without a base URL changes nothing.
     pub fn sheet(&self) -> &'s Sheet
         ensures sheet { result.now ≡ self.now.sheet }
         ensures fits { Fits self.now.sheet self.now.body }
@@ -170,7 +170,7 @@ impl<'s> Base<'s> {
         }
     }
 
-    /// Returns the number of rows. There is one for each dimension set.
+    /// Returns the number of rows. There is one row for each dimension set.
     pub fn row_count(&self) -> u64
         ensures { result ≡ length (rows_of self.now.body.facts) }
     {

@@ -23,8 +23,8 @@ use std::marker::Model;
 /// lists instead. Before that, a list is sorted and its repeats are removed if half its length,
 /// rounded down, exceeds its length after the last sort.
 ///
-/// References count like facts. Otherwise the base would absorb each report of the same facts with
-/// new references, and copy all references each time.
+/// References count like facts in this comparison of sizes. Otherwise the base would absorb each
+/// report of the same facts with new references, and copy all references each time.
 #[derive(Drop)]
 pub struct Gathering<'s> {
     alloc: Global,
@@ -72,8 +72,8 @@ impl<'s> Gathering<'s> {
         }
     }
 
-    /// Returns the sheet of the reports. Each fact fits the sheet, facts and references ascend, and
-    /// resolving a reference again without a base URL changes nothing.
+    /// Returns the gathering's sheet. Each fact of the gathering fits the sheet, facts and
+    /// references ascend, and resolving a reference again without a base URL changes nothing.
     pub fn sheet(&self) -> &'s Sheet
         ensures sheet { result.now ≡ self.now.sheet }
         ensures fits { Fits self.now.sheet self.now.body }

@@ -33,8 +33,8 @@ pub fn accepted_fits()
     ensures union { UnionFits }
 {}
 
-/// The rows of ascending facts have distinct dimension sets, in order, and each fact has a row.
-/// Each row has exactly the values of its dimension set, distinct and in order.
+/// The rows of strictly ascending facts have distinct dimension sets, in order, and each fact has a
+/// row. Each row has exactly the values of its dimension set, distinct and in order.
 pub fn rows_tell_facts()
     ensures { RowsTellFacts }
 {}

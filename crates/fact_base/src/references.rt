@@ -7,8 +7,8 @@ use merge_laws::{Merge, SortedSet};
 use oim_names::{Copied, Text};
 use std::alloc::{AllocError, Global};
 
-/// Returns None if the references include all others, which saves a copy. Otherwise returns the
-/// union of the references and the others. The others may be in any order.
+/// Returns None if `references` include all of `others`, which saves a copy. Otherwise returns the
+/// union of both lists. `others` may be in any order.
 pub(crate) fn with_all(
     alloc: Global,
     references: &SortedSet<Text>,

@@ -23,7 +23,7 @@ impl fmt::Display for Escaped<'_> {
     }
 }
 
-/// Writes a character as one or two JSON escapes of 16 bits.
+/// Writes a character as one JSON escape, or as two if its number exceeds 16 bits.
 fn write_escape<W: fmt::Write>(f: &mut fmt::Formatter<W>, character: char) -> fmt::Result {
     let number = character as u32;
     if number < 0x1_0000 {
@@ -45,7 +45,7 @@ fn is_shown(character: char) -> bool {
         )
 }
 
-/// Returns the first `MOST_CHARACTERS` characters of a text, or the whole text if it is shorter.
+/// Returns the first characters of a text, at most `MOST_CHARACTERS`.
 pub(crate) fn front_of(text: &str) -> &str {
     for (count, (place, _)) in text.char_indices().enumerate() {
         if count >= MOST_CHARACTERS {

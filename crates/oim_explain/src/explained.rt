@@ -18,8 +18,9 @@ use std::alloc::{AllocError, Global};
 /// shows at most 80 characters of an identifier, a key or a value. All lines are safe to print on a
 /// terminal (`Escaped`).
 ///
-/// If `serde_json` cannot read the file, the only line contains the parser's message. Repeated keys
-/// are then not listed, even if `json` can read the file. (`json` accepts numbers of any size.)
+/// If the report is refused and `serde_json` cannot read the file, the only line contains the
+/// parser's message. Repeated keys are then not listed, even if `json` can read the file. (`json`
+/// accepts numbers of any size.)
 ///
 /// Errors: out of memory.
 pub fn explain(

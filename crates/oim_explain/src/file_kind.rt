@@ -4,7 +4,7 @@ pub(crate) fn kind_of_bytes(bytes: &[u8]) -> Option<&'static str> {
     match bytes {
         [0x1f, 0x8b, ..] => Some("a gzip file: unpack it first"),
         [b'P', b'K', 3, 4, ..] => Some("a ZIP file, as a report package is: unpack it first"),
-        // a byte order mark of UTF-16, or JSON or XML in UTF-16
+        // a byte order mark of UTF-16, or the first character of JSON or XML in UTF-16
         [0xfe, 0xff, ..] | [0xff, 0xfe, ..] | [b'{' | b'<', 0, ..] | [0, b'{' | b'<', ..] => {
             Some("text in UTF-16: convert it to UTF-8")
         }
@@ -36,8 +36,8 @@ fn kind_of_text(text: &str) -> Option<&'static str> {
     }
 }
 
-/// Returns whether a line looks like a row of a table. Most lines of JSON contain braces or keys,
-/// and prose has spaces after its commas.
+/// Returns whether a line looks like a row of a table. A line with braces, keys, or spaces after
+/// commas or semicolons is taken for JSON or prose.
 fn is_row(line: &str) -> bool {
     line.contains([',', ';', '\t'])
         && !line.contains(['{', '}'])

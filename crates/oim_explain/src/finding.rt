@@ -108,7 +108,8 @@ fn push_part(alloc: Global, line: &mut String, part: Part<'_>) -> Result<(), All
     }
 }
 
-/// Appends a text as JSON. A long text is cut, and two dots replace its closing quote.
+/// Appends a text as JSON. A text of more than 80 characters is cut, and two dots replace its
+/// closing quote.
 pub(crate) fn push_text(alloc: Global, line: &mut String, text: &str) -> Result<(), AllocError> {
     let front = front_of(text);
     let json = Value::String(String::from_str(alloc, front)?).to_string(alloc)?;
@@ -119,7 +120,8 @@ pub(crate) fn push_text(alloc: Global, line: &mut String, text: &str) -> Result<
     write!(line, "{}..", Escaped(open))
 }
 
-/// Appends a value as JSON. A long value is cut, and two dots follow.
+/// Appends a value as JSON. If the value is not a text and its JSON has more than 80 characters,
+/// the JSON is cut, and two dots follow.
 fn push_value(alloc: Global, line: &mut String, value: &Value) -> Result<(), AllocError> {
     if let Some(text) = value.as_str() {
         return push_text(alloc, line, text);

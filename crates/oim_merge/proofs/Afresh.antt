@@ -1,5 +1,5 @@
--- A replica has the text, verdicts, values and level of a new merge of the accepted reports that reached it. If the same
--- accepted reports reached two replicas, both write the same bytes.
+-- A replica has the text, verdicts, values and level of a new merge of the accepted reports that reached it since its last
+-- restart. If the same accepted reports reached two replicas since their last restarts, both write the same bytes.
 use Rattle.std.proofs.Common.{◌≡◌, ℕ, zero, suc, List, map, Some, refl, sym, ap, ◌∙◌}
 use Rattle.std.specs.Prelude.{option_map}
 use Rattle.std.specs.Option.{unwrap_or}

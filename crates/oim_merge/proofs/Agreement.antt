@@ -1,4 +1,4 @@
--- Replicas that exchange texts have the bases of the accepted reports that reached them.
+-- Each replica that exchanges texts has the base of the accepted reports that reached it since its last restart.
 use Rattle.std.proofs.Common.{◌≡◌, ℕ, zero, suc, ◌-◌, List, [], ◌∷◌, ◌++◌, map, length, get_or, set, replicate, Result, Ok, Err, Option, Some, None, refl, sym, ap, subst, ◌∙◌}
 use Rattle.std.proofs.lemmas.List.{map-set, length-set}
 use Rattle.std.proofs.Math.ListN.{get_or-map}

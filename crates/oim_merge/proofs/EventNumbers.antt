@@ -9,7 +9,7 @@ use Rattle.std.proofs.lemmas.Str.{IsUtf8-from_ascii}
 use Rattle.std.proofs.lemmas.Str.Parse.{IsNumeralModel, numerals_by_value, parse_plain, tells_digits}
 use Rattle.oim_merge.specs.code.EventParts.{IsNumberText}
 
--- properties of a number's text
+-- the text is not empty, begins with a character above `0`, and is UTF-8
 pub record LooksLikeNumber (text : List ℕ) : Type 0 where
   pub some : 0 < length text
   pub leads : 48 < get_or text 0 0

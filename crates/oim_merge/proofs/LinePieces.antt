@@ -8,7 +8,7 @@ use Rattle.std.proofs.lemmas.List.Sums.{fails_before_first}
 use Rattle.std.proofs.lemmas.List.Splits.{slice_split_first, slice_split_none}
 use Rattle.oim_merge.specs.Bundle.{is_line_end, is_filled, line_pieces, filled_pieces, report_pieces}
 
--- the piece, unless it is empty
+-- the list of one piece, or no piece if it is empty
 abbrev pub if_filled : List ℕ → List (List ℕ)
 if_filled piece = filter is_filled (piece ∷ [])
 

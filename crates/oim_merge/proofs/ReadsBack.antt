@@ -113,7 +113,7 @@ level_given AllLevel = ap (λ g. said_level (g ∷ [])) (ascii_given (codes "all
 level_found : (bs : List Binding) → uri_of bs (codes "xbrl") ≡ Some reserved_uri → (l : Level) → said_level (declarations bs (member (codes "xbrl:allowedDuplicates") (string (level_entry l).text) no_members)) ≡ Some l
 level_found bs bound l = rw bound (level_given l)
 
--- ---- a report object with these members
+-- ---- the report object
 
 abbrev report_object : Option Level → Members → List (List ℕ) → Members → Data
 report_object declared namespaces references facts =
@@ -165,7 +165,7 @@ not_empty : (u : List ℕ) → u ≢ [] → bytes_eq u [] ≡ false
 not_empty [] h = absurd (h refl)
 not_empty (c ∷ cs) h = refl
 
--- the binding after the bindings of the names' URIs: `xbrl`, if a level is declared
+-- what follows the bindings of the names' URIs: the binding of `xbrl` if a level is declared, otherwise nothing
 abbrev last_bindings : Option Level → List Binding
 last_bindings None = []
 last_bindings (Some l) = (record { prefix = codes "xbrl"; uri = reserved_uri }) ∷ []

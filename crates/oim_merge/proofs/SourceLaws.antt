@@ -1,4 +1,4 @@
--- Each fact object is listed once, and each fact of the body is listed.
+-- Each fact object of an accepted report is listed once, and each fact of the body is listed.
 use Rattle.std.proofs.Common.{◌≡◌, ℕ, suc, List, [], ◌∷◌, ◌++◌, map, length, Bool, true, false, not, Option, Some, None, Result, Ok, Err, refl, sym, ap, ◌∙◌, subst, inl, inr, ⊎_elim}
 use Rattle.std.specs.Prelude.{Contains, filter}
 use Rattle.std.specs.List.{AllByRecursion, AllZip}
@@ -140,7 +140,7 @@ each_fact_is_said sheet reports f at =
       of_fact = found.1.1;
     }
 
--- ---- a report has as many identifiers as facts
+-- ---- an accepted report has as many identifiers as facts
 
 zip_long : (R : List ℕ × Data → Fact → Type 0) (objects : List (List ℕ × Data)) (fs : List Fact) → AllZip R objects fs → length (map (λ o. o.0) objects) ≡ length fs
 zip_long R [] [] zip = refl

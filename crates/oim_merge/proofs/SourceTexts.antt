@@ -1,4 +1,4 @@
--- The text of a mention follows from the index of its fact and the number of all facts.
+-- The canonical identifier in the text of a mention follows from the index of its fact and the number of all facts.
 use Rattle.std.proofs.Common.{◌≡◌, ℕ, suc, ◌+◌, List, ◌∷◌, ◌++◌, length, Option, ap, ◌∙◌, arith}
 use Rattle.std.specs.Prelude.{flat_map}
 use Rattle.std.proofs.lemmas.List.Folds.{flat_map-map}

@@ -50,7 +50,7 @@ joins_itself bases i j base fresh is within read rises =
     sym (set-get_or bases i fresh)
     ∙ ap (set bases i) (sym there ∙ joined_itself base rises ∙ (λ t. joined_with (there t) ((there ∙ ap (λ k. get_or bases k fresh) is) t)))
 
--- a base is removed from the list, joins another base and is put back
+-- if a base leaves the list, joins another base and returns, the list is the same as after a join in place
 pub joins_other : (bases : List Contents) (i j : ℕ) (left base other joined fresh : Contents) → i ≢ j → j < length bases →
     base ≡ get_or bases i fresh → other ≡ get_or (set bases i left) j other → joined ≡ joined_with base other →
     set (set bases i left) i joined ≡ set bases i (joined_with (get_or bases i fresh) (get_or bases j fresh))

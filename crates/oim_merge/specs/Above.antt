@@ -30,7 +30,7 @@ some_above level (Some v) = is_above level v
 abbrev pub row_is_above : Level → Row → Bool
 row_is_above level r = some_above level (verdict_of r.1)
 
--- no dimension set is above the level
+-- no dimension set of the body is above the level
 abbrev pub StaysWithin : Level → Body → Type 0
 StaysWithin level b = All (λ r. row_is_above level r ≡ false) (rows_of b.facts)
 

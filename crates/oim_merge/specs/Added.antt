@@ -16,7 +16,7 @@ pub record Added : Type 0 where
 abbrev pub begun : Sheet → Added
 begun sheet = record { sheet = sheet; body = body []; refusals = []; reports = 0 }
 
--- a refused report adds its refusal and no facts
+-- an accepted report adds its facts and references; a refused report adds only its refusal
 abbrev pub with_report : Added → List ℕ → Added
 with_report a bytes = record {
   sheet = a.sheet;

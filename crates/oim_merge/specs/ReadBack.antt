@@ -40,7 +40,8 @@ pub record IsHeldTo (declared found : Level) (d : Document) (said : Result Docum
   pub refused : (said ≡ Err (at AtDocument DisallowedDuplicates)) ↔ IsTrue (is_lt (level_cmp declared found))
   pub read : (said ≡ Ok d) ↔ IsTrue (is_le (level_cmp found declared))
 
--- the text of a body that fits a sheet is refused if and only if the text declares a level stricter than the level of the facts
+-- the text of a body that fits a sheet, with any level declared, is refused if and only if that level is stricter than the
+-- level of the facts
 abbrev pub LeastLevelIsDeclared : Type 0
 LeastLevelIsDeclared =
     (sheet : Sheet) (b : Body) (level : Level) → Fits sheet b →

@@ -92,7 +92,8 @@ wire sheet writers reports = record {
 abbrev pub base_named : Sheet → List (List ℕ) → Numbers → Contents
 base_named sheet reports numbers = base_of sheet (documents_named sheet reports numbers)
 
--- each replica has the base of the documents that reached it; each sent text is read as the body that the sender had when it sent the text
+-- each replica has the base of the documents that reached it since its last restart; each sent text is read as the body that
+-- the sender had when it sent the text
 pub record Agree (sheet : Sheet) (reports : List (List ℕ)) (sets : World Numbers Numbers) (bases : World Contents (List ℕ)) : Type 0 where
   pub replicas : bases.replicas ≡ map (base_named sheet reports) sets.replicas
   pub sent : AllZip (λ bytes numbers. IsReadAsBody sheet bytes (body (documents_named sheet reports numbers))) bases.sent sets.sent
@@ -103,7 +104,7 @@ WireAgrees =
     (sheet : Sheet) (writers : List Writer) (reports : List (List ℕ)) (n : ℕ) (events : List Event) → NoneIsBad n (length reports) events →
     Agree sheet reports (world_after (reached sheet reports) n events) (world_after (wire sheet writers reports) n events)
 
--- the number of replicas does not change
+-- no schedule changes the number of replicas
 abbrev pub ReplicasStay : Type 0
 ReplicasStay =
     (sheet : Sheet) (writers : List Writer) (reports : List (List ℕ)) (n : ℕ) (events : List Event) →
@@ -126,7 +127,8 @@ ReplicasSayAsAfresh =
     numbered (world_after (wire sheet writers reports) n events).replicas i ≡ Some base →
     SaysAsAfresh (documents_named sheet reports numbers) base
 
--- after every schedule without a bad event, two replicas write the same bytes if the same accepted reports reached both
+-- after every schedule without a bad event, two replicas write the same bytes if the same accepted reports reached both since
+-- their last restarts
 abbrev pub EqualSetsWriteTheSame : Type 0
 EqualSetsWriteTheSame =
     (sheet : Sheet) (writers : List Writer) (reports : List (List ℕ)) (n : ℕ) (events : List Event) → NoneIsBad n (length reports) events →

@@ -91,7 +91,7 @@ failures_after_run (Err _) n = n
 
 -- ---- order
 
--- the order and the repetition of accepted reports do not change the text
+-- the order and the repetition of accepted reports do not change the canonical text
 abbrev pub ReportsIgnoreOrder : Type 0
 ReportsIgnoreOrder =
     (sheet : Sheet) (reports others : List (List ℕ)) → SameMembers (accepted sheet reports) (accepted sheet others) →

@@ -39,7 +39,8 @@ fn first_above(base: &Base<'_>, allow: Level) -> Option<u64>
     if allow == Level::All {
         return None;
     }
-    // the number of rows fits in a `u64`, so `number` does not overflow
+    // the contract of `row_count` states that the number of rows fits in a `u64`, so `number` does
+    // not overflow
     let _most = base.row_count();
     let mut number = 0;
     for row in base.rows() {

@@ -44,8 +44,9 @@ pub fn consolidate<S: Sink>(
 }
 
 /// Merges reports one at a time. A consolidation stores the facts and references of the accepted
-/// reports, the refusals, and the number of all reports. It caches the prefixes of one report and a
-/// limited number of short texts. It borrows the sheet under which it reads reports.
+/// reports, the refusals, and the number of all reports. The reader of a consolidation caches the
+/// prefixes of one report and a limited number of short texts. A consolidation borrows the sheet
+/// under which it reads reports.
 #[derive(Drop)]
 pub struct Consolidation<'s> {
     alloc: Global,

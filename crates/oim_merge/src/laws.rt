@@ -102,7 +102,7 @@ pub fn lines_tell_verdicts()
     ensures word { WordsShowVerdicts }
 {}
 
-/// An accepted report has one mention for each fact object, with the fact that the object reports.
+/// An accepted report has one mention for each fact object. The mention contains the object's fact.
 /// `source_lines` writes one line for each mention and no other line. Each fact of the merged
 /// reports has a line.
 pub fn sources_are_whole()

@@ -4,8 +4,8 @@ use oim_report::Refusal;
 use std::alloc::{AllocError, Global};
 use std::marker::Model;
 
-/// The refusals of reports, each with the number of its report, from 1. They are in the order of
-/// the reports or, after a schedule, in the order of the events.
+/// The refusals of reports, each with the number of its report, from 1. Refusals are in the order
+/// of the reports or, after a schedule, in the order of the events.
 #[derive(Debug, Drop)]
 pub struct Refusals {
     entries: Vec<(u64, Refusal)>,

@@ -3,7 +3,7 @@ ghost use Rattle.std.specs.Prelude.{◌≡◌};
 use crate::source::{Source, SourceError};
 use std::io::Read;
 
-/// A source over a reader. It fails if a read fails or is interrupted.
+/// A source over a reader. The source fails if a read from the reader fails or is interrupted.
 #[derive(Drop)]
 pub struct StdSource<R: Read> {
     reader: R,

@@ -1,4 +1,5 @@
--- The tree of a body that fits a sheet is plain: its texts are UTF-8, it has no float, the keys of its objects ascend, and it is at most four levels deep.
+-- The tree of a body that fits a sheet is plain: the tree has UTF-8 texts and no float, and the keys of its objects ascend. The
+-- tree is at most four levels deep.
 use Rattle.std.proofs.Common.{◌≡◌, ℕ, suc, ◌≤◌, ◌<◌, List, [], ◌∷◌, length, get_or, Option, Some, None, refl, codes, arith}
 use Rattle.std.specs.Prelude.{All, IsUtf8}
 use Rattle.std.specs.Cmp.Lexicographic.{slice_cmp}

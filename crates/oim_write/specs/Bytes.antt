@@ -18,11 +18,11 @@ canonical b = compact_text (tree b)
 unfoldable pub earlier : Body → List ℕ
 earlier b = compact_text (earlier_tree b)
 
--- the order and the repetition of documents do not change the bytes
+-- the order and the repetition of documents do not change the canonical text of their body
 abbrev pub BytesIgnoreOrder : Type 0
 BytesIgnoreOrder = (ds es : List Document) → SameMembers ds es → canonical (body ds) ≡ canonical (body es)
 
--- The tree of a body that fits a sheet has UTF-8 texts and no float, and it is at most four levels deep. The keys of its objects are distinct
--- and in byte order. This holds for each declared level, and for the earlier form.
+-- The tree of a body that fits a sheet, with any declared level or none, has UTF-8 texts and no float. The tree is at most four
+-- levels deep, and the keys of its objects are distinct and in byte order.
 abbrev pub TreesArePlain : Type 0
 TreesArePlain = (sheet : Sheet) (b : Body) (declared : Option Level) → Fits sheet b → IsPlainJson (tree_declaring declared b) 4

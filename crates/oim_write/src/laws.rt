@@ -6,7 +6,7 @@ ghost use Rattle.oim_write.specs.Ordered.{FactsAreWrittenInOrder};
 ghost use Rattle.oim_write.specs.Prefixes.{FactsAreSpelled};
 ghost use Rattle.oim_write.specs.Rank.{PaddedKeepsOrder, PaddedWritesNumber, RanksAreWithin, WidthIsFewestDigits};
 
-/// The same documents give the same bytes, whatever their order and repetition.
+/// The same documents give the same canonical text, whatever their order and repetition.
 pub fn bytes_ignore_order()
     ensures { BytesIgnoreOrder }
 {}

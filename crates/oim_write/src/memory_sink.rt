@@ -3,7 +3,7 @@ ghost use Rattle.std.specs.Prelude.{◌≡◌, [], Some};
 use crate::sink::{Sink, SinkError};
 use std::alloc::Global;
 
-/// A sink that stores its bytes in memory. It fails if memory is refused.
+/// A sink that stores its bytes in memory. The sink fails if memory is refused.
 #[derive(Drop)]
 pub(crate) struct MemorySink {
     pub bytes: Vec<u8>,

@@ -103,8 +103,8 @@ pub(crate) fn append_reference(
     Ok(())
 }
 
-/// Appends a fact as a member of `facts`. `before` is the number of facts before this fact. The
-/// fact is not copied, so its dimensions and its value are separate parameters.
+/// Appends a fact as a member of `facts`. `before` is the number of facts before this fact.
+/// Dimensions and value are separate parameters, so that the fact need not be copied.
 pub(crate) fn append_fact(
     text: &mut Vec<u8>,
     scratch: &mut Scratch,

@@ -11,7 +11,7 @@ pub struct Scratch {
 }
 
 impl Scratch {
-    /// Returns empty buffers. They request memory from `alloc` when they are used.
+    /// Returns empty buffers. The buffers request memory from `alloc` when they are used.
     pub fn new(alloc: Global) -> Scratch {
         Scratch {
             alloc,

@@ -7,11 +7,11 @@ use crate::write_fault::WriteFault;
 use std::alloc::{AllocError, Global};
 use std::marker::Model;
 
-/// Once this many bytes wait, they are written to the sink.
+/// Once at least this many bytes wait, all waiting bytes are written to the sink.
 const CHUNK: usize = 1 << 16;
 
 /// A buffer for a text on its way to a sink. It counts the bytes that the sink took and stores the
-/// waiting bytes until they fill a chunk or are flushed. It must not be used after a fault.
+/// waiting bytes until they fill a chunk or are flushed. A buffer must not be used after a fault.
 #[derive(Drop)]
 pub struct SinkBuffer {
     buffer: Vec<u8>,
@@ -96,7 +96,7 @@ impl SinkBuffer {
         }
     }
 
-    /// The number of bytes that the sink took. It saturates at the greatest `u64`.
+    /// The number of bytes that the sink took. The number saturates at the greatest `u64`.
     pub fn written(&self) -> u64
         ensures { result ≡ self.now.written }
     {

@@ -4,8 +4,8 @@ ghost use Rattle.std.specs.Io.KnownBytes.{WriteAppends};
 use crate::sink::{Sink, SinkError};
 use std::io::Write;
 
-/// A sink over a writer. It fails if a write fails or is interrupted, or if the writer takes no
-/// byte of a non-empty slice.
+/// A sink over a writer. The sink fails if a write fails or is interrupted, or if the writer takes
+/// no byte of a non-empty slice.
 #[derive(Drop)]
 pub struct StdSink<W: Write> {
     writer: W,
@@ -27,7 +27,8 @@ impl<W: Write> StdSink<W> {
         }
     }
 
-    /// The number of bytes that the writer took from this sink. It saturates at the greatest `u64`.
+    /// The number of bytes that the writer took from this sink. The number saturates at the
+    /// greatest `u64`.
     pub fn taken(&self) -> u64
         ensures { result ≡ self.now.taken }
     {

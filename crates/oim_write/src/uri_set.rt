@@ -14,7 +14,7 @@ use oim_value::Value;
 use std::alloc::{AllocError, Global};
 use std::marker::Model;
 
-/// The URIs of names. Contracts see them distinct and in byte order. In memory, the list begins
+/// The URIs of names. Contracts see the URIs distinct and in byte order. In memory, the list begins
 /// with a sorted part. Later URIs follow in order of arrival and may be repeated. A URI is appended
 /// unless the cache or a search of the sorted part finds it. Once the list is slightly more than
 /// twice as long as its sorted part, the list is sorted and its repeats are removed.

@@ -46,7 +46,7 @@ pub fn write_to<S: Sink>(alloc: Global, base: &Base<'_>, out: &mut S) -> Result<
         (canonical base.now.body) (written_of fault)) }
     ensures failures { S.failures out.new ≡ failures_after_write result (S.failures out.old) }
 {
-    // the proof needs that the facts fit this sheet
+    // the contract of `sheet` states that the facts fit the sheet, which the proof needs
     let _sheet = base.sheet();
     let Ok(table) = PrefixTable::of(alloc, base) else {
         return Err(WriteFault::OutOfMemory(0));

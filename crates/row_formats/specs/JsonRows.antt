@@ -29,7 +29,7 @@ fact_items name i (v ∷ vs) = item (fact_data (name i) v) (fact_items name (suc
 abbrev pub common_data : Interval → Data
 common_data c = object (member (codes "low") (string (plain c.low)) (member (codes "high") (string (plain c.high)) no_members))
 
--- the identifiers of two facts that contradict each other
+-- the identifiers of two facts that do not meet
 abbrev pub apart_data : List ℕ → List ℕ → Data
 apart_data first second = array (item (string first) (item (string second) no_items))
 

@@ -13,7 +13,8 @@ use Rattle.row_formats.specs.declared.row_format.RowFormat.{RowFormat}
 abbrev pub ListsRows : RowFormat → Body → List (ℕ × Refusal) → Option (List ℕ) → Option (List ℕ) → List (ℕ × Refusal) → Type 0
 ListsRows format = Lists (header format) (row_text format)
 
--- after a fault, a first part of the header and the rows was appended
+-- after a fault, a first part of the header and the rows was appended; the fault contains the number of these bytes, which
+-- saturates
 abbrev pub RowsStop : RowFormat → Body → Option (List ℕ) → Option (List ℕ) → Fault → Type 0
 RowsStop format = ListStops (header format) (row_text format)
 

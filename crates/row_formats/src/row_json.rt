@@ -18,7 +18,7 @@ use oim_value::{Interval, Value, write_units};
 use oim_write::{Scratch, write_decimals, write_dimensions, write_value};
 use std::alloc::{AllocError, Global};
 
-/// The initial capacity of a line, in bytes. Most lines fit into it.
+/// The initial capacity of a line, in bytes. Most lines fit into this capacity.
 const LINE: usize = 1 << 9;
 
 pub(crate) fn json_row(scratch: &mut Scratch, judged: &JudgedRow<'_>) -> Result<Vec<u8>, AllocError>

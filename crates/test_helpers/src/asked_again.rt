@@ -2,9 +2,9 @@ use oim_names::Reason;
 use oim_report::{Place, Refusal, Report, Sheet, read_report};
 use std::alloc::{AllocError, Global};
 
-// Functions that repeat a call if a request for memory was refused. They report the refusal to
-// `tests/refused_memory` in a line on standard error: `refused here` if the request was for the
-// test's own data, otherwise `refused`.
+// Functions that repeat a call if a request for memory was refused. The functions report the
+// refusal to `tests/refused_memory` in a line on standard error: `refused here` if the request was
+// for the test's own data, otherwise `refused`.
 
 /// A sheet with every kind of concept and dimension.
 pub const SHEET: &str =
@@ -59,7 +59,8 @@ pub fn is_want_of_memory(refusal: Refusal) -> bool {
         }
 }
 
-/// Returns whether the call returns true. If memory is refused, the call is repeated once.
+/// Returns whether the call returns true. If memory is refused, the call is repeated once; if
+/// memory is refused again, returns false.
 pub fn holds<F: Fn(Global) -> Result<bool, AllocError>>(rt: &HostRuntime, call: F) -> bool
     requires { F.IsAlwaysCallable call }
 {

@@ -1,4 +1,5 @@
-// Readers and writers for tests. Some fail, some are interrupted, and some never end.
+// Devices for tests: readers and writers. Some devices fail, some are interrupted, and some never
+// end.
 use crate::expecting::Expecting;
 use std::alloc::{AllocError, Global};
 use std::io::{self, ErrorKind, Read, Write};

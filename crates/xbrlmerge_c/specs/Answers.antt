@@ -1,4 +1,4 @@
--- The reasons for which a call fails (own).
+-- Why a call fails (own).
 use Rattle.std.specs.Prelude.{ℕ, List}
 use Rattle.oim_names.specs.declared.reason.Reason.{Reason}
 use Rattle.oim_report.specs.declared.refusal.Refusal.{Refusal}
@@ -6,7 +6,7 @@ use Rattle.oim_merge.specs.declared.fault.Fault.{Fault}
 use Rattle.oim_merge.specs.declared.fault.Fault.TheVariants.{OutOfMemory, Device, TooLoose, Sheet as SheetFault}
 
 -- why a call failed, given the conditions for a row above the level and for a refused sheet. There is no condition for refused memory.
--- There is none for a failed device either: a sink in memory fails only if memory is refused.
+-- There is no condition for a failed device either: a sink in memory fails only if memory is refused.
 abbrev pub StopsBy : (ℕ → List (ℕ × Refusal) → Type 0) → (Reason → Type 0) → Fault → Type 0
 StopsBy IsRow IsSheet (TooLoose number told) = IsRow number told
 StopsBy IsRow IsSheet (SheetFault reason) = IsSheet reason

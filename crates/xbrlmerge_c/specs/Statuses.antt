@@ -17,7 +17,7 @@ too_loose = 2
 abbrev pub too_short : ℕ
 too_short = 3
 
--- the number of the sheet's refusal is returned
+-- the sheet is refused, and its refusal is returned
 abbrev pub sheet_refused : ℕ
 sheet_refused = 4
 

@@ -1,5 +1,5 @@
-//! Calls of `oim_merge` and `row_formats` for C. They take bytes and numbers, and write bytes and
-//! numbers to the caller's memory. `include/xbrlmerge.h` states the rules for callers.
+//! Calls of `oim_merge` and `row_formats` for C. The calls take bytes and numbers, and write bytes
+//! and numbers to the caller's memory. `include/xbrlmerge.h` states the rules for callers.
 #![tactic(auto)]
 
 mod calls;

@@ -71,8 +71,9 @@ pub(crate) fn of<'w>(matches: &ArgMatches<'w>) -> Option<Subcommand<'w>> {
 /// Reads the schedule and the reports, runs the schedule on the replicas and writes the text of
 /// each replica to `out`. Returns the refused takes with the numbers of their reports, from 1.
 ///
-/// Errors: `Unread`; `TooLong`; `Event` if a line is not an event or names something that does not
-/// exist; out of memory; `Device`. A line that is not an event is found before any report is read.
+/// Errors: `Unread`; `TooLong`; `Event` if a line is not an event or names a report, replica or
+/// message that does not exist; out of memory; `Device`. A line that is not an event is found
+/// before any report is read.
 pub(crate) fn run<'n, F: Files, E: Write, S: Sink>(
     replicas: usize,
     schedule: &'n str,
@@ -135,8 +136,8 @@ fn events_argument<'w>(alloc: Global) -> Arg<'w> {
         .help("The file of the schedule, with one event per line")
 }
 
-/// Errors: out of memory, and `Device` with the number of bytes taken of one text or line end.
-/// `write_out` replaces this number with the number of bytes taken of all texts.
+/// Errors: out of memory, and `Device` with the number of bytes that `out` took of the text or line
+/// end that failed. `write_out` replaces this number with the number of bytes taken of all texts.
 fn put_replicas<S: Sink>(
     alloc: Global,
     out: &mut S,

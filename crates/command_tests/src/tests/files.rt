@@ -76,7 +76,7 @@ fn are_unheard(rt: &HostRuntime, rows: &[Row]) -> Result<bool, Fail> {
     Ok(all)
 }
 
-/// The test's own request for memory may be refused once.
+/// Reads the file again after a failure, because memory may have been refused once.
 fn content(rt: &HostRuntime, name: &str) -> Result<Vec<u8>, Fail> {
     if let Ok(held) = fs::read(rt, name) {
         return Ok(held);

@@ -179,7 +179,8 @@ fn is_unread(rt: &HostRuntime, input: TestReader<'_>) -> Option<bool> {
     Some(status == 3 && out.is_met() && err.0.is_met())
 }
 
-/// Returns whether an input is reported as unread if it fails or is interrupted after these bytes.
+/// Returns whether inputs that fail or are interrupted after these bytes are reported as unread,
+/// with each step.
 fn are_unread(rt: &HostRuntime, front: &[u8]) -> bool {
     for step in STEPS {
         for then in [Then::Fails, Then::IsInterrupted] {

@@ -158,7 +158,7 @@ fn a_source_that_is_too_long_is_called_so(rt: HostRuntime) {
 
 const LONG: u32 = 200_000;
 
-/// The number of reads of an endless source. None if the result is not `TooLong`.
+/// Returns how often an endless source was read, or None if the result is not `TooLong`.
 fn calls_of_endless(rt: &HostRuntime) -> Option<u64> {
     let reader = TestReader::new(b"", Step::Few(30_000), Then::GoesOn);
     let (answer, calls, _) = read(rt, reader, LONG);

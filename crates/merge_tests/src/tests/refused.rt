@@ -49,8 +49,8 @@ fn holds(sink: &StdSink<Expecting<'_>>, text: &[u8], written: u64) -> bool {
     sink.taken() == written && sink.failures() == 0 && written <= text.len() as u64
 }
 
-/// If the sink took exactly the first `written` bytes of the text, reports the refused request on
-/// standard error and returns None. Otherwise returns `Some(false)`.
+/// If the sink took exactly the first `written` bytes of the text without a failure, reports the
+/// refused request on standard error and returns None. Otherwise returns `Some(false)`.
 fn wanted_memory(
     rt: &HostRuntime,
     sink: StdSink<Expecting<'_>>,

@@ -12,7 +12,7 @@ use std::alloc::{AllocError, Global};
 
 const HUNDRED_ONE: &str = r#""a":{"value":"101","decimals":0,"dimensions":{"concept":"eg:A"}}"#;
 
-/// Three replicas each take a report. Two of them receive texts, and one joins another.
+/// Three replicas each take a report. Two replicas receive texts, and one replica joins another.
 const NINE_EVENTS: &str =
     "take 1 1\nsend 1\ntake 2 2\nreceive 2 1\nsend 2\ntake 3 3\nreceive 3 2\nreceive 3 1\njoin 1 2\n";
 

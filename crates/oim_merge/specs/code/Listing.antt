@@ -9,13 +9,13 @@ use Rattle.oim_merge.specs.Sources.{SourceText}
 use Rattle.oim_merge.specs.declared.sources.fact_list.LentFact.{LentFact}
 use Rattle.oim_merge.specs.declared.sources.placed_mention.PlacedMention.{PlacedMention}
 
--- rows of a body with these facts were pushed through a buffer
+-- these rows of a body with these facts, numbered from 1, were pushed through a buffer
 pub record PassesRows (written : RowText) (facts : List Fact) (rows : List Row) (old new : Option (List ℕ)) (before after : Pending) : Type 0 where
   pub text : List ℕ
   pub are : AreRowsFrom written facts 1 rows text
   pub passed : Passes old new before after text
 
--- a fault occurred while rows of a body with these facts were pushed through a buffer
+-- a fault occurred while these rows of a body with these facts, numbered from 1, were pushed through a buffer
 pub record BreaksRows (written : RowText) (facts : List Fact) (rows : List Row) (old new : Option (List ℕ)) (before : Pending) (count : ℕ) : Type 0 where
   pub text : List ℕ
   pub are : AreRowsFrom written facts 1 rows text

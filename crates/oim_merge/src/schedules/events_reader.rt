@@ -21,7 +21,7 @@ pub fn read_events(alloc: Global, bytes: &[u8]) -> Result<Events, ReplayFault>
     while !rest.is_empty() {
         let (line, behind) = cut_line(rest);
         let Some(event) = read_event(line) else {
-            // each earlier line is an event
+            // each earlier line is an event, so this line has the next number
             return Err(ReplayFault::BadEvent(events.as_slice().len() as u64 + 1));
         };
         events.push(event)?;

@@ -22,7 +22,7 @@ pub(crate) struct Messages<'s> {
     pub texts: Vec<Encoded>,
     /// For each distinct text, the cached result of reading it.
     pub kept: Vec<Reading<'s>>,
-    /// The indices of the texts, in the byte order of the texts.
+    /// The indices in `texts`, in the byte order of the texts.
     pub order: Vec<usize>,
     /// For each sent text, its index among the distinct texts.
     pub sent: Vec<usize>,

@@ -26,9 +26,9 @@ pub(crate) fn none_read<'s>(alloc: Global, texts: usize) -> Result<Vec<Reading<'
     Ok(kept)
 }
 
-/// Adds the facts and references of the text at the index `place` to a base. The text is read the
-/// first time, and the result is cached. If the text is refused, the base does not change, and the
-/// refusal is returned.
+/// Adds the facts and references of the text at the index `place` to a base. The text is read only
+/// the first time, and the result is cached. If the text is refused, the base does not change, and
+/// the refusal is returned.
 ///
 /// Errors: out of memory.
 pub(crate) fn take_at<'s>(

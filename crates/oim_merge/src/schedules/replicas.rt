@@ -148,7 +148,7 @@ fn is_there(number: u32, greatest: usize) -> bool
     number >= 1 && number as usize <= greatest
 }
 
-// The base of the replica may change, so its current text is forgotten.
+// Forgets the replica's current text, because the replica's base may change.
 fn forget(current: &mut Vec<Option<usize>>, place: usize)
     ensures { current.new.items ≡ slice_set current.old.items place None }
 {

@@ -65,7 +65,8 @@ fn mentions_of(
     Ok(mentions)
 }
 
-// Appends the mentions in the report with this number to `mentions`. A refused report has none.
+// Appends the mentions in the report with this number to `mentions`. A refused report has no
+// mentions.
 fn add_report(
     alloc: Global,
     reader: &mut ReportReader<'_>,

@@ -1,9 +1,9 @@
 use oim_names::Text;
 
-/// A mention: a fact object in a report, and the fact of a base that the object reports.
+/// A mention: a fact object in a report, with the index of its fact in a base.
 #[derive(Debug, Drop)]
 pub struct PlacedMention {
-    /// The number of facts in the base that are less than this fact.
+    /// The number of facts in the base that are less than the mentioned fact.
     pub place: usize,
     /// The number of the report, from 1.
     pub report: u64,

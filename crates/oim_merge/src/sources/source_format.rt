@@ -9,8 +9,8 @@ pub trait SourceFormat {
     /// The text before the first source.
     ghost header: { Self → List ℕ };
 
-    /// The text of a source: it depends on the canonical identifier of the fact, the number of the
-    /// report and the identifier in the report.
+    /// The text of a source: it depends only on the canonical identifier of the fact, the number of
+    /// the report and the identifier in the report.
     ghost source_text: { Self → SourceText };
 
     /// Returns the text before the first source.

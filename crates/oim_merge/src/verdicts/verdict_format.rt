@@ -11,7 +11,7 @@ pub trait VerdictFormat {
     /// The text before the first row.
     ghost header: { Self → List ℕ };
 
-    /// The text of a row: it depends on the number, dimensions and values of the row, on the
+    /// The text of a row: it depends only on the number, dimensions and values of the row, on the
     /// identifiers of its facts, and on the evidence.
     ghost row_text: { Self → RowText };
 
@@ -28,6 +28,7 @@ pub trait VerdictFormat {
         requires { IsJudged judged.now }
         ensures { IfOk result (λ text. text.items ≡ judged_text (row_text self.now) judged.now) };
 
-    /// The text depends on the identifiers of the row's facts, and on no other identifiers.
+    /// The text of a row depends on the identifiers of the row's facts, and on no other
+    /// identifiers.
     ghost names: { (format : Self) → DependsOnItsNames (row_text format) };
 }

@@ -104,7 +104,8 @@ fn push_rows<S: Sink, F: VerdictFormat>(
         before: 0,
         count: base.fact_count(),
     };
-    // the number of rows fits in a `u64`, so `number` does not overflow
+    // the contract of `row_count` states that the number of rows fits in a `u64`, so `number` does
+    // not overflow
     let _most = base.row_count();
     let mut number = 0;
     for row in base.rows() {

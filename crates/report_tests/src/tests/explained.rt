@@ -9,7 +9,7 @@ use test_helpers::asked_again::{joined, read_sheet, tell_refused};
 const SHEET: &str =
     r#"{"namespaces":{"eg":"http://example.org/t"},"concepts":{"eg:A":"numeric","eg:T":"text","eg:Q":"name"},"dimensions":{"eg:Reg":"explicit","eg:Sku":"typed"}}"#;
 
-// The beginning of a report, up to its facts. It allows consistent duplicates.
+// The beginning of a report, up to its facts. The report allows consistent duplicates.
 const START: &str =
     r#"{"documentInfo":{"documentType":"https://xbrl.org/2021/xbrl-json","namespaces":{"eg":"http://example.org/t","x":"http://example.org/u","zz":"http://example.org/t","xbrl":"https://xbrl.org/2021"},"features":{"xbrl:allowedDuplicates":"consistent"}},"facts":{"#;
 
@@ -68,7 +68,8 @@ const DOCUMENTS: [Table<'static>; 2] = [
                 "{\0\"\0",
                 "r: 1 NotJson: the file cannot be read as JSON of at most 127 levels: invalid JSON at line 1 column 2; the file looks like text in UTF-16: convert it to UTF-8\n",
             ),
-            // repeated members are not reported if the file cannot be read
+            // repeated members of a refused report are not shown if `serde_json` cannot read the
+            // file
             (
                 r#"{"documentInfo":{},"facts":{"a":1,"a":2},"x:y":1e999}"#,
                 "r: 1 NotJson: the file cannot be read as JSON of at most 127 levels: number out of range at line 1 column 53\n",

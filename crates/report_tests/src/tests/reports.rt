@@ -61,7 +61,8 @@ enum Answer<'t> {
     InDocument(u8),
     InFact(u8, u64),
     Read,
-    /// The report declares `all` or no level, and has this number of facts and this level.
+    /// The report declares `all` or no level, and has this number of facts; the facts have this
+    /// level.
     HasLevel(usize, Level),
     Declares(Level),
     /// The report has these references.

@@ -64,7 +64,8 @@ pub(super) const EXPLAINED: [Row; 13] = [
         ],
         "",
     ),
-    // each kind of part: an object with one member, a text, another value, and two texts
+    // each form of `part` except null: an object with one member, a text, another value, and two
+    // texts
     (
         "explain --sheet sheet --format json wrong apart",
         1,

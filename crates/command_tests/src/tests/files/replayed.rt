@@ -231,8 +231,8 @@ pub(super) const STOPPED: [Row; 15] = [
     ),
 ];
 
-/// Standard output fills up in the first text, after the first text, or in a later text. All bytes
-/// are counted.
+/// Standard output fills up before, in, between or after the texts. The line reports all bytes that
+/// were taken.
 pub(super) const FULL: [Full; 6] = [
     (
         "replay --sheet sheet --replicas 2 --events empty",
@@ -278,7 +278,7 @@ pub(super) const UNFLUSHED: [(&str, &str); 2] = [
     ),
 ];
 
-/// The status and standard output when standard error fails.
+/// The status and standard output when standard error takes only three bytes.
 pub(super) const UNHEARD: [Row; 2] = [
     (
         "replay --sheet sheet --replicas 2 --events once unbound",

@@ -284,7 +284,7 @@ pub(super) const STOPPED: [Row; 13] = [
     ("verdicts --sheet empty none", 3, &[], "sheet: 1 NotJson\n"),
 ];
 
-/// The status and standard output when standard error fails.
+/// The status and standard output when standard error takes only three bytes.
 pub(super) const UNHEARD: [Row; 4] = [
     (
         "merge --sheet sheet --allow none 100 unbound 101",

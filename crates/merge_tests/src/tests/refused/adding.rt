@@ -13,7 +13,7 @@ use test_helpers::asked_again::{SHEET, joined, read_sheet, tell_refused};
 use test_helpers::expecting::Expecting;
 
 // Tests reports that are added one at a time. After a refused request for memory, the report is
-// added again. It must be counted once, and its facts must be added once.
+// added again. The report must be counted once, and its facts must be added once.
 
 /// A report with one of the facts of `THREE_SETS`.
 const ONE_OF_THREE: &str =

@@ -64,7 +64,7 @@ const ROWS: &[Row] = &[
         &[SHEET, LINE, INFO, ONE, LINE, INFO, ONE, LINE, INFO, ONE],
         &[ONE_TEXT],
     ),
-    // two consistent facts are both written
+    // two facts that are consistent duplicates are both written
     (
         &[
             SHEET,

@@ -118,7 +118,7 @@ fn an_equal_or_empty_base_adds_nothing(rt: HostRuntime) {
     }
 }
 
-// If memory is refused, the other base is lost.
+// Returns `Some(false)` if memory for `absorb` is refused; the other base is then lost.
 fn absorb_two(rt: &HostRuntime, base: &mut Base<'_>) -> Option<bool> {
     let other = base_of(rt, base.sheet(), &[TWO, ONE])?;
     if !base.same_sheet(other.sheet()) {
@@ -153,7 +153,7 @@ fn what_is_absorbed_is_counted_once(rt: HostRuntime) -> Result<(), Fail> {
     Ok(())
 }
 
-// If memory is refused, the report is lost.
+// Returns `Some(false)` if memory for `absorb_report` is refused; the report is then lost.
 fn absorb_value(rt: &HostRuntime, base: &mut Base<'_>, value: &str) -> Option<bool> {
     let text = joined(rt, &[FACT, value, OF_A]).ok()?;
     let report = read(rt, base.sheet(), &text).ok()?;

@@ -11,7 +11,7 @@ const TWO: &str = r#""value":"2","decimals":0"#;
 
 const NINE: &str = r#""value":"9","decimals":0"#;
 
-// If memory is refused, the report is lost.
+// Returns `Some(false)` if memory for `add` is refused; the report is then lost.
 fn add(rt: &HostRuntime, gathered: &mut Gathering<'_>, value: &str) -> Option<bool> {
     let text = joined(rt, &[FACT, value, OF_A]).ok()?;
     let report = read(rt, gathered.sheet(), &text).ok()?;

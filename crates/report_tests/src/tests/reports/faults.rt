@@ -15,7 +15,7 @@ const DOCUMENTS: Rows<'static> = &[
         r#"{"x":1,"documentInfo":{"y":1,"documentType":"z"},"facts":[]}"#,
         &[(2, 0), (3, 0), (4, 0)],
     ),
-    // a missing type is not reported if `documentInfo` is missing
+    // a missing `documentType` is not reported if `documentInfo` is missing
     (r#"{"x":1,"facts":{"a":7}}"#, &[(2, 0), (3, 0)]),
     // if the base URL is refused, references are tested as if there were no base URL
     (

@@ -91,7 +91,7 @@ const DECLARED: &str =
     r#"{"documentInfo":{"documentType":"https://xbrl.org/2021/xbrl-json","namespaces":{"eg":"http://example.org/t","xbrl":"https://xbrl.org/2021"},"features":{"xbrl:allowedDuplicates":"#;
 
 const DUPLICATES: [Table; 5] = [
-    // equal facts need `complete`
+    // equal facts need `complete` or a looser level
     Table {
         start: DECLARED,
         rows: &[
@@ -100,7 +100,7 @@ const DUPLICATES: [Table; 5] = [
         ],
         end: r#"}},"facts":{"a":{"value":"1","decimals":0,"dimensions":{"concept":"eg:A"}},"b":{"value":"1","decimals":0,"dimensions":{"concept":"eg:A"}}}}"#,
     },
-    // unequal facts whose values meet need `consistent`
+    // unequal facts whose values meet need `consistent` or `all`
     Table {
         start: DECLARED,
         rows: &[

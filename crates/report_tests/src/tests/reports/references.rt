@@ -2,7 +2,7 @@ use super::{InDocument, Keeps, Read, SHEET, Table, hold};
 use std::test::Fail;
 
 const REFERENCES: [Table; 3] = [
-    // without a base URL
+    // references without a base URL
     Table {
         start: r#"{"documentInfo":{"documentType":"https://xbrl.org/2021/xbrl-json","taxonomy":[""#,
         rows: &[
@@ -35,7 +35,7 @@ const REFERENCES: [Table; 3] = [
         ],
         end: r#""]}}"#,
     },
-    // resolved against a base URL
+    // references that are resolved against a base URL
     Table {
         start: r#"{"documentInfo":{"documentType":"https://xbrl.org/2021/xbrl-json","baseURL":"http://x.org/d/r.json?q#f","taxonomy":[""#,
         rows: &[
