@@ -1,4 +1,4 @@
-"""Builds the wheel from the module and the shared library that ./build --library makes. No other package is needed."""
+"""Builds the wheel from the module and the shared library that ./build --library makes. The build needs no other package."""
 import base64
 import glob
 import hashlib

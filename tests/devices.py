@@ -55,7 +55,7 @@ STOPS_INPUT = {"standard input closed": "<&-", "standard input a folder": "<.", 
 
 UNREAD, MEMORY, LENGTH = (3, "file strange: cannot be read\n"), (3, "out of memory\n"), (3, "file strange: too long\n")
 BAD_SHEET, BAD_EVENT, BAD_REPORT = (3, "sheet: 1 NotJson\n"), (3, "event 2: refused\n"), (1, "report 1: 1 NotJson at document\n")
-# for each kind of file: the status and line if the sheet is such a file, then if the events are, then if a report is
+# for each kind of file: the status and line when it is the sheet, the events, or a report
 FILES = {
     "missing": (UNREAD, UNREAD, UNREAD),
     "a folder": (UNREAD, UNREAD, UNREAD),

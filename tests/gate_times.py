@@ -1,7 +1,7 @@
 #!/usr/bin/env python3
 """Prints the time of each part of a gate run. At the top of the repository:
 
-    bash .ci/run 2>&1 | tests/gate_times | tee FILE     prints each line after its time in seconds, then the table
+    bash .ci/run 2>&1 | tests/gate_times | tee FILE     prints each line with its time in seconds, then the table
     tests/gate_times FILE                               prints the table in FILE again
 
 A part is the proof of a crate, the proof of its tests, its must-fail edits or its runs. The processes are sampled twice a

@@ -10,9 +10,9 @@ META-INF/catalog.xml maps the URL to it. The schemas of the specifications, at x
 item types are built in, except some of the data type registry.
 
 Enumeration sets are listed as text, and in the member xbrlmerge:sets, which tools/normalise reads. Standard error lists
-the parts that are left out: concepts whose values are fractions or contain prefixes (which would not be expanded), elements
-with an unknown type or substitution group, elements in no namespace or a reserved one, and schemas without a namespace that
-no schema includes.
+the parts that are left out: concepts whose values are fractions or contain prefixes (which would not be expanded); elements
+with an unknown type or substitution group, or with no namespace or a reserved one; and schemas without a namespace to which
+no schema with one leads.
 
 Files may come from untrusted sources. Only regular files are read, and, without --outside, only those in a named folder, in
 the folder of a named file, or in a package. The limits are:

@@ -146,7 +146,7 @@ def are_flushed() -> bool:
 def print_lines(lines: Iterable[str]) -> None:
     """Prints lines on standard error, each after the name of the tool.
 
-    Print notes before the output is written: if standard error fails, the tool then stops before it changes anything.
+    Call it before the output is written: if standard error fails, the tool then stops before it changes anything.
     Errors: OSError.
     """
     name = os.path.basename(sys.argv[0]).removesuffix(".py")

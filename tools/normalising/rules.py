@@ -36,8 +36,8 @@ class Normaliser:
         self.sheet, self.options, self.program = sheet, options, program
 
     def normalise(self, tree: Tree, length: int = 0) -> Log:
-        """Changes the tree of a report. Returns the lines for the changes, and for the parts that a rule had to leave: those of
-        the document, then those of each fact in order.
+        """Changes the tree of a report. Returns a log of the changes and of the parts that a rule had to leave: first the
+        document's, then each fact's, in order.
 
         Errors: NotDone, OSError.
         """

@@ -53,8 +53,8 @@ class Rewrites(Visitor):
         return next((self.rules[start] for start in starts if start in self.rules), None)
 
     def place_of(self, location: str, base: str) -> tuple[str, str]:
-        """Returns the place to which a location in the document at `base` leads. Also returns the document or catalog against
-        which the location was resolved."""
+        """Returns the path that `location` names in the document at `base`. Also returns the document or catalog against which
+        the location was resolved."""
         rule = self.rule_of(location)
         if rule:
             location, base = rule.prefix + location[len(rule.start) :], rule.catalog

@@ -76,7 +76,7 @@ class Taxonomy:
             raise ValueError(f"{part.name.shown()} is declared in two ways")
 
     def without_namespace(self) -> list[str]:
-        """Returns the schemas that have no namespace and that no schema includes."""
+        """Returns the schemas that have no namespace and were read for none."""
         return sorted(place for place, namespaces in self.read.items() if namespaces == {None})
 
 

@@ -3,9 +3,9 @@
 //!
 //! Sentences may change between versions, but the numbers and names of refusals and their order do
 //! not. A sentence shows at most 80 characters of a key or value. Characters of a text are counted
-//! before escaping, so none of its escapes is cut. In lines of text, identifiers are cut too:
-//! each line for a fact repeats its identifier, which may be long. The JSON object of a refusal contains the
-//! whole identifier.
+//! before escaping, so none of its escapes is cut. In lines of text, identifiers are cut too: each
+//! line for a fact repeats its identifier, which may be long. The JSON object of a refusal contains
+//! the whole identifier.
 #![tactic(auto)]
 
 mod escaped;

@@ -1,5 +1,5 @@
--- The function from a fact object to the fact that it denotes (`Fact` names the sources). A part is None if it cannot be read or
--- is not allowed.
+-- The function from a fact object to the fact that it denotes (`Fact.antt` cites the standards). A part is None if it cannot be
+-- read or is not allowed.
 use Rattle.std.specs.Prelude.{ℕ, ℤ, List, [], ◌∷◌, not, ◌&&◌, if◌then◌else◌, Option, Some, None, option_map, option_and_then}
 use Rattle.std.specs.FinMap as map
 use Rattle.std.specs.List.{filter_map}

@@ -13,8 +13,8 @@ pub const CONSISTENT_HEAD: &str =
 pub const CONTRADICTING_HEAD: &str =
     r#"{"documentInfo":{"documentType":"https://xbrl.org/2021/xbrl-json","features":{"xbrl:allowedDuplicates":"all"},"namespaces":{"#;
 
-/// The text from the namespace of `xbrl` up to the facts, after other namespaces. There are no
-/// taxonomy references.
+/// The text from the namespace of `xbrl` up to the facts, if other namespaces precede it. There are
+/// no taxonomy references.
 pub const MIDDLE: &str = r#","xbrl":"https://xbrl.org/2021"},"taxonomy":[]},"facts":{"#;
 
 /// The text from the namespace of `xbrl` up to the facts, if no other namespace precedes it. There

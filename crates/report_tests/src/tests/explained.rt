@@ -179,7 +179,7 @@ const FACTS: [Table<'static>; 1] = [Table {
             r#""a":{"value":"1","dimensions":{"concept":"eg:A","eg:Sku":"b","zz:Sku":"b"}}"#,
             "r: fact \"a\": 18 DimensionValue: the keys \"eg:Sku\" and \"zz:Sku\" name the same dimension\n",
         ),
-        // a number is shown as the file spells it, or not at all
+        // in `value` and `decimals`, a number is shown as the file spells it, or not at all
         (
             r#""a":{"value":"1","decimals":1e23,"dimensions":{"concept":"eg:A","scenario":"s"}}"#,
             "r: fact \"a\": 3 UnknownMember: the format has no member \"scenario\" in \"dimensions\"\nr: fact \"a\": 28 DecimalsForm: \"decimals\" must be an integer without quotes\n",

@@ -3,7 +3,7 @@ use std::test::Fail;
 use std::{env, fs};
 use test_helpers::asked_again::{INFO, OPEN_INFO, SHEET, joined, repeated};
 
-/// Two reports, each with this many spaces, have more than a megabyte together.
+/// Two reports with this many spaces each are together larger than a megabyte.
 const SPACES: usize = 600_000;
 
 /// The folder for the files, which is not under version control.
