@@ -34,7 +34,7 @@ def part(name: str) -> str:
 
 
 def page(rows: list[Row], reader: Reader, labels: Labels, refusals: Refusals) -> Iterator[str]:
-    """Yields the pieces of the page. The page's policy permits only the page's own script."""
+    """Yields the pieces of the page. The page's policy permits only inline styles and the page's own script."""
     script = part("page.js")
     known = base64.b64encode(hashlib.sha256(script.encode()).digest()).decode()
     policy = f"default-src 'none'; style-src 'unsafe-inline'; script-src 'sha256-{known}'"

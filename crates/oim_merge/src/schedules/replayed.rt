@@ -82,14 +82,14 @@ impl<'s> Replayed<'s> {
         text_numbered(self.texts.as_slice(), self.sent.as_slice(), number)
     }
 
-    /// The refused takes in the order of the events, each with the number of its report.
+    /// The refusals of `take` events, in order, each with the number of its report.
     pub fn refused(&self) -> &Refusals
         ensures { result.now ≡ self.now.refused }
     {
         &self.refused
     }
 
-    /// Returns the refused takes and drops the replicas and the sent texts.
+    /// Returns the refusals and drops the replicas and the sent texts.
     pub fn into_refused(self) -> Refusals
         ensures { result ≡ self.entry.refused }
     {
