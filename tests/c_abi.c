@@ -5,12 +5,12 @@
        c_abi check SHEET REPORT
        c_abi edges SHEET
 
-   The program prints the result and the lines of refused reports as xbrlmerge does, and returns the status of the call. The
-   line for a refused sheet has the number of the refusal, but not its name. Calls with buffers are also made with buffers that
-   are too short. With the static library, each request for memory is also refused in turn. The last line on standard error
-   begins with `requests`, and contains the number of refused requests that made the call fail. `edges` instead makes calls with
-   unusual arguments, prints nothing and returns 0. Status 90 means that a condition in this file does not hold; a line on
-   standard error shows the condition. */
+   The program prints the result, and the lines about refusals and a too loose row, as xbrlmerge does, and returns the status
+   of the call. The line about a refused sheet has the number of the refusal, but not its name. All calls except `check` are
+   also made with buffers that are too short. With the static library, each request for memory is also refused in turn. The
+   last line on standard error begins with `requests`, and contains the number of refused requests that made the call fail.
+   `edges` instead makes calls with unusual arguments, prints nothing and returns 0. Status 90 means that a condition in this
+   file does not hold; a line on standard error shows the condition. */
 #include <stdio.h>
 #include <stdlib.h>
 #include <string.h>
@@ -47,7 +47,7 @@ struct asked {
     size_t sheet_length, reports_length, ends[MOST], count;
 };
 
-/* The buffers of a call, filled with marks that show what the call wrote. */
+/* The output of a call. Its buffers are filled with marks before the call; a byte that keeps its mark counts as unwritten. */
 struct room {
     uint8_t *out;
     xbrlmerge_refusal *rows;
@@ -144,7 +144,7 @@ static struct room short_rooms(const struct asked *asked) {
     }
     struct room ample = make_room(needed + 9, refused + 2), just = make_room(needed, refused);
     EXPECT(call(asked, &ample) == call(asked, &just) && ample.needed == just.needed && ample.refused == just.refused);
-    size_t bytes = needed == ample.needed ? needed : 0; /* if a row is above the level, there is no text */
+    size_t bytes = needed == ample.needed ? needed : 0; /* if the duplicates of a row exceed `allow`, there is no text */
     EXPECT(is_kept(&ample, bytes, refused) && memcmp(ample.out, just.out, bytes) == 0);
     EXPECT(memcmp(ample.rows, just.rows, refused * sizeof(xbrlmerge_refusal)) == 0);
     drop_room(&just);
@@ -226,7 +226,7 @@ static int check(const struct asked *asked) {
     return (int)status;
 }
 
-/* with these ends of reports, each call must return this status, change nothing and request no memory */
+/* with these ends of reports, each call except `check` must return this status, change nothing and request no memory */
 static void ends_in(struct asked asked, uint32_t wanted, size_t count, size_t first, size_t second) {
     static const char *const commands[] = {"merge", "verdicts", "verdicts-json", "sources", "sources-json"};
     asked.count = count, asked.ends[0] = first, asked.ends[1] = second;

@@ -5,7 +5,7 @@
 
 The script checks libxbrlmerge.so and libxbrlmerge.a, which ./build --library writes to lib/. Both must export the calls of
 include/xbrlmerge.h and no other names. The types in the header must agree with crates/xbrlmerge_c. Then the script builds
-tests/c_abi.c with each library and makes each call on the examples. The texts, lines and statuses must equal the program's.
+tests/c_abi.c with each library and makes each call on the examples. The texts, lines and statuses must equal xbrlmerge's.
 For a refused sheet, only the number of the refusal is compared. With the static library, each request for memory in these
 calls is also refused in turn. Other calls have buffers that are too short, wrong ends of reports, an unknown level or lengths
 of 0. The header is compiled as C and, if g++ is installed, as C++.
@@ -66,7 +66,8 @@ def calls_of_header():
 
 
 def calls_of_crate():
-    """Returns the C types of each export's arguments and result. An allocator has no size, so C passes no argument for it."""
+    """Returns the C types of each export's arguments and result. The type of an allocator has size 0, so C passes
+    no argument for it."""
     calls = {}
     for path in sorted(os.listdir(CRATE)):
         for name, words, result in re.findall(r'extern "C" fn (\w+)\((.*?)\) -> (\w+)', content(f"{CRATE}/{path}"), re.DOTALL):
@@ -117,7 +118,8 @@ def lines(text):
 
 
 def compare(program, callers, words, files):
-    """Makes a call with each C program, and compares its result with xbrlmerge's. NAME-json is `NAME --format json`."""
+    """Makes a call with each C program, and compares its result with xbrlmerge's. The C program's NAME-json is xbrlmerge's
+    `NAME --format json`."""
     name, *rest = words
     command, _, in_json = name.partition("-")
     more = ("--allow", LEVELS[int(rest[0])]) if rest else ("--format", "json") if in_json else ()

@@ -4,9 +4,9 @@
     tests/devices [PROGRAM]
 
 By default, PROGRAM is $XBRLMERGE or, if that is not set, the built program. The tables below list the expected status and line
-for most cases. The functions contain the other cases. If the line contains a number of bytes, standard output must contain
-exactly that many bytes from the start of the text. Otherwise standard output must contain all of the text or nothing. No file
-may change.
+for most cases; the functions contain those for the other cases. If the line contains a number of bytes, standard output must
+have accepted exactly that many bytes from the start of the text. Otherwise standard output must contain all of the text or
+nothing. No input file may change.
 
 Status 0: all cases are as expected. 1: some are not; each is printed. 2: there is no program.
 """
@@ -33,7 +33,8 @@ PIPE_SIZE = 1032
 LITTLE, MUCH = 150_000, 6_000_000
 
 GOOD, REFUSED, NOTHING_TAKEN = (0, ""), (1, "report 2: 1 NotJson at document\n"), (3, "device: 0 bytes written\n")
-# for each command line: the status and line, and the status and line if standard output accepts no byte; `cut` is refused
+# for each command line, two results (status and line): if all devices work, and if standard output accepts no byte. The
+# report `cut` is refused
 WORDS = {
     "": (REFUSED, NOTHING_TAKEN),
     "merge --sheet sheet long cut": (REFUSED, NOTHING_TAKEN),
@@ -55,7 +56,7 @@ STOPS_INPUT = {"standard input closed": "<&-", "standard input a folder": "<.", 
 
 UNREAD, MEMORY, LENGTH = (3, "file strange: cannot be read\n"), (3, "out of memory\n"), (3, "file strange: too long\n")
 BAD_SHEET, BAD_EVENT, BAD_REPORT = (3, "sheet: 1 NotJson\n"), (3, "event 2: refused\n"), (1, "report 1: 1 NotJson at document\n")
-# for each kind of file: the status and line when it is the sheet, the events, or a report
+# for each kind of file, three results (status and line): as the sheet, as the events, and as a report
 FILES = {
     "missing": (UNREAD, UNREAD, UNREAD),
     "a folder": (UNREAD, UNREAD, UNREAD),
@@ -161,7 +162,7 @@ def compare_outputs(room):
 
 
 def compare_inputs(room):
-    """Makes standard input fail. Only the command line without arguments reads it."""
+    """Makes standard input fail. Only the command line without arguments reads standard input."""
     for words, (ends, _) in WORDS.items():
         for case, redirection in STOPS_INPUT.items():
             ran, expected = room.run(words, redirection), (ends[0], room.whole[words].out, ends[1])
@@ -218,7 +219,7 @@ def run_with_pipe(room, words, take, waits):
 
 
 def compare_pipes(room):
-    """Closes the pipe before it is read, closes it after 5 bytes, and fills a pipe that does not block."""
+    """Tests three pipes: one is closed before it is read, one is closed after 5 bytes, and one is full and does not block."""
     for words, (ends, stopped) in WORDS.items():
         whole = room.whole[words].out
         ran, _ = run_with_pipe(room, words, None, True)
@@ -249,7 +250,7 @@ def make(room, kind, name):
 
 
 def remove(room, writer):
-    """Removes the file, and ends the process that writes to it."""
+    """Removes the file `strange`, and ends the process that writes to it, if there is one."""
     if writer:
         writer.kill()
         writer.wait()

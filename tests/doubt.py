@@ -15,7 +15,7 @@ entries. The status is 1 if
 - the table of conditions differs from `Reason`, its numbers, or the definitions of the conditions;
 - a page shows a wrong number of lines, or the number for DOUBT is above 600.
 
-Definitions of the kit are not followed. A variable hides a definition of the same name within the variable's scope. A record
+Names that the kit defines need no entry. A variable hides a definition of the same name within the variable's scope. A record
 field hides a definition of the same name in the later fields of the record. Without options, the script prints the definitions
 that DOUBT lists; with --format, those that FORMAT lists; with --quiet, none. --write updates the entries, the table of
 conditions and the numbers of lines, but not the words.
@@ -56,7 +56,8 @@ def imports_of(text):
 def pieces(text):
     """Yields, for each definition of a file in order, its name, the other names that it owns, and its text.
 
-    A `data` definition owns its constructors, and a mutual definition owns its further heads. A record does not own its fields.
+    A `data` definition owns its constructors. A mutual definition is listed under its first name, and owns its other names.
+    A record does not own its fields.
     """
     for block in re.split(r"\n[ \t]*\n", text):
         lines = [it for it in block.split("\n") if it.strip() and not re.match(r"\s*(-- ----|use |module )", it)]
@@ -111,7 +112,7 @@ class Specs:
         return self.owner(f"crates/{crate}/specs/{within.replace('.', '/')}.antt", name)
 
     def text(self, path, name):
-        """Returns the text of a definition, a type, a limit, a contract or a line of code, or None."""
+        """Returns the text of a definition, a type, a limit, a contract or a line of code; None if the file lacks it."""
         if path.endswith(".antt"):
             return self.texts.get((path, name))
         if not os.path.exists(os.path.join(TOP, path)):
@@ -120,7 +121,7 @@ class Specs:
 
 
 def of_code(path, name):
-    """Returns the text of a type, a limit or the contract of a function, with its comment, or None."""
+    """Returns the text of a type, a limit or the contract of a function, with its comment; None if the file lacks it."""
     lines = content(path).split("\n")
     head = re.compile(rf"\s*pub (?:struct|enum|const|fn|trait) {name.split('::')[-1]}\b")
     place = next((n for n, it in enumerate(lines) if head.match(it)), None)
@@ -302,7 +303,8 @@ def word_problems(page, entries):
 
 
 def tested_on(page):
-    """Returns, for each reason, whether its definitions test the sheet, the document, a fact or several of these."""
+    """Returns, for each reason that a listed definition tests, what it is tested on: the sheet, the document, a fact or
+    several of these."""
     found = {}
     for path, name in (it for it in page.there if "holds" in it[1] and it[0].endswith(".antt")):
         thing = next((it for it in ("sheet", "document") if it in name), "fact")
@@ -329,7 +331,7 @@ def mended_table(page):
 
 
 def mended_entries(page):
-    """Returns the page with the entries that it needs. New names follow the other names of their file."""
+    """Returns the text of the page with the entries that its contracts need. A new name follows the other names of its file."""
     needed, groups = [it for it in page.needed() if it not in page.stops], []
     keep = [it for it in page.entries if it[1:] in {*needed, *page.contracts} or " " in it[2]]
     for heading, path, name in keep:

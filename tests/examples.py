@@ -12,11 +12,12 @@ named, examples/embed/main.txt is skipped. The script compares
   folder with the repository's files except crates/. The commands must not add or remove a file there. The last command of a
   block must return the status that the paragraph before the block names, or 0; all other commands must return 0. If a block of
   output follows, it must equal standard output and then standard error; ` ..` at the end of a line matches the rest. If no
-  output follows, standard error may contain only the lines for refusals, too loose rows and refused events. `./build && ` at
-  the start of a block is removed. A block with another command that proves (`rt`, ./build, the gate) is skipped;
+  output follows, standard error may contain only lines about refused reports, too loose rows and refused events. `./build && `
+  at the start of a block is removed. A block with another command that proves (`rt`, ./build, the gate) is skipped;
 - each fact that docs/GUIDE.md shows in JSON with the facts in examples/. Sheets that the guide shows must be accepted;
-- the sheet and the merged text of tools/contradictions with those expected in tests/normalise/vendors. The tool makes the
-  sheet from a taxonomy package, and normalises three reports in that folder;
+- the sheet that tools/contradictions makes from a taxonomy package with tests/normalise/vendors/sheet.json. The tool also
+  normalises three reports in that folder; one stays refused. The merged text must equal a merge of the expected results for
+  the other two;
 - the commands in the man pages and in the program's help, like those of a page that shows no output;
 - each example in docs/REFUSALS.md with the line that the program prints for it.
 
@@ -54,7 +55,8 @@ LIMIT = 120
 GOOD = ("issuer.json", "ledgerline.json", "statfeed.json")
 BAD = "oldharbour.json"
 MERGED, EARLIER = "merged.json", "earlier.json"
-# the feature that declares the level, and its namespace; rows 12, 34 and 37 are contradictions, so the level is `all`
+# the feature that declares the level, and its namespace; the level is `all`, because rows 12, 34 and 37 of merged.json are
+# contradictions
 DECLARED = ('"features":{"xbrl:allowedDuplicates":"all"},', ',"xbrl":"https://xbrl.org/2021"')
 # the faults of odd_units.json that only lossy options of tools/normalise remove
 ODD_UNITS = ('fact "TS1": 12 NameForm', 'fact "TS2": 26 NumberForm', 'fact "TS3": 19 PeriodForm')
@@ -142,8 +144,8 @@ def status_before(text, gap):
 
 
 def of_page(name):
-    """Yields a page's blocks of commands, except the slow ones. Each has its commands, the expected status of the last one,
-    and the shown output, or None if no output follows."""
+    """Yields a page's blocks of commands, except the slow ones. Each block has its commands, the expected status of the
+    last command, and the shown output, or None if no output follows."""
     text = content(f"{name}.md")
     fences = list(re.finditer(r"^```(\w*)\n(.*?)^```$", text, re.MULTILINE | re.DOTALL))
     for place, fence in enumerate(fences):
@@ -279,7 +281,8 @@ def compared(program):
 
 
 def declares(program, merged):
-    """Returns the faults of the merged text: it must declare the strictest level, and otherwise equal the earlier text."""
+    """Returns the faults of the merged text: it must declare the strictest level, and otherwise equal the earlier text.
+    A text that declares a stricter level must be refused."""
     rest = merged
     for part in DECLARED:
         rest = rest.replace(part, "", 1)
@@ -344,7 +347,7 @@ def make_top(program, room):
 
 
 def told(program, embed):
-    """Returns the differences from the shown output, and a text with the numbers of commands and refusals."""
+    """Makes all comparisons. Returns the differences, and a text with the numbers of commands and of examples of refusals."""
     wrong, ran = compared(program) + (embedded(embed) if embed else []) + fragments(program) + page_of_vendors(program), 0
     places = {**{it: list(of_page(it)) for it in PAGES}, "the man pages": list(of_man_pages()), "the help": of_help(program)}
     with tempfile.TemporaryDirectory() as room:

@@ -63,7 +63,7 @@ def fact(chance, prefix):
 
 
 def report(chance, is_refused):
-    """Draws the text of a report with its own prefixes. `is_refused` is the number of the fault, 1 to 3, or 0 for no fault."""
+    """Draws the text of a report with one of three prefixes. `is_refused` is the number of a fault (1 to 3), or 0 for none."""
     prefix = chance.choice(["m", "made", "x-1"])
     uris = {prefix: URI, "e": "http://standards.iso.org/iso/17442"}
     uris.update({"c": "http://www.xbrl.org/2003/iso4217", "x": "http://www.xbrl.org/2003/instance"})
@@ -92,7 +92,7 @@ def paths():
 
 
 def one_run():
-    """Returns the text that one run makes of all files in `in`, and the refused files."""
+    """Returns the merged text that one run makes from all files in the folder `in`, and the names of the refused files."""
     files = paths()
     done = subprocess.run([os.environ["XBRLMERGE"], "merge", "--sheet", "sheet.json", "--", *files], capture_output=True)
     refused = [files[int(line.split(":")[0].split()[1]) - 1] for line in done.stderr.decode().splitlines()]
@@ -189,8 +189,8 @@ def stopped_nodes():
 
 
 def dask_words():
-    """Returns the command of fold_dask.py, and whether Dask runs the nodes. If not, writes a substitute to the working
-    folder."""
+    """Returns the command of fold_dask.py, and whether Dask is installed. If Dask is not installed, writes a substitute for it
+    to the working folder."""
     pythons = (sys.executable, "/usr/bin/python3")  # the system's Python has the packages of the system
     with_dask = next((python for python in pythons if shutil.which(python) and run(python, "-c", "import dask").returncode == 0), None)
     if not with_dask:
@@ -203,8 +203,8 @@ def dask_words():
 
 
 def on_dask(words, width, wanted):
-    """Compares folds on Dask, or on its substitute, with one run of the program. Each node of the first fold is a process. If the library is
-    built, each node of a second fold is a call."""
+    """Compares folds on Dask, or on its substitute, with one run of the program. Each node of the first fold is a process. If
+    the library is built, each node of a second fold is a call of the library."""
     done = run(*words, "sheet.json", "dask.json", str(width), *paths())
     compare(f"Dask, {width} files a node", done, "dask.json", wanted)
     if LIBRARY:

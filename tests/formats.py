@@ -175,7 +175,8 @@ def wrong_with(program, sheet, reports):
 
 
 def odd_report(prefix):
-    """Returns a report with each odd text in a value, in an identifier and, unless it is empty, as a typed member."""
+    """Returns a report with a fact for each of TEXTS. The fact's value and identifier begin with the text. The fact's typed
+    member is the text, or `none` for an empty text."""
     info = {"documentType": "https://xbrl.org/2021/xbrl-json", "namespaces": {"eg": "http://example.org/t"}}
     facts = {f"{text}{prefix}{place}": {"value": f"{text}{prefix}", "dimensions": {"concept": "eg:T", "eg:Sku": text or "none"}}
              for place, text in enumerate(TEXTS)}

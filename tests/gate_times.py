@@ -1,13 +1,13 @@
 #!/usr/bin/env python3
 """Prints the time of each part of a gate run. At the top of the repository:
 
-    bash .ci/run 2>&1 | tests/gate_times | tee FILE     prints each line with its time in seconds, then the table
+    bash .ci/run 2>&1 | tests/gate_times | tee FILE     prints each line with the seconds since the start, then the table
     tests/gate_times FILE                               prints the table in FILE again
 
 A part is the proof of a crate, the proof of its tests, its must-fail edits or its runs. The processes are sampled twice a
 second to find when a part begins and ends; 'processor' is the sum of the part's seconds on all processors. Runs are
-not sampled: their times are taken from the lines of the gate, and 'processor' is 0. The status is 0 if M is 0 in the last
-line `N passed, M failed`, otherwise 1. With FILE the status is 0, or 2 if FILE has no table.
+not sampled: their times are taken from the lines of the gate, and 'processor' is 0. In the first form, the status is 0 if M
+is 0 in the gate's last line `N passed, M failed`, otherwise 1. In the second form, the status is 0, or 2 if FILE has no table.
 """
 import os
 import re
@@ -107,8 +107,8 @@ class Watch(threading.Thread):
 
 
 def table(watch, runs, whole):
-    """Returns the lines of the table: for each part its start, end, elapsed time and processor time, in seconds. Crates are in the
-    order in which they began."""
+    """Returns the lines of the table: for each part and for the whole run its start, end, elapsed time and processor time, in
+    seconds. Crates are in the order in which they began."""
     rows = {key: (*span, sum(watch.spent[key].values())) for key, span in watch.spans.items()}
     rows.update({(crate, "runs"): (*span, 0) for crate, span in runs.items()})
     crates = sorted({key[0] for key in rows}, key=lambda it: min(rows[key][0] for key in rows if key[0] == it))

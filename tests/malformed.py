@@ -4,13 +4,14 @@
     [CASES=5000] [SEED=1] [CASE=N] [JOBS=N] tests/malformed [PROGRAM]
 
 By default, PROGRAM is $XBRLMERGE or the built program. Each run must end within 10 seconds, not by a signal, with a status and
-lines that its input allows. A report is read as it is and, with spaces after it, in pieces; both results must be equal. A
-refused report must not change the merged text of two good ones. An accepted report is merged; the text must be accepted, and
-must merge to the same bytes. JOBS processes run in parallel, as many as there are processors by default. CASE runs only the case
-with this number.
+lines that its input allows. A broken report is read as it is and, with spaces after it, in pieces; both results must be equal.
+A refused report must not change the merged text of two good ones. If the broken report is accepted, the merged text must be
+accepted too, and must merge to the same bytes. JOBS processes run in parallel, as many as there are processors by default. CASE
+runs only the case with this number.
 
-Status 0: all is as expected. 1: something is not, or a usual result is missing in a run of 5,000 cases or more. 2: there is no
-program. The first 20 faults are printed with the seed and the case. The broken bytes of all faults are written to files.
+Status 0: all is as expected. 1: something is not, or a usual result, such as a refused sheet, is missing in a run of 5,000
+cases or more. 2: there is no program. The first 20 faults are printed with the seed and the case. The broken bytes of all
+faults are written to files.
 """
 import argparse
 import collections
@@ -51,7 +52,7 @@ VALUES = {"numeric": ("0", "-12.5", "1000000", "+0.0570", ".5", "999999999999999
           "text": ("", "Blue", "a\"b\\", "\u0001 \u00e9\n", "\U0001f40b")}
 UNITS = ("x:b*x:a", "(x:a*x:b)/x:c", "xbrli:pure", "xbrli:pure/x:c")
 PERIODS = ("2020-12-31T24:00:00", "2020-01-01T00:00:00/2020-12-31T24:00:00", "0001-01-01T00:00:00/9999-12-31T23:59:59")
-# replacements for values, numbers and keys; escapes to insert; and runs to repeat
+# replacements for values and numbers, escapes to insert, texts to repeat, and replacements for keys
 OTHER_VALUES = (b"null", b"true", b"[]", b"{}", b"7", b'""', b'" "', b'":"', b'"m:"', b'"q:A"', b'"m:A"', b'"m:T"',
                 b'"xbrl:note"', b'"none"', b'"complete"', b'"numeric"', b'"text"', b'"1e2"', b'"1234567890123456789"',
                 b'"https://xbrl.org/2021"', b'"2020-12-31"', b'"2021-01-01T00:00:00/2020-01-01T00:00:00"', b'"x:a/"',
@@ -256,8 +257,8 @@ class Batch:
         write("broken", self.content)
 
     def of_report(self, chance, drawn=drawn_report):
-        """Tests a broken report between two good ones. Reading it in pieces must have the same result. `check` must accept it
-        if `merge` does, and otherwise print the same refusal."""
+        """Tests a broken report between two good ones. Reading the broken report in pieces must have the same result. `check`
+        must accept the report if `merge` does, and otherwise print the same refusal for report 1."""
         self.write_broken(chance, drawn(chance), self.one)
         status, text, lines, told = self.run("merge", "--sheet", "sheet", "one", "broken", "two")
         self.expect_reports(status, lines, told, 3)
@@ -316,7 +317,7 @@ class Batch:
         return status
 
     def play(self, case):
-        """Runs a case. Returns the fault, if there is one."""
+        """Runs a case. Returns a list with its fault, or an empty list if there is none."""
         chance = random.Random(f"{SEED} {case}")
         kind = chance.choices((self.of_report, self.of_long, self.of_sheet, self.of_events, self.of_bundle), (5, 1, 2, 2, 2))[0]
         try:

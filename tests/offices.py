@@ -7,7 +7,7 @@ office. Not part of the gate.
 By default, PROGRAM is $XBRLMERGE or the built program. Three offices, each with its own folder, use only the commands `merge`
 and `check`. They follow a drawn schedule: they take reports, and exchange texts. Some reports are refused. Texts arrive late,
 repeated or reordered, and an office may lose everything. A sent text must be canonical and declare the strictest level that
-its facts satisfy, as computed from the definition. Some texts are then sent in the earlier form, without a level.
+its facts satisfy; the script computes this level too. Some texts are then sent in the earlier form, without a level.
 
 Status 0: all is as expected. 1: something is not, or a counted event, such as a restart, is missing in a run of 200 schedules
 or more. The first fault is printed with the seed and the schedule. 2: there is no program.
@@ -47,7 +47,7 @@ def expect(holds, told):
 
 
 def number(chance):
-    """Draws a value and its decimals: mostly near one hundred, otherwise with any decimals from -18 to 18."""
+    """Draws a value and its decimals: mostly a value near one hundred, otherwise any decimals from -18 to 18."""
     if chance.random() < 0.7:
         return {"value": str(chance.randint(98, 102)), "decimals": chance.randint(-1, 0)}
     places, times = chance.randint(-18, 18), chance.randint(1, 3)
@@ -68,7 +68,7 @@ def fact(chance, prefix):
 
 
 def report(chance, is_refused):
-    """Draws the text of a report with its own prefix. A report that must be refused has one of three faults."""
+    """Draws the text of a report with one of two prefixes. A report that must be refused has one of three faults."""
     prefix, fault = chance.choice(["m", "made"]), chance.randint(1, 3) if is_refused else 0
     facts = {f"{number}": fact(chance, prefix) for number in range(chance.randint(1, 3))}
     if fault == 1:
@@ -80,7 +80,7 @@ def report(chance, is_refused):
 
 
 def level_of(texts):
-    """Returns the strictest level that the facts of reports satisfy, computed from the definition. Each fact counts once."""
+    """Returns the strictest level that the facts of reports satisfy, computed from the definition. Equal facts count as one."""
     rows = {}
     for text in texts:
         for made in json.loads(text)["facts"].values():
@@ -142,7 +142,8 @@ class Schedule:
         return bytes_of(f"{office}/merged.json")
 
     def merged_with(self, office, file, is_refused):
-        """Merges a file into the text of an office. If the file is refused, the text must not change."""
+        """Merges a file into the text of an office. `is_refused` is whether the file must be refused. A refused file must not
+        change the text."""
         before = self.present(office)
         status, text, lines = self.merge(f"{office}/merged.json", file)
         found = REFUSED.fullmatch(lines)

@@ -3,11 +3,10 @@
 
     tests/output [PROGRAM]
 
-The script also tests outputs that cannot be replaced, such as links. By default, PROGRAM is $XBRLMERGE or the built program.
-The test needs cc.
+The file must always be the old one or the complete new one, and only killed runs may leave other files. The script also tests
+outputs that cannot be replaced, such as links. By default, PROGRAM is $XBRLMERGE or the built program. The test needs cc.
 
-Status 0: the file is always the old one or the complete new one, and only killed runs leave other files. 1: some cases are not
-as expected; each is printed. 2: there is no program, or no cc.
+Status 0: all cases are as expected. 1: some cases are not; each is printed. 2: there is no program, or no cc.
 """
 import os
 import shutil

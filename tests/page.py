@@ -41,7 +41,7 @@ PAINT = 2_000  # the most milliseconds until something is shown
 PAINTED = """<body><script>new PerformanceObserver(list => list.getEntries().forEach(entry => console.log("painted", entry.startTime)))
 .observe({type: "paint", buffered: true})</script>"""
 WIDTHS = 500, 1_100, 1_900  # of the window, in pixels; Chromium accepts no width below 500
-# the script that follows an entry of the index, puts two words into the filter, and measures widths
+# the script that follows an entry of the index, puts two words into the filter, counts rows and measures widths
 ASKED = """<script>
 const root = document.documentElement, answers = [];
 function measure() {
@@ -63,7 +63,7 @@ setTimeout(() => {
 </script></body>"""
 # for each fact of one contradiction, its provider and its identifier in the provider's report
 OWN_NAMES = ("issuer f56", "statfeed TS08780")
-# the colours of the background, of a value of the pair and of the gap, in each theme
+# for each theme, the colours of the background, of the values that contradict each other, and of the gap between them
 LOOKS = {"light": ("ffffff", "b3201f", "f3c9c5"), "dark": ("16181c", "ff8a80", "5c2b2b")}
 
 
@@ -159,8 +159,8 @@ def look_at_large(words, room):
 
 
 def changed(page, name, before, after):
-    """Writes a copy of the page without its security policy and with `before` replaced once. Returns the path of the copy, and
-    its text before the replacement."""
+    """Writes a copy of the page without its security policy, in which `after` replaces the first `before`. Returns the path of
+    the copy, and its text before the replacement."""
     with open(page, encoding="utf-8") as file:
         text = re.sub("<meta http-equiv=[^>]*>", "", file.read())
     place = os.path.join(os.path.dirname(page), name)

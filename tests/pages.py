@@ -3,9 +3,9 @@
 
     tests/pages [PAGE ..]
 
-The script prints the number of words of each page in BOUNDS beside its bound; pages that share a bound have one number. If
-pages are named, it prints only their numbers and follows only their links. Code blocks, comments and generated tables (from a
-comment that begins with `generated` to one that begins with `end`) do not count. In docs/DOUBT.md and docs/FORMAT.md, tables
+The script prints the number of words of each page in BOUNDS beside its bound; for pages that share a bound, it prints the sum.
+If pages are named, it prints only their numbers and follows only their links. Code blocks, comments and generated tables (from
+a comment that begins with `generated` to one that begins with `end`) do not count. In docs/DOUBT.md and docs/FORMAT.md, tables
 and entry lines do not count either. Entry lines name the definitions to read in `crates/`.
 
 The status is 1 if a page is missing or too long, or if the file or the heading of a relative link does not exist.

@@ -4,10 +4,10 @@
     [XBRLMERGE=PROGRAM] [XBRLMERGE_LIBRARY=LIBRARY] [SETS=300] [SEED=1] tests/python [unittest's arguments]
 
 The script makes each call on the examples, and each call except `check` on SETS sets of drawn reports. A call must return the
-bytes and lines of the program's command, or raise the exception for its status. Four threads merge at once. A wheel is built.
-If pip is available, it installs the wheel, and the installed module merges the examples. If pandas is installed, it reads the
-records. If pandas or pyarrow is installed, it reads the columns. If mypy is installed, it checks the module's types. The test
-needs ./build and ./build --library.
+bytes and lines of the program's command, or raise the exception for the command's status. Four threads merge at once. A wheel
+is built. If pip is available, it installs the wheel, and the installed module merges the examples. If pandas is installed, it
+reads the records that the module returns. If pandas or pyarrow is installed, it reads the module's columns. If mypy is
+installed, it checks the module's types. The test needs ./build and ./build --library.
 
 Status 0: all is as expected. 1: something is not. 2: the program or the library is not built.
 """
@@ -178,7 +178,7 @@ class Examples(unittest.TestCase):
         self.assertRaises(ValueError, xbrlmerge.merge, sheet, [], "some")
 
     def test_long_texts_are_asked_for_again(self):
-        # the first buffer has a length of 0
+        # with this MORE, the module's first buffer for the text has a length of 0, so the module must repeat the call
         report = bytes_of(EXAMPLES[0])
         more, library.MORE = library.MORE, -len(report)
         try:

@@ -28,7 +28,7 @@ static int is_refused(void) {
 
 void *malloc(size_t size) { return is_refused() ? NULL : __libc_malloc(size); }
 void *calloc(size_t count, size_t size) { return is_refused() ? NULL : __libc_calloc(count, size); }
-/* a size of 0 frees the block and is not a request */
+/* realloc to a size of 0 frees the block, so it is not a request for memory */
 void *realloc(void *block, size_t size) { return size && is_refused() ? NULL : __libc_realloc(block, size); }
 
 __attribute__((constructor)) static void begin(void) {

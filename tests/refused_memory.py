@@ -8,13 +8,13 @@ crates/xbrlmerge/out/xbrlmerge if that does not exist. Without arguments, the sc
 program. A first run of each test counts the requests. A second run, set to refuse the request after the last one, must refuse
 none. Each later run refuses one request. A test must pass and print that a call got no memory (`refused`) or that its own
 setup got none (`refused here`). If the test prints neither, the request counts as passed over. The program runs with arguments
-for every command. It must print the line `out of memory` and end with status 3, or end as if nothing was refused. Before
-`out of memory`, it may write a first part of its text. Two kinds of requests can be refused without harm: those for the key of
-a cache while a report is read, and those for clap's search for similar words. So in the tests of crates that read reports, no
-request counts as passed over. Nor does it in the tests of DEVICE_FAILS_TOO. JOBS processes run in parallel, as many as there
-are processors by default. If a test makes more than 5,000 requests, only each 7th is refused from request 2,001 on. Fewer are
-refused if a test makes more than 50,000 requests, or if its runs are long. If some requests are left out, a line reports which
-were refused.
+for every command. The program must print the line `out of memory` and end with status 3, or end as if nothing was refused.
+Before `out of memory`, the program may write a first part of its text. Two kinds of requests can be refused without harm: those
+for the key of a cache while a report is read, and those for clap's search for similar words. So in the tests of crates that
+read reports or command lines, no request counts as passed over. The same holds for the tests in DEVICE_FAILS_TOO. JOBS
+processes run in parallel, as many as there are processors by default. If a test makes more than 5,000 requests, only each 7th
+is refused from request 2,001 on. Fewer are refused if a test makes more than 50,000 requests, or if its runs are long. If some
+requests are left out, a line reports which were refused.
 
 Status 0: nothing failed and nothing was passed over. 1: something failed or was passed over. 2: a name is unknown, there is no
 cc, or tests or the program are not built or are older than the sources.
@@ -39,11 +39,11 @@ JOBS = int(os.environ.get("JOBS", len(os.sched_getaffinity(0))))
 # if a test makes more than MANY requests, the first ALL are refused, and then each EVERY-th
 MANY, ALL, EVERY = 5000, 2000, 7
 # if a test makes more than MOST requests, at most FEW are refused, spread evenly; such tests let a device fail at each byte. If
-# the runs would take more than SECONDS in sequence, only as many requests are refused as fit, but about 100 at least
+# the runs would take more than SECONDS in sequence, only as many requests are refused as fit into SECONDS, but at least 50
 MOST, FEW, SECONDS = 50_000, 1000, 240
 # how many requests a task refuses at most, and the time limit of a run in seconds
 SHARE, LIMIT = 40, 60
-# the least bytes that a sink takes at a time, except the last time
+# a sink takes at least this many bytes at a time, except the last time
 CHUNK = 1 << 16
 SHOWN = 20
 CALL, HERE, WHOLE, DEVICE, PASSED, FAILED = "refused calls", "refused here", "whole answers", "device first", "passed over", "failed"
@@ -64,7 +64,7 @@ DEVICE_FAILS_TOO = {
     "command_tests tests::run::a_full_device_ends_the_run",
     "command_tests tests::run::an_output_that_failed_is_not_flushed",
 }
-# the tests of these crates read reports, so a cache or clap's search for similar words may do without the memory
+# the tests of these crates read reports or command lines, so a cache or clap's search for similar words may do without memory
 READ_REPORTS = {"report_tests", "merge_tests", "command_tests"}
 
 # a test, or the program on a command line; `whole` is the program's result when nothing is refused, and None for a test
@@ -118,8 +118,8 @@ def build_library(room):
 
 
 def run(library, subject, number):
-    """Runs a subject in a new folder with this request refused; 0 refuses none. In the result, `requests` is None if they were
-    not counted."""
+    """Runs a subject in a new folder with this request refused; 0 refuses none. In the result, `requests` is None if the
+    subject did not exit normally."""
     with tempfile.TemporaryDirectory(prefix="refused-") as room:
         os.makedirs(f"{room}/here/out")
         around = {**os.environ, "LD_PRELOAD": library, "REFUSE": str(number), "REFUSE_TOLD": f"{room}/told"}
@@ -172,8 +172,8 @@ def told_of(subject, ran):
 
 
 def fronts_of(subject, ran):
-    """Returns `fronts` if a part of the text was written before the refusal, and `long fronts` if a whole chunk was. The tests
-    print the length of the text in their sink.
+    """Returns the counters to raise: `fronts` if a part of the text was written before the refusal, and also `long fronts` if
+    at least CHUNK bytes were. The tests print how many bytes of the text their sink took.
     """
     told = [len(ran.out)] if subject.whole else [int(it) for it in re.findall(rb"^ *written (\d+)$", ran.err, re.MULTILINE)]
     longest = max(told, default=0)

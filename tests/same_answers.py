@@ -8,7 +8,7 @@ The reports are drawn and broken as in tests/malformed; about one in four is lon
 bytes and lines. So each refusal has the same reason and place.
 
 Status 0: all is as expected. 1: something is not; the files of each batch with a fault are kept, and the first 20 faults are
-printed with the seed. 2: a program does not exist.
+printed with the seed. 2: a program cannot be executed.
 """
 import argparse
 import collections
@@ -29,7 +29,7 @@ BATCH, LIMIT = 100, 120
 
 
 def drawn(chance):
-    """Draws a report. Nine in ten are broken, and one in five ends with so many spaces that it is read in pieces."""
+    """Draws a report. Nine in ten reports are broken, and one in five ends with so many spaces that it is read in pieces."""
     short = malformed.drawn_report(chance)
     text = malformed.drawn_long(chance) if chance.random() < 0.05 else short
     if chance.random() < 0.9:
@@ -43,7 +43,7 @@ def answer(program, names):
 
 
 def play(task):
-    """Runs a batch. Returns the counts of its results, and the differences between the programs."""
+    """Runs a batch. Returns the counts of refused, accepted and long reports, and a line if the programs differ or fail."""
     programs, number, count = task
     chance = random.Random(f"{malformed.SEED} of {number}")
     room = tempfile.mkdtemp(prefix="same-answers-")

@@ -1,4 +1,4 @@
-"""Functions that the scripts of tests/ share: reading the repository's files, and finding the program."""
+"""Functions that the scripts of tests/ share: reading files, and finding the program."""
 import os
 import sys
 

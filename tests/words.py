@@ -23,7 +23,7 @@ OPTION = re.compile(r"(?<![\w-])--?[A-Za-z0][\w-]*")
 # `help` is a command that takes no options
 NO_OPTIONS = "help"
 FILE = "file"
-# the options with a fixed list of values, and the name of these values
+# the options with a fixed list of values, and the name of each option's argument in the help
 CHOSEN = {"--allow": "LEVEL", "--format": "FORMAT"}
 # prints the completions of the last word of a command line
 ASK = 'source "$1"; shift; COMP_WORDS=("$@"); COMP_CWORD=$(($# - 1)); _xbrlmerge; printf "%s\\n" "${COMPREPLY[@]}"'
@@ -62,7 +62,7 @@ def forms(text):
     """Returns the line formats (verdicts, sources, check, events) that a help text or the man page shows."""
     begins = r"^(?:  |\.\w+ )((?:ROW|FACT|accepted|take|join|send|receive|restart) +[A-Z].*)"
     found = re.findall(begins, re.sub(r'\\f.|"', "", text), re.MULTILINE)
-    # the meaning of a format may follow it after three spaces
+    # the meaning of a format may follow it after at least three spaces
     return {" ".join(it.partition("   ")[0].split()) for it in found}
 
 

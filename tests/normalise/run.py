@@ -6,11 +6,11 @@
 Each report in cases.jsonl is normalised with its options. `check` must accept or refuse the result as the case requires, and
 the output files must equal the files beside the report. If nothing is lost and the report was accepted before, `check`,
 `verdicts` and `merge` must print the same for the report and the result. If normalising also respells a set of names, only
-`check` must print the same for both.
+the output of `check` must be the same.
 
 The script also draws a tidy and an untidy report from each of DRAWN seeds, 200 by default. The tidy report must be accepted,
 and is also spelled as another tool might spell it. After normalising, the program must print the same for both spellings as for
-the tidy report. The untidy report must be accepted once it is normalised with all options.
+the tidy report. The untidy report must be accepted once it is normalised with all lossy options.
 
 Status 0: all is as expected. 1: something is not; each difference is printed. 2: the arguments are invalid, there is no
 program, or a run cannot start or takes more than a minute.
