@@ -127,7 +127,7 @@ def reports_of(workload, size, rng):
         return [drawn(size, "ISSUER")]
     if workload == "reports of 50":
         return [drawn(50, f"ISSUER{r}") for r in range(size // 50)]
-    # about one fact in twenty is rounded to thousands
+    # each provider rounds about one fact in twenty to thousands
     said = drawn(size // 8, "ISSUER")
     rounded = [(n, entity, round(value, -3), -3) for n, entity, value, _ in said]
     return [[rounded[n] if rng.random() < 0.05 else said[n] for n in range(len(said))] for _ in range(8)]
@@ -151,7 +151,7 @@ def write_bundle(workload, size, path):
 
 
 def said_by(line):
-    """Yields the facts of a report, with names expanded to URIs and local names."""
+    """Yields the facts of a report without unit and language, with names expanded to URIs and local names."""
     said = json.loads(line)
     uris = said["documentInfo"]["namespaces"]
 
@@ -219,8 +219,8 @@ def instructions(program, bundle):
 
 
 def measure(workload, size, programs, folder):
-    """Returns the bundle's size in bytes and, for each program, the least processor seconds, the peak kilobytes and the
-    instructions. Checks the merged text."""
+    """Returns the bundle's size in bytes and, for each program, the least processor seconds and the highest peak kilobytes of
+    RUNS runs, and the instructions. Checks the merged text."""
     stem = os.path.join(folder, f"{workload.replace(' ', '_')}_{size}")
     bundle = f"{stem}.bundle"
     in_child(write_bundle, workload, size, bundle)

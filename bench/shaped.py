@@ -53,7 +53,7 @@ def falling(n):
 
 
 def merging(a_sheet, *reports):
-    """The arguments of `merge`, and the files that they name."""
+    """The arguments of `merge`, and the content of each file that they name."""
     files = {"sheet.json": a_sheet, **{f"report{place}.json": one for place, one in enumerate(reports)}}
     return ["merge", "--sheet", *files], files
 
@@ -75,7 +75,7 @@ def replaying(replicas, events, *reports):
     return words, {**files, "events.txt": "".join(f"{event}\n" for event in events)}
 
 
-# ---- the shapes; SHAPES has the smaller size for each
+# ---- the shapes; SHAPES lists each with the smaller of its two sizes
 
 def namespaces_of_a_report(n):
     return merging(sheet(), report(numbered([fact()]), {"eg": URI, **prefixes(n)}))
@@ -136,7 +136,7 @@ def measures_beside_a_long_uri(n):
 
 
 def long_uri(names, size):
-    """A sheet with this many concepts, and a report that uses all of them. The concepts share a URI of about `size` bytes."""
+    """A sheet with `names` concepts that share a URI of about `size` bytes, and a report that uses all of them."""
     bound = {"u": f"{URI}/{'u' * size}"}
     concepts = [f"u:c{place:07}" for place in range(names)]
     return sheet(dict.fromkeys(concepts, "text"), namespaces=bound), report(numbered(fact(concept=name) for name in concepts), bound)

@@ -14,8 +14,8 @@ if n is at least 256. A quadratic cost grows sixteenfold and fails. The result i
     --program FILE      the program, instead of the built one in crates/xbrlmerge
     --keep FOLDER       leaves the input files in FOLDER
 
-Status 0: each shape is within the bound. 1: some are not. 2: a measurement failed, an argument is wrong, or a program is
-missing.
+Status 0: every ratio is within the bound. 1: some ratios are not. 2: a measurement failed, an argument is wrong, or a
+program is missing.
 """
 import argparse
 import json
@@ -79,7 +79,7 @@ def kilobytes(command, folder):
     return run(command, folder)[1].ru_maxrss
 
 
-# how each kind of cost is printed
+# the function that formats each kind of cost
 UNITS = {instructions: lambda it: f"{it / 1e6:,.1f} M", seconds: lambda it: f"{it:.3f} s", kilobytes: lambda it: f"{it / 1e3:,.1f} MB"}
 
 
@@ -91,7 +91,7 @@ def cost_of(shape, size, measure, program, folder):
 
 
 def measure_all(shapes, given, measure, folder):
-    """Prints the table, and returns the names of the shapes that exceed the bound."""
+    """Measures the shapes, prints the table, and returns the names of the shapes whose ratio exceeds the bound."""
     print(f"| Shape | n | n of them | {TIMES}n of them | Times |\n|---|--:|--:|--:|--:|", flush=True)
     broken, told = [], UNITS[measure]
     for shape in shapes:

@@ -1,4 +1,4 @@
-"""Builds the wheel from the module and the shared library that ./build --library makes. The build needs no other package."""
+"""Builds the wheel from the module and the shared library that ./build --library makes. The backend needs no Python package."""
 import base64
 import glob
 import hashlib
@@ -25,8 +25,8 @@ def _project(key: str) -> str:
 
 
 def _platform(library: bytes) -> str:
-    """Returns the platform tag: manylinux with the newest version of the C library that is needed. The tag is linux if
-    another library is needed too, or if no version is found."""
+    """Returns the platform tag: manylinux with the newest version of the C library that the shared library needs. The tag is
+    linux if the shared library needs another library, or if no version is found."""
     minors = [int(it) for it in re.findall(rb"GLIBC_2\.(\d+)", library)]
     is_plain = set(re.findall(rb"\x00([\w+.-]*\.so[.\d]*)(?=\x00)", library)) - {b"libxbrlmerge.so"} <= SYSTEM
     return f"manylinux_2_{max([OLDEST, *minors])}_x86_64" if is_plain and minors else "linux_x86_64"

@@ -8,11 +8,11 @@ make_sheet reads taxonomies and sheets; contradictions reads taxonomies with lab
 the file, or both. Each run must end within 10 seconds of processor time and 1 GiB of memory, with status 0, 1 or 3. Its lines on
 standard error must be printable, and it must not raise an exception that the tool does not expect. With status 0 or 1 all
 outputs must be complete, and a second run of normalise on its output must change nothing. With status 3 no output may change.
-The tools run inside this script. One case in 20 also runs a tool as a process, which must have the same result. JOBS processes
-run in parallel, as many as there are processors by default. CASE runs only the case with this number.
+The tools run inside this script. About one case in 20 also runs a tool as a process, which must have the same result. JOBS
+processes run in parallel, as many as there are processors by default. CASE runs only the case with this number.
 
-Status 0: all is as expected. 1: something is not, or a usual result is missing in a run of 5,000 cases or more. The first 20
-faults are printed with the seed and the case. The files of all faults are kept.
+Status 0: all is as expected. 1: something is not, or one of the statuses 0, 1 and 3 of a tool is missing in a run of 5,000
+cases or more. The first 20 faults are printed with the seed and the case. The files of each case with a fault are kept.
 """
 import argparse
 import collections
@@ -89,7 +89,8 @@ def expect(holds, told):
 
 
 def split_at_tags(chance, text, _):
-    """Replaces an attribute's value, a name or a piece of text by a piece of XML."""
+    """Replaces an attribute's value, a name or a piece of text by one of XML_PIECES. Without such a part, replaces a drawn
+    part."""
     return malformed.replaced(chance, text, rb'(?<=")[^"<>]*(?=")|(?<=[</ ])[\w:]+|(?<=>)[^<]*(?=<)', XML_PIECES)
 
 
@@ -103,7 +104,8 @@ def reworded(chance, text, _):
 
 
 def dropped(chance, text, _):
-    """Removes a drawn member whose value is neither an object nor an array. Without such a member, removes a drawn part."""
+    """Removes a drawn member whose value is a text, an integer, a boolean or null. Without such a member, removes a drawn
+    part."""
     return malformed.replaced(chance, text, rb'"[\w:]+": ?(?:"[^"\\]*"|null|true|false|-?\d+)(?:, ?)?', (b"",))
 
 
@@ -168,7 +170,7 @@ def drawn_text(chance):
 
 
 class Room:
-    """A folder in which one case is run, and the counts of its results."""
+    """The number of a case, and the counts of its results. The case runs in the current folder."""
 
     def __init__(self, case):
         self.case, self.counts = case, collections.Counter()
@@ -235,7 +237,7 @@ def open_bytes(path):
 
 
 def within_bounds(run):
-    """Returns the result of a run, with limits on processor time and on elapsed time."""
+    """Returns the result of a run. A run that exceeds a limit on processor time or on elapsed time is a fault."""
     def stop(number, _):
         raise Fault(f"it did not end within {SECONDS} seconds of a processor" if number == signal.SIGPROF else "it blocks")
 
@@ -288,7 +290,7 @@ def expect_sheet(status, out):
 
 
 def of_report(room, chance):
-    """Runs normalise on a broken report, or with a broken sheet, and then on its own output."""
+    """Runs normalise on a broken report, or with a broken sheet. If it does not fail, runs it again on its output."""
     drawn = drawn_reports.untidy(chance).encode() if chance.random() < 0.7 else malformed.drawn_report(chance)
     sheet = json.dumps(drawn_reports.SHEET).encode()
     if chance.random() < 0.8:
@@ -309,7 +311,7 @@ def of_report(room, chance):
 
 
 def of_text(room, chance):
-    """Runs contradictions on a merged text, a sheet and lines; one of these files is broken."""
+    """Runs contradictions on a merged text, a sheet and lines. One of these files may be broken."""
     text, verdicts, sources = drawn_text(chance)
     files = {"merged": text, "sheet": json.dumps(SHEET).encode(), "verdicts": verdicts, "sources": sources}
     name = chance.choice(sorted(files) + ["merged"])
@@ -343,7 +345,7 @@ def run_on_text(room, chance, files, words):
 
 
 def whole_table(name):
-    """Returns the lines of a table, which must all have the same number of cells."""
+    """Returns the lines of a table. The last line must be complete, and all lines must have the same number of cells."""
     text = open_bytes(name).decode("utf-8-sig")
     lines = [*csv.reader(io.StringIO(text, newline=""))]
     expect(text.endswith("\r\n") and len({len(line) for line in lines}) == 1, f"the table {name} is not whole")
@@ -377,7 +379,7 @@ def limit_memory():
 
 
 def is_tame(counts):
-    """Returns whether a usual result is missing in a run of 5,000 cases or more."""
+    """Returns whether one of the statuses 0, 1 and 3 of a tool is missing in a run of 5,000 cases or more."""
     return CASE < 0 and CASES >= 5000 and not all(counts[f"{tool} {status}"] for tool in TOOLS for status in (0, 1, 3))
 
 

@@ -1,13 +1,14 @@
 #!/usr/bin/env python3
 """Merges reports in two levels on Dask: examples/fold/fold_dask.py [--calls] SHEET OUT WIDTH FILE ..
 
-Each step of the first level merges up to WIDTH files, and the last step merges their results. A step is a process that writes
-to a file. With --calls, a step is a call of the Python module xbrlmerge, and its result goes to the last step as bytes. On a
-cluster, make a Client first, and let all machines share SHEET, OUT and the files. Set TMPDIR to a folder that all machines
-share, or with --calls install the module on each machine.
-Status 0: OUT contains every report. 1: reports were refused, as standard error shows, and OUT contains the others; or a step
-failed: then do not use OUT, which may be missing, old or incomplete (with --calls it is unchanged). 2: an argument is missing,
-or WIDTH is not a whole number from 1.
+Each step of the first level merges up to WIDTH files, and the last step merges their results. Without --calls, a step is a
+process that writes to a file. With --calls, a step is a call of the Python module xbrlmerge, and its result goes to the last
+step as bytes. On a cluster, make a Client first, and let all machines share SHEET and the files. Without --calls, let them also
+share OUT and examples/fold, set TMPDIR to a folder that all machines share, and install the program on each machine. With
+--calls, install the module on each machine.
+Status 0: OUT contains every report. 1: reports were refused (standard error shows them) and OUT contains the others, or a step
+failed. If a step failed, do not use OUT: it may be missing, old or incomplete. With --calls, it is unchanged. 2: an argument
+is missing, or WIDTH is not a whole number of at least 1.
 """
 import os
 import shlex

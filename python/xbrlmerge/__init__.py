@@ -4,14 +4,14 @@
 
     merged = xbrlmerge.merge("sheet.json", ["issuer.json", "ledgerline.json"], allow="consistent")
     merged.text           # the bytes that `xbrlmerge merge` writes
-    merged.refusals       # the refused reports; each prints as the program's line
+    merged.refusals       # the refusals of reports; each refusal prints as the program's line
 
 A sheet or a report is given as bytes or as the path of a file. Each call has the same results as the program's command of
 the same name; verdict_columns and source_columns match verdicts and sources with --format json. Calls run in this
-process, and other threads continue to run. Refused reports are returned, not raised. Exceptions: SheetRefused and TooLoose,
-both subclasses of ValueError; MemoryError; OSError if a file cannot be read; TypeError if `reports` is one file or one
-report's bytes instead of a list, or if a sheet or a report has another type; and ValueError if `allow` is not "none",
-"complete", "consistent" or "all".
+process, and other threads continue to run. Refusals of reports are returned, not raised. Exceptions: SheetRefused and TooLoose,
+both subclasses of ValueError; MemoryError; OSError if a file cannot be read. TypeError is raised if `reports` is one file or
+one report's bytes instead of a list, or if a sheet or a report has another type. ValueError is raised if a path contains a
+null character, or if `allow` is not "none", "complete", "consistent" or "all".
 """
 import dataclasses
 import decimal
@@ -37,7 +37,7 @@ _SOURCE_COLUMNS = ("fact", "report", "identifier")
 
 @dataclasses.dataclass(frozen=True)
 class Refusal:
-    """A refused report. `str` returns the program's line for it."""
+    """The refusal of a report. `str` returns the program's line for it."""
 
     report: int  #: the number of the report, from 1
     number: int  #: the number of the refusal in docs/REFUSALS.md
@@ -113,7 +113,7 @@ class Source:
 
 
 class Rows(List[Row]):
-    """The verdicts, in order; `text` contains the program's lines, and `refusals` the refused reports."""
+    """The verdicts, in the order of rows; `text` contains the program's lines, and `refusals` the refused reports."""
 
     def __init__(self, rows: Iterable[Row], text: bytes, refusals: List[Refusal]) -> None:
         super().__init__(rows)
@@ -121,7 +121,7 @@ class Rows(List[Row]):
 
 
 class Sources(List[Source]):
-    """The sources of the facts, in order; `text` contains the program's lines, and `refusals` the refused reports."""
+    """The sources, in the order of the program's lines; `text` contains these lines, and `refusals` the refused reports."""
 
     def __init__(self, found: Iterable[Source], text: bytes, refusals: List[Refusal]) -> None:
         super().__init__(found)
@@ -151,7 +151,7 @@ class Checked:
 
 
 def merge(sheet: Given, reports: Iterable[Given], allow: str = "all") -> Merged:
-    """Merges reports under a sheet. Refused reports are skipped and returned.
+    """Merges reports under a sheet. Refused reports are left out, and their refusals are returned.
 
     `allow` is the loosest level that a row may have: none, complete, consistent or all. Raises TooLoose if a row
     exceeds this level, ValueError if `allow` is not a level, SheetRefused, MemoryError, OSError and TypeError.
@@ -184,8 +184,8 @@ def verdict_columns(sheet: Given, reports: Iterable[Given]) -> Columns:
     """Returns the verdicts as columns with an item for each fact.
 
     The columns are: the number and the verdict of the row, the canonical identifier of the fact, its dimensions, value and
-    decimals, and the evidence of the row. Each core dimension has a column; `dimensions` contains the taxonomy-defined ones as
-    a JSON object. Names are spelled {URI}local. Absent items, and the value of a nil fact, are None. Other values of facts,
+    decimals, and the evidence of the row. Each core dimension has a column; `dimensions` is a JSON object of the other
+    dimensions. Names are spelled {URI}local. Absent items, and the value of a nil fact, are None. Other values of facts,
     `common_low` and `common_high` are texts, so that no digit is lost. Raises SheetRefused, MemoryError, OSError and TypeError.
     """
     answer = _library.verdicts_json(_bytes(sheet), _each(reports))
@@ -227,7 +227,7 @@ def _bytes(given: Given) -> bytes:
 
 
 def _each(reports: Iterable[Given]) -> List[bytes]:
-    """Returns the bytes of each report. A single file or report is rejected: iterating over a str or bytes would succeed."""
+    """Returns the bytes of each report. Raises TypeError for a single file or report, even if Python can iterate over it."""
     if isinstance(reports, (str, bytes, bytearray, memoryview, os.PathLike)):
         raise TypeError("reports must be a list of files or bytes")
     return [_bytes(it) for it in reports]
@@ -261,7 +261,7 @@ def _row(line: str) -> Row:
 
 
 def _facts(row: Dict[str, Any]) -> Iterable[Tuple[Any, ...]]:
-    """Returns the items of the columns for each fact of a row."""
+    """Yields a tuple for each fact of a row, with an item for each column."""
     given = row["dimensions"]
     defined = {name: member for name, member in given.items() if name not in _CORE}
     dimensions = (*map(given.get, _CORE), json.dumps(defined, ensure_ascii=False, separators=(",", ":")) if defined else None)

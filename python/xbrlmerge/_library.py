@@ -16,9 +16,10 @@ LONGEST_NAME = 64
 
 
 def _load() -> ctypes.CDLL:
-    """Loads the first of these that exists: the library that XBRLMERGE_LIBRARY names, the one in the wheel, the one in lib/.
+    """Loads the first library that exists: the file that XBRLMERGE_LIBRARY names, the library in the wheel, the one in lib/.
 
-    Raises ImportError if none exists, or if Python does not run with 64 bits on a little-endian processor.
+    Raises ImportError if none exists, or if Python does not run with 64 bits on a little-endian processor. Raises OSError if
+    the library cannot be loaded.
     """
     here = os.path.dirname(os.path.abspath(__file__))
     places = (os.environ.get("XBRLMERGE_LIBRARY", ""), os.path.join(here, NAME), os.path.join(here, "..", "..", "lib", NAME))
@@ -128,8 +129,8 @@ def sources_json(sheet: bytes, reports: Sequence[bytes]) -> Answer:
 
 
 def check(sheet: bytes, report: bytes) -> Tuple[int, Tuple[int, int, int], Row]:
-    """Returns the status, the record for an accepted report, and the refusal. A record that the call does not set is all
-    zeros."""
+    """Returns the status, the record for an accepted report, and the record for the refusal. A record that the call does not
+    set is all zeros. Raises MemoryError."""
     checked, first = _room(CHECKED.size)
     row, first_of_row = _room(ROW.size)
     places = ctypes.addressof(first), ctypes.addressof(first_of_row)

@@ -92,7 +92,7 @@ def report(facts, members, space):
 
 
 def roughened(chance, text):
-    """Spells a tidy report as other tools might. The meaning stays the same."""
+    """Returns a tidy report as other tools might spell it, with the same meaning."""
     tree = json.loads(text)
     facts = {}
     for name, fact in tree["facts"].items():
@@ -110,7 +110,7 @@ def roughened(chance, text):
 
 
 def rough_number(chance, value):
-    """Sometimes adds an exponent to a number that ends with a digit. No drawn name ends with a digit."""
+    """Appends E0 to some numbers that end with a digit. The value may be a name, but no drawn name ends with a digit."""
     return f"{value}E0" if value[-1].isdigit() and chance.random() < 0.4 else value
 
 

@@ -1,4 +1,4 @@
-"""Runs the tools in this process, where a run takes milliseconds, and measures how their time grows."""
+"""Runs the tools in the process of the tests, where a run takes milliseconds, and measures how time grows with the input."""
 import contextlib
 import io
 import os
@@ -18,7 +18,7 @@ from support import content  # noqa: E402
 
 
 class RoomTest(unittest.TestCase):
-    """A class of tests. Each test has a new folder, `room`."""
+    """The base class of tests that write files. Each test has a new folder, `room`."""
 
     def setUp(self):
         room = tempfile.TemporaryDirectory()

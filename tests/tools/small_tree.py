@@ -8,7 +8,8 @@ from in_process import TESTS
 
 
 class SmallTree:
-    """A folder with a copy of a script and the files that a test writes. The folder is removed when the test ends."""
+    """A folder with copies of a script and of support.py, and with the files that a test writes. The folder is removed when the
+    test ends."""
 
     def __init__(self, test, script):
         self.folder = tempfile.mkdtemp()
@@ -26,6 +27,6 @@ class SmallTree:
         return path
 
     def run(self, *words, **settings):
-        """Returns the script's status, and its lines on standard output and on standard error."""
+        """Runs the script. Returns its status, its lines on standard output, and its lines on standard error."""
         ran = subprocess.run([self.script, *words], capture_output=True, encoding="utf-8", **settings)
         return ran.returncode, ran.stdout.splitlines(), ran.stderr.splitlines()

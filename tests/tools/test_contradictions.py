@@ -62,7 +62,7 @@ class ToolTest(in_process.RoomTest):
         return page, cells
 
     def check_refused(self, told, *inputs):
-        """Checks that a line gives the reason, and that nothing is written, not even in part."""
+        """Runs the tool, which must end with status 3, print only a line with the reason, and leave no new file."""
         before = set(os.listdir(self.room))
         done = self.run_tool(*inputs)
         self.assertEqual((done.returncode, done.stdout), (3, b""), done.stderr)

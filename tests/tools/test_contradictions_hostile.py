@@ -22,7 +22,7 @@ SHEET = {"namespaces": URIS, "concepts": CONCEPTS, "dimensions": DIMENSIONS}
 
 
 def number(value, **dimensions):
-    """Returns a numeric fact. Facts with different whole numbers contradict each other."""
+    """Returns a numeric fact. Facts with the same dimensions and different whole numbers contradict each other."""
     return {"decimals": 1, "dimensions": {"concept": "e:A", **dimensions}, "value": str(value)}
 
 

@@ -29,7 +29,7 @@ OTHER_TOOLS = """{"documentInfo":{"documentType":"https://xbrl.org/2021/xbrl-jso
 
 
 class Stubbed(ToolTest):
-    """A folder `bin` with the stub program, which prints the merged text and the lines of the examples."""
+    """Tests with the stub program in the folder `bin`. By default it prints the merged text and the lines of the examples."""
 
     def setUp(self):
         super().setUp()
@@ -50,7 +50,8 @@ class Stubbed(ToolTest):
             self.prints(command, text)
 
     def refuses(self, refusals, *faults):
-        """Makes each command refuse the reports, and `explain` print faults. Each fault has a sentence and further members."""
+        """Makes `merge`, `verdicts` and `sources` print refusals, and `explain` print faults. Each fault is a pair of its
+        sentence and its other members; members with usual values may be left out."""
         for command in ("merge", "verdicts", "sources"):
             self.prints(command, err=refusals, status=1)
         usual = {"number": 1, "name": "NotJson", "identifier": None, "part": None}

@@ -55,7 +55,7 @@ def pack(package, folder):
 
 class ToolTest(in_process.RoomTest):
     def check_refused(self, status, told, *words):
-        """Checks the status, that no sheet is printed, and that a line gives the reason. Returns the lines."""
+        """Runs the tool, which must end with this status, print the reason, and print no sheet. Returns its lines."""
         done = run(*words)
         self.assertEqual((done.returncode, done.stdout), (status, b""), done.stderr)
         self.assertIn(told, done.stderr.decode())

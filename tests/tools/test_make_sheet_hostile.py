@@ -34,8 +34,8 @@ ARC = '<link:labelArc xlink:from="{}" xlink:to="{}"/>'
 
 
 def each(form, size, *more):
-    """Returns the form once for each number below the size, filled with the texts of `more`. In a text, {0} means the number and
-    {1} the next one."""
+    """Returns the form once for each number below the size, filled with the texts of `more`. In these texts, {0} means the
+    number and {1} the next number."""
     return "".join(form.format(*(spelled.format(number, number + 1) for spelled in more)) for number in range(size))
 
 
@@ -58,7 +58,7 @@ def rewrites_of_each_length(size):
     }
 
 
-# packages for a given size
+# for each case: the files of a package of a given size
 LONG = {
     "chains of heads": lambda size: {"a.xsd": SCHEMA % each(HEAD, size, "C{0}", "this:C{1}")},
     "a ring of heads": lambda size: {"a.xsd": SCHEMA % (each(HEAD, size, "C{0}", "this:C{1}") + HEAD.format(f"C{size}", "this:C0"))},
@@ -131,8 +131,8 @@ class Long(HostileTest):
 
     def test_labels_and_arcs(self):
         def packed(size):
-            """Returns a package with this many concepts and long labels. One arc from each concept, and this many more from the
-            first concept, lead to all labels."""
+            """Returns a package with `size` concepts and `size` labels. An arc leads from each concept to all labels, and
+            `size` more such arcs lead from the first concept."""
             items = each(HEAD.replace("<xs:element", '<xs:element id="made_{}"'), size, "{0}", "C{0}", "xbrli:item")
             labels = each(LABEL, size, "labels", "x" * 50 + "{0}")
             arcs = each(ARC, size, "0", "labels") + each(ARC, size, "{0}", "labels")

@@ -47,7 +47,8 @@ class ToolTest(in_process.RoomTest):
         return in_process.run(normalise, *words)
 
     def refusing(self, faults, **also):
-        """Makes a stub program that refuses facts, and perhaps the document. Returns the options that use the program."""
+        """Makes a stub program that refuses facts and, if `also` is given, the document. Returns the options that use the
+        program."""
         os.makedirs(self.place("bin"), exist_ok=True)
         told = [{"place": "fact 1", "identifier": fact, **dict(zip(("number", "name"), why.split()))} for fact, why in faults.items()]
         self.write("bin/explain.out", "".join(json.dumps(fault) + "\n" for fault in [*told, *[also] * bool(also)]))
@@ -55,7 +56,8 @@ class ToolTest(in_process.RoomTest):
         return ["--drop-unreadable", "--program", in_process.stub_program(self.place("bin"))]
 
     def normalised(self, report, *options):
-        """Returns the status, standard error, the output and the changes, after the checks that apply to every run."""
+        """Runs the tool, which must not fail, and makes the checks that apply to all reports. Returns the status, standard
+        error, the output and the changes."""
         with mock.patch.object(process, "MOST_CHARACTERS", sys.maxsize):
             self.run_tool(report, self.out, self.changes, *options)
         tree = read_json(self.out)
@@ -133,7 +135,8 @@ drop-links drop-notes drop-unknown dates zones drop-null drop-unreadable""".spli
 
 
 class Drawn(ToolTest):
-    """Properties of drawn reports. `normalised` checks idempotence, and that the changes are complete."""
+    """Tests on drawn reports. `normalised` checks that a second run changes nothing, and that undoing the changes gives the
+    report."""
 
     def setUp(self):
         super().setUp()
@@ -189,7 +192,7 @@ class Drawn(ToolTest):
 
 class Numbers(ToolTest):
     def value_of(self, token):
-        """Returns the value of a numeric fact after normalising, as JSON, and standard error."""
+        """Normalises a report with a numeric fact of this value. Returns the new value as JSON, and standard error."""
         sheet = self.write("sheet.json", json.dumps(Docs.SHEET))
         fact = '{"value":%s,"dimensions":{"concept":"eg:A"}}' % token
         text = '{"documentInfo":{"namespaces":{"eg":"http://example.org/t"}},"facts":{"f":%s}}' % fact
@@ -302,7 +305,7 @@ class Unreadable(ToolTest):
 
 class BadInputs(ToolTest):
     def check_refused(self, told, *words):
-        """Checks that a line gives the reason, and that nothing is written, not even in part."""
+        """Runs the tool, which must end with status 3, print one line with the reason, and leave no new file."""
         before = set(os.listdir(self.room))
         status, lines = self.run_tool(*words)
         self.assertEqual((status, len(lines.splitlines())), (3, 1), lines)

@@ -34,7 +34,7 @@ def twins(size):
     return '{"facts":{%s,"k":1,"k":2}}' % ",".join(f'"f{number}":1' for number in range(size))
 
 
-# reports for a given size, each with options
+# for each case: a report of a given size, and the options of the run
 LONG = {
     "zeros before digits": (lambda size: report({"f": fact("0" * size + "x")}), ALL),
     "digits in whole": (lambda size: report({"f": fact("1" * size)}), ALL),

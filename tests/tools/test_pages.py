@@ -14,7 +14,7 @@ class Pages(unittest.TestCase):
         self.tree = SmallTree(self, "pages.py")
 
     def ran(self, page, text):
-        """Returns the status for one page, the counted words, and the faults."""
+        """Runs tests/pages on a page with this text. Returns the status, the number of counted words, and the faults."""
         self.tree.put(page, text)
         status, counted, wrong = self.tree.run(page)
         return status, int(counted[0].split()[0]), [it.removeprefix("pages: ") for it in wrong]

@@ -1,4 +1,4 @@
-"""Tests that the program, the Python module and the man page have the same version, and that it fits the changelog."""
+"""Tests that the program, the Python module and the man page have the same version, which fits the changelog."""
 import re
 import unittest
 
@@ -20,7 +20,7 @@ class Version(unittest.TestCase):
 
     def test_man_page_and_module_have_that_of_the_program(self):
         self.assertEqual(found("docs/xbrlmerge.1", r'^\.TH XBRLMERGE 1 "" "xbrlmerge ([^"]*)"'), [self.program])
-        # the spelling of a development build in PEP 440
+        # PEP 440 spells the ending `-dev` as `.dev0`
         self.assertEqual(found("python/pyproject.toml", r'^version = "(.*)"$'), [self.program.replace("-dev", ".dev0")])
 
     def test_an_unreleased_build_has_the_next_version(self):
