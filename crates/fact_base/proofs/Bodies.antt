@@ -1,5 +1,6 @@
 -- The facts and references of bodies.
 use Rattle.std.proofs.Common.{◌≡◌, ℕ, List, ◌++◌, ap, ◌∙◌, ⊎_elim}
+use Rattle.std.proofs.lemmas.List.Elements.{All-contains}
 use Rattle.std.specs.Prelude.{Contains}
 use Rattle.std.specs.List.{flat_map}
 use Rattle.std.proofs.lemmas.List.Concat.{flat_map-append}
@@ -15,7 +16,7 @@ use Rattle.fact_base.specs.Body.{Body, all_facts, all_references, body, text_cmp
 use Rattle.fact_base.specs.BodyLaws.{BodyHasWhatDocumentsHave, BodyIgnoresOrder, BodyOfBoth, UnionHasBoth}
 use Rattle.fact_base.specs.Fits.{AcceptedFits, IsAccepted, UnionFits}
 use Rattle.fact_base.specs.Sets.{set_of}
-use Rattle.fact_base.proofs.Members.{each_by_there, each_there, in_flat_map, in_one_of_both, some_in_other}
+use Rattle.fact_base.proofs.Members.{each_by_there, in_flat_map, in_one_of_both, some_in_other}
 use Rattle.fact_base.proofs.Sets.{same_sets, set_of-both, set_of_is_set}
 use Rattle.fact_base.proofs.TextOrder.{text_cmp_exact, text_cmp_total}
 
@@ -47,7 +48,7 @@ same_in_all f ds es same x =
       λ h. first.1 (some_in_other (λ d. Contains (f d) x) es ds (λ d. (same d).1) (second.0 h)),
     )
 
-same_bodies : {facts more : List Fact} {references others : List (List ℕ)} → facts ≡ more → references ≡ others → ◌≡◌ {A = Body} (record { facts = facts; references = references }) (record { facts = more; references = others })
+pub same_bodies : {facts more : List Fact} {references others : List (List ℕ)} → facts ≡ more → references ≡ others → ◌≡◌ {A = Body} (record { facts = facts; references = references }) (record { facts = more; references = others })
 same_bodies p q = λ i. record { facts = p i; references = q i }
 
 pub body_ignores_order : BodyIgnoresOrder
@@ -69,12 +70,12 @@ accepted_fits sheet docs accepted =
       rises = has.rises;
       facts = each_by_there (FactFits sheet) (body docs).facts (λ f at.
           let some = (has.facts f).0 at in
-          let one = each_there (IsAccepted sheet) docs some.1 accepted (some.0, some.2, some.3) in
-          each_there (FactFits sheet) some.1.facts f (accepted_facts_fit sheet one.0 some.1 one.1) some.4);
+          let one = All-contains (IsAccepted sheet) docs some.1 accepted (some.0, some.2, some.3) in
+          All-contains (FactFits sheet) some.1.facts f (accepted_facts_fit sheet one.0 some.1 one.1) some.4);
       references = each_by_there IsKeptReference (body docs).references (λ r at.
           let some = (has.references r).0 at in
-          let one = each_there (IsAccepted sheet) docs some.1 accepted (some.0, some.2, some.3) in
-          each_there IsKeptReference some.1.references r (accepted_references_are_kept sheet one.0 some.1 one.1) some.4);
+          let one = All-contains (IsAccepted sheet) docs some.1 accepted (some.0, some.2, some.3) in
+          All-contains IsKeptReference some.1.references r (accepted_references_are_kept sheet one.0 some.1 one.1) some.4);
     }
 
 pub union_fits : UnionFits
@@ -82,6 +83,6 @@ union_fits sheet a b first second =
     let has = union_has_both a b in
     record {
       rises = has.rises;
-      facts = each_by_there (FactFits sheet) (union a b).facts (λ f at. ⊎_elim (each_there (FactFits sheet) a.facts f first.facts) (each_there (FactFits sheet) b.facts f second.facts) ((has.facts f).0 at));
-      references = each_by_there IsKeptReference (union a b).references (λ r at. ⊎_elim (each_there IsKeptReference a.references r first.references) (each_there IsKeptReference b.references r second.references) ((has.references r).0 at));
+      facts = each_by_there (FactFits sheet) (union a b).facts (λ f at. ⊎_elim (All-contains (FactFits sheet) a.facts f first.facts) (All-contains (FactFits sheet) b.facts f second.facts) ((has.facts f).0 at));
+      references = each_by_there IsKeptReference (union a b).references (λ r at. ⊎_elim (All-contains IsKeptReference a.references r first.references) (All-contains IsKeptReference b.references r second.references) ((has.references r).0 at));
     }

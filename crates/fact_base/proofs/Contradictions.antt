@@ -1,5 +1,6 @@
 -- In a body that fits a sheet, two values of a numeric dimension set contradict each other exactly if they do not meet.
 use Rattle.std.proofs.Common.{◌≡◌, Bool, true, false, cond, List, [], ◌∷◌, Some, refl, sym, ap, subst, ◌∙◌, ⊎_elim}
+use Rattle.std.proofs.lemmas.List.Elements.{All-contains}
 use Rattle.std.specs.Prelude.{◌↔◌, Contains}
 use Rattle.std.specs.Cmp.{Equal-is}
 use Rattle.std.specs.FinMap as map
@@ -21,7 +22,7 @@ use Rattle.fact_base.specs.Body.{Body}
 use Rattle.fact_base.specs.Contradiction.{Contradict, IsNumeric, NumericInconsistentIsApart}
 use Rattle.fact_base.specs.Fits.{Fits}
 use Rattle.fact_base.specs.Rows.{values_at}
-use Rattle.fact_base.proofs.Members.{each_there, first_or_later, first_there, later_there, none_there}
+use Rattle.fact_base.proofs.Members.{first_or_later, first_there, later_there, none_there}
 use Rattle.fact_base.proofs.Verdicts.{inconsistent_is_apart}
 
 abbrev HasFact : DimensionSet → Value → List Fact → Type 0
@@ -41,7 +42,7 @@ fact_of_value s (f ∷ fs) v at = by_test (λ there. fact_of_value s fs v there)
 numeric_value : (sheet : Sheet) (b : Body) (s : DimensionSet) → Fits sheet b → IsNumeric sheet s → (v : Value) → Contains (values_at s b.facts) v → ValueFits Numeric v
 numeric_value sheet b s fits numeric v at =
     let found = fact_of_value s b.facts v at in
-    let fact = each_there (FactFits sheet) b.facts found.0 fits.facts found.1.0 in
+    let fact = All-contains (FactFits sheet) b.facts found.0 fits.facts found.1.0 in
     let listed : Some fact.kind ≡ Some Numeric = sym fact.listed ∙ ap (λ (d : DimensionSet). map.get sheet.concepts d.concept) (sym found.1.1.0) ∙ numeric in
     subst (ValueFits Numeric) found.1.1.1 (subst (λ k. ValueFits k found.0.value) (ap (λ o. unwrap_or o Numeric) listed) fact.value)
 

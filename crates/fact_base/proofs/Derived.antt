@@ -1,6 +1,5 @@
 -- With the orders and merges of the code's types, entries merge, are found and ascend as the specifications define.
-use Rattle.std.proofs.Common.{◌≡◌, List, Result, Ok, Err, sym, subst}
-use Rattle.std.specs.Prelude.{OnOk}
+use Rattle.std.proofs.Common.{◌≡◌, List, sym, subst}
 use Rattle.merge_laws.specs.Ends.{both_summaries}
 use Rattle.merge_laws.specs.Sorted.{IsRising, entry_key, value_at}
 use Rattle.merge_laws.specs.Union.{map_union, set_union}
@@ -25,7 +24,3 @@ value_at_is s es = λ i. value_at (λ (x y : DimensionSet). dimensions_agree x y
 
 pub rises_too : (es : List Entry) → IsRising dimensions_cmp entry_key es → IsRising derived_dimensions.it entry_key es
 rises_too es rise = subst (λ R. IsRising R entry_key es) (λ i x y. sym (dimensions_agree x y) i) rise
-
-pub on_ok : {A B P Q : Type 0} (r : Result A B) → (P → Q) → OnOk r P → OnOk r Q
-on_ok (Ok a) f h = f h
-on_ok (Err b) f h = tt

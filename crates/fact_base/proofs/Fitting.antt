@@ -1,5 +1,6 @@
 -- If facts of one dimension set fit a sheet, their values that are not nil are of one kind.
 use Rattle.std.proofs.Common.{◌≡◌, ◌≢◌, ℕ, List, Option, Some, None, refl, sym, ap, ◌∙◌}
+use Rattle.std.proofs.lemmas.List.Elements.{All-contains}
 use Rattle.std.specs.Prelude.{Contains}
 use Rattle.std.specs.FinMap as map
 use Rattle.std.specs.List.{All}
@@ -16,7 +17,6 @@ use Rattle.fact_base.specs.Entries.{Summed, facts_with}
 use Rattle.fact_base.specs.code.Entries.{EntryFits}
 use Rattle.fact_base.specs.code.Judged.{AreAlike, AreSummarised}
 use Rattle.fact_base.proofs.EntryFacts.{in_facts_with}
-use Rattle.fact_base.proofs.Members.{each_there}
 
 -- the number that `kind_order` returns for values of this kind, or 0 for None
 abbrev kind_number : Option ConceptKind → ℕ
@@ -42,7 +42,7 @@ of_one_kind sheet s vs fit v w first second some other = is v first some ∙ sym
   where
     is : (x : Value) → Contains vs x → x ≢ Nil → kind_order x ≡ kind_number (map.get sheet.concepts s.concept)
     is x at some =
-        let fact = each_there (FactFits sheet) (facts_with s vs) (record { dimensions = s; value = x }) fit (in_facts_with s vs x at) in
+        let fact = All-contains (FactFits sheet) (facts_with s vs) (record { dimensions = s; value = x }) fit (in_facts_with s vs x at) in
         of_kind fact.kind x fact.value some ∙ sym (ap kind_number fact.listed)
 
 pub entry_summarised : (sheet : Sheet) (s : DimensionSet) (kept : Summed) → EntryFits sheet s kept → AreSummarised kept.0 kept.1

@@ -1,5 +1,6 @@
 -- The facts and references that a gathering collects.
 use Rattle.std.proofs.Common.{◌≡◌, ℕ, List, [], ◌∷◌, ◌++◌, append-nil, sym, ap, subst, ◌∙◌, inl, inr, ⊎_elim, arith}
+use Rattle.std.proofs.lemmas.List.Elements.{All-contains}
 use Rattle.std.specs.Prelude.{◌↔◌, ◌⊎◌, Bool, Result, Ok, Err, OnOk, Contains, IsPermutation}
 use Rattle.std.specs.Cmp.{Equal-is, IsEquivalence, IsTotalOrder}
 use Rattle.std.specs.List.{All, dedup}
@@ -26,7 +27,7 @@ use Rattle.fact_base.specs.code.Entries.{AreEntriesOf, AreStored}
 use Rattle.fact_base.specs.Fits.{Fits}
 use Rattle.fact_base.specs.Gathered.{gathered}
 use Rattle.fact_base.specs.Sets.{set_of}
-use Rattle.fact_base.proofs.Members.{each_by_there, each_there, in_one_of_both}
+use Rattle.fact_base.proofs.Members.{each_by_there, in_one_of_both}
 use Rattle.fact_base.proofs.Sets.{is_set_of, same_sets, set_of-both, set_of_is_set}
 use Rattle.fact_base.proofs.TextOrder.{text_cmp_exact, text_cmp_total}
 use Rattle.fact_base.proofs.Unions.{rises}
@@ -72,9 +73,6 @@ module _ {K : Type 0} {R : K → K → Ordering} (o : IsTotalOrder R) (exact : (
         λ h. ⊎_elim (λ l. ⊎_elim (λ m. first.1 (inl m)) (λ y. first.1 (inr (right.1 (inl y)))) (left.0 l)) (λ z. first.1 (inr (right.1 (inr z)))) (second.0 h),
       ))
 
-  pub sets_swap : (xs ys zs : List K) → set_of R (set_of R (xs ++ ys) ++ zs) ≡ set_of R (set_of R (xs ++ zs) ++ ys)
-  sets_swap xs ys zs = sym (sets_associate xs ys zs) ∙ ap (λ s. set_of R (xs ++ s)) (sets_commute ys zs) ∙ sets_associate xs zs ys
-
 -- ---- the orders of the code's types are the defined ones
 
 pub derived_set : (facts : List Fact) → set_of derived_fact.it facts ≡ set_of fact_cmp facts
@@ -89,25 +87,21 @@ always_ok (Err e) p = tt
 
 -- ---- one more report
 
-pub document_fits : (sheet : Sheet) (d : Document) → All (FactFits sheet) d.facts → All IsKeptReference d.references → Fits sheet (body (d ∷ []))
-document_fits sheet d facts references =
-    let all = set_of_is_set fact_cmp_total fact_cmp_exact (d.facts ++ []) in
-    let kept = set_of_is_set text_cmp_total text_cmp_exact (d.references ++ []) in
+gathered_fits : (sheet : Sheet) (facts : List Fact) (references : List (List ℕ)) → All (FactFits sheet) facts → All IsKeptReference references → Fits sheet (gathered facts references)
+gathered_fits sheet facts references fit kept =
+    let some = set_of_is_set fact_cmp_total fact_cmp_exact facts in
+    let texts = set_of_is_set text_cmp_total text_cmp_exact references in
     record {
-      rises = record { facts = all.rises; references = kept.rises };
-      facts = each_by_there (FactFits sheet) (body (d ∷ [])).facts (λ f at. each_there (FactFits sheet) d.facts f facts (subst (λ fs. Contains fs f) (append-nil d.facts) ((all.members f).0 at)));
-      references = each_by_there IsKeptReference (body (d ∷ [])).references (λ r at. each_there IsKeptReference d.references r references (subst (λ rs. Contains rs r) (append-nil d.references) ((kept.members r).0 at)));
+      rises = record { facts = some.rises; references = texts.rises };
+      facts = each_by_there (FactFits sheet) (set_of fact_cmp facts) (λ f at. All-contains (FactFits sheet) facts f fit ((some.members f).0 at));
+      references = each_by_there IsKeptReference (set_of text_cmp references) (λ r at. All-contains IsKeptReference references r kept ((texts.members r).0 at));
     }
 
+pub document_fits : (sheet : Sheet) (d : Document) → All (FactFits sheet) d.facts → All IsKeptReference d.references → Fits sheet (body (d ∷ []))
+document_fits sheet d facts references = gathered_fits sheet (d.facts ++ []) (d.references ++ []) (subst (All (FactFits sheet)) (sym (append-nil d.facts)) facts) (subst (All IsKeptReference) (sym (append-nil d.references)) references)
+
 pub nothing_fits : (sheet : Sheet) → Fits sheet (gathered [] [])
-nothing_fits sheet =
-    let facts = set_of_is_set fact_cmp_total fact_cmp_exact [] in
-    let references = set_of_is_set text_cmp_total text_cmp_exact [] in
-    record {
-      rises = record { facts = facts.rises; references = references.rises };
-      facts = each_by_there (FactFits sheet) (set_of fact_cmp []) (λ f at. absurd (omega (arith, ((facts.members f).0 at).1)));
-      references = each_by_there IsKeptReference (set_of text_cmp []) (λ r at. absurd (omega (arith, ((references.members r).0 at).1)));
-    }
+nothing_fits sheet = gathered_fits sheet [] [] (λ k d within. absurd (omega (arith, within))) (λ k d within. absurd (omega (arith, within)))
 
 pub same_gathered : (facts more : List Fact) (references others : List (List ℕ)) → set_of fact_cmp facts ≡ set_of fact_cmp more → set_of text_cmp references ≡ set_of text_cmp others → gathered facts references ≡ gathered more others
 same_gathered facts more references others p q = λ i. record { facts = p i; references = q i }
@@ -143,10 +137,7 @@ union_associates a b c = λ i. record {
 }
 
 pub union_swaps : (a b c : Body) → union (union a b) c ≡ union (union a c) b
-union_swaps a b c = λ i. record {
-  facts = sets_swap fact_cmp_total fact_cmp_exact a.facts b.facts c.facts i;
-  references = sets_swap text_cmp_total text_cmp_exact a.references b.references c.references i;
-}
+union_swaps a b c = sym (union_associates a b c) ∙ ap (union a) (union_commutes b c) ∙ union_associates a c b
 
 -- ---- the base of the collected facts
 
@@ -162,7 +153,7 @@ becomes_base sheet facts sorted es references texts fits moved are is =
       λ h. Contains-permutation sorted facts f back ((are.members f).0 h),
       λ h. (are.members f).1 (Contains-permutation facts sorted f moved h),
     ) in
-    let each : All (FactFits sheet) sorted = each_by_there (FactFits sheet) sorted (λ f at. each_there (FactFits sheet) (set_of fact_cmp facts) f fits.facts ((all.members f).1 (Contains-permutation sorted facts f back at))) in
+    let each : All (FactFits sheet) sorted = each_by_there (FactFits sheet) sorted (λ f at. All-contains (FactFits sheet) (set_of fact_cmp facts) f fits.facts ((all.members f).1 (Contains-permutation sorted facts f back at))) in
     record {
       stored = record {
         rise = are.rise;

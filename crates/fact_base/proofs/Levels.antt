@@ -1,5 +1,5 @@
 -- The level of distinct facts, grouped by dimension sets.
-use Rattle.std.proofs.Common.{◌≡◌, Bool, true, false, cond, not, ◌&&◌, ◌||◌, List, [], ◌∷◌, ◌++◌, Some, refl, sym, ap, ◌∙◌}
+use Rattle.std.proofs.Common.{◌≡◌, ℕ, arith, max, slice_get, Bool, true, false, cond, not, ◌&&◌, ◌||◌, List, [], ◌∷◌, ◌++◌, Some, refl, sym, ap, ◌∙◌}
 use mathlib.Core.Bool.{true≢false}
 use Rattle.std.specs.Prelude.{is_some}
 use Rattle.std.specs.Option.{unwrap_or}
@@ -12,7 +12,7 @@ use Rattle.std.specs.declared.cmp.Ordering.TheVariants.{Less}
 use Rattle.std.proofs.lemmas.Bool.{false≢true}
 use Rattle.std.proofs.lemmas.List.Folds.{list_all-append}
 use Rattle.merge_laws.specs.Sorted.{IsRising, IsSet, entry_key}
-use Rattle.oim_value.specs.Level.{level_cmp}
+use Rattle.oim_value.specs.Level.{level_cmp, level_entry, levels}
 use Rattle.oim_value.specs.ValueOrder.{value_cmp}
 use Rattle.oim_value.specs.declared.level.Level.{Level}
 use Rattle.oim_value.specs.declared.level.Level.TheVariants.{Unique, Complete, Consistent, All as AllLevel}
@@ -150,51 +150,36 @@ abbrev pub highest : Level → List Entry → Level
 highest level [] = level
 highest level (e ∷ es) = highest (ord_max level_cmp level (level_of_values e.1.0)) es
 
-unique_is_least : (l : Level) → ord_max level_cmp l Unique ≡ l
-unique_is_least Unique = refl
-unique_is_least Complete = refl
-unique_is_least Consistent = refl
-unique_is_least AllLevel = refl
-
 each : (P : Level → Type 0) → P Unique → P Complete → P Consistent → P AllLevel → (l : Level) → P l
 each P a b c d Unique = a
 each P a b c d Complete = b
 each P a b c d Consistent = c
 each P a b c d AllLevel = d
 
-abbrev Regroups : Level → Level → Level → Type 0
-Regroups a b c = ord_max level_cmp (ord_max level_cmp a b) c ≡ ord_max level_cmp a (ord_max level_cmp b c)
+unique_is_least : (l : Level) → ord_max level_cmp l Unique ≡ l
+unique_is_least = each (λ l. ord_max level_cmp l Unique ≡ l) refl refl refl refl
 
-max_regroups : (a b c : Level) → Regroups a b c
-max_regroups = each (λ a. (b c : Level) → Regroups a b c) at_unique at_complete at_consistent at_all
-  where
-    at_unique : (b c : Level) → Regroups Unique b c
-    at_unique = each (λ b. (c : Level) → Regroups Unique b c)
-        (each (Regroups Unique Unique) refl refl refl refl)
-        (each (Regroups Unique Complete) refl refl refl refl)
-        (each (Regroups Unique Consistent) refl refl refl refl)
-        (each (Regroups Unique AllLevel) refl refl refl refl)
+abbrev place : Level → ℕ
+place l = (level_entry l).place
 
-    at_complete : (b c : Level) → Regroups Complete b c
-    at_complete = each (λ b. (c : Level) → Regroups Complete b c)
-        (each (Regroups Complete Unique) refl refl refl refl)
-        (each (Regroups Complete Complete) refl refl refl refl)
-        (each (Regroups Complete Consistent) refl refl refl refl)
-        (each (Regroups Complete AllLevel) refl refl refl refl)
+at_place : (l : Level) → slice_get levels (place l) ≡ Some l
+at_place = each (λ l. slice_get levels (place l) ≡ Some l) refl refl refl refl
 
-    at_consistent : (b c : Level) → Regroups Consistent b c
-    at_consistent = each (λ b. (c : Level) → Regroups Consistent b c)
-        (each (Regroups Consistent Unique) refl refl refl refl)
-        (each (Regroups Consistent Complete) refl refl refl refl)
-        (each (Regroups Consistent Consistent) refl refl refl refl)
-        (each (Regroups Consistent AllLevel) refl refl refl refl)
+same_place : (l m : Level) → place l ≡ place m → l ≡ m
+same_place l m is = ap (λ o. unwrap_or o l) (sym (at_place l) ∙ ap (slice_get levels) is ∙ at_place m)
 
-    at_all : (b c : Level) → Regroups AllLevel b c
-    at_all = each (λ b. (c : Level) → Regroups AllLevel b c)
-        (each (Regroups AllLevel Unique) refl refl refl refl)
-        (each (Regroups AllLevel Complete) refl refl refl refl)
-        (each (Regroups AllLevel Consistent) refl refl refl refl)
-        (each (Regroups AllLevel AllLevel) refl refl refl refl)
+abbrev PlaceOfMax : Level → Level → Type 0
+PlaceOfMax l m = place (ord_max level_cmp l m) ≡ max (place l) (place m)
+
+place_of_max : (l m : Level) → PlaceOfMax l m
+place_of_max = each (λ l. (m : Level) → PlaceOfMax l m)
+    (each (PlaceOfMax Unique) refl refl refl refl)
+    (each (PlaceOfMax Complete) refl refl refl refl)
+    (each (PlaceOfMax Consistent) refl refl refl refl)
+    (each (PlaceOfMax AllLevel) refl refl refl refl)
+
+max_regroups : (a b c : Level) → ord_max level_cmp (ord_max level_cmp a b) c ≡ ord_max level_cmp a (ord_max level_cmp b c)
+max_regroups a b c = same_place _ _ (omega (arith, place_of_max a b, place_of_max b c, place_of_max (ord_max level_cmp a b) c, place_of_max a (ord_max level_cmp b c)))
 
 pub highest_is : (level : Level) (es : List Entry) → IsRising dimensions_cmp entry_key es → AllByRecursion (λ e. IsSet value_cmp e.1.0) es → highest level es ≡ ord_max level_cmp level (level_of (facts_of_entries es))
 unfolding IsStrictlySortedBy

@@ -1,15 +1,13 @@
 -- Entries that are built one fact at a time.
-use Rattle.std.proofs.Common.{◌≡◌, ℕ, zero, suc, ◌<◌, ◌+◌, length, get_or, set, false, List, [], ◌∷◌, ◌++◌, refl, sym, ap, subst, ◌∙◌, arith, Some, slice_get}
+use Rattle.std.proofs.Common.{◌≡◌, ℕ, zero, suc, ◌<◌, ◌+◌, length, get_or, set, false, List, [], ◌∷◌, ◌++◌, refl, sym, ap, subst, ◌∙◌, arith}
 use mathlib.Core.Bool.{true≢false}
 use Rattle.std.specs.List.{All, AllByRecursion}
 use Rattle.std.specs.List.Sorted.{IsSorted, IsStrictlySortedBy}
 use Rattle.std.specs.Cmp.{tied_itself}
-use Rattle.std.specs.Option.{option_cmp}
 use Rattle.std.specs.Ordering.{is_eq, is_gt, is_lt, match_ordering, ordering_reverse, ordering_then}
 use Rattle.std.specs.declared.cmp.Ordering.{Ordering}
 use Rattle.std.specs.declared.cmp.Ordering.TheVariants.{Less, Equal, Greater}
 use Rattle.std.proofs.lemmas.List.{get_or_default}
-use Rattle.std.proofs.lemmas.Option.{slice_get-get_or}
 use Rattle.merge_laws.specs.Sorted.{IsRising, entry_key}
 use Rattle.merge_laws.specs.Union.{merged_entries}
 use Rattle.merge_laws.proofs.Members.{all_of_union}
@@ -18,8 +16,6 @@ use Rattle.oim_value.specs.ValueOrder.{value_cmp}
 use Rattle.oim_dims.specs.FactOrder.{dimensions_cmp, fact_cmp}
 use Rattle.oim_dims.specs.declared.fact.Fact.{Fact}
 use Rattle.oim_dims.proofs.Orders.{dimensions_cmp_exact, dimensions_cmp_total, fact_cmp_total}
-use Rattle.oim_report.specs.Report.{IsOrderOf}
-use Rattle.oim_report.proofs.Places.{places_within}
 use Rattle.fact_base.specs.Entries.{Entry, Summed}
 use Rattle.fact_base.specs.code.Entries.{NoneAbove, entry_of, summed_of_both, with_fact, with_value}
 use Rattle.fact_base.proofs.Members.{turn_there}
@@ -114,26 +110,6 @@ turned_up : (a : Ordering) → is_lt a ≡ false → is_gt (ordering_reverse a) 
 turned_up Less up = absurd (true≢false up)
 turned_up Equal up = refl
 turned_up Greater up = refl
-
-dimensions_rise : (facts : List Fact) (places : List ℕ) (i : ℕ) (f g : Fact) → IsOrderOf facts places → i + 1 < length places → f ≡ get_or facts (get_or places i 0) f → g ≡ get_or facts (get_or places (i + 1) 0) g → is_gt (dimensions_cmp f.dimensions g.dimensions) ≡ false
-dimensions_rise facts places i f g order within here there =
-    let p : ℕ = get_or places i 0 in
-    let q : ℕ = get_or places (i + 1) 0 in
-    let first : slice_get facts p ≡ Some f = slice_get-get_or facts p f (places_within facts places order i 0 (omega (arith, within))) ∙ ap Some (sym here) in
-    let second : slice_get facts q ≡ Some g = slice_get-get_or facts q g (places_within facts places order (i + 1) 0 within) ∙ ap Some (sym there) in
-    let falls : is_lt (option_cmp fact_cmp (slice_get facts q) (slice_get facts p)) ≡ false = order.rising i 0 (omega arith) within in
-    let ordered : is_lt (fact_cmp g f) ≡ false = sym (λ k. is_lt (option_cmp fact_cmp (second k) (first k))) ∙ falls in
-    first_up (dimensions_cmp f.dimensions g.dimensions) (value_cmp f.value g.value) (ap is_gt (fact_cmp_total.antisymm f g) ∙ turned_up (fact_cmp g f) ordered)
-
-abbrev pub Reached : List Fact → List ℕ → ℕ → List Entry → Type 0
-Reached facts places i es = (f : Fact) → i < length places → f ≡ get_or facts (get_or places i 0) f → NoneAbove f.dimensions es
-
-pub none_reached : (facts : List Fact) (places : List ℕ) → Reached facts places 0 []
-none_reached facts places f within is k d low = absurd (omega (arith, low))
-
-pub next_reached : (facts : List Fact) (places : List ℕ) (i : ℕ) (f : Fact) (es : List Entry) → IsOrderOf facts places → i < length places → f ≡ get_or facts (get_or places i 0) f → Reached facts places i es → Reached facts places (i + 1) (with_fact f es)
-next_reached facts places i f es order within is reached g further there =
-    none_above_next es f g (reached f within is) (dimensions_rise facts places i f g order further is there)
 
 -- ---- a list of facts that do not descend
 

@@ -1,11 +1,10 @@
 -- The rows of facts have exactly these facts.
-use Rattle.std.proofs.Common.{◌≡◌, ◌≢◌, true, false, cond, List, [], ◌∷◌, map, length, Some, refl, sym, ap, subst, ◌∙◌, arith}
+use Rattle.std.proofs.Common.{◌≡◌, ◌≢◌, true, false, cond, List, [], ◌∷◌, map, Some, refl, sym, ap, subst, ◌∙◌}
 use mathlib.Core.Bool.{true≢false}
 use Rattle.std.specs.Prelude.{Contains}
 use Rattle.std.specs.List.{AllByRecursion}
 use Rattle.std.specs.List.Sorted.{IsStrictlySortedBy}
 use Rattle.std.specs.Cmp.{Equal-is}
-use Rattle.std.proofs.lemmas.List.Elements.{Contains-append_right}
 use Rattle.std.specs.Ordering.{is_eq, ordering_then}
 use Rattle.std.specs.declared.cmp.Ordering.{Ordering}
 use Rattle.std.specs.declared.cmp.Ordering.TheVariants.{Less, Equal, Greater}
@@ -18,10 +17,10 @@ use Rattle.oim_dims.specs.DimensionSet.{DimensionSet}
 use Rattle.oim_dims.specs.FactOrder.{dimensions_cmp, fact_cmp}
 use Rattle.oim_dims.specs.declared.fact.Fact.{Fact}
 use Rattle.oim_dims.proofs.Orders.{dimensions_cmp_exact, dimensions_cmp_total}
-use Rattle.fact_base.specs.Entries.{Entry, facts_of_entries, facts_of_entry, facts_with}
+use Rattle.fact_base.specs.Entries.{Entry, facts_of_entries, facts_of_entry}
 use Rattle.fact_base.specs.Rows.{Row, RowsTellFacts, before_rows, rows_of, values_at}
 use Rattle.fact_base.proofs.EntryFacts.{from_facts_with, in_facts_with}
-use Rattle.fact_base.proofs.Members.{each_by_there, each_in_turn, first_there, from_map, in_flat_map, in_map, some_there, turn_there}
+use Rattle.fact_base.proofs.Members.{each_by_there, each_in_turn, first_there, from_map, in_flat_map, in_map, some_there, some_value, turn_there}
 use Rattle.fact_base.proofs.RowLists.{values_at_entries, values_in}
 
 abbrev entry_of : Row → Entry
@@ -54,13 +53,10 @@ record IsRow (r : Row) : Type 0 where
 lesser_dimensions : (f g : Fact) → fact_cmp f g ≡ Less → is_eq (dimensions_cmp f.dimensions g.dimensions) ≡ false → dimensions_cmp f.dimensions g.dimensions ≡ Less
 lesser_dimensions f g less other = by_order (dimensions_cmp f.dimensions g.dimensions) refl
   where
-    greater_is_other : Greater ≢ Less
-    greater_is_other is = cc
-
     by_order : (o : Ordering) → dimensions_cmp f.dimensions g.dimensions ≡ o → dimensions_cmp f.dimensions g.dimensions ≡ Less
     by_order Less is = is
     by_order Equal is = absurd (true≢false (sym (ap is_eq is) ∙ other))
-    by_order Greater is = absurd (greater_is_other (sym (ap (λ o. ordering_then o (value_cmp f.value g.value)) is) ∙ less))
+    by_order Greater is = let never : Greater ≡ Less = sym (ap (λ o. ordering_then o (value_cmp f.value g.value)) is) ∙ less in cc
 
 lesser_values : (f g : Fact) → fact_cmp f g ≡ Less → dimensions_cmp f.dimensions g.dimensions ≡ Equal → value_cmp f.value g.value ≡ Less
 lesser_values f g less same = sym (ap (λ o. ordering_then o (value_cmp f.value g.value)) same) ∙ less
@@ -70,19 +66,12 @@ in_row rs r v at held =
     (in_flat_map facts_of_entry (entries_of rs) (record { dimensions = r.0; value = v })).1
     (some_there (λ e. Contains (facts_of_entry e) (record { dimensions = r.0; value = v })) (entries_of rs) (entry_of r) (in_map entry_of rs r at) (in_facts_with r.0 r.1 v held))
 
-some_of : (vs : List Value) → vs ≢ [] → (v : Value) × Contains vs v
-some_of [] h = absurd (h refl)
-some_of (v ∷ vs) h = (v, first_there v vs)
-
 abbrev Rising : List Row → Type 0
 Rising rs = IsRising dimensions_cmp entry_key rs
 
 module _ (f : Fact) where
   abbrev IsBelow : List Row → Type 0
   IsBelow rs = (g : Fact) → Contains (facts_of_rows rs) g → fact_cmp f g ≡ Less
-
-  later_below : (r : Row) (rs : List Row) → IsBelow (r ∷ rs) → IsBelow rs
-  later_below r rs below g at = below g (Contains-append_right (facts_with r.0 r.1) (facts_of_rows rs) g at)
 
   below_rows : (r : Row) (rs : List Row) → dimensions_cmp f.dimensions r.0 ≡ Less → AllByRecursion (λ q. dimensions_cmp r.0 q.0 ≡ Less) rs → AllByRecursion (λ q. dimensions_cmp f.dimensions q.0 ≡ Less) (r ∷ rs)
   below_rows r rs less rest = (less, chained rs rest)
@@ -97,31 +86,25 @@ module _ (f : Fact) where
   rise_before (r ∷ rs) rise rows below = elim (is_eq (dimensions_cmp f.dimensions r.0)) as (λ b. is_eq (dimensions_cmp f.dimensions r.0) ≡ b → Rising (cond b ((r.0, f.value ∷ r.1) ∷ rs) ((f.dimensions, f.value ∷ []) ∷ r ∷ rs))) [
     | true ↦ λ t. rise
     | false ↦ λ t.
-        let one = some_of r.1 rows.0.some in
+        let one = some_value r.1 rows.0.some in
         let less : dimensions_cmp f.dimensions r.0 ≡ Less = lesser_dimensions f (record { dimensions = r.0; value = one.0 }) (below (record { dimensions = r.0; value = one.0 }) (in_row (r ∷ rs) r one.0 (first_there r rs) one.1)) t in
         (below_rows r rs less rise.0, rise)
   ] refl
 
   rows_before : (rs : List Row) → AllByRecursion IsRow rs → IsBelow rs → AllByRecursion IsRow (before_rows f rs)
   unfolding IsStrictlySortedBy
-  rows_before [] rows below = (record { some = λ nothing. not_empty f.value [] nothing; in_order = (tt, tt) }, tt)
-    where
-      not_empty : (v : Value) (vs : List Value) → v ∷ vs ≢ []
-      not_empty v vs nothing = absurd (omega (arith, ap length nothing))
+  rows_before [] rows below = (record { some = λ nothing. cc; in_order = (tt, tt) }, tt)
   rows_before (r ∷ rs) rows below = elim (is_eq (dimensions_cmp f.dimensions r.0)) as (λ b. is_eq (dimensions_cmp f.dimensions r.0) ≡ b → AllByRecursion IsRow (cond b ((r.0, f.value ∷ r.1) ∷ rs) ((f.dimensions, f.value ∷ []) ∷ r ∷ rs))) [
     | true ↦ λ t.
         let same = (Equal-is (dimensions_cmp f.dimensions r.0)).0 t in (
           record {
-            some = λ nothing. not_empty f.value r.1 nothing;
+            some = λ nothing. cc;
             in_order = (each_in_turn (λ w. value_cmp f.value w ≡ Less) r.1 (λ w at. lesser_values f (record { dimensions = r.0; value = w }) (below (record { dimensions = r.0; value = w }) (in_row (r ∷ rs) r w (first_there r rs) at)) same), rows.0.in_order);
           },
           rows.1,
         )
-    | false ↦ λ t. (record { some = λ nothing. not_empty f.value [] nothing; in_order = (tt, tt) }, rows)
+    | false ↦ λ t. (record { some = λ nothing. cc; in_order = (tt, tt) }, rows)
   ] refl
-    where
-      not_empty : (v : Value) (vs : List Value) → v ∷ vs ≢ []
-      not_empty v vs nothing = absurd (omega (arith, ap length nothing))
 
 record AreRising (fs : List Fact) : Type 0 where
   rise : Rising (rows_of fs)

@@ -1,19 +1,13 @@
 -- The entries and references of a base after an addition.
 use Rattle.std.proofs.Common.{◌≡◌, ℕ, List, [], ◌∷◌, ◌++◌, append-nil, length, get_or, false, Result, Ok, Err, sym, ap, subst, ◌∙◌, inl, inr, ⊎_elim, arith}
-use Rattle.std.specs.Prelude.{Contains, IsPermutation}
+use Rattle.std.proofs.lemmas.List.Elements.{All-contains}
+use Rattle.std.specs.Prelude.{Contains}
 use mathlib.Core.Bool.{true≢false}
 use Rattle.std.specs.Prelude.{IfOk}
 use Rattle.std.specs.Result.{is_err}
-use Rattle.std.specs.List.{All, HoldsAt, dedup}
-use Rattle.std.specs.List.Sorted.{IsSearchInRange, IsSorted}
-use Rattle.std.specs.Ordering.{eq_by_cmp}
-use Rattle.std.specs.Str.{bytes_eq}
+use Rattle.std.specs.List.{All, HoldsAt}
+use Rattle.std.specs.List.Sorted.{IsSearchInRange}
 use Rattle.std.specs.declared.cmp.Ordering.TheVariants.{Equal}
-use Rattle.std.proofs.lemmas.Cmp.{nat_list_eq_equiv}
-use Rattle.std.proofs.lemmas.List.Kept.{Contains-dedup, Contains-from_dedup, IsStrictlySortedBy-dedup}
-use Rattle.std.proofs.lemmas.List.Sorted.{Contains-permutation, IsPermutation-sym}
-use Rattle.std.proofs.lemmas.Map.Text.{is_eq-slice_cmp}
-use Rattle.oim_names.proofs.Bytes.{same_bytes}
 use Rattle.merge_laws.specs.Members.{SameMembers}
 use Rattle.merge_laws.specs.Sorted.{IsRising, IsSet, entry_key, itself}
 use Rattle.merge_laws.proofs.Rising.{none_rise}
@@ -31,7 +25,8 @@ use Rattle.fact_base.specs.Entries.{Entry, facts_of_entries, facts_of_entry}
 use Rattle.fact_base.specs.code.Entries.{AreEntriesOf, AreStored, EntryFits, summed_of_both}
 use Rattle.fact_base.specs.Fits.{Fits}
 use Rattle.fact_base.specs.Sets.{set_of}
-use Rattle.fact_base.proofs.Members.{each_by_there, each_there, in_flat_map, in_one_of_both}
+use Rattle.fact_base.proofs.Bodies.{same_bodies}
+use Rattle.fact_base.proofs.Members.{each_by_there, in_flat_map, in_one_of_both}
 use Rattle.fact_base.proofs.Sets.{is_set_of, same_sets, set_of_is_set}
 use Rattle.fact_base.proofs.TextOrder.{text_cmp_exact, text_cmp_total}
 use Rattle.fact_base.proofs.Unions.{Fit, all_fit_together, fit_in_order, rises, union_facts}
@@ -46,7 +41,7 @@ stored_fits sheet es references stored = record {
     fitting : (ds : List Entry) (f : Fact) → Fit sheet ds → Contains (facts_of_entries ds) f → FactFits sheet f
     fitting ds f fit at =
         let some = (in_flat_map facts_of_entry ds f).0 at in
-        each_there (FactFits sheet) (facts_of_entry some.1) f (each_there (λ e. EntryFits sheet e.0 e.1) ds some.1 fit (some.0, some.2, some.3)).facts some.4
+        All-contains (FactFits sheet) (facts_of_entry some.1) f (All-contains (λ e. EntryFits sheet e.0 e.1) ds some.1 fit (some.0, some.2, some.3)).facts some.4
 
 pub stored_together : (sheet : Sheet) (es ds : List Entry) (references others wider : List (List ℕ)) → AreStored sheet es references → IsRising dimensions_cmp entry_key ds → Fit sheet ds → All IsKeptReference others → wider ≡ set_of text_cmp (references ++ others) → AreStored sheet (map_union dimensions_cmp summed_of_both es ds) wider
 stored_together sheet es ds references others wider stored rise fit kept is =
@@ -56,11 +51,8 @@ stored_together sheet es ds references others wider stored rise fit kept is =
       entries = all_fit_together sheet es ds stored.entries fit;
       in_order = subst (IsSet text_cmp) (sym is) set.rises;
       references = subst (All IsKeptReference) (sym is) (each_by_there IsKeptReference (set_of text_cmp (references ++ others)) (λ r at.
-          ⊎_elim (each_there IsKeptReference references r stored.references) (each_there IsKeptReference others r kept) ((in_one_of_both references others r).0 ((set.members r).0 at))));
+          ⊎_elim (All-contains IsKeptReference references r stored.references) (All-contains IsKeptReference others r kept) ((in_one_of_both references others r).0 ((set.members r).0 at))));
     }
-
-same_bodies : {facts more : List Fact} {references others : List (List ℕ)} → facts ≡ more → references ≡ others → ◌≡◌ {A = Body} (record { facts = facts; references = references }) (record { facts = more; references = others })
-same_bodies p q = λ i. record { facts = p i; references = q i }
 
 pub joined : (sheet : Sheet) (es ds : List Entry) (references others wider : List (List ℕ)) → AreStored sheet es references → AreStored sheet ds others → wider ≡ set_of text_cmp (references ++ others) → ◌≡◌ {A = Body} (record { facts = facts_of_entries (map_union dimensions_cmp summed_of_both es ds); references = wider }) (union (record { facts = facts_of_entries es; references = references }) (record { facts = facts_of_entries ds; references = others }))
 joined sheet es ds references others wider stored more is = same_bodies (union_facts sheet es ds stored.rise more.rise stored.entries more.entries) is
@@ -93,7 +85,7 @@ taken sheet es ds references wider d stored are fit is =
 pub all_there : (references others : List (List ℕ)) → IsSet text_cmp references → All (Contains references) others → references ≡ set_of text_cmp (references ++ others)
 all_there references others rise all = is_set_of text_cmp_total text_cmp_exact references (references ++ others) rise (λ r. (
   λ h. (in_one_of_both references others r).1 (inl h),
-  λ h. ⊎_elim (λ l. l) (each_there (Contains references) others r all) ((in_one_of_both references others r).0 h),
+  λ h. ⊎_elim (λ l. l) (All-contains (Contains references) others r all) ((in_one_of_both references others r).0 h),
 ))
 
 pub set_among : (references others : List (List ℕ)) → IsSet text_cmp references → set_union text_cmp references (set_of text_cmp others) ≡ set_of text_cmp (references ++ others)
@@ -103,19 +95,6 @@ set_among references others rise =
     is_set_of text_cmp_total text_cmp_exact (set_union text_cmp references (set_of text_cmp others)) (references ++ others) both.rises (λ r. (
       λ h. (in_one_of_both references others r).1 (⊎_elim inl (λ o. inr ((set.members r).0 o)) ((both.members r).0 h)),
       λ h. (both.members r).1 (⊎_elim inl (λ o. inr ((set.members r).1 o)) ((in_one_of_both references others r).0 h)),
-    ))
-
-same_bytes_tie : (x y : List ℕ) → bytes_eq x y ≡ eq_by_cmp text_cmp x y
-same_bytes_tie x y = sym (is_eq-slice_cmp x y)
-
-pub sorted_rises : (sorted once : List (List ℕ)) → IsSorted text_cmp sorted → once ≡ dedup bytes_eq sorted → IsSet text_cmp once
-sorted_rises sorted once in_order is = subst (IsSet text_cmp) (sym is) (IsStrictlySortedBy-dedup text_cmp_total same_bytes_tie sorted in_order)
-
-pub sorted_set : (texts sorted once : List (List ℕ)) → IsPermutation texts sorted → IsSorted text_cmp sorted → once ≡ dedup bytes_eq sorted → once ≡ set_of text_cmp texts
-sorted_set texts sorted once moved in_order is =
-    is_set_of text_cmp_total text_cmp_exact once texts (sorted_rises sorted once in_order is) (λ t. (
-      λ h. Contains-permutation sorted texts t (IsPermutation-sym texts sorted moved) (Contains-from_dedup bytes_eq sorted t (subst (λ ts. Contains ts t) is h)),
-      λ h. subst (λ ts. Contains ts t) (sym is) (Contains-dedup nat_list_eq_equiv (λ x y same. same_bytes x y same) sorted t (Contains-permutation texts sorted t moved h)),
     ))
 
 -- ---- a reference that a search finds

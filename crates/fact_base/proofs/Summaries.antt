@@ -1,5 +1,6 @@
 -- The summary of different values of one kind, with or without nil.
 use Rattle.std.proofs.Common.{◌≡◌, ◌≢◌, ℕ, zero, suc, ◌≤◌, length, Bool, true, false, cond, ◌||◌, ◌&&◌, List, [], ◌∷◌, Option, Some, None, refl, sym, ap, subst, ◌∙◌, ⊎_elim, inl, inr, arith}
+use Rattle.std.proofs.lemmas.List.Elements.{All-contains}
 use mathlib.Core.Bool.{true≢false}
 use Rattle.std.specs.Prelude.{◌↔◌, ◌⊎◌, IsTrue, Contains, is_some, int_lt, ℤ, ◌≤ℤ◌, ◌<ℤ◌, IfSome}
 use Rattle.std.specs.List.{AllByRecursion, Any, list_all, list_any}
@@ -26,8 +27,8 @@ use Rattle.oim_report.specs.Duplicates.{values_meet}
 use Rattle.oim_report.proofs.ValuesMeet.{values_meet_is_meets}
 use Rattle.fact_base.specs.code.Judged.{AreAlike, AreSummarised, shared_by}
 use Rattle.fact_base.specs.Verdict.{IsApartPair, IsCommonOf, IsPairOf, IsShownPair, begin_with_numbers, each_meet, verdict_of}
-use Rattle.fact_base.specs.declared.verdict.Verdict.TheVariants.{Complete, Consistent, Inconsistent}
-use Rattle.fact_base.proofs.Members.{each_by_there, each_there, first_there, first_or_later, later_there, none_there}
+use Rattle.fact_base.specs.declared.verdict.Verdict.TheVariants.{Consistent, Inconsistent}
+use Rattle.fact_base.proofs.Members.{each_by_there, first_there, first_or_later, later_there, none_there}
 
 -- ---- every two values meet
 
@@ -69,7 +70,7 @@ of_one_kind (v ∷ vs) alike = ⊎_elim
     let rest = of_one_kind vs (λ x y first second. alike x y (later_there v vs x first) (later_there v vs y second)) in (
       rest.0,
       each_by_there (λ x. (x ≡ Nil) ⊎ (kind_order x ≡ rest.0)) (v ∷ vs) (λ x at.
-          ⊎_elim (λ is. inl (sym is ∙ nil)) (each_there (λ y. (y ≡ Nil) ⊎ (kind_order y ≡ rest.0)) vs x rest.1) (first_or_later v vs x at)),
+          ⊎_elim (λ is. inl (sym is ∙ nil)) (All-contains (λ y. (y ≡ Nil) ⊎ (kind_order y ≡ rest.0)) vs x rest.1) (first_or_later v vs x at)),
     ))
     (λ some. (
       kind_order v,
@@ -162,11 +163,6 @@ meet_where_shared vs s summed several meet =
     ap is_some (ap shared_by summed.summary ∙ shows_shared vs between.0 between.1)
 
 -- ---- verdicts
-
-pub one_is_complete : (vs : List Value) → length vs ≡ 1 → verdict_of vs ≡ Some Complete
-one_is_complete [] h = absurd (omega (arith, h))
-one_is_complete (v ∷ []) h = refl
-one_is_complete (v ∷ w ∷ vs) h = absurd (omega (arith, h))
 
 of_several : (vs : List Value) → 2 ≤ length vs → verdict_of vs ≡ Some (cond (each_meet vs) Consistent Inconsistent)
 of_several [] h = absurd (omega (arith, h))

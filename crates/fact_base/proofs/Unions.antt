@@ -1,6 +1,7 @@
 -- Merging the entries of two bases.
-use Rattle.std.proofs.Common.{◌≡◌, List, [], ◌∷◌, ◌++◌, Option, Some, None, refl, sym, subst, ◌∙◌, inl, inr, ⊎_elim}
-use Rattle.std.specs.Prelude.{◌↔◌, ◌⊎◌, ◌≢◌, Contains}
+use Rattle.std.proofs.Common.{◌≡◌, List, ◌++◌, Option, Some, None, refl, sym, subst, ◌∙◌, inl, inr, ⊎_elim}
+use Rattle.std.proofs.lemmas.List.Elements.{All-contains}
+use Rattle.std.specs.Prelude.{◌↔◌, ◌⊎◌, Contains}
 use Rattle.std.specs.List.{All}
 use Rattle.merge_laws.specs.Ends.{both_summaries}
 use Rattle.merge_laws.specs.Sorted.{IsRising, IsSet, entry_key, value_at}
@@ -20,15 +21,11 @@ use Rattle.fact_base.specs.Entries.{Entry, Summed, facts_with, facts_of_entries}
 use Rattle.fact_base.specs.code.Entries.{EntryFits, summed_of_both}
 use Rattle.fact_base.specs.Sets.{set_of}
 use Rattle.fact_base.proofs.EntryFacts.{Holds, facts_rise, from_facts_with, in_facts_with, tells_fact}
-use Rattle.fact_base.proofs.Members.{each_by_there, each_there, first_there, in_one_of_both, none_there}
+use Rattle.fact_base.proofs.Members.{each_by_there, in_one_of_both, none_there, some_value}
 use Rattle.fact_base.proofs.Sets.{is_set_of}
 
 pub in_values_of_both : (vs ws : List Value) → IsSet value_cmp vs → IsSet value_cmp ws → (v : Value) → Contains (set_union value_cmp vs ws) v ↔ (Contains vs v ⊎ Contains ws v)
 in_values_of_both vs ws h g v = (set_union_has_both value_cmp_total value_cmp_exact vs ws h g).members v
-
-some_there : (vs : List Value) → vs ≢ [] → (v : Value) × Contains vs v
-some_there [] h = absurd (h refl)
-some_there (v ∷ vs) h = (v, first_there v vs)
 
 -- ---- merged entries fit if both fit
 
@@ -37,15 +34,15 @@ fits_together sheet s p q h g =
     let both = set_union_has_both value_cmp_total value_cmp_exact p.0 q.0 h.in_order g.in_order in
     record {
       some = λ nothing.
-          let one = some_there p.0 h.some in
+          let one = some_value p.0 h.some in
           none_there one.0 (subst (λ vs. Contains vs one.0) nothing ((both.members one.0).1 (inl one.1)));
       in_order = both.rises;
       summary = (λ i. both_summaries (h.summary i) (g.summary i)) ∙ sym (summary_of_union value_cmp value_cmp_exact p.0 q.0);
       facts = each_by_there (FactFits sheet) (facts_with s (set_union value_cmp p.0 q.0)) (λ f at.
           let found = from_facts_with s (set_union value_cmp p.0 q.0) f at in
           ⊎_elim
-          (λ l. each_there (FactFits sheet) (facts_with s p.0) f h.facts (subst (λ d. Contains (facts_with s p.0) (record { dimensions = d; value = f.value })) found.0 (in_facts_with s p.0 f.value l)))
-          (λ r. each_there (FactFits sheet) (facts_with s q.0) f g.facts (subst (λ d. Contains (facts_with s q.0) (record { dimensions = d; value = f.value })) found.0 (in_facts_with s q.0 f.value r)))
+          (λ l. All-contains (FactFits sheet) (facts_with s p.0) f h.facts (subst (λ d. Contains (facts_with s p.0) (record { dimensions = d; value = f.value })) found.0 (in_facts_with s p.0 f.value l)))
+          (λ r. All-contains (FactFits sheet) (facts_with s q.0) f g.facts (subst (λ d. Contains (facts_with s q.0) (record { dimensions = d; value = f.value })) found.0 (in_facts_with s q.0 f.value r)))
           ((both.members f.value).0 found.1));
     }
 
@@ -75,7 +72,7 @@ ordered_at es s rise sets = at (value_at dimensions_cmp s es) refl
   where
     at : (a : Option Summed) → value_at dimensions_cmp s es ≡ a → Ordered a
     at None is = tt
-    at (Some kept) is = each_there (λ (e : Entry). IsSet value_cmp e.1.0) es (s, kept) sets ((map_tells_entry dimensions_cmp_total dimensions_cmp_exact (λ p q. p) es s kept rise).0 is)
+    at (Some kept) is = All-contains (λ (e : Entry). IsSet value_cmp e.1.0) es (s, kept) sets ((map_tells_entry dimensions_cmp_total dimensions_cmp_exact (λ p q. p) es s kept rise).0 is)
 
 holds_of_both : (a b : Option Summed) → Ordered a → Ordered b → (v : Value) → Holds (either_or_both summed_of_both a b) v ↔ (Holds a v ⊎ Holds b v)
 holds_of_both None None g h v = (λ x. absurd x, ⊎_elim (λ x. x) (λ x. x))

@@ -8,8 +8,10 @@ use Rattle.std.specs.Cmp.Lexicographic.{bytes_decides}
 use Rattle.std.specs.Option.{option_map, unwrap_or}
 use Rattle.std.specs.Cmp.{Equal-is, tied_itself}
 use Rattle.std.specs.Ordering.{is_eq, ord_max}
-use Rattle.std.proofs.lemmas.Bool.{and_parts, and_from}
-use Rattle.std.proofs.lemmas.List.{length-append, length-map}
+use Rattle.std.specs.Bool.{Decides}
+use Rattle.std.proofs.lemmas.List.{drop_all, length-append, length-map, take_all}
+use Rattle.std.proofs.lemmas.List.Elements.{All-contains}
+use Rattle.std.proofs.lemmas.Slice.Eq.{slice_eq-Decides}
 use Rattle.std.proofs.lemmas.Option.{slice_get-map}
 use lib.Pointwise.{pointwise}
 use Rattle.merge_laws.specs.Sorted.{IsRising, IsSet, entry_key, value_at}
@@ -37,7 +39,6 @@ use Rattle.fact_base.specs.Rows.{Row, rows_of, values_at}
 use Rattle.fact_base.specs.Shown.{row_of}
 use Rattle.fact_base.proofs.Fitting.{entry_summarised}
 use Rattle.fact_base.proofs.Levels.{highest, highest_is, level_of_values}
-use Rattle.fact_base.proofs.Members.{each_there, to_the_end}
 use Rattle.fact_base.proofs.RowLists.{rows_of_entries, values_at_entries, values_in}
 
 -- ---- one step
@@ -52,12 +53,6 @@ one_more i = omega arith
 
 pub next_drop : {A : Type 0} (xs : List A) (i : ℕ) (x : A) → slice_get xs i ≡ Some x → drop i xs ≡ x ∷ drop (i + 1) xs
 next_drop xs i x is = drop_from xs i x is ∙ ap (λ k. x ∷ drop k xs) (one_more i)
-
-pub none_left : {A : Type 0} (xs : List A) (i : ℕ) → length xs ≤ i → drop i xs ≡ []
-none_left [] zero past = refl
-none_left [] (suc i) past = refl
-none_left (x ∷ xs) zero past = absurd (omega (arith, past))
-none_left (x ∷ xs) (suc i) past = none_left xs i (omega (arith, past))
 
 -- ---- levels
 
@@ -74,7 +69,7 @@ pub level_further : (es : List Entry) (i : ℕ) (e : Entry) (level more : Level)
 level_further es i e level more n at put known = ap (λ l. highest l (drop (i + 1) es)) put ∙ sym (ap (highest level) (next_drop es i e at)) ∙ known
 
 pub level_ends : (es : List Entry) (i : ℕ) (level n : Level) → length es ≤ i → highest level (drop i es) ≡ n → level ≡ n
-level_ends es i level n past known = sym (ap (highest level) (none_left es i past)) ∙ known
+level_ends es i level n past known = sym (ap (highest level) (drop_all i es past)) ∙ known
 
 -- ---- counts
 
@@ -91,14 +86,14 @@ count_further es i e count more n at put known =
     omega (arith, long, here, before, put)
 
 pub count_ends : (es : List Entry) (i count n : ℕ) → length es ≤ i → count + length (facts_of_entries (drop i es)) ≡ n → count ≡ n
-count_ends es i count n past known = omega (arith, sym (ap (λ ds. count + length (facts_of_entries ds)) (none_left es i past)) ∙ known)
+count_ends es i count n past known = omega (arith, sym (ap (λ ds. count + length (facts_of_entries ds)) (drop_all i es past)) ∙ known)
 
 -- ---- the values of a dimension set
 
 pub found_entry : (sheet : Sheet) (es : List Entry) (texts : List (List ℕ)) (s : DimensionSet) (kept : Summed) → AreStored sheet es texts → value_at dimensions_cmp s es ≡ Some kept → AreSummarised kept.0 kept.1
 found_entry sheet es texts s kept stored is =
     entry_summarised sheet s kept
-    (each_there (λ e. EntryFits sheet e.0 e.1) es (s, kept) stored.entries ((map_tells_entry dimensions_cmp_total dimensions_cmp_exact (λ p q. p) es s kept stored.rise).0 is))
+    (All-contains (λ e. EntryFits sheet e.0 e.1) es (s, kept) stored.entries ((map_tells_entry dimensions_cmp_total dimensions_cmp_exact (λ p q. p) es s kept stored.rise).0 is))
 
 pub values_found : (sheet : Sheet) (es : List Entry) (texts : List (List ℕ)) (s : DimensionSet) (a : Option Summed) → AreStored sheet es texts → value_at dimensions_cmp s es ≡ a → values_at s (facts_of_entries es) ≡ values_in a
 values_found sheet es texts s a stored is = values_at_entries s es stored.rise ∙ ap values_in is
@@ -126,19 +121,11 @@ taken_further xs ys i same within is known = subst (λ k. take k xs ≡ take k y
 abbrev derived_equal : List Value → List Value → Bool
 derived_equal = pointwise value_eq.it
 
-pub equal_values : (vs ws : List Value) → derived_equal vs ws ≡ true → vs ≡ ws
-equal_values [] [] h = refl
-equal_values [] (w ∷ ws) h = absurd (true≢false (sym h))
-equal_values (v ∷ vs) [] h = absurd (true≢false (sym h))
-equal_values (v ∷ vs) (w ∷ ws) h =
-    let both = and_parts _ (derived_equal vs ws) h in
-    let first : v ≡ w = value_cmp_exact v w ((Equal-is (value_cmp v w)).0 (sym (equal_values_tie v w) ∙ both.0)) in
-    let rest : vs ≡ ws = equal_values vs ws both.1 in
-    λ i. first i ∷ rest i
-
-pub values_equal : (vs : List Value) → derived_equal vs vs ≡ true
-values_equal [] = refl
-values_equal (v ∷ vs) = and_from _ (derived_equal vs vs) (equal_values_tie v v ∙ ap is_eq (value_cmp_self v)) (values_equal vs)
+equal_values : (vs ws : List Value) → Decides (derived_equal vs ws) (vs ≡ ws)
+equal_values vs ws = slice_eq-Decides (λ v w. (
+  λ h. value_cmp_exact v w ((Equal-is (value_cmp v w)).0 (sym (equal_values_tie v w) ∙ h)),
+  λ same. equal_values_tie v w ∙ ap is_eq (ap (value_cmp v) (sym same) ∙ value_cmp_self v),
+)) vs ws (derived_equal vs ws) refl
 
 pub equal_dimensions : (s t : DimensionSet) → dimensions_eq.it s t ≡ true → s ≡ t
 equal_dimensions s t h = dimensions_cmp_exact s t ((Equal-is (dimensions_cmp s t)).0 (sym (equal_dimensions_tie s t) ∙ h))
@@ -159,12 +146,12 @@ at_place es i = option_map row_of (slice_get es i)
 pub rows_alike : (es ds : List Entry) (i : ℕ) (e d : Entry) (vs ws : List Value) (b : Bool) → slice_get es i ≡ Some e → slice_get ds i ≡ Some d → vs ≡ e.1.0 → ws ≡ d.1.0 → b ≡ derived_equal vs ws → e.0 ≡ d.0 → IsTrue b ↔ (at_place es i ≡ at_place ds i)
 rows_alike es ds i e d vs ws b first second values others told same = (
   λ h.
-      let alike : e.1.0 ≡ d.1.0 = sym values ∙ equal_values vs ws (sym told ∙ h) ∙ others in
+      let alike : e.1.0 ≡ d.1.0 = sym values ∙ (equal_values vs ws).0 (sym told ∙ h) ∙ others in
       ap (option_map row_of) first ∙ (λ k. Some (same k, alike k)) ∙ ap (option_map row_of) (sym second),
   λ h.
       let rows : row_of e ≡ row_of d = ap (λ o. unwrap_or o (row_of e)) (sym (ap (option_map row_of) first) ∙ h ∙ ap (option_map row_of) second) in
       let alike : vs ≡ ws = values ∙ ap (λ (r : Row). r.1) rows ∙ sym others in
-      told ∙ ap (λ xs. derived_equal xs ws) alike ∙ values_equal ws,
+      told ∙ ap (λ xs. derived_equal xs ws) alike ∙ (equal_values ws ws).1 refl,
 )
 
 pub rows_unlike : (es ds : List Entry) (i : ℕ) (e d : Entry) (b : Bool) → slice_get es i ≡ Some e → slice_get ds i ≡ Some d → b ≡ dimensions_eq.it e.0 d.0 → b ≡ false → IsTrue b ↔ (at_place es i ≡ at_place ds i)
@@ -186,17 +173,10 @@ pub rows_all : (es ds : List Entry) (i : ℕ) → length es ≡ length ds → le
 rows_all es ds i same past known =
     let long = length-map es row_of in
     let more = length-map ds row_of in
-    sym (to_the_end (map row_of es) i (omega (arith, long, past))) ∙ known ∙ to_the_end (map row_of ds) i (omega (arith, more, same, past))
+    sym (take_all i (map row_of es) (omega (arith, long, past))) ∙ known ∙ take_all i (map row_of ds) (omega (arith, more, same, past))
 
 pub row_differs : (es ds : List Entry) (i : ℕ) → ¬ (at_place es i ≡ at_place ds i) → ¬ (map row_of es ≡ map row_of ds)
 row_differs es ds i other same = other (sym (slice_get-map row_of es i) ∙ ap (λ rs. slice_get rs i) same ∙ slice_get-map row_of ds i)
-
-pub counts_differ : (es ds : List Entry) → (length es ≡ length ds → ⊥) → ¬ (map row_of es ≡ map row_of ds)
-counts_differ es ds other same =
-    let long = length-map es row_of in
-    let more = length-map ds row_of in
-    let alike = ap length same in
-    other (omega (arith, long, more, alike))
 
 -- ---- the same facts
 
@@ -211,16 +191,5 @@ facts_by_rows (e ∷ es) = ap (λ fs. facts_of_entry e ++ fs) (facts_by_rows es)
 pub same_facts : (es ds : List Entry) → map row_of es ≡ map row_of ds → facts_of_entries es ≡ facts_of_entries ds
 same_facts es ds same = facts_by_rows es ∙ ap facts_of_rows same ∙ sym (facts_by_rows ds)
 
-pub texts_equal : (xs ys : List (List ℕ)) → pointwise bytes_eq xs ys ≡ true → xs ≡ ys
-texts_equal [] [] h = refl
-texts_equal [] (y ∷ ys) h = absurd (true≢false (sym h))
-texts_equal (x ∷ xs) [] h = absurd (true≢false (sym h))
-texts_equal (x ∷ xs) (y ∷ ys) h =
-    let both = and_parts (bytes_eq x y) (pointwise bytes_eq xs ys) h in
-    let first : x ≡ y = (bytes_decides x y).0 both.0 in
-    let rest : xs ≡ ys = texts_equal xs ys both.1 in
-    λ i. first i ∷ rest i
-
-pub equal_texts : (xs : List (List ℕ)) → pointwise bytes_eq xs xs ≡ true
-equal_texts [] = refl
-equal_texts (x ∷ xs) = and_from (bytes_eq x x) (pointwise bytes_eq xs xs) ((bytes_decides x x).1 refl) (equal_texts xs)
+pub equal_texts : (xs ys : List (List ℕ)) → Decides (pointwise bytes_eq xs ys) (xs ≡ ys)
+equal_texts xs ys = slice_eq-Decides bytes_decides xs ys (pointwise bytes_eq xs ys) refl

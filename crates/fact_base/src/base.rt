@@ -8,9 +8,9 @@ ghost use Rattle.fact_base.specs.Shown.{rows_left};
 ghost use Rattle.fact_base.specs.Verdict.{IsEvidence, verdict};
 ghost use Rattle.oim_report.specs.Duplicates.{level_of};
 
-use crate::entries::{Entries, count_of, entries_from, entries_of, level_of, same_rows};
+use crate::entries::{Entries, count_of, entries_from, level_of, same_rows};
 use crate::evidence::Evidence;
-use crate::references::{replace, with_all};
+use crate::references::{copies_of, replace, with_all};
 use crate::row::Row;
 use crate::rows::Rows;
 use crate::verdict::Verdict;
@@ -106,7 +106,9 @@ impl<'s> Base<'s> {
     {
         report.known();
         let references = with_all(self.alloc, &self.references, report.taxonomy())?;
-        let entries = entries_of(self.alloc, report.facts(), report.order())?;
+        let facts = copies_of(self.alloc, report.facts())?;
+        let order = Vec::from_slice(self.alloc, report.order())?;
+        let entries = entries_from(self.alloc, facts, order)?;
         self.entries.absorb(entries)?;
         replace(&mut self.references, references);
         Ok(())

@@ -16,7 +16,6 @@ use crate::ordering::in_order;
 use crate::verdict::Verdict;
 use merge_laws::{Merge, SortedMap, SortedSet, Summary};
 use oim_dims::{Dimensions, Fact};
-use oim_names::Copied;
 use oim_value::{Level, Value};
 use std::alloc::{AllocError, Global};
 
@@ -27,22 +26,6 @@ type Entry = (Dimensions, (SortedSet<Value>, Summary));
 
 /// Returns the entries of the facts. `order` visits each fact once, in ascending order. Each fact
 /// is therefore added to the last entry or after it, without a look-up.
-pub(crate) fn entries_of(
-    alloc: Global,
-    facts: &[Fact],
-    order: &[usize],
-) -> Result<Entries, AllocError>
-    requires { IsOrderOf facts.now order.now }
-    ensures { IfOk result (AreEntriesOf facts.now) }
-{
-    let mut entries = Vec::with_capacity(alloc, order.len())?;
-    for place in order {
-        push(alloc, &mut entries, &facts[*place])?;
-    }
-    Ok(SortedMap::of_rising(entries))
-}
-
-/// Does the same as `entries_of`, but moves the first fact of each dimension set.
 pub(crate) fn entries_from(
     alloc: Global,
     facts: Vec<Fact>,
@@ -77,17 +60,6 @@ fn push_given(alloc: Global, entries: &mut Vec<Entry>, fact: Fact) -> Result<(),
     Ok(())
 }
 
-fn push(alloc: Global, entries: &mut Vec<Entry>, fact: &Fact) -> Result<(), AllocError>
-    requires rise { IsRising dimensions_cmp entry_key entries.old.items }
-    requires below { NoneAbove fact.now.dimensions entries.old.items }
-    ensures { OnOk result (entries.new.items ≡ with_fact fact.now entries.old.items) }
-{
-    if !joins_last(alloc, entries, fact)? {
-        entries.push(entry_of(alloc, fact)?)?;
-    }
-    Ok(())
-}
-
 // If the last entry has the fact's dimensions, adds the value to it and returns true. Otherwise, or
 // without entries, returns false.
 fn joins_last(alloc: Global, entries: &mut Vec<Entry>, fact: &Fact) -> Result<bool, AllocError>
@@ -114,12 +86,6 @@ fn add(
 {
     kept.0.insert(value)?;
     kept.1.merge(alloc, &Summary::of(value))
-}
-
-fn entry_of(alloc: Global, fact: &Fact) -> Result<Entry, AllocError>
-    ensures { IfOk result (λ entry. entry ≡ entry_of fact.now) }
-{
-    Ok(entry_given(alloc, fact.copied(alloc)?))
 }
 
 fn entry_given(alloc: Global, fact: Fact) -> Entry

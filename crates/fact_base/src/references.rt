@@ -3,6 +3,7 @@ ghost use Rattle.std.specs.Option.{unwrap_or};
 ghost use Rattle.fact_base.specs.Body.{text_cmp};
 ghost use Rattle.fact_base.specs.Sets.{set_of};
 
+use crate::ordering::put_in_order;
 use merge_laws::{Merge, SortedSet};
 use oim_names::{Copied, Text};
 use std::alloc::{AllocError, Global};
@@ -29,17 +30,16 @@ fn set_of(alloc: Global, texts: &[Text]) -> Result<SortedSet<Text>, AllocError>
     ensures { IfOk result (λ set. set ≡ set_of text_cmp texts.now) }
 {
     let mut items = copies_of(alloc, texts)?;
-    items.sort_unstable();
-    items.dedup();
+    put_in_order(&mut items)?;
     Ok(SortedSet::of_rising(items))
 }
 
-pub(crate) fn copies_of(alloc: Global, texts: &[Text]) -> Result<Vec<Text>, AllocError>
-    ensures { IfOk result (λ copies. copies.items ≡ texts.now) }
+pub(crate) fn copies_of<T: Copied>(alloc: Global, items: &[T]) -> Result<Vec<T>, AllocError>
+    ensures { IfOk result (λ copies. copies.items ≡ items.now) }
 {
-    let mut copies = Vec::with_capacity(alloc, texts.len())?;
-    for text in texts {
-        copies.push_reserved(text.copied(alloc)?);
+    let mut copies = Vec::with_capacity(alloc, items.len())?;
+    for item in items {
+        copies.push_reserved(item.copied(alloc)?);
     }
     Ok(copies)
 }

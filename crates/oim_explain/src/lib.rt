@@ -10,7 +10,6 @@
 
 mod escaped;
 mod explained;
-mod explained_sheet;
 mod fault;
 mod file_kind;
 mod finding;
@@ -19,6 +18,5 @@ mod repeated;
 mod sentence;
 
 pub use escaped::Escaped;
-pub use explained::explain;
-pub use explained_sheet::{explain_repeated, explain_sheet};
+pub use explained::{explain, explain_repeated, explain_sheet};
 pub use lines::{Explained, Format, Input};

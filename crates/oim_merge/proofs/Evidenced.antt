@@ -1,5 +1,6 @@
 -- Evidence exists and is unique for each dimension set of a body that fits a sheet.
 use Rattle.std.proofs.Common.{◌≡◌, ◌≢◌, ℕ, zero, suc, ◌<◌, ◌≤◌, Bool, true, false, List, [], ◌∷◌, length, Option, Some, None, ◌++◌, inl, inr, refl, sym, ap, subst, ◌∙◌, arith}
+use Rattle.std.proofs.lemmas.List.Elements.{All-contains}
 use mathlib.Core.Bool.{true≢false}
 use Rattle.std.specs.Prelude.{Contains, codes, is_some, slice_get, ℤ, ◌≤ℤ◌, if◌then◌else◌}
 use Rattle.std.specs.Option.{unwrap_or}
@@ -31,7 +32,7 @@ use Rattle.fact_base.specs.declared.verdict.Verdict.TheVariants.{Complete, Consi
 use Rattle.fact_base.specs.declared.evidence.Evidence.{Evidence}
 use Rattle.fact_base.specs.declared.evidence.Evidence.TheVariants.{Alike, Common, Apart}
 use Rattle.fact_base.proofs.Fitting.{entry_summarised}
-use Rattle.fact_base.proofs.Members.{each_by_there, each_there, in_flat_map, some_there}
+use Rattle.fact_base.proofs.Members.{each_by_there, in_flat_map, some_there}
 use Rattle.fact_base.proofs.RowsOf.{rows_tell_facts}
 use Rattle.fact_base.proofs.Verdicts.{inconsistent_is_apart}
 use Rattle.fact_base.proofs.Summaries.{crossed_are_apart, nil_is_apart, no_number_is_apart, shared_is_common}
@@ -43,10 +44,10 @@ summarised : (sheet : Sheet) (b : Body) → Fits sheet b → (r : Row) → Conta
 summarised sheet b fits r at =
     let are = rows_tell_facts b.facts fits.rises.facts in
     let entry : EntryFits sheet r.0 (r.1, summary_of_all r.1) = record {
-      some = each_there (λ q. q.1 ≢ []) (rows_of b.facts) r are.some at;
-      in_order = each_there (λ q. IsSet value_cmp q.1) (rows_of b.facts) r are.in_order at;
+      some = All-contains (λ q. q.1 ≢ []) (rows_of b.facts) r are.some at;
+      in_order = All-contains (λ q. IsSet value_cmp q.1) (rows_of b.facts) r are.in_order at;
       summary = refl;
-      facts = each_by_there (FactFits sheet) (facts_with r.0 r.1) (λ f there. each_there (FactFits sheet) b.facts f fits.facts
+      facts = each_by_there (FactFits sheet) (facts_with r.0 r.1) (λ f there. All-contains (FactFits sheet) b.facts f fits.facts
           (subst (λ fs. Contains fs f) (rows_facts_are b.facts) ((in_flat_map row_facts (rows_of b.facts) f).1 (some_there (λ q. Contains (row_facts q) f) (rows_of b.facts) r at there))));
     } in
     entry_summarised sheet r.0 (r.1, summary_of_all r.1) entry
@@ -168,7 +169,7 @@ evidence_shows facts s (Apart i j) is =
 
 pub lines_tell_verdicts : LinesTellVerdicts
 lines_tell_verdicts sheet b fits r at number line is =
-    let values = each_there (λ (q : Row). q.1 ≡ values_at q.0 b.facts) (rows_of b.facts) r (rows_tell_facts b.facts fits.rises.facts).values at in
+    let values = All-contains (λ (q : Row). q.1 ≡ values_at q.0 b.facts) (rows_of b.facts) r (rows_tell_facts b.facts fits.rises.facts).values at in
     evidence_shows b.facts r.0 is.evidence (subst (λ vs. IsEvidence vs is.evidence) values is.shows)
 
 pub words_show_verdicts : WordsShowVerdicts

@@ -3,7 +3,6 @@ pub mod Reports
 pub mod Bundles
 pub mod Evidenced
 pub mod RowLists
-pub mod Filling
 pub mod LinePieces
 pub mod EventNumbers
 pub mod EventPairs

@@ -1,5 +1,5 @@
 -- Lemmas about loops that collect mentions.
-use Rattle.std.proofs.Common.{◌≡◌, ℕ, suc, ◌+◌, List, [], ◌∷◌, ◌++◌, drop, refl, sym, ap, ◌∙◌, append_assoc, arith}
+use Rattle.std.proofs.Common.{◌≡◌, ℕ, suc, ◌+◌, List, [], ◌∷◌, ◌++◌, drop, sym, ap, ◌∙◌, append_assoc, arith}
 use Rattle.std.proofs.lemmas.List.{map-append}
 use Rattle.oim_dims.specs.declared.fact.Fact.{Fact}
 use Rattle.oim_report.specs.Identifiers.{identifiers}
@@ -36,7 +36,3 @@ mention_more facts n i f is left fs said before after here there p own placed_is
     ∙ append_assoc before (placed facts (record { report = n; identifier = i; fact = f }) ∷ []) (all_placed facts (mentions_in n is fs))
     ∙ (λ k. before ++ all_placed facts (mentions_in n (sym here k) (sym there k)))
     ∙ all
-
-pub none_left : (n : ℕ) (is : List (List ℕ)) → mentions_in n is [] ≡ []
-none_left n [] = refl
-none_left n (i ∷ is) = refl

@@ -1,5 +1,6 @@
 -- Grouping mentions by the indices of their facts groups the mentions by fact.
 use Rattle.std.proofs.Common.{◌≡◌, ℕ, suc, ◌+◌, ◌<◌, List, [], ◌∷◌, ◌++◌, length, get_or, Bool, true, false, cond, refl, sym, ap, ◌∙◌, arith, append_assoc}
+use Rattle.std.proofs.lemmas.List.Elements.{All-contains}
 use Rattle.std.specs.Prelude.{filter, Contains}
 use Rattle.std.specs.List.{All, AllByRecursion}
 use Rattle.std.specs.List.Sorted.{IsNonDecreasingBy, IsPermutation, IsStableByKey}
@@ -7,7 +8,7 @@ use Rattle.std.specs.Cmp.{tied_itself}
 use Rattle.std.specs.Ordering.{is_eq, nat_cmp}
 use Rattle.std.proofs.lemmas.List.{get_or-append-add, get_or_default, length-append, map-append}
 use Rattle.std.proofs.lemmas.List.Sorted.{All-permutation}
-use Rattle.fact_base.proofs.Members.{each_by_there, each_in_turn, each_there, turn_there}
+use Rattle.fact_base.proofs.Members.{each_by_there, each_in_turn, turn_there}
 use Rattle.merge_laws.specs.Sorted.{IsSet}
 use Rattle.oim_dims.specs.FactOrder.{fact_cmp}
 use Rattle.oim_dims.specs.declared.fact.Fact.{Fact}
@@ -88,7 +89,7 @@ sorted_are facts rise ms of_facts sorted up stable moved =
     let placed_ms = all_placed facts ms in
     let Below : PlacedMention → Type 0 = λ m. m.place < 0 + length facts in
     let all : All Below placed_ms = each_by_there Below placed_ms (λ m at. turn_there Below placed_ms m (are_within facts rise ms of_facts) at) in
-    let below : AllByRecursion Below sorted = each_in_turn Below sorted (λ m at. each_there Below sorted m (All-permutation Below placed_ms sorted moved all) at) in
+    let below : AllByRecursion Below sorted = each_in_turn Below sorted (λ m at. All-contains Below sorted m (All-permutation Below placed_ms sorted moved all) at) in
     sym (grouped 0 (length facts) sorted (rise_from 0 sorted (λ d within. omega arith) up) below)
     ∙ same_groups 0 (length facts) placed_ms sorted (same_here placed_ms sorted stable)
     ∙ placed_by_fact facts rise ms of_facts

@@ -1,10 +1,11 @@
 -- A replay runs one event after another.
 use Rattle.std.proofs.Common.{◌≡◌, ℕ, ◌+◌, ◌<◌, ◌≤◌, true, false, List, [], ◌++◌, append-nil, length, map, take, get_or, Bool, refl, sym, ap, subst, ◌∙◌, arith}
+use Rattle.std.proofs.lemmas.List.{take_all}
 use Rattle.std.specs.List.{All}
 use Rattle.oim_report.specs.Sheet.{Sheet}
 use Rattle.oim_report.specs.declared.refusal.Refusal.{Refusal}
 use Rattle.fact_base.specs.Contents.{Contents}
-use Rattle.fact_base.proofs.Members.{each_by_there, from_map, to_the_end}
+use Rattle.fact_base.proofs.Members.{each_by_there, from_map}
 use Rattle.oim_merge.specs.Replay.{IsReplayOf, Replay, refused_by, refused_takes, world_of}
 use Rattle.oim_merge.specs.Replicas.{base_named, reached, wire}
 use Rattle.oim_merge.specs.Schedule.{IsBadAt, IsFirstBad, World, happens, names_none, sent_by, start, world_after}
@@ -51,7 +52,7 @@ module _ (sheet : Sheet) (n : ℕ) (reports : List (List ℕ)) (events : List Ev
 
   pub run_whole : (replay : Replay) → length events ≤ k → replay.world ≡ world_of bases sent → replay.refused ≡ told → IsReplayOf sheet n reports events replay
   run_whole replay ended world_is refused_is =
-      let all : take k events ≡ events = to_the_end events k ended in
+      let all : take k events ≡ events = take_all k events ended in
       let world : replay.world ≡ world_after (wire sheet [] reports) n events = world_is ∙ h.world ∙ ap (world_after (wire sheet [] reports) n) all in
       record {
         good = none_bad n (length reports) events k ended h.earlier;

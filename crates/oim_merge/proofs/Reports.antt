@@ -59,9 +59,6 @@ has_added_more sheet bytes later left all a new first is before = record {
   whole = append_assoc before.done (bytes ∷ []) later ∙ ap (λ l. before.done ++ l) (sym first) ∙ before.whole;
 }
 
-pub all_added : (sheet : Sheet) (all : List (List ℕ)) (a : Added) → HasAdded sheet a [] all → a ≡ added sheet all
-all_added sheet all a h = h.is ∙ ap (added sheet) (sym (append-nil h.done) ∙ h.whole)
-
 pub list_step : (sheet : Sheet) (reports : List (List ℕ)) (i : ℕ) (r bytes : List ℕ) (a new : Added) → i < length reports → r ≡ get_or reports i r → bytes ≡ r → new ≡ with_report a bytes → a ≡ added sheet (take i reports) → new ≡ added sheet (take (i + 1) reports)
 list_step sheet reports i r bytes a new within at read stepped is =
     stepped ∙ (λ k. with_report (is k) (read k)) ∙ added_more sheet (take i reports) r

@@ -1,4 +1,5 @@
 use Rattle.std.proofs.Common.{◌≡◌, ℕ, suc, ◌+◌, ◌<◌, ◌≤◌, List, [], ◌∷◌, ◌++◌, length, get_or, inr, Option, refl, sym, ap, subst, ◌∙◌, append_assoc, append-nil, arith}
+use Rattle.std.proofs.lemmas.List.Elements.{All-contains}
 use Rattle.std.specs.Prelude.{◌≢◌, Contains}
 use Rattle.std.proofs.lemmas.List.{get_or-append-add, get_or-map, get_or_append_left, length-append, length-map}
 use Rattle.std.proofs.lemmas.Grind.{flat_map-append}
@@ -15,7 +16,7 @@ use Rattle.fact_base.specs.Rows.{Row, rows_of}
 use Rattle.fact_base.specs.Verdict.{IsEvidence}
 use Rattle.fact_base.specs.declared.evidence.Evidence.{Evidence}
 use Rattle.fact_base.specs.declared.evidence.Evidence.TheVariants.{Alike, Common, Apart}
-use Rattle.fact_base.proofs.Members.{each_there, first_there, in_one_of_both, later_there}
+use Rattle.fact_base.proofs.Members.{first_there, in_one_of_both, later_there}
 use Rattle.fact_base.proofs.RowsOf.{rows_tell_facts}
 use Rattle.oim_write.specs.Rank.{padded, width}
 use Rattle.oim_write.specs.Tree.{identifier}
@@ -106,7 +107,7 @@ module _ (b : Body) (rises : IsSet fact_cmp b.facts) (done rest : List Row) (r :
   row_there = subst (λ rs. Contains rs r) all ((in_one_of_both done (r ∷ rest) r).1 (inr (first_there r rest)))
 
   pub row_filled : 0 < length r.1
-  row_filled = filled r.1 (each_there (λ q. q.1 ≢ []) (rows_of b.facts) r (rows_tell_facts b.facts rises).some row_there)
+  row_filled = filled r.1 (All-contains (λ q. q.1 ≢ []) (rows_of b.facts) r (rows_tell_facts b.facts rises).some row_there)
     where
       filled : (vs : List Value) → vs ≢ [] → 0 < length vs
       filled [] some = absurd (some refl)

@@ -1,5 +1,5 @@
 -- Each fact object of an accepted report is listed once, and each fact of the body is listed.
-use Rattle.std.proofs.Common.{◌≡◌, ℕ, suc, List, [], ◌∷◌, ◌++◌, map, length, Bool, true, false, not, Option, Some, None, Result, Ok, Err, refl, sym, ap, ◌∙◌, subst, inl, inr, ⊎_elim}
+use Rattle.std.proofs.Common.{◌≡◌, ℕ, suc, List, [], ◌∷◌, ◌++◌, map, length, Bool, true, false, not, Some, Result, Ok, Err, refl, sym, ap, ◌∙◌, subst, inl, inr, ⊎_elim}
 use Rattle.std.specs.Prelude.{Contains, filter}
 use Rattle.std.specs.List.{AllByRecursion, AllZip}
 use Rattle.std.specs.List.Sorted.{IsPermutation, IsStrictlySortedBy}
@@ -156,10 +156,6 @@ as_many sheet bytes d is accepted e =
     let has = each_fact_has_an_identifier sheet bytes d accepted in
     let same : is ≡ has.0 = some_is is has.0 (sym e ∙ has.1) in
     ap length same ∙ ap length (sym has.2.are) ∙ zip_long _ _ d.facts has.2.say
-
-pub refused_has_none : (n : ℕ) (is : Option (List (List ℕ))) (r : Refusal) → mentions_of n is (Err r) ≡ []
-refused_has_none n None r = refl
-refused_has_none n (Some is) r = refl
 
 -- ---- each fact object
 

@@ -27,10 +27,8 @@ pub(crate) fn write_within<S: Sink>(
             refused: refusals,
         });
     }
-    match write_to(alloc, base, out) {
-        Ok(()) => Ok(refusals),
-        Err(fault) => Err(Fault::from(fault)),
-    }
+    write_to(alloc, base, out)?;
+    Ok(refusals)
 }
 
 fn first_above(base: &Base<'_>, allow: Level) -> Option<u64>

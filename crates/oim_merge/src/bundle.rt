@@ -35,10 +35,7 @@ pub fn consolidate_bundle<S: Sink>(
         Err(Reason::OutOfMemory) => return Err(Fault::OutOfMemory(0)),
         Err(reason) => return Err(Fault::Sheet(reason)),
     };
-    let Ok(consolidation) = merge_lines(alloc, &sheet, rest) else {
-        return Err(Fault::OutOfMemory(0));
-    };
-    consolidation.finish(Level::All, out)
+    merge_lines(alloc, &sheet, rest)?.finish(Level::All, out)
 }
 
 fn merge_lines<'s>(

@@ -37,10 +37,7 @@ pub fn consolidate<S: Sink>(
     ensures err { IfErr result (ConsolidationStops sheet.now reports.now allow (S.told out.old) (S.told out.new)) }
     ensures failures { S.failures out.new ≡ failures_after_run result (S.failures out.old) }
 {
-    let Ok(consolidation) = Consolidation::of(alloc, sheet, reports) else {
-        return Err(Fault::OutOfMemory(0));
-    };
-    consolidation.finish(allow, out)
+    Consolidation::of(alloc, sheet, reports)?.finish(allow, out)
 }
 
 /// Merges reports one at a time. A consolidation stores the facts and references of the accepted
@@ -132,9 +129,7 @@ impl<'s> Consolidation<'s> {
         ensures failures { S.failures out.new ≡ failures_after_run result (S.failures out.old) }
     {
         let alloc = self.alloc;
-        let Ok(Merged { base, refusals }) = self.into_merged() else {
-            return Err(Fault::OutOfMemory(0));
-        };
+        let Merged { base, refusals } = self.into_merged()?;
         write_within(alloc, &base, refusals, allow, out)
     }
 
@@ -149,9 +144,7 @@ impl<'s> Consolidation<'s> {
         ensures failures { S.failures out.new ≡ failures_after_run result (S.failures out.old) }
     {
         let alloc = self.alloc;
-        let Ok(Merged { base, refusals }) = self.into_merged() else {
-            return Err(Fault::OutOfMemory(0));
-        };
+        let Merged { base, refusals } = self.into_merged()?;
         let written = write_within(alloc, &base, refusals, allow, out);
         mem::forget(base);
         written
@@ -168,9 +161,7 @@ impl<'s> Consolidation<'s> {
         ensures failures { S.failures out.new ≡ failures_after_run result (S.failures out.old) }
     {
         let alloc = self.alloc;
-        let Ok(Merged { base, refusals }) = self.into_merged() else {
-            return Err(Fault::OutOfMemory(0));
-        };
+        let Merged { base, refusals } = self.into_merged()?;
         write_verdicts(alloc, &base, refusals, &VerdictLines, out)
     }
 
@@ -184,9 +175,7 @@ impl<'s> Consolidation<'s> {
         ensures failures { S.failures out.new ≡ failures_after_run result (S.failures out.old) }
     {
         let alloc = self.alloc;
-        let Ok(Merged { base, refusals }) = self.into_merged() else {
-            return Err(Fault::OutOfMemory(0));
-        };
+        let Merged { base, refusals } = self.into_merged()?;
         let written = write_verdicts(alloc, &base, refusals, &VerdictLines, out);
         mem::forget(base);
         written

@@ -1,8 +1,10 @@
 ghost use Rattle.std.specs.Prelude.{◌≡◌};
+ghost use Rattle.oim_merge.specs.declared.fault.Fault.TheVariants.{OutOfMemory};
 
 use crate::refusals::Refusals;
 use oim_names::Reason;
 use oim_write::WriteFault;
+use std::alloc::AllocError;
 
 /// Why a merged text, verdicts or sources were not written completely. The number of written bytes
 /// saturates at the greatest `u64`.
@@ -33,5 +35,14 @@ impl From<WriteFault> for Fault {
             WriteFault::OutOfMemory(written) => Fault::OutOfMemory(written),
             WriteFault::Device(written) => Fault::Device(written),
         }
+    }
+}
+
+/// Memory was refused before anything was written.
+impl From<AllocError> for Fault {
+    ghost from_gives = { λ _ made. made ≡ OutOfMemory 0 };
+
+    fn from(_error: AllocError) -> Fault {
+        Fault::OutOfMemory(0)
     }
 }

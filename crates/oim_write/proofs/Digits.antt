@@ -1,10 +1,10 @@
 -- Widths and padded numbers, one digit at a time. The bound of `digits_up_to` does not matter if it is at least the number.
-use Rattle.std.proofs.Common.{◌≡◌, ℕ, zero, suc, ◌+◌, ◌-◌, ◌%◌, ◌^◌, [], ◌∷◌, ◌++◌, ◌/◌, ◌<◌, ◌≤◌, false, cond, nat_lt, refl, sym, ap, ◌∙◌, arith}
+use Rattle.std.proofs.Common.{◌≡◌, ℕ, zero, suc, ◌-◌, ◌^◌, ◌/◌, ◌<◌, ◌≤◌, false, cond, nat_lt, refl, sym, ap, ◌∙◌, arith}
 use Rattle.std.proofs.Math.Nat.{pow-suc, pow-zero}
 use Rattle.std.proofs.lemmas.Bool.{cond-true, cond-false, cases_Bool, lt-ltb}
 use Rattle.std.proofs.lemmas.Bool.Decides.{nat_tests}
 use Rattle.std.proofs.Common.{⊎_elim}
-use Rattle.oim_write.specs.Rank.{padded, digits_up_to, width}
+use Rattle.oim_write.specs.Rank.{digits_up_to, width}
 
 up_to_any : (j k n : ℕ) → n ≤ j → n ≤ k → digits_up_to j n ≡ digits_up_to k n
 unfolding digits_up_to
@@ -28,11 +28,6 @@ width_large zero h = absurd (omega arith)
 width_large (suc n) h =
     let large : nat_lt (suc n) 10 ≡ false = grind (arith, nat_tests) in
     cond-false _ 1 _ large ∙ ap suc (up_to_any n (suc n / 10) (suc n / 10) (omega arith) (omega arith))
-
-pub padded_more : (w n : ℕ) → (w ≡ 0 → ⊥) → padded w n ≡ padded (w - 1) (n / 10) ++ (48 + n % 10) ∷ []
-unfolding padded
-padded_more zero n h = absurd (h refl)
-padded_more (suc w) n h = let e : suc w - 1 ≡ w = omega arith in rw e refl
 
 pub fewer_digits : (room n : ℕ) → 10 ≤ n → n < 10 ^ room → (2 ≤ room) × (n / 10 < 10 ^ (room - 1))
 fewer_digits zero n many fits = absurd (omega (arith, pow-zero 10))

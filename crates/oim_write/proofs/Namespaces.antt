@@ -1,5 +1,6 @@
 -- If facts fit a sheet, the URIs of their names are namespaces.
 use Rattle.std.proofs.Common.{[], ◌∷◌, ◌++◌, Option, Some, None, ⊎_elim, subst}
+use Rattle.std.proofs.lemmas.List.Elements.{All-contains}
 use Rattle.std.specs.Prelude.{All, Contains, flat_map}
 use Rattle.oim_names.specs.QName.{QName}
 use Rattle.oim_value.specs.declared.value.Value.{Value}
@@ -11,7 +12,7 @@ use Rattle.oim_dims.specs.declared.member.Member.TheVariants.{Nil as NoMember, T
 use Rattle.fact_base.specs.Body.{Body}
 use Rattle.fact_base.specs.Fits.{Fits}
 use Rattle.fact_base.specs.Passed.{ConceptKind, DimensionFits, DimensionKind, EntityFits, Explicit, FactFits, FitsName, IsNamespace, MemberFits, Name, Numeric, Sheet, Text, Typed, UnitFits, ValueFits}
-use Rattle.fact_base.proofs.Members.{each_by_there, each_there, first_or_later, from_map, in_flat_map, in_one_of_both, none_there}
+use Rattle.fact_base.proofs.Members.{each_by_there, first_or_later, from_map, in_flat_map, in_one_of_both, none_there}
 use Rattle.oim_write.specs.Uris.{defined_names, dimension_names, entity_names, fact_names, unit_names, uris, value_names}
 use Rattle.oim_write.proofs.UrisOfFacts.{uris_are_set}
 
@@ -27,7 +28,7 @@ entity_allowed (Some e) fits n at = only e n fits.scheme at
 
 unit_allowed : (kind : ConceptKind) (m : Option Measures) → UnitFits kind m → (n : QName) → Contains (unit_names m) n → Allowed n
 unit_allowed kind None fits n at = none_there n at
-unit_allowed kind (Some m) fits n at = ⊎_elim (λ l. (each_there FitsName m.numerators n fits.numerators l).namespace) (λ r. (each_there FitsName m.denominators n fits.denominators r).namespace) ((in_one_of_both m.numerators m.denominators n).0 at)
+unit_allowed kind (Some m) fits n at = ⊎_elim (λ l. (All-contains FitsName m.numerators n fits.numerators l).namespace) (λ r. (All-contains FitsName m.denominators n fits.denominators r).namespace) ((in_one_of_both m.numerators m.denominators n).0 at)
 
 member_allowed : (kind : DimensionKind) (m : Member) → MemberFits kind m → (e n : QName) → Allowed e → Contains (defined_names (e, m)) n → Allowed n
 member_allowed kind NoMember fits e n own at = only e n own at
@@ -55,7 +56,7 @@ dimensions_allowed sheet f fits n at =
     (λ last.
     let some = (in_flat_map defined_names d.members n).0 last in
     let e = some.1 in
-    let here = each_there (DimensionFits sheet) d.members e fits.members (some.0, some.2, some.3) in
+    let here = All-contains (DimensionFits sheet) d.members e fits.members (some.0, some.2, some.3) in
     member_allowed here.kind e.1 here.member e.0 n here.name.namespace some.4)
     ((in_one_of_both unit defined n).0 further))
     ((in_one_of_both entity (unit ++ defined) n).0 rest))
@@ -68,4 +69,4 @@ pub uris_are_namespaces : (sheet : Sheet) (b : Body) → Fits sheet b → All Is
 uris_are_namespaces sheet b fits = each_by_there IsNamespace (uris b.facts) (λ u at.
     let named = from_map (λ n. n.uri) (flat_map fact_names b.facts) u (((uris_are_set b.facts).members u).0 at) in
     let some = (in_flat_map fact_names b.facts named.0).0 named.1.0 in
-    subst IsNamespace named.1.1 (fact_allowed sheet some.1 (each_there (FactFits sheet) b.facts some.1 fits.facts (some.0, some.2, some.3)) named.0 some.4))
+    subst IsNamespace named.1.1 (fact_allowed sheet some.1 (All-contains (FactFits sheet) b.facts some.1 fits.facts (some.0, some.2, some.3)) named.0 some.4))

@@ -1,5 +1,5 @@
 -- Lemmas for callers that push a text to a sink in parts.
-use Rattle.std.proofs.Common.{◌≡◌, ℕ, ◌+◌, ◌-◌, ◌^◌, ◌≤◌, List, [], ◌++◌, Option, Result, Ok, Err, IfErr, length, take, drop, refl, sym, ap, ◌∙◌, append_assoc, append-nil, add-zero, zero-add, arith, length-append, length-take-le, take-append-drop}
+use Rattle.std.proofs.Common.{◌≡◌, ℕ, ◌+◌, List, [], ◌++◌, Option, Result, Ok, Err, IfErr, length, take, drop, refl, sym, ap, ◌∙◌, append_assoc, append-nil, add-zero, zero-add, arith, length-append, length-take-le, take-append-drop}
 use Rattle.std.specs.Prelude.{OnOk, is_err, false}
 use Rattle.std.specs.Io.KnownBytes.{Appends}
 use Rattle.std.proofs.KnownBytes.{Appends-nil, Appends-trans}
@@ -73,15 +73,6 @@ Passes-waiting a p text = record {
   whole = refl;
   appended = Appends-nil a;
   count = ap saturated (sym (add-zero p.written));
-}
-
-pub Breaks-none : (a : Option (List ℕ)) (p : Pending) (text : List ℕ) → p.written ≤ 2 ^ 64 - 1 → Breaks a a p text p.written
-Breaks-none a p text small = record {
-  front = [];
-  rest = p.bytes ++ text;
-  whole = refl;
-  appended = Appends-nil a;
-  count = omega arith;
 }
 
 pub Breaks-first : (a b : Option (List ℕ)) (p : Pending) (n : ℕ) → AppendsFirst a b p.bytes n → Breaks a b p [] (saturated (p.written + n))

@@ -6,7 +6,7 @@ use Rattle.std.specs.Cmp.Lexicographic.{slice_cmp}
 use Rattle.std.specs.Ordering.{nat_cmp}
 use Rattle.std.specs.declared.cmp.Ordering.TheVariants.{Less}
 use Rattle.std.proofs.lemmas.Cmp.{nat_list_cmp_total}
-use Rattle.std.proofs.lemmas.List.Elements.{All-head, All-tail}
+use Rattle.std.proofs.lemmas.List.Elements.{All-contains, All-head, All-tail}
 use Rattle.std.proofs.lemmas.Str.{IsUtf8-from_is_utf8}
 use Rattle.json.proofs.Printed.Utf8.{IsUtf8-are_ascii}
 use Rattle.serde_json.specs.Data.{Data, string, array, object, Items, Members, no_members, member, depth, items_depth, members_depth}
@@ -18,7 +18,7 @@ use Rattle.oim_dims.specs.declared.fact.Fact.{Fact}
 use Rattle.oim_dims.proofs.Orders.{fact_cmp_total}
 use Rattle.fact_base.specs.Body.{text_cmp}
 use Rattle.fact_base.specs.Passed.{FactFits, HasUtf8, IsBefore, IsKeptReference, IsNamespace, IsPlain, IsSet, ItemsArePlain, ItemsHaveUtf8, MembersArePlain, MembersHaveUtf8, Sheet, fact_object}
-use Rattle.fact_base.proofs.Members.{each_by_there, each_there}
+use Rattle.fact_base.proofs.Members.{each_by_there}
 use Rattle.fact_base.proofs.Passed.{fact_plain}
 use Rattle.oim_write.specs.Bytes.{TreesArePlain}
 use Rattle.oim_write.specs.Prefixes.{bindings_of}
@@ -120,7 +120,7 @@ namespaces_kept : (declared : Option Level) (us : List (List ℕ)) → IsSet tex
 namespaces_kept declared us rises utf8 =
     object_kept _ 0 (members_kept (prefix us) string (xbrl_member declared) 0 us (numbered_rise nat_list_cmp_total 110 us rises) (λ u. numbered_utf8 110 text_cmp u us (omega arith))
     (prefix_before declared us) (xbrl_kept declared 0)
-    (each_by_there _ us (λ u at. text_kept u 0 (each_there IsUtf8 us u utf8 at))))
+    (each_by_there _ us (λ u at. text_kept u 0 (All-contains IsUtf8 us u utf8 at))))
 
 info_kept : (declared : Option Level) (us references : List (List ℕ)) → IsSet text_cmp us → All IsUtf8 us → All IsUtf8 references → IsKept (info_object declared us references) 2
 info_kept declared us references rises utf8 texts =
@@ -135,14 +135,14 @@ facts_kept sheet facts rises fit =
     object_kept _ 2 (members_kept (identifier facts) (fact_object (name_text (uris facts))) no_members 2 facts (numbered_rise fact_cmp_total 102 facts rises) (λ f. numbered_utf8 102 fact_cmp f facts (omega arith))
     (λ f. tt) (none_kept 2)
     (each_by_there (λ f. IsKept (fact_object (name_text (uris facts)) f) 2) facts (λ f at.
-    let plain = fact_plain sheet (bindings_of (uris facts)) (name_text (uris facts)) f (each_there (FactFits sheet) facts f fit at) (facts_are_spelled facts f at) in
+    let plain = fact_plain sheet (bindings_of (uris facts)) (name_text (uris facts)) f (All-contains (FactFits sheet) facts f fit at) (facts_are_spelled facts f at) in
     record { plain = plain.plain; utf8 = plain.utf8; shallow = plain.shallow })))
 
 pub trees_are_plain : TreesArePlain
 trees_are_plain sheet b declared fits =
     let us = uris b.facts in
-    let utf8 : All IsUtf8 us = each_by_there IsUtf8 us (λ u at. (each_there IsNamespace us u (uris_are_namespaces sheet b fits) at).utf8) in
-    let texts : All IsUtf8 b.references = each_by_there IsUtf8 b.references (λ r at. IsUtf8-from_is_utf8 r (each_there IsKeptReference b.references r fits.references at).utf8) in
+    let utf8 : All IsUtf8 us = each_by_there IsUtf8 us (λ u at. (All-contains IsNamespace us u (uris_are_namespaces sheet b fits) at).utf8) in
+    let texts : All IsUtf8 b.references = each_by_there IsUtf8 b.references (λ r at. IsUtf8-from_is_utf8 r (All-contains IsKeptReference b.references r fits.references at).utf8) in
     let kept = object_kept _ 3 (
     one_more (codes "documentInfo") _ _ 3 (refl, tt) (IsUtf8-are_ascii _ refl) (deeper _ 2 (info_kept declared us b.references (uris_rise b.facts) utf8 texts)) (
     one_more (codes "facts") _ _ 3 tt (IsUtf8-are_ascii _ refl) (facts_kept sheet b.facts fits.rises.facts fits.facts) (none_kept 3))) in

@@ -10,8 +10,8 @@ use Rattle.oim_names.proofs.Bytes.{same_bytes}
 use Rattle.fact_base.specs.Body.{text_cmp}
 use Rattle.fact_base.specs.Passed.{IsSet}
 use Rattle.fact_base.specs.Sets.{set_of}
-use Rattle.fact_base.proofs.Members.{first_or_later, in_one_of_both, none_there}
-use Rattle.fact_base.proofs.Sets.{same_sets, set_of_is_set}
+use Rattle.fact_base.proofs.Members.{in_one_of_both, none_there}
+use Rattle.fact_base.proofs.Sets.{set_of_is_set}
 use Rattle.fact_base.proofs.TextOrder.{text_cmp_exact, text_cmp_total}
 use Rattle.oim_write.specs.Uris.{uris_of_names}
 use Rattle.oim_write.specs.code.Table.{Gains}
@@ -20,11 +20,6 @@ use Rattle.oim_write.specs.code.Table.{Gains}
 
 pub gains_none : (us : List (List ℕ)) → Gains us [] us
 gains_none us = record { members = λ u. (λ old. inl old, ⊎_elim (λ old. old) (none_there u)) }
-
-pub gains_known : (us : List (List ℕ)) (n : QName) → Contains us n.uri → Gains us (n ∷ []) us
-gains_known us n there = record {
-  members = λ u. (λ old. inl old, ⊎_elim (λ old. old) (λ one. ⊎_elim (λ is. subst (Contains us) is there) (none_there u) (first_or_later n.uri [] u one)));
-}
 
 pub gains_both : {a b c : List (List ℕ)} {ns ms : List QName} → Gains a ns b → Gains b ms c → Gains a (ns ++ ms) c
 gains_both {a} {b} {c} {ns} {ms} first second = record {
@@ -83,9 +78,6 @@ told_there us i known u false is within there = tt
 
 pub set_rises : (us : List (List ℕ)) → IsSet text_cmp (set_of text_cmp us)
 set_rises us = (set_of_is_set text_cmp_total text_cmp_exact us).rises
-
-pub set_of_set : (us : List (List ℕ)) → set_of text_cmp (set_of text_cmp us) ≡ set_of text_cmp us
-set_of_set us = same_sets text_cmp_total text_cmp_exact (set_of text_cmp us) us (set_of_is_set text_cmp_total text_cmp_exact us).members
 
 pub none_in_set : set_of text_cmp [] ≡ []
 unfolding set_of

@@ -56,9 +56,7 @@ pub fn verdict_rows<S: Sink>(
     ensures err { IfErr result (VerdictRowsStop format sheet.now reports.now (S.told out.old) (S.told out.new)) }
     ensures failures { S.failures out.new ≡ failures_after_run result (S.failures out.old) }
 {
-    let Ok(Merged { base, refusals }) = Merged::of(alloc, sheet, reports) else {
-        return Err(Fault::OutOfMemory(0));
-    };
+    let Merged { base, refusals } = Merged::of(alloc, sheet, reports)?;
     write_verdicts(alloc, &base, refusals, &format, out)
 }
 
@@ -76,9 +74,7 @@ pub fn finish_rows<S: Sink>(
     ensures err { IfErr result (RowsStop format consolidation.entry.body (S.told out.old) (S.told out.new)) }
     ensures failures { S.failures out.new ≡ failures_after_run result (S.failures out.old) }
 {
-    let Ok(Merged { base, refusals }) = consolidation.into_merged() else {
-        return Err(Fault::OutOfMemory(0));
-    };
+    let Merged { base, refusals } = consolidation.into_merged()?;
     write_verdicts(alloc, &base, refusals, &format, out)
 }
 
@@ -96,9 +92,7 @@ pub fn finish_rows_last<S: Sink>(
     ensures err { IfErr result (RowsStop format consolidation.entry.body (S.told out.old) (S.told out.new)) }
     ensures failures { S.failures out.new ≡ failures_after_run result (S.failures out.old) }
 {
-    let Ok(Merged { base, refusals }) = consolidation.into_merged() else {
-        return Err(Fault::OutOfMemory(0));
-    };
+    let Merged { base, refusals } = consolidation.into_merged()?;
     let written = write_verdicts(alloc, &base, refusals, &format, out);
     mem::forget(base);
     written

@@ -54,16 +54,10 @@ pub fn write_sources<S: Sink, F: SourceFormat>(
     ensures err { IfErr result (AppendingStops (F.header format.now) (F.source_text format.now) sheet.now reports.now (S.told out.old) (S.told out.new)) }
     ensures failures { S.failures out.new ≡ failures_after_run result (S.failures out.old) }
 {
-    let Ok(Merged { base, refusals }) = Merged::of(alloc, sheet, reports) else {
-        return Err(Fault::OutOfMemory(0));
-    };
-    let Ok(mentions) = mentions_by_fact(alloc, &base, reports) else {
-        return Err(Fault::OutOfMemory(0));
-    };
-    match write_all(alloc, base.fact_count(), mentions.as_slice(), format, out) {
-        Ok(()) => Ok(refusals),
-        Err(fault) => Err(Fault::from(fault)),
-    }
+    let Merged { base, refusals } = Merged::of(alloc, sheet, reports)?;
+    let mentions = mentions_by_fact(alloc, &base, reports)?;
+    write_all(alloc, base.fact_count(), mentions.as_slice(), format, out)?;
+    Ok(refusals)
 }
 
 // `count` is the number of facts in the base.

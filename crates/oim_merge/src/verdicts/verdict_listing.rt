@@ -33,10 +33,7 @@ pub fn verdict_lines<S: Sink>(
     ensures err { IfErr result (ListingStops sheet.now reports.now (S.told out.old) (S.told out.new)) }
     ensures failures { S.failures out.new ≡ failures_after_run result (S.failures out.old) }
 {
-    let Ok(consolidation) = Consolidation::of(alloc, sheet, reports) else {
-        return Err(Fault::OutOfMemory(0));
-    };
-    consolidation.finish_lines(out)
+    Consolidation::of(alloc, sheet, reports)?.finish_lines(out)
 }
 
 /// Appends the header and the rows of a base to the sink in this format, and returns `refusals`
@@ -55,10 +52,8 @@ pub fn write_verdicts<S: Sink, F: VerdictFormat>(
     ensures err { IfErr result (ListStops (F.header format.now) (F.row_text format.now) base.now.body (S.told out.old) (S.told out.new)) }
     ensures failures { S.failures out.new ≡ failures_after_run result (S.failures out.old) }
 {
-    match write_all(alloc, base, format, out) {
-        Ok(()) => Ok(refusals),
-        Err(fault) => Err(Fault::from(fault)),
-    }
+    write_all(alloc, base, format, out)?;
+    Ok(refusals)
 }
 
 fn write_all<S: Sink, F: VerdictFormat>(

@@ -1,8 +1,8 @@
 use Rattle.std.proofs.Common.{◌≡◌, ◌≤◌, length, take, vec_capacity}
 use Rattle.fact_base.proofs.references.copies_of.Given as goal
 
-abbrev pub invariant-loop-text : goal.invariant-loop-text
-invariant-loop-text l = record {
-  copied : l.copies.items ≡ take l.text-index l.texts;
-  room : length l.texts ≤ vec_capacity l.copies;
+abbrev pub invariant-loop-item : goal.invariant-loop-item
+invariant-loop-item g l = record {
+  copied : l.copies.items ≡ take l.item-index l.items;
+  room : length l.items ≤ vec_capacity l.copies;
 }

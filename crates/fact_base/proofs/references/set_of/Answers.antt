@@ -1,13 +1,9 @@
-use Rattle.std.proofs.Common.{arith, subst, ◌∙◌}
-use Rattle.std.specs.Prelude.{IsPermutation}
-use Rattle.std.proofs.lemmas.List.Filters.{dedup_is}
-use Rattle.fact_base.proofs.Stored.{sorted_rises, sorted_set}
+use Rattle.std.proofs.Common.{arith, subst, sym}
+use Rattle.merge_laws.specs.Sorted.{IsSet}
+use Rattle.fact_base.specs.Body.{text_cmp}
+use Rattle.fact_base.proofs.Sets.{set_of_is_set}
+use Rattle.fact_base.proofs.TextOrder.{text_cmp_exact, text_cmp_total}
 use Rattle.fact_base.proofs.references.set_of.Goals as goal
 
 pub of_rising-requires : goal.of_rising-requires
-of_rising-requires c = (omega arith, sorted_rises c.sort_unstable.new.self.items c.dedup.new.self.items c.sort_unstable.ensures.sorted (dedup_is _ _ _ c.dedup.ensures.filtered))
-
-pub returns : goal.returns
-returns c =
-    let moved = subst (λ ts. IsPermutation ts c.sort_unstable.new.self.items) c.in_ok-items.ensures c.sort_unstable.ensures.permutation in
-    c.of_rising.ensures ∙ sorted_set c.args.texts.now c.sort_unstable.new.self.items c.dedup.new.self.items moved c.sort_unstable.ensures.sorted (dedup_is _ _ _ c.dedup.ensures.filtered)
+of_rising-requires c = (omega arith, subst (IsSet text_cmp) (sym c.in_ok-put_in_order.ensures.ok) (set_of_is_set text_cmp_total text_cmp_exact c.in_ok-items.items.items).rises)

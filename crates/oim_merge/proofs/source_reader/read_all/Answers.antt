@@ -1,8 +1,16 @@
-use Rattle.std.proofs.Common.{take, ap, ◌∙◌, rules, length-take-le}
+use Rattle.std.proofs.Common.{◌≡◌, ℕ, ◌+◌, List, Option, ◌++◌, take, drop, sym, ap, subst, ◌∙◌, rules, length-take-le}
+use Rattle.std.proofs.Math.Seq.{take-add}
+use Rattle.std.specs.Io.KnownBytes.{Consumes}
 use Rattle.std.proofs.lemmas.List.{with_items_is, places}
-use Rattle.std.proofs.KnownBytes.{Consumes-kept}
-use Rattle.oim_merge.proofs.Filling.{Consumes-more}
+use Rattle.std.proofs.KnownBytes.{Consumes-kept, Consumes-trans}
 use Rattle.oim_merge.proofs.source_reader.read_all.Goals as goal
+
+-- if one call consumed the first i bytes of the buffer and the next call n more, together they consumed the first i + n bytes
+Consumes-more : (a b c : Option (List ℕ)) (xs ys : List ℕ) (i n : ℕ) → take i ys ≡ take i xs
+    → Consumes a b (take i xs) → Consumes b c (take n (drop i ys)) → Consumes a c (take (i + n) ys)
+Consumes-more a b c xs ys i n front before read =
+    subst (Consumes a c) (sym (take-add i n ys ∙ ap (λ l. l ++ take n (drop i ys)) front))
+    (Consumes-trans a b c (take i xs) (take n (drop i ys)) before read)
 
 pub loop-filled-preserved : goal.loop-filled-preserved
 loop-filled-preserved g c =

@@ -1,8 +1,8 @@
 use Rattle.std.proofs.Common.{map, sym, ap, subst, ◌∙◌, arith}
+use Rattle.std.proofs.lemmas.List.{take_all}
 use Rattle.oim_names.specs.Bindings.{bound}
 use Rattle.fact_base.specs.Body.{text_cmp}
 use Rattle.fact_base.specs.Passed.{IsSet}
-use Rattle.fact_base.proofs.Members.{to_the_end}
 use Rattle.oim_write.specs.Prefixes.{bindings_of}
 use Rattle.oim_write.specs.Tree.{prefix}
 use Rattle.oim_write.proofs.LabelTexts.{bound_more}
@@ -20,5 +20,5 @@ pub returns : goal.returns
 returns c =
     let us = c.uris-uri-items.result.now in
     c.loop-uri.invariant
-    ∙ ap (map (λ u. record { prefix = prefix us u; uri = u })) (to_the_end us c.loop-uri.uri-index (omega arith))
+    ∙ ap (map (λ u. record { prefix = prefix us u; uri = u })) (take_all c.loop-uri.uri-index us (omega arith))
     ∙ ap bindings_of (c.uris-uri-items.ensures ∙ c.in_ok-table.ensures)

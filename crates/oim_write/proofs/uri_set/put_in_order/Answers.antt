@@ -1,6 +1,10 @@
+use Rattle.std.proofs.Common.{sym}
+use Rattle.std.proofs.lemmas.Cmp.{nat_list_eq_equiv}
 use Rattle.std.proofs.lemmas.List.Filters.{dedup_is}
-use Rattle.fact_base.proofs.Stored.{sorted_set}
+use Rattle.std.proofs.lemmas.Map.Text.{is_eq-slice_cmp}
+use Rattle.fact_base.proofs.Gathers.{sorted_once}
+use Rattle.fact_base.proofs.TextOrder.{text_cmp_exact, text_cmp_total}
 use Rattle.oim_write.proofs.uri_set.put_in_order.Goals as goal
 
 pub returns : goal.returns
-returns c = sorted_set c.args.texts.now.items c.sort_unstable.new.self.items c.dedup.new.self.items c.sort_unstable.ensures.permutation c.sort_unstable.ensures.sorted (dedup_is _ _ _ c.dedup.ensures.filtered)
+returns c = sorted_once text_cmp_total text_cmp_exact nat_list_eq_equiv (λ x y. sym (is_eq-slice_cmp x y)) c.args.texts.now.items c.sort_unstable.new.self.items c.dedup.new.self.items c.sort_unstable.ensures.permutation c.sort_unstable.ensures.sorted (dedup_is _ _ _ c.dedup.ensures.filtered)

@@ -7,20 +7,17 @@ use Rattle.fact_base.specs.Entries.{facts_of_entries}
 use Rattle.fact_base.proofs.Derived.{union_is}
 use Rattle.fact_base.proofs.Stored.{Leaves, take_leaves}
 
-pub invariant_of-self-2 : goal.invariant_of-self-2
-invariant_of-self-2 c =
-    let leaves : Leaves c.self.inside.sheet.now c.absorb.new.self c.replace.new.references (union (record { facts = facts_of_entries c.self.inside.entries; references = c.self.inside.references }) (body (c.args.report.document ∷ []))) =
+leaves : (c : goal.After-replace) → Leaves c.self.inside.sheet.now c.absorb.new.self c.replace.new.references (union (record { facts = facts_of_entries c.self.inside.entries; references = c.self.inside.references }) (body (c.args.report.document ∷ [])))
+leaves c =
     take_leaves c.self.inside.sheet.now c.args.report.sheet c.self.inside.entries c.in_ok-moved.moved c.absorb.new.self c.self.inside.references c.taxonomy.result.now c.replace.new.references c.into_facts-facts.result.0.items c.args.report.document
     c.self.invariant (c.requires ∙ sym (ap (λ (b : Contents). b.sheet) c.self.view_is)) c.known.ensures.facts c.known.ensures.references c.into_facts-facts.ensures.facts c.in_ok-moved.ensures
-    ((c.in_ok-absorb.ensures).ok ∙ union_is c.self.inside.entries c.in_ok-moved.moved) c.taxonomy.ensures (c.replace.ensures ∙ c.in_ok-wider.ensures) in
-    leaves.stored
+    ((c.in_ok-absorb.ensures).ok ∙ union_is c.self.inside.entries c.in_ok-moved.moved) c.taxonomy.ensures (c.replace.ensures ∙ c.in_ok-wider.ensures)
+
+pub invariant_of-self-2 : goal.invariant_of-self-2
+invariant_of-self-2 c = (leaves c).stored
 
 pub returns-clause-ok : goal.returns-clause-ok
 returns-clause-ok c =
-    let leaves : Leaves c.self.inside.sheet.now c.absorb.new.self c.replace.new.references (union (record { facts = facts_of_entries c.self.inside.entries; references = c.self.inside.references }) (body (c.args.report.document ∷ []))) =
-    take_leaves c.self.inside.sheet.now c.args.report.sheet c.self.inside.entries c.in_ok-moved.moved c.absorb.new.self c.self.inside.references c.taxonomy.result.now c.replace.new.references c.into_facts-facts.result.0.items c.args.report.document
-    c.self.invariant (c.requires ∙ sym (ap (λ (b : Contents). b.sheet) c.self.view_is)) c.known.ensures.facts c.known.ensures.references c.into_facts-facts.ensures.facts c.in_ok-moved.ensures
-    ((c.in_ok-absorb.ensures).ok ∙ union_is c.self.inside.entries c.in_ok-moved.moved) c.taxonomy.ensures (c.replace.ensures ∙ c.in_ok-wider.ensures) in
     let sheet : c.self.inside.sheet.now ≡ c.args.self.now.sheet = ap (λ (b : Contents). b.sheet) c.self.view_is in
-    let all = leaves.body ∙ ap (λ b. union b (body (c.args.report.document ∷ []))) (ap (λ (b : Contents). b.body) c.self.view_is) in
+    let all = (leaves c).body ∙ ap (λ b. union b (body (c.args.report.document ∷ []))) (ap (λ (b : Contents). b.body) c.self.view_is) in
     λ i. record { sheet = sheet i; body = all i }

@@ -1,11 +1,11 @@
-use Rattle.std.proofs.Common.{◌≡◌}
+use Rattle.std.proofs.Common.{◌≡◌, refl}
 use Rattle.fact_base.specs.Rows.{rows_of}
 use Rattle.fact_base.proofs.base.Base.same_as.Goals as goal
 use Rattle.std.proofs.Common.{sym, ap, ◌∙◌}
 use mathlib.Core.Bool.{true≢false}
 use Rattle.fact_base.specs.Body.{Body}
 use Rattle.fact_base.specs.Contents.{Contents}
-use Rattle.fact_base.proofs.Walks.{equal_texts, rows_stored, same_facts, texts_equal}
+use Rattle.fact_base.proofs.Walks.{equal_texts, rows_stored, same_facts}
 use lib.Pointwise.{pointwise}
 use Rattle.std.specs.Str.{bytes_eq}
 
@@ -15,11 +15,11 @@ returns-then-same_rows c =
     let theirs = ap (λ (b : Contents). b.body.facts) c.other.view_is in
     let facts : c.args.self.now.body.facts ≡ c.args.other.now.body.facts = sym mine ∙ same_facts c.self.inside.entries c.other.inside.entries (c.same_rows.ensures.0 c.if-same_rows.true) ∙ theirs in (
       λ h.
-          let texts : c.args.self.now.body.references ≡ c.args.other.now.body.references = sym c.taxonomy.ensures ∙ texts_equal c.taxonomy.result.now c.taxonomy-then-same_rows.result.now (sym c.eq.ensures ∙ h) ∙ c.taxonomy-then-same_rows.ensures in
+          let texts : c.args.self.now.body.references ≡ c.args.other.now.body.references = sym c.taxonomy.ensures ∙ (equal_texts c.taxonomy.result.now c.taxonomy-then-same_rows.result.now).0 (sym c.eq.ensures ∙ h) ∙ c.taxonomy-then-same_rows.ensures in
           λ i. record { facts = facts i; references = texts i },
       λ h.
           let texts = c.taxonomy.ensures ∙ ap (λ (b : Body). b.references) h ∙ sym c.taxonomy-then-same_rows.ensures in
-          c.eq.ensures ∙ ap (λ xs. pointwise bytes_eq xs c.taxonomy-then-same_rows.result.now) texts ∙ equal_texts c.taxonomy-then-same_rows.result.now,
+          c.eq.ensures ∙ ap (λ xs. pointwise bytes_eq xs c.taxonomy-then-same_rows.result.now) texts ∙ (equal_texts c.taxonomy-then-same_rows.result.now c.taxonomy-then-same_rows.result.now).1 refl,
     )
 
 pub returns-else-same_rows : goal.returns-else-same_rows

@@ -1,28 +1,32 @@
-use Rattle.std.proofs.Common.{◌++◌, sym, ap, subst, ◌∙◌}
+use Rattle.std.proofs.Common.{◌++◌, ap, rules, subst, ◌∙◌}
 use Rattle.std.specs.Io.KnownBytes.{Appends}
+use Rattle.std.proofs.lemmas.Result.{err_from_is_err_and}
 use Rattle.oim_write.specs.Sink.{AppendsFront, written_of}
-use Rattle.oim_merge.specs.SourceListing.{AppendingStops}
 use Rattle.oim_merge.proofs.SourceTexts.{merged_sources, stops_at}
 use Rattle.oim_merge.proofs.sources.source_listing.write_sources.Goals as goal
 
-pub returns-in-Ok-write_all-clause-ok : goal.returns-in-Ok-write_all-clause-ok
-returns-in-Ok-write_all-clause-ok g c =
-    let told = g.S.Sink.told in
-    let header = g.F.SourceFormat.header c.args.format.now in
-    let whole = ap (λ t. header ++ t) (merged_sources (g.F.SourceFormat.source_text c.args.format.now) c.args.sheet.now c.args.reports.now c.in-Ok.field-0.base c.fact_count.result c.as_slice.result.now
-    c.in-Ok.ensures.base c.fact_count.ensures (c.as_slice.ensures.value ∙ c.in-Ok-mentions_by_fact.ensures)) in
-    record {
-      refusals_are = c.in-Ok.ensures.refusals;
-      appended = subst (Appends (told c.args.out.now) (told c.write_all.new.out)) whole c.in-Ok-write_all.ensures.ok;
-    }
+pub returns-in_err-mentions-clause-err : goal.returns-in_err-mentions-clause-err
+returns-in_err-mentions-clause-err g c =
+    let p = err_from_is_err_and c.from_residual-in_err-mentions.result c.from_residual-in_err-mentions.ensures.1 in rw (p.1, p.2) (search rules)
 
-pub returns-clause-err : goal.returns-clause-err
-returns-clause-err g c =
+pub returns-in_err-write_all-clause-err : goal.returns-in_err-write_all-clause-err
+returns-in_err-write_all-clause-err g c =
     let told = g.S.Sink.told in
     let header = g.F.SourceFormat.header c.args.format.now in
     let written = g.F.SourceFormat.source_text c.args.format.now in
-    let whole = ap (λ t. header ++ t) (merged_sources written c.args.sheet.now c.args.reports.now c.in-Ok.field-0.base c.fact_count.result c.as_slice.result.now
-    c.in-Ok.ensures.base c.fact_count.ensures (c.as_slice.ensures.value ∙ c.in-Ok-mentions_by_fact.ensures)) in
-    subst (AppendingStops header written c.args.sheet.now c.args.reports.now (told c.args.out.now) (told c.write_all.new.out)) (sym c.from.ensures)
-    (stops_at header written c.args.sheet.now c.args.reports.now c.in-Err.fault
-    (subst (λ text. AppendsFront (told c.args.out.now) (told c.write_all.new.out) text (written_of c.in-Err.fault)) whole c.in-Err.ensures.err))
+    let whole = ap (λ t. header ++ t) (merged_sources written c.args.sheet.now c.args.reports.now c.in_ok-base.field-0.base c.fact_count.result c.as_slice.result.now
+    c.in_ok-base.ensures.base c.fact_count.ensures (c.as_slice.ensures.value ∙ c.in_ok-mentions.ensures)) in
+    let p = err_from_is_err_and c.from_residual-in_err-write_all.result c.from_residual-in_err-write_all.ensures.1 in rw (p.1, p.2)
+    (stops_at header written c.args.sheet.now c.args.reports.now c.in_err-write_all.field-0.0
+    (subst (λ text. AppendsFront (told c.args.out.now) (told c.write_all.new.out) text (written_of c.in_err-write_all.field-0.0)) whole c.in_err-write_all.ensures.err))
+
+pub returns-clause-ok : goal.returns-clause-ok
+returns-clause-ok g c =
+    let told = g.S.Sink.told in
+    let header = g.F.SourceFormat.header c.args.format.now in
+    let whole = ap (λ t. header ++ t) (merged_sources (g.F.SourceFormat.source_text c.args.format.now) c.args.sheet.now c.args.reports.now c.in_ok-base.field-0.base c.fact_count.result c.as_slice.result.now
+    c.in_ok-base.ensures.base c.fact_count.ensures (c.as_slice.ensures.value ∙ c.in_ok-mentions.ensures)) in
+    record {
+      refusals_are = c.in_ok-base.ensures.refusals;
+      appended = subst (Appends (told c.args.out.now) (told c.write_all.new.out)) whole c.in_ok-write_all.ensures.ok;
+    }
