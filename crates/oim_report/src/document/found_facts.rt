@@ -82,7 +82,7 @@ fn put(found: &mut BTreeMap<String, Fact>, identifier: String, fact: Fact) -> bo
 fn facts_of(alloc: Global, found: BTreeMap<String, Fact>) -> Option<Vec<Fact>>
     ensures { IfSome result (λ facts. facts.items ≡ map (λ e. e.1) found.entries) }
 {
-    let mut facts = Vec::new(alloc);
+    let mut facts = Vec::with_capacity(alloc, found.len()).ok()?;
     for (_identifier, fact) in found {
         facts.push(fact).ok()?;
     }

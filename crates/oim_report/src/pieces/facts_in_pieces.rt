@@ -50,8 +50,8 @@ fn read_objects(
     ensures found { IfSome result (λ f. AreFound reader.old.sheet reader.old.aliases
         (members_view objects.entries) f.identifiers.items f.facts.items) }
 {
-    let mut identifiers = Vec::new(alloc);
-    let mut facts = Vec::new(alloc);
+    let mut identifiers = Vec::with_capacity(alloc, objects.len()).ok()?;
+    let mut facts = Vec::with_capacity(alloc, objects.len()).ok()?;
     for (identifier, object) in objects {
         let fact = reader.read(&object).ok()?;
         identifiers.push(identifier).ok()?;

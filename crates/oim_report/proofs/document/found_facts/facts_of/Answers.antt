@@ -2,7 +2,9 @@ use Rattle.std.proofs.Common.{rules, ◌≡◌, ◌++◌, ◌∷◌, [], map, sy
 use Rattle.oim_report.proofs.document.found_facts.facts_of.Goals as goal
 
 pub loop-identifier-init : goal.loop-identifier-init
-loop-identifier-init c = ap (λ fs. fs ++ map (λ e. e.1) c.into_iter-identifier-iterator.result) c.new-facts.ensures.items
+loop-identifier-init c =
+    let empty : c.in_ok-facts.facts.items ≡ [] = search rules in
+    ap (λ fs. fs ++ map (λ e. e.1) c.into_iter-identifier-iterator.result) empty
 
 pub loop-identifier-preserved : goal.loop-identifier-preserved
 loop-identifier-preserved c =

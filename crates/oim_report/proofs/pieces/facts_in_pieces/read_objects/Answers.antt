@@ -10,7 +10,10 @@ use Rattle.oim_report.proofs.PiecesInTurn.{append_none}
 use Rattle.oim_report.proofs.pieces.facts_in_pieces.read_objects.Goals as goal
 
 pub loop-identifier-init : goal.loop-identifier-init
-loop-identifier-init c = (no_members, refl, none_found c.args.reader.now.sheet c.args.reader.now.aliases _ _ c.new-identifiers.ensures.items c.new-facts.ensures.items, refl)
+loop-identifier-init c =
+    let identifiers : c.in_ok-identifiers.identifiers.items ≡ [] = search rules in
+    let facts : c.in_ok-facts.facts.items ≡ [] = search rules in
+    (no_members, refl, none_found c.args.reader.now.sheet c.args.reader.now.aliases _ _ identifiers facts, refl)
 
 pub loop-identifier-preserved-in_ok-ok-2-3 : goal.loop-identifier-preserved-in_ok-ok-2-3
 loop-identifier-preserved-in_ok-ok-2-3 c =
