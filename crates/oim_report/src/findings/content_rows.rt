@@ -1,5 +1,5 @@
-//! Finds the part of a fact object that violates a condition on its concept, period, unit, language,
-//! value or decimals.
+//! Finds the part of a fact object to which a condition on its concept, period, unit, language,
+//! value or decimals applies.
 #![tactic(auto, unfolding(crate::specs::Holds::holds, crate::specs::Shown::fact_shown))]
 
 ghost use Rattle.std.specs.Prelude.{◌≡◌, ◌&&◌, ◌||◌, codes, is_none, not, option_and_then, option_map};
