@@ -91,6 +91,7 @@ impl<'a> FactInScope<'_, 'a> {
     }
 }
 
+#[tactic(auto, using(crate::proofs::DefinedRows::colon_utf8))]
 pub(crate) fn is_defined(key: &str) -> bool
     ensures { result ≡ is_defined key.now }
 {
