@@ -101,7 +101,7 @@ module _ (sheet : Sheet) (bs : List Binding) (fact : Data) (ms : Members) (r : R
   abbrev of_unit : List Spelled
   of_unit = map a_name (option_map_or pieces (text_at sheet bs fact ms (codes "unit")) [])
 
-  pub names_parts : first (names sheet bs fact ms) ≡ option_or (first of_concept) (option_or (first of_entity) (option_or (first (names_in sheet bs ms)) (option_or (first of_unit) (first of_value))))
+  names_parts : first (names sheet bs fact ms) ≡ option_or (first of_concept) (option_or (first of_entity) (option_or (first (names_in sheet bs ms)) (option_or (first of_unit) (first of_value))))
   names_parts =
       find-append (refuses r bs) of_concept (of_entity ++ (of_dimensions ++ (of_unit ++ of_value)))
       ∙ ap (option_or (first of_concept))
@@ -117,24 +117,12 @@ module _ (sheet : Sheet) (bs : List Binding) (fact : Data) (ms : Members) (r : R
   either None p = refl
   either (Some n) p = refl
 
-  shown_parts : shown (names sheet bs fact ms) ≡ option_or (shown of_concept) (option_or (shown of_entity) (option_or (shown (names_in sheet bs ms)) (option_or (shown of_unit) (shown of_value))))
+  pub shown_parts : shown (names sheet bs fact ms) ≡ option_or (shown of_concept) (option_or (shown of_entity) (option_or (shown (names_in sheet bs ms)) (option_or (shown of_unit) (shown of_value))))
   shown_parts =
       ap (option_map name) names_parts
       ∙ either (first of_concept) _ ∙ ap (option_or (shown of_concept))
       (either (first of_entity) _ ∙ ap (option_or (shown of_entity))
       (either (first (names_in sheet bs ms)) _ ∙ ap (option_or (shown (names_in sheet bs ms))) (either (first of_unit) (first of_value))))
-
-  pub from_entity : (x : Shown) → None ≡ shown of_concept → Some x ≡ shown of_entity → Some x ≡ shown (names sheet bs fact ms)
-  from_entity x c e = (λ i. option_or (c i) (option_or (e i) (option_or (shown (names_in sheet bs ms)) (option_or (shown of_unit) (shown of_value))))) ∙ sym shown_parts
-
-  pub from_dimensions : (x : Shown) → None ≡ shown of_concept → None ≡ shown of_entity → Some x ≡ shown (names_in sheet bs ms) → Some x ≡ shown (names sheet bs fact ms)
-  from_dimensions x c e d = (λ i. option_or (c i) (option_or (e i) (option_or (d i) (option_or (shown of_unit) (shown of_value))))) ∙ sym shown_parts
-
-  pub from_unit : (x : Shown) → None ≡ shown of_concept → None ≡ shown of_entity → None ≡ shown (names_in sheet bs ms) → Some x ≡ shown of_unit → Some x ≡ shown (names sheet bs fact ms)
-  from_unit x c e d u = (λ i. option_or (c i) (option_or (e i) (option_or (d i) (option_or (u i) (shown of_value))))) ∙ sym shown_parts
-
-  pub from_value : (o : Option Shown) → None ≡ shown of_concept → None ≡ shown of_entity → None ≡ shown (names_in sheet bs ms) → None ≡ shown of_unit → o ≡ shown of_value → o ≡ shown (names sheet bs fact ms)
-  from_value o c e d u v = (λ i. option_or (c i) (option_or (e i) (option_or (d i) (option_or (u i) (v i))))) ∙ sym shown_parts
 
 -- ---- the names of the dimensions, one dimension after another
 

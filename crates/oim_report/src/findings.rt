@@ -1,4 +1,4 @@
-//! Finds the faults of a report, and the part of a report or a sheet that violates a condition.
+//! Finds the faults of a report, and the part of a report or a sheet to which a condition applies.
 
 pub(crate) mod content_rows;
 pub(crate) mod defined_rows;

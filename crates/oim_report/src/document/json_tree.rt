@@ -59,6 +59,7 @@ pub(crate) fn within<'a>(value: &'a Value, outer: &str, key: &str) -> Option<&'a
     value.get(outer)?.get(key)
 }
 
+#[tactic(auto, using(crate::proofs::Filled::filled_members))]
 pub(crate) fn has_member(object: Option<&Map<String, Value>>) -> bool
     ensures { result ≡ has_member (option_map (λ m. members_view m.now.entries) object.entry) }
 {

@@ -96,6 +96,7 @@ pub(crate) fn cached_unit(
     Ok(unit)
 }
 
+#[tactic(auto, using(crate::proofs::TextCacheAdds::still))]
 pub(crate) fn cached_language(
     alloc: Global,
     languages: &mut TextCache<Text>,

@@ -10,6 +10,7 @@ use crate::document::json_tree::within;
 use crate::fact::json_member::JsonMember;
 use serde_json::Value;
 
+#[tactic(auto, using(crate::proofs::DimensionAt::member_within))]
 pub(crate) fn dimension<'a>(object: &'a Value, key: &str) -> Option<&'a Value>
     ensures { option_map (λ v. view v.now) result
         ≡ get_member key.now (members (object_at (codes "dimensions") (view object.now))) }
@@ -17,6 +18,7 @@ pub(crate) fn dimension<'a>(object: &'a Value, key: &str) -> Option<&'a Value>
     within(object, "dimensions", key)
 }
 
+#[tactic(auto, using(crate::proofs::ValueWords::text_same))]
 pub(crate) fn text(value: Option<&Value>) -> Option<&str>
     ensures { option_map (λ t. t.now) result
         ≡ option_and_then as_text (option_map (λ v. view v.now) value.entry) }
@@ -24,6 +26,7 @@ pub(crate) fn text(value: Option<&Value>) -> Option<&str>
     JsonMember::of(value).text()
 }
 
+#[tactic(auto, using(crate::proofs::ValueWords::no_text_same))]
 pub(crate) fn is_no_text(value: Option<&Value>) -> bool
     ensures { result ≡ is_some_and no_text (option_map (λ v. view v.now) value.entry) }
 {

@@ -36,6 +36,7 @@ impl<T> TextCache<T> {
 impl<T: Drop> TextCache<T> {
     /// Adds a text with its meaning. Nothing changes if the cache is full, the text has more than
     /// `MOST_MEANING_BYTES` bytes, or a request for memory is refused.
+    #[tactic(auto, using(crate::proofs::TextCacheAdds::after_insert))]
     pub(crate) fn add(&mut self, text: &str, value: T)
         ensures { Adds self.old text.now value self.new }
     {

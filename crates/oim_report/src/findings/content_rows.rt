@@ -1,5 +1,5 @@
-//! Finds the part of a fact object that violates a condition on its concept, period, unit, language,
-//! value or decimals.
+//! Finds the part of a fact object to which a condition on its concept, period, unit, language,
+//! value or decimals applies.
 #![tactic(auto, unfolding(crate::specs::Holds::holds, crate::specs::Shown::fact_shown))]
 
 ghost use Rattle.std.specs.Prelude.{◌≡◌, ◌&&◌, ◌||◌, codes, is_none, not, option_and_then, option_map};
@@ -157,24 +157,28 @@ impl<'a> FactInScope<'_, 'a> {
     }
 }
 
+#[tactic(auto, using(crate::proofs::ReasonTests::period_form))]
 fn lacks_moment(alloc: Global, text: &str) -> bool
     ensures { result ≡ lacks_moment text.now }
 {
     read_period(alloc, text).err() == Some(Reason::PeriodForm)
 }
 
+#[tactic(auto, using(crate::proofs::ReasonTests::period_order))]
 fn runs_backward(alloc: Global, text: &str) -> bool
     ensures { result ≡ runs_backward text.now }
 {
     read_period(alloc, text).err() == Some(Reason::PeriodOrder)
 }
 
+#[tactic(auto, using(crate::proofs::ReasonTests::number_form))]
 fn is_no_number(text: &str) -> bool
     ensures { result ≡ not (is_number text.now) }
 {
     read_fixed(text).err() == Some(Reason::NumberForm)
 }
 
+#[tactic(auto, using(crate::proofs::ReasonTests::number_digits))]
 fn is_long_number(text: &str) -> bool
     ensures { result ≡ (is_number text.now && not (is_short text.now)) }
 {

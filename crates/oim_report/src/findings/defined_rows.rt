@@ -1,4 +1,4 @@
-//! Finds the first taxonomy-defined dimension in a fact object that violates a condition.
+//! Finds the first taxonomy-defined dimension in a fact object to which a condition applies.
 
 ghost use Rattle.std.specs.Prelude.{◌≡◌, ◌&&◌, [], option_map, IfOk};
 ghost use Rattle.std.specs.Ordering.{is_eq};
@@ -91,6 +91,7 @@ impl<'a> FactInScope<'_, 'a> {
     }
 }
 
+#[tactic(auto, using(crate::proofs::DefinedRows::colon_utf8))]
 pub(crate) fn is_defined(key: &str) -> bool
     ensures { result ≡ is_defined key.now }
 {

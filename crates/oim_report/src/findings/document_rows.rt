@@ -1,5 +1,5 @@
-//! Finds the part of a document that violates a condition on its base URL, its references or its
-//! features.
+//! Finds the part of a document to which a condition on its base URL, its references or its
+//! features applies.
 
 ghost use Rattle.std.specs.Prelude.{◌≡◌, true, option_and_then, option_map, IfOk};
 ghost use Rattle.std.specs.List.{find};

@@ -1,4 +1,4 @@
-//! Finds the part of a fact object that violates a condition on its form.
+//! Finds the part of a fact object to which a condition on its form applies.
 #![tactic(auto, unfolding(crate::specs::Holds::holds, crate::specs::Shown::fact_shown))]
 
 ghost use Rattle.std.specs.Prelude.{◌≡◌, ◌||◌, codes, option_map};

@@ -1,4 +1,4 @@
-//! Finds the first name in a fact object that violates a condition on names. The search does not
+//! Finds the first name in a fact object to which a condition on names applies. The search does not
 //! allocate.
 
 ghost use Rattle.std.specs.Prelude.{◌≡◌, [], codes, if◌then◌else◌, true, map, option_map, option_and_then};
@@ -24,6 +24,7 @@ use oim_names::{Aliases, Reason};
 use serde_json::{Map, Value};
 
 impl<'a> FactInScope<'_, 'a> {
+    #[tactic(auto, using(crate::proofs::DefinedRows::shown_parts))]
     pub(crate) fn refused_name(&self, reason: Reason) -> Option<Part<'a>>
         ensures { let dimensions = members (object_at (codes "dimensions") (view self.now.object.now)) in
             let all = names self.now.sheet.now self.now.aliases.now (view self.now.object.now) dimensions in
@@ -52,6 +53,7 @@ impl<'a> FactInScope<'_, 'a> {
         self.refused_in(object_at(self.object, "dimensions")?, reason)
     }
 
+    #[tactic(auto, using(crate::proofs::DefinedRows::none_before))]
     fn refused_in(&self, dimensions: &'a Map<String, Value>, reason: Reason) -> Option<Part<'a>>
         ensures { let all = names_in self.now.sheet.now self.now.aliases.now (members_view dimensions.now.entries) in
             option_map seen result ≡ option_map name (find (refuses reason self.now.aliases.now) all) }
@@ -109,6 +111,7 @@ fn refused_text<'a>(aliases: &Aliases, value: Option<&'a Value>, reason: Reason)
     }
 }
 
+#[tactic(auto, using(oim_names::proofs::NameTests::told))]
 pub(crate) fn is_refused(aliases: &Aliases, text: &str, reason: Reason) -> bool
     ensures { result ≡ refuses reason aliases.now (a_name text.now) }
 {
@@ -130,6 +133,7 @@ fn refused_entity<'a>(
     }
 }
 
+#[tactic(auto, using(oim_names::proofs::NameTests::told))]
 fn is_refused_entity(aliases: &Aliases, text: &str, reason: Reason) -> bool
     ensures { result ≡ refuses reason aliases.now (an_entity text.now) }
 {

@@ -109,6 +109,7 @@ fn entry_at_fault<'a>(
     }
 }
 
+#[tactic(auto, using(crate::proofs::SheetParts::first_name))]
 fn name_at_fault<'a>(tree: &'a Value, aliases: &Aliases, reason: Reason) -> Part<'a>
     ensures { let all = sheet_names (view tree.now) in
         seen result ≡ option_map_or name (find (refuses reason aliases.now) all) nothing }
@@ -146,6 +147,7 @@ fn refused_key<'a>(
     None
 }
 
+#[tactic(auto, unfolding(crate::specs::Shown::sheet_shown))]
 fn kind_at_fault<'a>(
     alloc: Global,
     tree: &'a Value,

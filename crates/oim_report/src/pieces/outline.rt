@@ -70,6 +70,7 @@ fn split_head(text: &str) -> Option<Option<&str>>
     Some(Some(trim_back(inner)?))
 }
 
+#[tactic(auto, using(crate::proofs::Outlines::tail_is))]
 fn split_tail(text: &str) -> Option<(&str, Option<&str>)>
     ensures { IfSome result (λ p. IsTail text.now p.0.now (option_map (λ t. t.now) p.1)) }
 {

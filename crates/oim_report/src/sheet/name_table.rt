@@ -73,6 +73,7 @@ impl<K: Kind> NameTable<K> {
         Ok(())
     }
 
+    #[tactic(auto, using(crate::proofs::Grouped::found_kind, crate::proofs::Grouped::found_name))]
     pub(crate) fn find(&self, uri: &str, local: &str) -> Option<(&Name, K)>
         ensures kind { option_map (λ e. e.1) result
             ≡ map.get self.now (record { uri = uri.now; local_part = local.now }) }

@@ -7,12 +7,6 @@ use Rattle.oim_report.specs.Shown.{entry, seen, sheet_shown, unbound_entry}
 use Rattle.oim_report.proofs.SheetParts.{namespaces_first, or_nothing, refused_if}
 use Rattle.oim_report.proofs.findings.sheet_part.part_at_fault.Goals as goal
 
-pub returns-in-MemberForm : goal.returns-in-MemberForm
-returns-in-MemberForm c = c.misshapen.ensures ∙ ap (sheet_shown (view c.args.tree.now)) (sym c.in-MemberForm.is)
-
-pub returns-in-UnknownMember : goal.returns-in-UnknownMember
-returns-in-UnknownMember c = c.unknown.ensures ∙ ap (sheet_shown (view c.args.tree.now)) (sym c.in-UnknownMember.is)
-
 pub returns-in_ok-entry-in-Namespace : goal.returns-in_ok-entry-in-Namespace
 unfolding sheet_shown
 returns-in_ok-entry-in-Namespace c =

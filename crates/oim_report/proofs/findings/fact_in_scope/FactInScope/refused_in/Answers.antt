@@ -4,7 +4,7 @@ use Rattle.oim_names.specs.Expansion.{refuses}
 use Rattle.serde_json.specs.View.{view, members_view}
 use Rattle.oim_report.specs.Shown.{name, seen}
 use Rattle.oim_report.specs.code.Rows.{names_at, names_in}
-use Rattle.oim_report.proofs.DefinedRows.{found_before, none_before}
+use Rattle.oim_report.proofs.DefinedRows.{found_before}
 use Rattle.oim_report.proofs.findings.fact_in_scope.FactInScope.refused_in.Goals as goal
 
 pub returns-in-Some-refused_member : goal.returns-in-Some-refused_member
@@ -16,13 +16,3 @@ returns-in-Some-refused_member c =
     found_before sheet bs test (string_bytes c.in-Some.key.now) d (members_view c.next.new.self) _ (ap (option_map seen) (sym c.in-Some-refused_member.is) ∙ c.refused_member.ensures ∙ ap (λ k. option_map name (find test (names_at sheet bs (k, d)))) c.as_str.ensures.value)
     ∙ ap (λ es. option_map name (find test (names_in sheet bs (members_view es)))) (sym c.in-Some.ensures.steps)
     ∙ ap (option_map name) c.loop-key.invariant
-
-pub loop-key-preserved : goal.loop-key-preserved
-loop-key-preserved c =
-    let sheet = c.args.self.now.sheet.now in
-    let bs = c.args.self.now.aliases.now in
-    let test = refuses c.args.reason bs in
-    let d = view c.in-Some.value.now in
-    none_before sheet bs test (string_bytes c.in-Some.key.now) d (members_view c.next.new.self) (ap (option_map seen) (sym c.in_default.is) ∙ c.refused_member.ensures ∙ ap (λ k. option_map name (find test (names_at sheet bs (k, d)))) c.as_str.ensures.value)
-    ∙ ap (λ es. find test (names_in sheet bs (members_view es))) (sym c.in-Some.ensures.steps)
-    ∙ c.loop-key.invariant
