@@ -11,7 +11,7 @@ use oim_names::Reason;
 use serde_json::Value;
 use std::alloc::{AllocError, Global};
 
-/// Returns the first part of a document that violates `reason`, a condition from `MemberForm` to
+/// Returns the first part of a document to which `reason` applies, a condition from `MemberForm` to
 /// `Feature` (own). If `xbrl:allowedDuplicates` is repeated with valid values, the part is all
 /// features. The result is `None` exactly if `reason` is not one of these conditions, does not
 /// apply, or is `Feature` while `Namespace` applies too.

@@ -4,7 +4,7 @@ ghost use Rattle.oim_report.specs.Shown.{seen, value_or_nothing, when};
 
 use serde_json::Value;
 
-/// The part of a report or a sheet that violates a condition.
+/// The part of a report or a sheet to which a condition applies.
 #[derive(Clone, Copy)]
 pub enum Part<'a> {
     /// No part can be shown, for example because the part is missing.

@@ -24,8 +24,8 @@ use oim_names::{Aliases, Name, Reason};
 use serde_json::{Map, Value};
 use std::alloc::{AllocError, Global};
 
-/// Returns the condition for which a sheet is refused, with the part that violates it, or `None`
-/// exactly if the sheet is accepted (own). If several parts violate the condition, the first is
+/// Returns the condition for which a sheet is refused, with the part to which it applies, or `None`
+/// exactly if the sheet is accepted (own). If the condition applies to several parts, the first is
 /// returned.
 ///
 /// Errors: out of memory.
