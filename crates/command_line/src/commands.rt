@@ -13,9 +13,11 @@ use crate::error::{Error, Success};
 use crate::inputs::Inputs;
 use crate::lines::put_text;
 use crate::request::{Request, Subcommand};
-use oim_merge::{Refusals, consolidate_bundle};
+use crate::row_format::PrintFormat;
+use oim_merge::{Refusals, consolidate_bundle, source_lines};
 use oim_report::Sheet;
 use oim_write::Sink;
+use row_formats::{finish_rows_last, source_rows};
 use std::alloc::Global;
 use std::io::Write;
 use std::rt::Files;
@@ -41,6 +43,8 @@ pub(crate) fn execute<'n, F: Files, E: Write, S: Sink>(
     }
 }
 
+/// Reads the reports and writes the text of the subcommand to `out`. Returns the refused reports
+/// with their numbers, from 1.
 fn execute_under<'n, F: Files, E: Write, S: Sink>(
     sheet: &Sheet,
     subcommand: Subcommand<'n>,
@@ -49,13 +53,26 @@ fn execute_under<'n, F: Files, E: Write, S: Sink>(
 ) -> Result<Success, Error<'n>>
     requires { S.failures out.old < 2 ^ 64 - 1 }
 {
-    match subcommand {
-        Subcommand::Merge(allow) => merge::run(allow, sheet, inputs, out),
-        Subcommand::Verdicts(format) => verdicts::run(format, sheet, inputs, out),
-        Subcommand::Sources(format) => sources::run(format, sheet, inputs, out),
-        Subcommand::Check(report) => check::run(report, sheet, inputs, out),
-        Subcommand::Replay(replicas, events) => replay::run(replicas, events, sheet, inputs, out),
-    }
+    let alloc = inputs.alloc;
+    Ok(Success::Refusals(match subcommand {
+        Subcommand::Merge(allow) => inputs.consolidate(sheet)?.finish_last(allow, out)?,
+        Subcommand::Verdicts(PrintFormat::Lines) => {
+            inputs.consolidate(sheet)?.finish_lines_last(out)?
+        }
+        Subcommand::Verdicts(PrintFormat::Rows(format)) => {
+            finish_rows_last(alloc, inputs.consolidate(sheet)?, format, out)?
+        }
+        Subcommand::Sources(PrintFormat::Lines) => {
+            let reports = inputs.read_reports()?;
+            source_lines(alloc, sheet, reports.as_slice(), out)?
+        }
+        Subcommand::Sources(PrintFormat::Rows(format)) => {
+            let reports = inputs.read_reports()?;
+            source_rows(alloc, sheet, reports.as_slice(), format, out)?
+        }
+        Subcommand::Check(report) => check::run(report, sheet, inputs, out)?,
+        Subcommand::Replay(replicas, events) => replay::run(replicas, events, sheet, inputs, out)?,
+    }))
 }
 
 /// Writes help or the version, which clap returns as an error.

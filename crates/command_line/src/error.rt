@@ -65,10 +65,7 @@ impl From<Fault> for Error<'_> {
 
 impl From<WriteFault> for Error<'_> {
     fn from(fault: WriteFault) -> Self {
-        match fault {
-            WriteFault::OutOfMemory(_) => Error::OutOfMemory,
-            WriteFault::Device(written) => Error::Device(written),
-        }
+        Error::from(Fault::from(fault))
     }
 }
 

@@ -95,10 +95,7 @@ pub(crate) fn read_input<'n, R: Read + Drop>(
     alloc: Global,
     input: R,
 ) -> Result<Encoded, Error<'n>> {
-    match read_bytes(alloc, input) {
-        Ok(bytes) => Ok(bytes),
-        Err(fault) => Err(unread(STANDARD_INPUT, fault)),
-    }
+    read_bytes(alloc, input).map_err(|fault| unread(STANDARD_INPUT, fault))
 }
 
 pub(crate) fn read_file<'n, F: Files>(

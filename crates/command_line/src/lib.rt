@@ -6,7 +6,6 @@ mod arguments;
 mod commands;
 mod console;
 mod error;
-mod fault_format;
 mod inputs;
 mod lines;
 mod output;
@@ -14,8 +13,6 @@ mod program;
 mod report_names;
 mod request;
 mod row_format;
-mod streams;
 mod words;
 
-pub use program::run;
-pub use streams::Streams;
+pub use program::{Streams, run};

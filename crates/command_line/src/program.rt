@@ -2,12 +2,20 @@ use crate::console::Console;
 use crate::inputs::Inputs;
 use crate::output::{write_file, write_out};
 use crate::request::Args;
-use crate::streams::Streams;
 use crate::words::read_words;
 use std::alloc::Global;
 use std::convert::AsStr;
 use std::io::{Read, Write};
 use std::rt::Files;
+
+/// The standard streams, and whether standard input and standard error are terminals.
+pub struct Streams<R, O, E> {
+    pub input: R,
+    pub out: O,
+    pub err: E,
+    pub is_input_terminal: bool,
+    pub is_err_terminal: bool,
+}
 
 // The work is split into four functions. Each owns few values and borrows the rest, so some have
 // many parameters. One function that owns all values would be slow to prove, because each value may

@@ -1,7 +1,6 @@
 use crate::arguments::{OUTPUT, QUIET, SHEET};
 use crate::commands::{check, explain, merge, replay, sources, verdicts};
 use crate::error::Error;
-use crate::fault_format::format_of;
 use crate::report_names::ReportNames;
 use crate::request::{Args, Request, Subcommand};
 use crate::row_format::print_format_of;
@@ -133,7 +132,7 @@ fn request_of<'w>(name: &str, matches: &ArgMatches<'w>) -> Option<Request<'w>> {
         verdicts::NAME => Subcommand::Verdicts(print_format_of(matches)?),
         sources::NAME => Subcommand::Sources(print_format_of(matches)?),
         check::NAME => check::of(matches)?,
-        explain::NAME => return Some(Request::Explain(sheet, format_of(matches))),
+        explain::NAME => return Some(Request::Explain(sheet, explain::format_of(matches))),
         replay::NAME => replay::of(matches)?,
         _ => return None,
     };

@@ -1,7 +1,7 @@
 ghost use Rattle.std.specs.Prelude.{◌-◌, ◌^◌, ◌<◌};
 
 use crate::arguments::{REPORT, command, output_argument, report_argument};
-use crate::error::{Error, Success};
+use crate::error::Error;
 use crate::inputs::Inputs;
 use crate::lines::put_text;
 use crate::request::Subcommand;
@@ -64,12 +64,12 @@ pub(crate) fn run<'n, F: Files, E: Write, S: Sink>(
     sheet: &Sheet,
     inputs: &Inputs<'n, F, E>,
     out: &mut S,
-) -> Result<Success, Error<'n>>
+) -> Result<Refusals, Error<'n>>
     requires { S.failures out.old < 2 ^ 64 - 1 }
 {
     let bytes = inputs.read(report)?;
     let checked = check_report(inputs.alloc, sheet, bytes.as_bytes());
-    Ok(Success::Refusals(put_checked(inputs.alloc, out, checked)?))
+    put_checked(inputs.alloc, out, checked)
 }
 
 fn put_checked<'n, S: Sink>(

@@ -2,10 +2,10 @@ ghost use Rattle.std.specs.Prelude.{◌≡◌, ◌-◌, ◌^◌, ◌<◌, OnOk};
 
 use crate::arguments::{command, with_reports};
 use crate::error::{Error, Success};
-use crate::fault_format::format_argument;
 use crate::inputs::{Inputs, sheet_of};
 use crate::lines::put_text;
-use clap::Command;
+use clap::builder::ValueParser;
+use clap::{Arg, ArgMatches, Command};
 use oim_explain::{Explained, Format, Input, explain, explain_repeated, explain_sheet};
 use oim_report::Sheet;
 use oim_write::Sink;
@@ -14,6 +14,14 @@ use std::io::Write;
 use std::rt::Files;
 
 pub(crate) const NAME: &str = "explain";
+
+const FORMAT: &str = "format";
+
+const JSON: &str = "json";
+
+const TEXT: &str = "text";
+
+static FORMATS: [&str; 2] = [TEXT, JSON];
 
 const ABOUT: &str = "Explains what is wrong with reports, in plain words";
 
@@ -61,6 +69,22 @@ Status:
 pub(crate) fn words<'w>(alloc: Global) -> Result<Command<'w>, AllocError> {
     let command = command(alloc, NAME, ABOUT, MORE)?;
     with_reports(alloc, command.arg(format_argument(alloc))?)
+}
+
+fn format_argument<'w>(alloc: Global) -> Arg<'w> {
+    Arg::new(alloc, FORMAT)
+        .long(FORMAT)
+        .value_name("FORMAT")
+        .value_parser(ValueParser::Names(FORMATS.as_slice()))
+        .default_value(TEXT)
+        .help("The output format")
+}
+
+pub(crate) fn format_of(found: &ArgMatches<'_>) -> Format {
+    match found.get_str(FORMAT) {
+        Some(JSON) => Format::Json,
+        _ => Format::Text,
+    }
 }
 
 /// Reads the sheet and the reports, one after another, and writes a line for each fault to `out`.

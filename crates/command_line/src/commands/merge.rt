@@ -1,17 +1,9 @@
-ghost use Rattle.std.specs.Prelude.{◌-◌, ◌^◌, ◌<◌};
-
 use crate::arguments::{command, with_reports};
-use crate::error::{Error, Success};
-use crate::inputs::Inputs;
 use crate::request::Subcommand;
 use clap::builder::ValueParser;
 use clap::{Arg, ArgMatches, Command};
-use oim_report::Sheet;
 use oim_value::Level;
-use oim_write::Sink;
 use std::alloc::{AllocError, Global};
-use std::io::Write;
-use std::rt::Files;
 
 pub(crate) const NAME: &str = "merge";
 
@@ -57,20 +49,4 @@ pub(crate) fn words<'w>(alloc: Global) -> Result<Command<'w>, AllocError> {
 pub(crate) fn of<'w>(matches: &ArgMatches<'w>) -> Option<Subcommand<'w>> {
     let allow = matches.get_str(ALLOW).and_then(Level::read)?;
     Some(Subcommand::Merge(allow))
-}
-
-/// Reads and adds the reports, and writes the merged text to `out`. Returns the refused reports
-/// with their numbers, from 1.
-///
-/// Errors: `Unread`, `TooLong`, and the errors of `Consolidation::finish_last`.
-pub(crate) fn run<'n, F: Files, E: Write, S: Sink>(
-    allow: Level,
-    sheet: &Sheet,
-    inputs: &mut Inputs<'n, F, E>,
-    out: &mut S,
-) -> Result<Success, Error<'n>>
-    requires { S.failures out.old < 2 ^ 64 - 1 }
-{
-    let reports = inputs.consolidate(sheet)?;
-    Ok(Success::Refusals(reports.finish_last(allow, out)?))
 }

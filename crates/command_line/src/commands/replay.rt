@@ -1,7 +1,7 @@
 ghost use Rattle.std.specs.Prelude.{◌≡◌, ◌-◌, ◌^◌, ◌<◌, OnOk};
 
 use crate::arguments::{command, with_reports};
-use crate::error::{Error, Success};
+use crate::error::Error;
 use crate::inputs::Inputs;
 use crate::lines::put_text;
 use crate::request::Subcommand;
@@ -80,20 +80,13 @@ pub(crate) fn run<'n, F: Files, E: Write, S: Sink>(
     sheet: &Sheet,
     inputs: &mut Inputs<'n, F, E>,
     out: &mut S,
-) -> Result<Success, Error<'n>>
+) -> Result<Refusals, Error<'n>>
     requires { S.failures out.old < 2 ^ 64 - 1 }
 {
-    let events = read_schedule(schedule, inputs)?;
+    let lines = inputs.read(schedule)?;
+    let events = read_events(inputs.alloc, lines.as_bytes())?;
     let replayed = replay_reports(replicas, &events, sheet, inputs)?;
-    Ok(Success::Refusals(put_replayed(inputs.alloc, out, replayed)?))
-}
-
-fn read_schedule<'n, F: Files, E: Write>(
-    name: &'n str,
-    inputs: &Inputs<'n, F, E>,
-) -> Result<Events, Error<'n>> {
-    let lines = inputs.read(name)?;
-    Ok(read_events(inputs.alloc, lines.as_bytes())?)
+    Ok(put_replayed(inputs.alloc, out, replayed)?)
 }
 
 fn replay_reports<'n, 's, F: Files, E: Write>(

@@ -1,17 +1,7 @@
-ghost use Rattle.std.specs.Prelude.{◌-◌, ◌^◌, ◌<◌};
-
 use crate::arguments::{command, with_reports};
-use crate::error::{Error, Success};
-use crate::inputs::Inputs;
-use crate::row_format::{PrintFormat, with_format};
+use crate::row_format::with_format;
 use clap::Command;
-use oim_merge::source_lines;
-use oim_report::Sheet;
-use oim_write::Sink;
-use row_formats::source_rows;
 use std::alloc::{AllocError, Global};
-use std::io::Write;
-use std::rt::Files;
 
 pub(crate) const NAME: &str = "sources";
 
@@ -49,24 +39,4 @@ Status:
 pub(crate) fn words<'w>(alloc: Global) -> Result<Command<'w>, AllocError> {
     let command = command(alloc, NAME, ABOUT, MORE)?;
     with_reports(alloc, with_format(alloc, command)?)
-}
-
-/// Reads the reports and writes a row to `out` for each fact object in an accepted report. Returns
-/// the refused reports with their numbers, from 1.
-///
-/// Errors: `Unread`, `TooLong`, and the errors of `source_lines` and `source_rows`.
-pub(crate) fn run<'n, F: Files, E: Write, S: Sink>(
-    format: PrintFormat,
-    sheet: &Sheet,
-    inputs: &mut Inputs<'n, F, E>,
-    out: &mut S,
-) -> Result<Success, Error<'n>>
-    requires { S.failures out.old < 2 ^ 64 - 1 }
-{
-    let reports = inputs.read_reports()?;
-    let (alloc, reports) = (inputs.alloc, reports.as_slice());
-    Ok(Success::Refusals(match format {
-        PrintFormat::Lines => source_lines(alloc, sheet, reports, out)?,
-        PrintFormat::Rows(format) => source_rows(alloc, sheet, reports, format, out)?,
-    }))
 }

@@ -1,16 +1,7 @@
-ghost use Rattle.std.specs.Prelude.{◌-◌, ◌^◌, ◌<◌};
-
 use crate::arguments::{command, with_reports};
-use crate::error::{Error, Success};
-use crate::inputs::Inputs;
-use crate::row_format::{PrintFormat, with_format};
+use crate::row_format::with_format;
 use clap::Command;
-use oim_report::Sheet;
-use oim_write::Sink;
-use row_formats::finish_rows_last;
 use std::alloc::{AllocError, Global};
-use std::io::Write;
-use std::rt::Files;
 
 pub(crate) const NAME: &str = "verdicts";
 
@@ -50,24 +41,4 @@ Status:
 pub(crate) fn words<'w>(alloc: Global) -> Result<Command<'w>, AllocError> {
     let command = command(alloc, NAME, ABOUT, MORE)?;
     with_reports(alloc, with_format(alloc, command)?)
-}
-
-/// Reads and adds the reports, and writes each row to `out`. Returns the refused reports with their
-/// numbers, from 1.
-///
-/// Errors: `Unread`, `TooLong`, and the errors of `Consolidation::finish_lines_last` and
-/// `finish_rows_last`.
-pub(crate) fn run<'n, F: Files, E: Write, S: Sink>(
-    format: PrintFormat,
-    sheet: &Sheet,
-    inputs: &mut Inputs<'n, F, E>,
-    out: &mut S,
-) -> Result<Success, Error<'n>>
-    requires { S.failures out.old < 2 ^ 64 - 1 }
-{
-    let reports = inputs.consolidate(sheet)?;
-    Ok(Success::Refusals(match format {
-        PrintFormat::Lines => reports.finish_lines_last(out)?,
-        PrintFormat::Rows(format) => finish_rows_last(inputs.alloc, reports, format, out)?,
-    }))
 }
