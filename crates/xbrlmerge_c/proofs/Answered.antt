@@ -12,11 +12,8 @@ use Rattle.xbrlmerge_c.specs.Statuses.{done, no_memory, refused_some, sheet_refu
 use Rattle.xbrlmerge_c.specs.declared.output.Made.{Made}
 
 pub within : (made : Result Made Fault) (old new : Room) (status : ℕ) → Answers made old new status → status ≤ no_memory
-within (Ok made) old new status (inl s) = omega (arith, s.0)
-within (Ok made) old new status (inr (inl s)) = omega (arith, s.0)
-within (Ok made) old new status (inr (inr s)) = omega (arith, s.0)
-within (Err (TooLoose number told)) old new status (inl s) = omega (arith, s.0)
-within (Err (TooLoose number told)) old new status (inr s) = omega (arith, s.0)
+within (Ok made) old new status s = grind arith
+within (Err (TooLoose number told)) old new status s = grind arith
 within (Err (SheetFault reason)) old new status s = omega (arith, s.0)
 within (Err (OutOfMemory written)) old new status s = omega (arith, s.0)
 within (Err (Device written)) old new status s = omega (arith, s.0)
@@ -26,38 +23,28 @@ pub hands : (Says : List ℕ → List (ℕ × Refusal) → Type 0) (made : Resul
 hands Says (Ok made) old new status says (inl s) low = absurd (omega (arith, s.0, low))
 hands Says (Ok made) old new status says (inr (inl s)) low = record { text = made.text.items; told = made.refusals; says = says; handed = s.1.1 }
 hands Says (Ok made) old new status says (inr (inr s)) low = record { text = made.text.items; told = made.refusals; says = says; handed = s.1.1 }
-hands Says (Err (TooLoose number told)) old new status says (inl s) low = absurd (omega (arith, s.0, low))
-hands Says (Err (TooLoose number told)) old new status says (inr s) low = absurd (omega (arith, s.0, low))
+hands Says (Err (TooLoose number told)) old new status says s low = grind arith
 hands Says (Err (SheetFault reason)) old new status says s low = absurd (omega (arith, s.0, low))
 hands Says (Err (OutOfMemory written)) old new status says s low = absurd (omega (arith, s.0, low))
 hands Says (Err (Device written)) old new status says s low = absurd (omega (arith, s.0, low))
 
 pub none_refused : (made : Result Made Fault) (old new : Room) (status : ℕ) → Answers made old new status → status ≡ done → new.refused ≡ 0
-none_refused (Ok made) old new status (inl s) is = absurd (omega (arith, s.0, is))
-none_refused (Ok made) old new status (inr (inl s)) is = s.1.1.refused ∙ ap length s.1.0
-none_refused (Ok made) old new status (inr (inr s)) is = absurd (omega (arith, s.0, is))
-none_refused (Err (TooLoose number told)) old new status (inl s) is = absurd (omega (arith, s.0, is))
-none_refused (Err (TooLoose number told)) old new status (inr s) is = absurd (omega (arith, s.0, is))
+none_refused (Ok made) old new status s is = grind arith
+none_refused (Err (TooLoose number told)) old new status s is = grind arith
 none_refused (Err (SheetFault reason)) old new status s is = absurd (omega (arith, s.0, is))
 none_refused (Err (OutOfMemory written)) old new status s is = absurd (omega (arith, s.0, is))
 none_refused (Err (Device written)) old new status s is = absurd (omega (arith, s.0, is))
 
 pub some_refused : (made : Result Made Fault) (old new : Room) (status : ℕ) → Answers made old new status → status ≡ refused_some → 0 < new.refused
-some_refused (Ok made) old new status (inl s) is = absurd (omega (arith, s.0, is))
-some_refused (Ok made) old new status (inr (inl s)) is = absurd (omega (arith, s.0, is))
-some_refused (Ok made) old new status (inr (inr s)) is = subst (λ n. 0 < n) (sym s.1.1.refused) s.1.0
-some_refused (Err (TooLoose number told)) old new status (inl s) is = absurd (omega (arith, s.0, is))
-some_refused (Err (TooLoose number told)) old new status (inr s) is = absurd (omega (arith, s.0, is))
+some_refused (Ok made) old new status s is = grind arith
+some_refused (Err (TooLoose number told)) old new status s is = grind arith
 some_refused (Err (SheetFault reason)) old new status s is = absurd (omega (arith, s.0, is))
 some_refused (Err (OutOfMemory written)) old new status s is = absurd (omega (arith, s.0, is))
 some_refused (Err (Device written)) old new status s is = absurd (omega (arith, s.0, is))
 
 pub kept : (made : Result Made Fault) (old new : Room) (status : ℕ) → Answers made old new status → no_memory ≤ status → new ≡ old
-kept (Ok made) old new status (inl s) high = absurd (omega (arith, s.0, high))
-kept (Ok made) old new status (inr (inl s)) high = absurd (omega (arith, s.0, high))
-kept (Ok made) old new status (inr (inr s)) high = absurd (omega (arith, s.0, high))
-kept (Err (TooLoose number told)) old new status (inl s) high = absurd (omega (arith, s.0, high))
-kept (Err (TooLoose number told)) old new status (inr s) high = absurd (omega (arith, s.0, high))
+kept (Ok made) old new status s high = grind arith
+kept (Err (TooLoose number told)) old new status s high = grind arith
 kept (Err (SheetFault reason)) old new status s high = absurd (omega (arith, s.0, high))
 kept (Err (OutOfMemory written)) old new status s high = s.1
 kept (Err (Device written)) old new status s high = s.1
@@ -65,9 +52,7 @@ kept (Err (Device written)) old new status s high = s.1
 module _ (IsRow : ℕ → List (ℕ × Refusal) → Type 0) (IsSheet : Reason → Type 0) where
   pub tells_first : (made : Result Made Fault) (old new : Room) (status : ℕ) →
       IfErr made (StopsBy IsRow IsSheet) → Answers made old new status → status ≡ too_loose → TellsFirst IsRow old new
-  tells_first (Ok made) old new status stops (inl s) is = absurd (omega (arith, s.0, is))
-  tells_first (Ok made) old new status stops (inr (inl s)) is = absurd (omega (arith, s.0, is))
-  tells_first (Ok made) old new status stops (inr (inr s)) is = absurd (omega (arith, s.0, is))
+  tells_first (Ok made) old new status stops s is = grind arith
   tells_first (Err (TooLoose number told)) old new status stops (inl s) is = absurd (omega (arith, s.0, is))
   tells_first (Err (TooLoose number told)) old new status stops (inr s) is = record { number = number; told = told; is = stops; row = s.1 }
   tells_first (Err (SheetFault reason)) old new status stops s is = absurd (omega (arith, s.0, is))
@@ -76,11 +61,8 @@ module _ (IsRow : ℕ → List (ℕ × Refusal) → Type 0) (IsSheet : Reason �
 
   pub rejects : (made : Result Made Fault) (old new : Room) (status : ℕ) →
       IfErr made (StopsBy IsRow IsSheet) → Answers made old new status → status ≡ sheet_refused → Rejects IsSheet old new
-  rejects (Ok made) old new status stops (inl s) is = absurd (omega (arith, s.0, is))
-  rejects (Ok made) old new status stops (inr (inl s)) is = absurd (omega (arith, s.0, is))
-  rejects (Ok made) old new status stops (inr (inr s)) is = absurd (omega (arith, s.0, is))
-  rejects (Err (TooLoose number told)) old new status stops (inl s) is = absurd (omega (arith, s.0, is))
-  rejects (Err (TooLoose number told)) old new status stops (inr s) is = absurd (omega (arith, s.0, is))
+  rejects (Ok made) old new status stops s is = grind arith
+  rejects (Err (TooLoose number told)) old new status stops s is = grind arith
   rejects (Err (SheetFault reason)) old new status stops s is = record { reason = reason; is = stops; tells = s.1 }
   rejects (Err (OutOfMemory written)) old new status stops s is = absurd (omega (arith, s.0, is))
   rejects (Err (Device written)) old new status stops s is = absurd (omega (arith, s.0, is))

@@ -8,7 +8,7 @@ ghost use Rattle.xbrlmerge_c.specs.Room.{Asks, Hands, HasNoText, Rejects, TellsF
 ghost use Rattle.xbrlmerge_c.specs.Statuses.{bad_ends, bad_level, done, no_memory, refused_some, sheet_refused, too_loose, too_short};
 ghost use Rattle.xbrlmerge_c.specs.declared.listing.Listing.TheVariants.{Sources, SourcesJson, Verdicts, VerdictsJson};
 
-use crate::listing::{Listing, list};
+use crate::listing::Listing;
 use crate::output::{BAD_ENDS, BAD_LEVEL, Made, RefusedReport, answer};
 use crate::reports::{add_reports, are_ends, read_sheet};
 use oim_merge::Fault;
@@ -97,9 +97,7 @@ fn merged(
         (StopsBy (IsLoose sheet.now (reports_at reports.now ends.now) level) (IsSheetRefused sheet.now)) }
 {
     let sheet = read_sheet(alloc, sheet)?;
-    let Ok(consolidation) = add_reports(alloc, &sheet, reports, ends) else {
-        return Err(Fault::OutOfMemory(0));
-    };
+    let consolidation = add_reports(alloc, &sheet, reports, ends)?;
     let mut sink = StdSink::new(Vec::new(alloc));
     let refusals = consolidation.finish(level, &mut sink)?;
     Ok(Made {
@@ -126,17 +124,7 @@ pub extern "C" fn xbrlmerge_verdicts(
     ensures { AnswersListing Verdicts sheet.now reports.now ends.now result
         (room out.old needed.old refusals.old refused.old) (room out.new needed.new refusals.new refused.new) }
 {
-    list(
-        alloc,
-        Listing::Verdicts,
-        sheet,
-        reports,
-        ends,
-        out,
-        needed,
-        refusals,
-        refused,
-    )
+    Listing::Verdicts.list(alloc, sheet, reports, ends, out, needed, refusals, refused)
 }
 
 /// Writes a line for each source of a fact, as `oim_merge::source_lines` does. Otherwise the call
@@ -155,17 +143,7 @@ pub extern "C" fn xbrlmerge_sources(
     ensures { AnswersListing Sources sheet.now reports.now ends.now result
         (room out.old needed.old refusals.old refused.old) (room out.new needed.new refusals.new refused.new) }
 {
-    list(
-        alloc,
-        Listing::Sources,
-        sheet,
-        reports,
-        ends,
-        out,
-        needed,
-        refusals,
-        refused,
-    )
+    Listing::Sources.list(alloc, sheet, reports, ends, out, needed, refusals, refused)
 }
 
 /// Writes one JSON object for each row, one per line, as `row_formats::verdict_rows` does.
@@ -184,17 +162,7 @@ pub extern "C" fn xbrlmerge_verdicts_json(
     ensures { AnswersListing VerdictsJson sheet.now reports.now ends.now result
         (room out.old needed.old refusals.old refused.old) (room out.new needed.new refusals.new refused.new) }
 {
-    list(
-        alloc,
-        Listing::VerdictsJson,
-        sheet,
-        reports,
-        ends,
-        out,
-        needed,
-        refusals,
-        refused,
-    )
+    Listing::VerdictsJson.list(alloc, sheet, reports, ends, out, needed, refusals, refused)
 }
 
 /// Writes a JSON object for each source of a fact, one per line, as `row_formats::source_rows`
@@ -213,15 +181,5 @@ pub extern "C" fn xbrlmerge_sources_json(
     ensures { AnswersListing SourcesJson sheet.now reports.now ends.now result
         (room out.old needed.old refusals.old refused.old) (room out.new needed.new refusals.new refused.new) }
 {
-    list(
-        alloc,
-        Listing::SourcesJson,
-        sheet,
-        reports,
-        ends,
-        out,
-        needed,
-        refusals,
-        refused,
-    )
+    Listing::SourcesJson.list(alloc, sheet, reports, ends, out, needed, refusals, refused)
 }

@@ -22,27 +22,29 @@ pub(crate) enum Listing {
     SourcesJson,
 }
 
-/// The code of each exported call that lists verdicts or sources. This function has the same
-/// contract as the call, and one more parameter, `listing`.
-pub(crate) fn list(
-    alloc: Global,
-    listing: Listing,
-    sheet: &[u8],
-    reports: &[u8],
-    ends: &[usize],
-    out: &mut [u8],
-    needed: &mut usize,
-    refusals: &mut [RefusedReport],
-    refused: &mut usize,
-) -> u32
-    ensures { AnswersListing listing sheet.now reports.now ends.now result
-        (room out.old needed.old refusals.old refused.old) (room out.new needed.new refusals.new refused.new) }
-{
-    if !are_ends(reports, ends) {
-        return BAD_ENDS;
+impl Listing {
+    /// The code of each exported call that lists verdicts or sources. This method has the same
+    /// contract as the call, and the receiver in addition.
+    pub(crate) fn list(
+        self,
+        alloc: Global,
+        sheet: &[u8],
+        reports: &[u8],
+        ends: &[usize],
+        out: &mut [u8],
+        needed: &mut usize,
+        refusals: &mut [RefusedReport],
+        refused: &mut usize,
+    ) -> u32
+        ensures { AnswersListing self sheet.now reports.now ends.now result
+            (room out.old needed.old refusals.old refused.old) (room out.new needed.new refusals.new refused.new) }
+    {
+        if !are_ends(reports, ends) {
+            return BAD_ENDS;
+        }
+        let made = listed(alloc, self, sheet, reports, ends);
+        answer(made, out, needed, refusals, refused)
     }
-    let made = listed(alloc, listing, sheet, reports, ends);
-    answer(made, out, needed, refusals, refused)
 }
 
 /// A sink in memory fails only if memory is refused, so `Device` means the same as `OutOfMemory`.
@@ -83,21 +85,18 @@ fn write<S: Sink>(
     ensures err { IfErr result (StopsBy NoRow NoReason) }
 {
     match listing {
-        Listing::Verdicts => match add_reports(alloc, sheet, reports, ends) {
-            Ok(consolidation) => consolidation.finish_lines(out),
-            Err(_) => Err(Fault::OutOfMemory(0)),
-        },
-        Listing::VerdictsJson => match add_reports(alloc, sheet, reports, ends) {
-            Ok(consolidation) => finish_rows(alloc, consolidation, RowFormat::Json, out),
-            Err(_) => Err(Fault::OutOfMemory(0)),
-        },
-        Listing::Sources => match reports_of(alloc, reports, ends) {
-            Ok(reports) => source_lines(alloc, sheet, reports.as_slice(), out),
-            Err(_) => Err(Fault::OutOfMemory(0)),
-        },
-        Listing::SourcesJson => match reports_of(alloc, reports, ends) {
-            Ok(reports) => source_rows(alloc, sheet, reports.as_slice(), RowFormat::Json, out),
-            Err(_) => Err(Fault::OutOfMemory(0)),
-        },
+        Listing::Verdicts => add_reports(alloc, sheet, reports, ends)?.finish_lines(out),
+        Listing::VerdictsJson => {
+            let consolidation = add_reports(alloc, sheet, reports, ends)?;
+            finish_rows(alloc, consolidation, RowFormat::Json, out)
+        }
+        Listing::Sources => {
+            let reports = reports_of(alloc, reports, ends)?;
+            source_lines(alloc, sheet, reports.as_slice(), out)
+        }
+        Listing::SourcesJson => {
+            let reports = reports_of(alloc, reports, ends)?;
+            source_rows(alloc, sheet, reports.as_slice(), RowFormat::Json, out)
+        }
     }
 }

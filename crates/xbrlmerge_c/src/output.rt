@@ -1,7 +1,7 @@
 ghost use Rattle.std.specs.Prelude.{◌≡◌, ◌≤◌, ◌++◌, drop, length, true, false};
 ghost use Rattle.xbrlmerge_c.specs.code.Answers.{Answers, AnswersRow, AnswersText};
 ghost use Rattle.xbrlmerge_c.specs.Room.{IsHanded, IsTooShort, room};
-ghost use Rattle.xbrlmerge_c.specs.Rows.{place_number, row, rows_of};
+ghost use Rattle.xbrlmerge_c.specs.Rows.{row, rows_of};
 
 use oim_merge::{Fault, Refusals};
 use oim_report::{Place, Refusal};
@@ -42,18 +42,12 @@ impl RefusedReport {
     {
         RefusedReport {
             report,
-            fact: number_of(refusal.place),
+            fact: match refusal.place {
+                Place::Document => 0,
+                Place::Fact(number) => number,
+            },
             number: u32::from(refusal.reason.number()),
         }
-    }
-}
-
-fn number_of(place: Place) -> u64
-    ensures { result ≡ place_number place }
-{
-    match place {
-        Place::Document => 0,
-        Place::Fact(number) => number,
     }
 }
 

@@ -9,22 +9,22 @@ use Rattle.row_formats.specs.SourceRows.{ListsSourceRows}
 use Rattle.row_formats.specs.declared.row_format.RowFormat.TheVariants.{Json}
 use Rattle.xbrlmerge_c.proofs.listing.write.Goals as goal
 
-pub returns-in-Ok-clause-ok : goal.returns-in-Ok-clause-ok
-returns-in-Ok-clause-ok g c =
+pub returns-in_ok-add_reports-in-Verdicts-clause-ok : goal.returns-in_ok-add_reports-in-Verdicts-clause-ok
+returns-in_ok-add_reports-in-Verdicts-clause-ok g c =
     let told = g.S.Sink.told in
-    rw c.in-Verdicts.is (subst (λ (a : Added). IfOk c.finish_lines.result (Lists [] line_text a.body a.refusals (told c.args.out.now) (told c.finish_lines.new.out))) c.in-Ok.ensures c.finish_lines.ensures.ok)
+    rw c.in-Verdicts.is (subst (λ (a : Added). IfOk c.finish_lines.result (Lists [] line_text a.body a.refusals (told c.args.out.now) (told c.finish_lines.new.out))) c.in_ok-add_reports-in-Verdicts.ensures c.finish_lines.ensures.ok)
 
-pub returns-in-Ok-add_reports-clause-ok : goal.returns-in-Ok-add_reports-clause-ok
-returns-in-Ok-add_reports-clause-ok g c =
+pub returns-in_ok-consolidation-in-VerdictsJson-clause-ok : goal.returns-in_ok-consolidation-in-VerdictsJson-clause-ok
+returns-in_ok-consolidation-in-VerdictsJson-clause-ok g c =
     let told = g.S.Sink.told in
-    rw c.in-VerdictsJson.is (subst (λ (a : Added). IfOk c.finish_rows.result (ListsRows Json a.body a.refusals (told c.args.out.now) (told c.finish_rows.new.out))) c.in-Ok-add_reports.ensures c.finish_rows.ensures.ok)
+    rw c.in-VerdictsJson.is (subst (λ (a : Added). IfOk c.finish_rows.result (ListsRows Json a.body a.refusals (told c.args.out.now) (told c.finish_rows.new.out))) c.in_ok-consolidation-in-VerdictsJson.ensures c.finish_rows.ensures.ok)
 
-pub returns-in-Ok-reports_of-clause-ok : goal.returns-in-Ok-reports_of-clause-ok
-returns-in-Ok-reports_of-clause-ok g c =
+pub returns-in_ok-reports-in-Sources-clause-ok : goal.returns-in_ok-reports-in-Sources-clause-ok
+returns-in_ok-reports-in-Sources-clause-ok g c =
     let told = g.S.Sink.told in
-    rw c.in-Sources.is (subst (λ reports. IfOk c.source_lines.result (ListsSources c.args.sheet.now reports (told c.args.out.now) (told c.source_lines.new.out))) (c.as_slice.ensures.value ∙ c.in-Ok-reports_of.ensures) c.source_lines.ensures.ok)
+    rw c.in-Sources.is (subst (λ reports. IfOk c.source_lines.result (ListsSources c.args.sheet.now reports (told c.args.out.now) (told c.source_lines.new.out))) (c.as_slice.ensures.value ∙ c.in_ok-reports-in-Sources.ensures) c.source_lines.ensures.ok)
 
-pub returns-in-Ok-reports_of-2-clause-ok : goal.returns-in-Ok-reports_of-2-clause-ok
-returns-in-Ok-reports_of-2-clause-ok g c =
+pub returns-in_ok-reports-in-SourcesJson-clause-ok : goal.returns-in_ok-reports-in-SourcesJson-clause-ok
+returns-in_ok-reports-in-SourcesJson-clause-ok g c =
     let told = g.S.Sink.told in
-    rw c.in-SourcesJson.is (subst (λ reports. IfOk c.source_rows.result (ListsSourceRows Json c.args.sheet.now reports (told c.args.out.now) (told c.source_rows.new.out))) (c.as_slice-in-Ok-reports_of-2.ensures.value ∙ c.in-Ok-reports_of-2.ensures) c.source_rows.ensures.ok)
+    rw c.in-SourcesJson.is (subst (λ reports. IfOk c.source_rows.result (ListsSourceRows Json c.args.sheet.now reports (told c.args.out.now) (told c.source_rows.new.out))) (c.as_slice-in-SourcesJson.ensures.value ∙ c.in_ok-reports-in-SourcesJson.ensures) c.source_rows.ensures.ok)

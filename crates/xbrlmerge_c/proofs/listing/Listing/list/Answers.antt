@@ -3,7 +3,7 @@ use Rattle.xbrlmerge_c.specs.Answers.{NoRow}
 use Rattle.xbrlmerge_c.specs.Calls.{IsSheetRefused, Lists}
 use Rattle.xbrlmerge_c.specs.Ends.{reports_at}
 use Rattle.xbrlmerge_c.proofs.Answered as answered
-use Rattle.xbrlmerge_c.proofs.listing.list.Goals as goal
+use Rattle.xbrlmerge_c.proofs.listing.Listing.list.Goals as goal
 
 pub returns-then-not-are_ends : goal.returns-then-not-are_ends
 returns-then-not-are_ends c = record {
@@ -22,7 +22,7 @@ returns-then-not-are_ends c = record {
 pub returns : goal.returns
 returns c =
     let sheet = c.args.sheet.now in
-    let lists = Lists c.args.listing sheet (reports_at c.args.reports.now c.args.ends.now) in
+    let lists = Lists c.args.self sheet (reports_at c.args.reports.now c.args.ends.now) in
     let made = c.listed-made.result in
     let ok = c.listed-made.ensures.ok in
     let err = c.listed-made.ensures.err in
