@@ -43,7 +43,7 @@ class Program:
         return os.path.join(self.folder, name)
 
     def run(self, command: str, words: Sequence[str]) -> tuple[int, list[str]]:
-        """Runs a command and writes its output to the file `place(command)`. Returns the status and the lines on standard error."""
+        """Runs a command, and writes its output to `place(command)`. Returns the status and the lines on standard error."""
         with open(self.place(command), "wb") as out:
             run = [self.path, command, "--sheet", self.sheet, *words]
             done = subprocess.run(run, stdin=subprocess.DEVNULL, stdout=out, stderr=subprocess.PIPE, cwd=self.folder)  # nosec B603
