@@ -26,8 +26,8 @@ language, or a dimension that one row lacks. Pairs are left out if one provider 
 differ in the same dimension, at most 1,000 pairs are compared, fewer if the pairs found have more than 10,000 facts.
 
 --from uses the earlier output of `xbrlmerge merge` and `xbrlmerge verdicts`. --sources uses the output of `xbrlmerge sources`,
-and --names lists the providers in the order of the reports. Instead of --sources and --names, you can name a merged report for
-each provider, made from the provider's own reports, as PROVIDER=TEXT.
+and --names lists the providers in the order of the reports. Instead of --sources and --names, PROVIDER=TEXT names a provider
+and the merged report of its own reports; repeat it for each provider.
 
 The page and changes.csv show at most 80 characters of an identifier, a URI or a text; the other tables contain them whole.
 In the tables, a ' precedes anything that a spreadsheet might read as a formula.
@@ -67,19 +67,19 @@ def read_options() -> argparse.Namespace:
     kind = parser.add_mutually_exclusive_group(required=True)
     kind.add_argument("--sheet", help="the sheet of the reports")
     kind.add_argument("--taxonomy", action="append", metavar="PACKAGE", help="make the sheet from this package, schema or folder")
-    kind.add_argument("--from", dest="texts", nargs=3, metavar=("MERGED", "SHEET", "VERDICTS"), help="use earlier output, and run nothing")
+    kind.add_argument("--from", dest="texts", nargs=3, metavar=("MERGED", "SHEET", "VERDICTS"), help="use earlier output, and do not run xbrlmerge")
     parser.add_argument("-o", "--output", required=True, metavar="DIR", help="the folder for the output; it is created if needed")
     add_program(parser)
     parser.add_argument("--normalise", action="store_true", help="normalise the reports first")
     parser.add_argument("--labels", action="append", default=[], metavar="TAXONOMY",
                         help="show the standard labels of this package or folder; may be repeated")
     parser.add_argument("--language", default="en", help="the language of the labels, by default en")
-    parser.add_argument("--near", metavar="NEAR.csv", help="write a table of pairs of rows that differ in one dimension only")
-    parser.add_argument("--exit-zero", action="store_true", help="return 0 instead of 1")
+    parser.add_argument("--near", metavar="NEAR.csv", help="write a table of pairs of rows that may differ only by mistake")
+    parser.add_argument("--exit-zero", action="store_true", help="exit with status 0 instead of 1")
     parser.add_argument("--sources", metavar="SOURCES", help="with --from: the output of `xbrlmerge sources`")
     parser.add_argument("--names", metavar="NAME,..", help="with --sources: the providers, in the order of the reports")
     parser.add_argument("words", nargs="*", metavar="[NAME=]REPORT",
-                        help="the reports; with --from, a merged report for each provider")
+                        help="the reports; with --from, PROVIDER=TEXT for each provider")
     add_losses(parser, "options of --normalise that lose something")
     options = parser.parse_intermixed_args()
     check(parser, options)

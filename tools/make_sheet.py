@@ -10,12 +10,14 @@ META-INF/catalog.xml maps the URL to it. The schemas of the specifications, at x
 item types are built in, except some of the data type registry.
 
 Enumeration sets are listed as text, and in the member xbrlmerge:sets, which tools/normalise reads. Standard error lists
-the parts that are left out: concepts whose values are fractions or contain prefixes (which would not be expanded); elements
-with an unknown type or substitution group, or with no namespace or a reserved one; and schemas without a namespace to which
-no schema with one leads.
+the parts that are left out:
+    concepts whose values are fractions, or contain prefixes that would not be expanded
+    elements with an unknown type or an unknown substitution group
+    elements without a namespace or in a reserved namespace
+    schemas without a namespace, unless a schema with a namespace refers to them, directly or through other schemas
 
-Files may come from untrusted sources. Only regular files are read, and, without --outside, only those in a named folder, in
-the folder of a named file, or in a package. The limits are:
+Files may come from untrusted sources. Only regular files are read. Without --outside, a file must be in a named folder, in the
+folder of a named file, or in a named package. The limits are:
     64 MB for a file that is not a package
     100,000 files in a package, paths of 1,024 characters, and 100 times its size plus 64 MB when unpacked
     1,000 levels in a document, which must not have a document type
@@ -23,8 +25,8 @@ the folder of a named file, or in a package. The limits are:
     4 MB for schemas without a namespace that are read again, once for each further namespace whose schemas include them
 --megabytes N replaces 64 with N, and 4 with N / 16.
 
-Status 0: done. 1: done, but something is left out. 2: invalid arguments. 3: not done, and standard error shows why. Standard
-output then contains at most a part of a sheet.
+Status 0: done. 1: done, but something is left out. 2: invalid arguments. 3: not done, and standard error shows why. After
+status 3, standard output contains at most a part of a sheet.
 """
 import argparse
 import sys

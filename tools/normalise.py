@@ -4,16 +4,17 @@
     tools/normalise REPORT OUT CHANGES.jsonl [--sheet SHEET] [options]
 
 REPORT is an xBRL-JSON report. OUT is the new report, on one line. CHANGES.jsonl contains a line for each change, with the
-fact, the JSON pointer, the old value, the new value if there is one, the rule, and whether something was lost. In these lines,
-identifiers, URIs and texts are cut to 80 characters. Without options, nothing that the format defines is lost. Some rules need
-the kind of a concept or dimension, and act only if SHEET lists it. If a rule has to leave an exponent, a set or a period as it
-is, standard error shows where and why. For example, a time zone stays without --zones. docs/GUIDE.md describes the rules and
+fact, the JSON pointer, the old value, any new value, the rule, and whether something was lost. In these lines, identifiers,
+URIs and texts are cut to 80 characters. Without options, nothing that the format defines is lost. Some rules need the kind of a
+concept or dimension, and act only on names that SHEET lists. If a rule has to leave an exponent, a set or a period as it is,
+standard error shows where and why. For example, a time zone stays without --zones. docs/GUIDE.md describes the rules and
 the list of changes.
 
---drop-unreadable runs the program `xbrlmerge` and drops the facts that it refuses. The program should have the same version as
-this tool.
+--drop-unreadable runs the program `xbrlmerge` and drops the facts that the program refuses. If the document itself is
+refused, no fact is dropped, and standard error shows why. The program should have the same version as this tool.
 
-Status 0: nothing was lost. 1: something was lost. 2: invalid arguments. 3: not done, and nothing is written.
+Status 0: nothing was lost. 1: something was lost. 2: invalid arguments. 3: not done, and standard error shows why. After
+status 2 or 3, no output has changed, unless a replaced file could not be restored.
 """
 from __future__ import annotations
 

@@ -118,7 +118,7 @@ def signals_held() -> Iterator[None]:
 def fill_standard_files() -> None:
     """Opens the null device in place of each closed standard stream: standard input for writing, the others for reading.
 
-    So each use of such a stream fails. Otherwise the next opened file would get the file descriptor of a closed stream, and
+    So each use of a closed stream fails. Otherwise the next opened file would get the file descriptor of a closed stream, and
     lines for that stream would be written to the file. Standard output and standard error are buffered, even if
     PYTHONUNBUFFERED is set: an unbuffered stream may take a part of the bytes and raise no exception.
     """
@@ -132,7 +132,7 @@ def fill_standard_files() -> None:
 
 
 def are_flushed() -> bool:
-    """Flushes both output streams, and returns whether they took all bytes. A stream that failed gets the null device instead."""
+    """Flushes both output streams, and returns whether they took all bytes. If one fails, the null device replaces it."""
     taken = True
     for file in (sys.stdout, sys.stderr):
         try:
@@ -146,7 +146,7 @@ def are_flushed() -> bool:
 def print_lines(lines: Iterable[str]) -> None:
     """Prints lines on standard error, each after the name of the tool.
 
-    Call it before the output is written: if standard error fails, the tool then stops before it changes anything.
+    Call this function before the output is written: if standard error fails, the tool then stops before it changes any file.
     Errors: OSError.
     """
     name = os.path.basename(sys.argv[0]).removesuffix(".py")

@@ -18,11 +18,11 @@ REFUSAL = re.compile(r"report ([1-9]\d{0,17}): (\d+ \w+ at .*)")
 
 
 def add_program(parser: argparse.ArgumentParser) -> None:
-    parser.add_argument("--program", metavar="FILE", help="the program, by default ./xbrlmerge beside tools/, or the one on the PATH")
+    parser.add_argument("--program", metavar="FILE", help="the program, by default xbrlmerge beside or in tools/, or on the PATH")
 
 
 def program_at(given: Optional[str]) -> str:
-    """Returns the path of the program: the given one, or else the one beside or in tools/, or else the one on the PATH.
+    """Returns the path of the program. Without `given`, it is looked for beside tools/, then in tools/, then on the PATH.
 
     Errors: NotDone if there is none.
     """
@@ -43,7 +43,7 @@ class Program:
         return os.path.join(self.folder, name)
 
     def run(self, command: str, words: Sequence[str]) -> tuple[int, list[str]]:
-        """Runs a command and writes its output to a file of the same name. Returns its status and its lines on standard error."""
+        """Runs a command, and writes its output to `place(command)`. Returns the status and the lines on standard error."""
         with open(self.place(command), "wb") as out:
             run = [self.path, command, "--sheet", self.sheet, *words]
             done = subprocess.run(run, stdin=subprocess.DEVNULL, stdout=out, stderr=subprocess.PIPE, cwd=self.folder)  # nosec B603
@@ -62,7 +62,7 @@ class Program:
         return refusals
 
     def reasons(self, command: str, status: int, lines: list[str]) -> list[str]:
-        """Returns why a command failed. A refused sheet is described in the words of `explain`."""
+        """Returns lines that show why a command failed. If the sheet is refused, they are the lines that `explain` prints."""
         if any(line.startswith("sheet: ") for line in lines):
             lines = [line for line in self.run("explain", [])[1] if not line.startswith("sheet: ")] or lines
         if any(line.startswith("device: ") for line in lines):

@@ -1,4 +1,4 @@
-"""Concept sheets. They must satisfy the conditions of `xbrlmerge`, and list each set as a text."""
+"""Concept sheets. A sheet must satisfy the conditions of `xbrlmerge`, and list each concept in xbrlmerge:sets as a text."""
 from __future__ import annotations
 
 from typing import Any, Mapping

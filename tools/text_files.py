@@ -6,7 +6,10 @@ PIECE = 1 << 20
 
 
 def read_text(path: str) -> str:
-    """Returns the text of a file. A byte order mark is dropped. Errors: OSError; ValueError if it is too long or not UTF-8."""
+    """Returns the text of a file. A byte order mark is dropped.
+
+    Errors: OSError; ValueError if the file is too long or not UTF-8.
+    """
     pieces, length = [], 0
     with open(path, encoding="utf-8-sig") as file:
         for piece in iter(functools.partial(file.read, PIECE), ""):

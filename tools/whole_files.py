@@ -15,7 +15,7 @@ PERMISSIONS = 0o777  # without setuid, setgid and the sticky bit
 
 @dataclass(frozen=True)
 class Output:
-    """A file to write at `place`, and a folder beside it for this run only."""
+    """A file to write at `place`, and a temporary folder beside it."""
 
     place: str
     folder: str
@@ -46,10 +46,10 @@ class Output:
 def write_files(texts: Iterable[tuple[str, Iterable[str]]]) -> None:
     """Writes all files or none. `texts` contains the path and the pieces of each file.
 
-    Each file is written in a new folder beside its place, then moved to its place. It gets the owner, the group and the
-    permissions of the file that it replaces, each if permitted, but no setuid, setgid or sticky bit. A signal that
-    `process.run` handles stops the writing, and the new files are removed; the moves are not interrupted. Errors: OSError, and
-    exceptions of the pieces. After an error, every place is unchanged, unless a move cannot be undone.
+    Each file is written in a new folder beside its place, then moved to its place. A new file gets the owner, the group and
+    the permissions of the file that it replaces, each if permitted. The setuid, setgid and sticky bits are not copied. A signal
+    that `process.run` handles stops the writing, and the new files are removed; the moves are not interrupted. Errors: OSError,
+    and exceptions of the pieces. After an error, no file has changed, unless a move cannot be undone.
     """
     with files_written(texts):
         pass
@@ -66,7 +66,7 @@ def files_written(texts: Iterable[tuple[str, Iterable[str]]]) -> Iterator[None]:
 
 
 def write_beside(path: str, pieces: Iterable[str], folders: contextlib.ExitStack) -> Output:
-    """Writes a file in a folder beside its place. The folder is removed when the stack ends."""
+    """Writes a file in a folder beside its place. The folder is removed when `folders` is closed."""
     place = os.path.realpath(path)
     if os.path.exists(place) and not os.path.isfile(place):
         raise OSError(f"{path} exists and is not a file that can be replaced")

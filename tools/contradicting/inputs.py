@@ -111,13 +111,16 @@ class Run:
 
 
 def counted(count: int, word: str, words: Optional[str] = None) -> str:
-    """Returns a number and a word. The word is plural unless the number is 1."""
+    """Returns a count with its noun, such as "1 report" or "2 reports"."""
     return f"{count} {word if count == 1 else words or word + 's'}"
 
 
 @contextlib.contextmanager
 def output_folder(path: str) -> Iterator[None]:
-    """Makes a folder unless it exists. If the block fails, a folder that was made here is removed, if it is empty."""
+    """Makes the output folder unless it exists. If the `with` block fails, a folder made here is removed if it is empty.
+
+    Errors: NotDone if the path is not a folder; OSError; exceptions of the block.
+    """
     is_made = not os.path.isdir(path)
     if is_made and os.path.lexists(path):
         raise NotDone(f"{path} is not a folder; -o needs one")

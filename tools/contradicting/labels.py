@@ -15,7 +15,7 @@ STANDARD = "http://www.xbrl.org/2003/role/label"
 
 
 class Label(NamedTuple):
-    """A label. A label in the wanted language is preferred to one in a dialect."""
+    """A label. A label in the wanted language replaces a label in one of its dialects, such as en-GB for en."""
 
     is_of_dialect: bool
     text: str
@@ -26,7 +26,7 @@ class Label(NamedTuple):
 
 
 class Labelled(Taxonomy):
-    """A taxonomy, and the standard labels of a language and its dialects, from the .xml files of the named folders and packages."""
+    """A taxonomy with its standard labels in a language and its dialects. The labels are read from .xml files."""
 
     def __init__(self, files: Files, language: str) -> None:
         self.language = language.lower()
@@ -43,7 +43,7 @@ class Labelled(Taxonomy):
             self.identified[place, part.identifier] = part.name
 
     def name_at(self, href: str, base: str) -> Optional[Name]:
-        """Returns the name of the element to which a reference in the document at `base` leads, or None."""
+        """Returns the name of the element or type that `href` refers to, or None. `base` is the document that refers."""
         location, _, identifier = href.partition("#")
         return self.identified.get((self.rewrites.place_of(location, base)[0], identifier))
 
@@ -53,7 +53,7 @@ class Labelled(Taxonomy):
 
 
 class Link:
-    """The parts of an extended link. If several labels have the same xlink:label, the preferred one is kept."""
+    """The locators, labels and arcs of an extended link. Of several labels with one xlink:label, the preferred one is kept."""
 
     def __init__(self, level: int) -> None:
         self.level = level
@@ -115,6 +115,6 @@ class Linkbase(Visitor):
 
 
 def read_labels(words: Sequence[str], language: str) -> dict[Name, str]:
-    """Returns the standard labels by name, without empty ones. The exact language is preferred to its dialects."""
+    """Returns the standard labels by the names of their elements. Elements with an empty label are left out."""
     labels = Labelled(Files(words, Limits()), language).labels if words else {}
     return {name: label.text for name, label in labels.items() if label.text}

@@ -35,7 +35,7 @@ class Near:
     case or white space; dates at most a day apart; another unit or language; a dimension that one of the two lacks.
     Rows form a group if they are equal in all dimensions but one, and their values of that dimension share a key of `buckets`.
     Two rows also form a group if one lacks a dimension of the other and they are otherwise equal. In a group, neighbours in the
-    order of the rows are compared first. `cut` counts the pairs beyond the limits.
+    order of the rows are compared first. `cut` counts the pairs that MOST_PAIRS and MOST_FACTS exclude from the comparison.
     """
 
     def __init__(self, providers: Sequence[str]) -> None:
@@ -62,8 +62,8 @@ class Near:
     def groups(self) -> Iterator[list[int]]:
         """Yields the groups that the class describes: for each, the numbers of its rows, in order.
 
-        Dimensions are compared by a sum of hashes, so leaving one out is a subtraction. Hashes may collide, so `difference`
-        checks the result.
+        Rows are compared by the sum of the hashes of their dimensions: subtracting a hash leaves out its dimension. Hashes may
+        collide, so `difference` compares the dimensions themselves.
         """
         sums = {number: sum(map(hash, items.items())) for number, items in self.items.items()}
         whole = {total & WORD: number for number, total in sums.items()}
@@ -108,7 +108,7 @@ class Near:
         return [f"--near: {told} {MOST_PAIRS} pairs are compared, fewer if those found have over {MOST_FACTS} facts"] if self.cut else []
 
     def table(self, pairs: list[tuple[int, int, Axis]], labels: Mapping[Name, str]) -> Iterator[Sequence[str]]:
-        """Yields the lines of the table: the headings, then the facts of both rows in each pair."""
+        """Yields the lines of the table: the headings, then, for each pair, one line for each fact of its two rows."""
         listed = (self.kept[number] for pair in pairs for number in pair[:2])
         check_lengths((kept.dimensions, len(kept.facts)) for kept in listed)
         yield COLUMNS
@@ -128,7 +128,7 @@ def items_of(dimensions: Dimensions) -> Items:
 
 
 def buckets(axis: Axis, value: object) -> list[object]:
-    """Returns the keys of a value. Two values share a key if they may differ by mistake."""
+    """Returns keys for a value of the dimension `axis`. Two values share a key if they may differ only by mistake."""
     of = value[0] if isinstance(axis, Name) and isinstance(value, tuple) else value
     if axis == "period":
         days = [datetime.date.fromisoformat(moment[:10]).toordinal() for moment in str(of).split("/")]

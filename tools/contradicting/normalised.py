@@ -61,7 +61,10 @@ class Normalised:
 
 
 def shown(change: dict[str, Tree], key: str) -> str:
-    """Returns the text of a cell: a member of a change, as JSON for the keys in VALUES, or an empty text without the member."""
+    """Returns a member of a change as the text of a cell. The text is empty if the member is absent.
+
+    Members in VALUES are written as JSON. For other keys, a text is not quoted, and null gives an empty text.
+    """
     value = change.get(key)
     if key in VALUES and key in change:
         return text_of(value)

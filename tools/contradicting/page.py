@@ -59,8 +59,8 @@ characters near the first difference; contradictions.csv has them whole.</p>
 
 
 def counts(reader: Reader, refusals: Refusals) -> Iterator[tuple[int, str]]:
-    """Yields the counts with their words: rows by verdict, rows with one fact from one provider if providers are known, and
-    refused reports if there are any."""
+    """Yields each count with its words: the rows of each verdict; if providers are known, the rows with one fact from one
+    provider; the refused reports, if there are any."""
     yield from ((reader.counts[verdict], word) for verdict, word in WORDS.items())
     if reader.providers:
         yield reader.counts["alone"], f"of these reported by {reader.said_by(1)}"
@@ -69,7 +69,7 @@ def counts(reader: Reader, refusals: Refusals) -> Iterator[tuple[int, str]]:
 
 
 def refused(refusals: Refusals) -> Iterator[str]:
-    """Yields the pieces that list the names that the sheet lacks, and the refused reports, each with its first faults."""
+    """Yields the section of refused reports, if there are any, with the names that the sheet lacks and the first faults."""
     if refusals.reports:
         yield '<section class="refused"><h2>Refused reports</h2><p>The page has no figures from these reports.</p>'
         yield "".join(f"<p>{html.escape(printable(line))}</p>" for line in refusals.lacking_lines())
@@ -80,7 +80,7 @@ def refused(refusals: Refusals) -> Iterator[str]:
 
 
 def order(row: Row) -> tuple[int, Decimal, int]:
-    """Returns the sort key: pairs with a text, a name or nil first, then the largest differences, as shares."""
+    """Returns the sort key of a row. Rows whose pair is not two numbers come first, then the rows with the largest shares."""
     share = row.share()
     return (0, Decimal(0), row.number) if share is None else (1, -share, row.number)
 
@@ -177,7 +177,7 @@ def number_line(row: Row) -> Optional[NumberLine]:
 
 
 def below(line: NumberLine, unit: str) -> str:
-    """Returns the ends of a number line, and the reason why the row is a contradiction."""
+    """Returns the HTML below a number line: the ends of the line, and the reason why the row is a contradiction."""
     ends = "".join(f"<span>{shown(end)} {unit}".rstrip() + "</span>" for end in dict.fromkeys((line.low, line.high)))
     why = "A nil value contradicts every number."
     if line.gap:
@@ -195,7 +195,8 @@ def start_of_cut(values: Iterable[Value]) -> int:
 
 
 def details(row: Row) -> Iterator[tuple[str, str]]:
-    """Yields a heading and a text for each dimension of a row except the concept."""
+    """Yields a heading and a text for each dimension of a row except the concept. An absent period and the absent unit of
+    numbers are included."""
     of, last = dimensions_of(row), [*row.facts.values()][-1]  # nil is sorted first, so the last fact is not nil
     start, _, end = of.period.rpartition("/")
     since = f"{day(start, False)} to " if start else "at the end of " * end.endswith("T00:00:00")

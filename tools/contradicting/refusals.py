@@ -44,7 +44,10 @@ class Refusals:
         self.reports.append(Refused(path, tuple(first or [refusal]), count or 1))
 
     def lacking_lines(self, most: int = MOST_NAMES) -> Iterator[str]:
-        """Yields lines with the concepts and dimensions that the sheet lacks. If it lacks any, the advice follows, unless it is empty."""
+        """Yields a line with the concepts that the sheet lacks, and one with the dimensions. Each shows up to `most` names.
+
+        If the sheet lacks any, the advice follows, unless the advice is empty.
+        """
         for kind, names in self.lacking.items():
             if names:
                 count = f"{len(names)}{' or more' * (len(names) == MOST_NAMES)} {kind}{'s' * (len(names) > 1)}"

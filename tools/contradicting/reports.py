@@ -36,7 +36,7 @@ def reports_of(words: Iterable[str]) -> list[Report]:
 
 
 def report_of(word: str) -> tuple[bool, Report]:
-    """Returns whether an argument names a provider, and the report. An argument with a / before the first = names none."""
+    """Returns whether an argument names a provider, and its report. An argument with a / before its first = is a file name."""
     name, sign, path = word.partition("=")
     is_named = bool(sign) and "/" not in name
     if is_named and not (name and path):

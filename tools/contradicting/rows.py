@@ -50,7 +50,7 @@ class Fact(NamedTuple):
         return interval_of(self.value, self.decimals)
 
     def precision(self) -> tuple[Union[int, str], Union[Decimal, str], Union[Decimal, str]]:
-        """Returns the decimals and the interval of a number, or empty texts for other values."""
+        """Returns the decimals of a number (or "exact") and the ends of its interval. Other values give three empty texts."""
         if not isinstance(self.value, Decimal):
             return "", "", ""
         low, high = self.interval()
@@ -58,9 +58,9 @@ class Fact(NamedTuple):
 
 
 class Row(NamedTuple):
-    """The facts of one row by identifier, its verdict, and the providers of each fact.
+    """A row with its verdict and the providers of each fact. A contradiction also has its dimensions and its facts.
 
-    The gap lies between the intervals of the two facts that contradict each other. It is None unless both facts are numbers.
+    `gap` lies between the intervals of the two facts that contradict each other. `gap` is None unless both facts are numbers.
     """
 
     number: int
@@ -84,7 +84,7 @@ class Row(NamedTuple):
 
 
 class RowObserver(Protocol):
-    """Receives the rows that it wants."""
+    """Receives each row whose providers `wants` accepts, whatever the verdict on the row."""
 
     def wants(self, holders: Mapping[str, Holders]) -> bool: ...
 
@@ -92,7 +92,7 @@ class RowObserver(Protocol):
 
 
 class FactSources(Protocol):
-    """Returns the providers of a fact. Ask for each fact once, in order."""
+    """Finds the providers of facts. Call `holders` once for each fact, in order, and `finish` after the last fact."""
 
     names: list[str]
 
@@ -106,8 +106,8 @@ def dimensions_given(fact: tuple[str, Tree]) -> Any:
 
 
 def contradiction(row: Row) -> Optional[Row]:
-    """Returns a row, with the gap if its pair is two numbers. None if the pair is not two facts of the row, or is two numbers
-    without a gap."""
+    """Returns a row, with the gap if its pair is two numbers. Returns None if the pair is not two facts of the row, or if both
+    are numbers and the first interval does not end before the second begins."""
     one, two = (row.facts.get(name) for name in row.pair)
     if not one or not two or one is two:
         return None
@@ -230,7 +230,7 @@ def checked_period(period: str) -> str:
 
 
 def zip_all(groups: Iterable[Any], lines: Iterable[str]) -> Iterator[tuple[Any, str]]:
-    """Yields each group with its line; there must be as many groups as lines."""
+    """Yields each group with its line. Errors: ValueError if a group or a complete line is missing."""
     for group, line in itertools.zip_longest(groups, lines):
         if group is None or line is None or not line.endswith("\n"):
             raise ValueError("it does not have one line for each row of the merged report")
@@ -247,7 +247,7 @@ def interval_of(value: Decimal, decimals: Optional[int]) -> Interval:
 
 
 def is_common(said: re.Match[str], facts: Mapping[str, Tree]) -> bool:
-    """Returns whether a line shows the common interval of these facts."""
+    """Returns whether a line shows the common interval of the facts of its row. It does not if a fact is nil."""
     if any(fact["value"] is None for fact in facts.values()):
         return False
     lows, highs = zip(*(interval_of(Decimal(fact["value"]), fact.get("decimals")) for fact in facts.values()))
@@ -255,7 +255,7 @@ def is_common(said: re.Match[str], facts: Mapping[str, Tree]) -> bool:
 
 
 def day(moment: str, is_end: bool) -> str:
-    """Returns a moment as people write it. Midnight at a start is the day that begins; at an end it is the day before."""
+    """Returns a moment as people write it. Midnight is shown as the day that begins or, if `is_end`, as the day that ends."""
     read = datetime.datetime.fromisoformat(moment)
     is_midnight = read.time() == datetime.time() and (not is_end or read > datetime.datetime.min)
     return str(read.date() - datetime.timedelta(days=is_end)) if is_midnight else moment.replace("T", " ")

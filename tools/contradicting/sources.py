@@ -23,9 +23,9 @@ Holders = tuple[Holder, ...]  # of one fact
 
 
 class Sources:
-    """The lines of `sources`, in the order of the facts. `reports` contains the provider of each report.
+    """The output of `xbrlmerge sources`, which is in the order of the facts. `reports` contains the provider of each report.
 
-    `names` contains the providers of the reports that are not refused.
+    `names` contains the provider of each report that is not refused.
     """
 
     def __init__(self, path: str, reports: list[str], refused: Container[int] = ()) -> None:
@@ -61,15 +61,15 @@ class Sources:
         return tuple(Holder(provider, tuple(identifiers)) for provider, identifiers in found.items())
 
     def finish(self) -> None:
-        """Raises NotDone if there are lines after those of the last fact."""
+        """Raises NotDone if a line has not been used for a fact."""
         with using(self.path):
             if self.head:
                 raise ValueError(f"the source of {self.head[0]} is in the wrong place, or there is no such fact")
 
 
 class OwnTexts:
-    """A merged report for each provider, made from the provider's own reports. It does not contain the identifiers that facts
-    have in these reports."""
+    """The merged report of each provider's own reports. It does not contain the identifiers that facts have in the original
+    reports, so these identifiers are not known."""
 
     def __init__(self, providers: list[Provider]) -> None:
         self.providers, self.names = providers, [provider.name for provider in providers]
@@ -98,6 +98,6 @@ def identifiers(holders: Holders) -> str:
 
 
 def told(holders: Holders) -> str:
-    """Returns the providers' names and identifiers as one text, each of them shortened."""
+    """Returns a text with each provider of a fact and its identifiers of the fact. Each name and identifier is shortened."""
     brief = ((shortened(holder.name), ", ".join(map(shortened, holder.identifiers))) for holder in holders)
     return "; ".join(" ".join(each).strip() for each in brief)

@@ -1,4 +1,6 @@
-"""The tables of contradictions and of all rows. Names are {URI}local, and no cell can be read as a formula."""
+"""The tables of contradictions and of all rows. Names are written as {URI}local. A ' precedes what a spreadsheet
+might read as a formula.
+"""
 from __future__ import annotations
 
 import csv
@@ -25,7 +27,7 @@ Cell = Union[Value, int]
 
 
 class Line(list[str]):
-    """A file for csv that keeps one line."""
+    """A file object for `csv.writer`: the writer appends a line, and `pop` takes it out."""
 
     write = list.append
 
@@ -55,7 +57,7 @@ safe_again = functools.lru_cache(10_000)(safe)  # short texts are repeated in ma
 
 
 def guarded(found: re.Match[str]) -> str:
-    """Returns the skipped characters, with a ' wherever a formula might begin."""
+    """Returns the matched characters. If a sign of a formula follows them, a ' is added wherever the formula might begin."""
     skipped, text = found[0], found.string
     if found.end() == len(text) or text[found.end()] not in SIGNS:
         return skipped
@@ -64,8 +66,8 @@ def guarded(found: re.Match[str]) -> str:
 
 
 def check_lengths(rows: Iterable[tuple[Dimensions, int]]) -> None:
-    """Raises NotDone if the table or one row would be too long. For each row, `rows` contains its dimensions, and the number of
-    lines that contain them."""
+    """Raises NotDone if the dimensions of one row, or the dimensions in all lines of the table, are too long. `rows` contains
+    the dimensions of each row, and the number of its lines."""
     total = 0
     for dimensions, facts in rows:
         length = length_of(dimensions)

@@ -34,7 +34,7 @@ def small_number(digits: str) -> Any:
 
 
 def sheet_at(path: str) -> Sheet:
-    """Returns the sheet of a file. Errors: NotDone."""
+    """Returns the sheet in a file. Errors: NotDone."""
     with using(path):
         return Sheet(json.loads(read_text(path), parse_int=small_number))
 
@@ -67,7 +67,7 @@ class Text:
         return self.known[text]
 
     def facts(self) -> Iterator[tuple[str, Tree]]:
-        """Yields the identifier and the tree of each fact. The identifiers must be those that a merge gives."""
+        """Yields the identifier and the tree of each fact. Identifiers must be numbered as `merge` does, such as f01 to f11."""
         with using(self.path), self.file:
             self.expect("{")
             rank = width = 0
@@ -149,7 +149,7 @@ class Text:
 
 
 class Provider:
-    """A merged report of one provider's reports. Its facts are in the order of the full merged report."""
+    """A merged report of one provider's reports. The full merged report must contain all its facts, in the same order."""
 
     def __init__(self, name: str, path: str, merged: Text, sheet: Sheet) -> None:
         self.name, self.text, self.sheet, self.merged = name, Text(path), sheet, merged.path
@@ -178,7 +178,7 @@ class Provider:
         return is_said
 
     def finish(self) -> None:
-        """Raises NotDone if the full merged report lacks a fact of the provider."""
+        """Raises NotDone if the full merged report lacks a fact of the provider, or has its facts in another order."""
         with using(self.fault()):
             if self.head is not None:
                 raise ValueError("it is missing there, or is in the wrong place")

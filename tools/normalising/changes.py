@@ -10,7 +10,7 @@ Path = tuple[str, ...]  # the keys that lead to a part of a report
 
 
 class Reason(NamedTuple):
-    """The option that drops a fact, and a message with the names for its placeholders."""
+    """The option that drops a fact, and a message with the texts for its placeholders."""
 
     rule: str
     why: str

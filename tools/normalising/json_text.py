@@ -1,7 +1,7 @@
 """Reads and writes JSON. Numbers keep their spelling, and no member is lost.
 
-`json.loads` parses a text; its hooks keep the spelling of numbers and find repeated members. `pieces_of` writes texts, because
-the encoder of `json` writes only ints and floats as numbers, and would change 1.50, -0 and 1e400.
+`json.loads` parses a text; its hooks keep the spelling of numbers and find repeated members. `pieces_of` writes JSON,
+because the encoder of `json` writes only ints and floats as numbers, and would change 1.50, -0 and 1e400.
 """
 from __future__ import annotations
 
@@ -38,8 +38,8 @@ def read_json(path: str) -> Tree:
 def read_json_of_length(path: str) -> tuple[Tree, int]:
     """Returns the tree of a file, and the number of its characters.
 
-    Raises NotDone if the file cannot be read, is not JSON, is nested too deeply or has half a surrogate pair, or if two members
-    of one object share a name.
+    Raises NotDone if the file cannot be read, is too long, is not JSON, is nested too deeply or has half a surrogate pair, or
+    if two members of one object share a name.
     """
     try:
         text = read_text(path)
@@ -84,7 +84,7 @@ def twins_in(pairs: list[tuple[str, Tree]], made: dict[str, Tree]) -> Twins:
 
 
 def told_twice(tree: Tree, twins: Twins) -> str:
-    """Returns the message about an object with two members of one name."""
+    """Returns the message about two members of one object with the same name."""
     path = path_to(tree, twins.made)
     within = "an object" if path is None else pointer_of(path) or "the root"
     first, second = (shortened(text_of(value)) for value in (twins.first, twins.second))

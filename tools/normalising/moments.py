@@ -31,8 +31,8 @@ def without_zero_fraction(moment: re.Match[str], _: bool) -> Optional[str]:
 
 
 def with_time(moment: re.Match[str], is_start: bool) -> Optional[str]:
-    """Returns a date with the time at the end of its day, or at the beginning if the date is a start. None if the moment
-    has a time or is not a date."""
+    """Returns a date with the time 24:00:00, or with 00:00:00 if the date is a start. A time zone stays. Returns None if the
+    moment has a time or a fraction, or is not a date."""
     day, time, part, zone = moment.groups(default="")
     if time or part or not is_date(day):
         return None
@@ -40,7 +40,7 @@ def with_time(moment: re.Match[str], is_start: bool) -> Optional[str]:
 
 
 def in_utc(moment: re.Match[str], _: bool) -> Optional[str]:
-    """Returns a moment in UTC without its zone. If the zone is UTC already, midnight keeps its spelling.
+    """Returns a moment in UTC without its zone. The time 24:00:00 stays if the zone is UTC already.
 
     None if the moment has no zone or no time, has a fraction, or is invalid, or if the year would not be from 1 to 9999.
     """

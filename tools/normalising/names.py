@@ -14,7 +14,7 @@ def is_text(value: Tree) -> bool:
 
 
 def core_spelling(key: str, uris: Uris) -> Optional[str]:
-    """Returns the local part of a name whose prefix is bound to the namespace of xBRL, or is an unbound `xbrl`; otherwise None."""
+    """Returns the local part of a name in the namespace XBRL, or None. The prefix `xbrl` means XBRL unless it is bound."""
     prefix, colon, local = key.partition(":")
     return local if colon and uris.get(prefix, XBRL if prefix == "xbrl" else None) == XBRL else None
 

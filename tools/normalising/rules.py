@@ -82,7 +82,7 @@ class FactReader:
         self.sheet, self.options, self.uris, self.room = sheet, options, uris, room
 
     def read(self, name: str, fact: Tree, log: Log, kept: dict[str, Tree]) -> None:
-        """Adds the changed fact to `kept`, or drops it. Other changes in a dropped fact are not logged."""
+        """Adds the changed fact to `kept`, or drops it. The log of a dropped fact contains only the drop."""
         changed = fact
         if isinstance(fact, dict):
             changed = {**fact}
@@ -182,7 +182,7 @@ class FactReader:
         return expanded(dimensions.get("concept"), self.uris) if isinstance(dimensions, dict) else None
 
     def reason_to_drop(self, fact: Tree) -> Optional[Reason]:
-        """Returns the option that drops a fact, with the reason, or None."""
+        """Returns the reason why --drop-notes or --drop-unknown drops a fact, or None if neither drops it."""
         dimensions = fact.get("dimensions") if isinstance(fact, dict) else None
         if self.options.drop_notes and isinstance(dimensions, dict):
             if "noteId" in dimensions or self.concept_of(fact) == (XBRL, "note"):
@@ -209,9 +209,11 @@ def trimmed(key: str, text: str) -> str:
 
 
 def whole_number(text: str) -> Optional[str]:
-    """Returns the plain spelling of a whole number: a JSON number such as 2.0, or a text of digits with or without a sign.
-    None for all other numbers and texts, for a text of more than 18 digits, and for a number of more than 18 characters or
-    digits."""
+    """Returns the plain spelling of a whole number, otherwise None.
+
+    The number is a JSON number, such as 2.0 or 2e3, or a text of digits with or without a sign. A text may have at most 18
+    digits, and white space around them. A JSON number may have at most 18 characters, and 18 digits without its exponent.
+    """
     if isinstance(text, Number):
         number = Decimal(text) if len(text) <= 18 and abs(Decimal(text).adjusted()) < 18 else None
         return str(int(number)) if number is not None and number == number.to_integral_value() else None
@@ -219,7 +221,7 @@ def whole_number(text: str) -> Optional[str]:
 
 
 def plain_number(scientific: re.Match[str]) -> Optional[str]:
-    """Returns the same number without an exponent, or None if it then has more than DIGITS digits."""
+    """Returns a number in scientific notation without its exponent, or None if it then has more than DIGITS digits."""
     if not scientific["mantissa"].strip("0."):
         return "0"
     try:
@@ -234,8 +236,8 @@ def plain_number(scientific: re.Match[str]) -> Optional[str]:
 
 
 def full_name(item: str, uris: Uris) -> Optional[tuple[str, str]]:
-    """Returns the URI and the local part of an item in a set, which is PREFIX:LOCAL or URI#LOCAL. None if the item is neither,
-    or if the prefix is not bound or is bound to a URI with white space."""
+    """Returns the URI and the local part of an item, which must have the form PREFIX:LOCAL or URI#LOCAL. Returns None for other
+    items, and if the prefix is not bound, or its URI is empty or contains white space."""
     if "#" in item:
         uri, _, local = item.rpartition("#")
         return (uri, local) if uri and local else None

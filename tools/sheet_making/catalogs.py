@@ -16,7 +16,7 @@ MOST_LENGTHS = 1_000  # different lengths of uriStartString; a lookup tries each
 
 @dataclass(frozen=True)
 class Rewrite:
-    """A rule: in a URL, `start` is replaced by `prefix`, and the result is a path relative to the catalog."""
+    """A rule: in a URL that begins with `start`, `prefix` replaces `start`. The result is a path relative to the catalog."""
 
     start: str
     prefix: str
@@ -47,7 +47,7 @@ class Rewrites(Visitor):
             raise ValueError(f"the uriStartStrings have more than {MOST_LENGTHS} different lengths")
 
     def rule_of(self, location: str) -> Optional[Rewrite]:
-        """Returns the rule with the longest matching start. If several rules have this start, the first one counts."""
+        """Returns the rule with the longest matching start, or None. If several rules have this start, the first counts."""
         lengths = self.lengths[: bisect.bisect_right(self.lengths, len(location))]
         starts = (location[:length] for length in reversed(lengths))
         return next((self.rules[start] for start in starts if start in self.rules), None)

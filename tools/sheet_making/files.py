@@ -14,7 +14,7 @@ CATALOG = os.path.join(os.sep, "META-INF", "catalog.xml")
 
 
 class Files:
-    """Files on disk and in packages. A place is the path of a file. In a package, the path of the package precedes it."""
+    """Files on disk and in packages. A place is a path; for a file in a package, it begins with the path of the package."""
 
     def __init__(self, words: Iterable[str], limits: Limits) -> None:
         self.limits = limits
@@ -49,11 +49,14 @@ class Files:
         return [place for place in self.listed if place.endswith(CATALOG)]
 
     def linkbases(self) -> list[str]:
-        """Returns the .xml files among the named files, and those of the named folders and packages."""
+        """Returns the .xml files that are named themselves or are in the named folders and packages."""
         return sorted(place for place in self.listed if place.lower().endswith(".xml"))
 
     def found(self, place: str, origin: str) -> Optional[str]:
-        """Returns the place of a file that a document refers to, or None. Packages cannot refer to files on disk."""
+        """Returns `place` if it is a file to which the document at `origin` may refer, otherwise None.
+
+        Packages cannot refer to files on disk.
+        """
         if place in self.packed:
             return place
         return place if origin not in self.packed and os.path.isfile(place) else None

@@ -15,8 +15,8 @@ XBRLI = "http://www.xbrl.org/2003/instance"
 ENUMERATIONS_1, ENUMERATIONS_2 = "http://xbrl.org/2014/extensible-enumerations", "http://xbrl.org/2020/extensible-enumerations-2.0"
 REGISTRY = "registry"  # replaces each namespace of the data type registry
 HEADS = {Name(XBRLI, "item"): "concepts", Name(XBRLDT, "dimensionItem"): "dimensions"}
-# In the specifications, no other heads lead to concepts or dimensions. Namespaces at xbrl.org that do not match SPECIFICATION
-# belong to taxonomies.
+# Elements of the specifications that are not in HEADS are not heads of concepts or dimensions. Namespaces at xbrl.org that do
+# not match SPECIFICATION belong to taxonomies.
 SPECIFICATION = re.compile(r"https?://(www\.w3\.org/|(www\.)?xbrl\.org/(\d{4}|dtr|lrr)/)")
 REGISTERED = re.compile(r"http://www\.xbrl\.org/dtr/type/(numeric|non-numeric|\d{4}-\d\d-\d\d)")
 # The item types of XBRL 2.1 (section 5.1.1.3) except fractions, of extensible enumerations 1.0 and 2.0, and some of the data type
@@ -57,7 +57,7 @@ def listed(name: Name) -> Name:
 
 
 def kinds_of(elements: Mapping[Name, Declaration], types: Mapping[Name, Optional[Name]]) -> tuple[Kinds, list[str]]:
-    """Returns the kinds of concepts and dimensions, and a line for each other element that reports might use."""
+    """Returns the kinds of concepts and dimensions, and a line for each element that is left out but that reports might use."""
     judge = Judge({name: each for name, each in elements.items() if not is_specification(name.uri)}, types)
     kinds: Kinds = {table: {} for table in TABLES}
     lines = []
@@ -71,7 +71,7 @@ def kinds_of(elements: Mapping[Name, Declaration], types: Mapping[Name, Optional
 
 
 class Judge:
-    """Judges elements by the types and heads to which they lead."""
+    """Judges an element by the last type and the last head in its chains. A head is the name of a substitution group."""
 
     def __init__(self, elements: Mapping[Name, Declaration], types: Mapping[Name, Optional[Name]]) -> None:
         self.elements = elements

@@ -107,7 +107,8 @@ class SchemaVisitor(Visitor):
         part.type, part.type_level, part.base_level = ANY_TYPE, level, 0
 
     def look_for_base(self, element: Element, level: int, part: Part) -> None:
-        """Records the base of a type. A derivation names it, in the type itself or in its simpleContent or complexContent."""
+        """Opens a type inside an element, or records the base that a derivation in the open type names. The derivation is a
+        child of the type, or of its simpleContent or complexContent."""
         if level == 3 and not part.is_type and element.name in TYPES:
             self.open_type(level, part)
         elif part.type_level and level - part.type_level in (1, 2) and element.name in DERIVATIONS:
@@ -116,8 +117,8 @@ class SchemaVisitor(Visitor):
                 part.type, part.base_level = base, level
 
     def expanded(self, element: Element, key: str) -> Optional[Name]:
-        """Returns the name in an attribute, or None without the attribute. In a schema without a namespace, a name
-        without one is in the wanted namespace."""
+        """Returns the name in an attribute, or None without the attribute. If neither the name nor the schema has a namespace,
+        the name is in the wanted namespace."""
         text = element.get(key)
         if text is None:
             return None

@@ -28,8 +28,8 @@ def union(paths: Iterable[str], limits: Limits) -> Kinds:
 
 
 def sheet_text(kinds: Kinds) -> str:
-    """Returns the text of a sheet, with sorted names. A prefix is n and the rank of its URI, with zeros in front of short
-    ranks. A set gets the kind text and is also listed under SETS."""
+    """Returns the text of a sheet, with sorted names. A prefix is the letter n and the rank of its URI, with zeros in
+    front of short ranks. A concept of the kind set is listed as a text, and also under SETS."""
     uris = sorted({name.uri for table in kinds.values() for name in table})
     prefixes = {uri: f"n{rank:0{len(str(len(uris)))}}" for rank, uri in enumerate(uris, 1)}
     tables = {

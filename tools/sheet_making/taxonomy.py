@@ -16,8 +16,8 @@ MOST_LINES = 100
 
 
 class Taxonomy:
-    """The elements and types in the named schemas and the schemas to which they refer. Each type is kept with its base
-    type."""
+    """The elements and types in the named schemas, and in all schemas that these refer to, directly or through others. Each
+    type is kept with its base type."""
 
     def __init__(self, files: Files) -> None:
         self.files, self.rewrites = files, Rewrites()
@@ -39,7 +39,7 @@ class Taxonomy:
             raise NotDone(*shown_lines(self.missing or ["none of the named files is a schema"]))
 
     def read_schema(self, place: str, wanted: Optional[str]) -> None:
-        """Keeps the declarations of a schema. An included schema without a namespace gets the wanted one."""
+        """Keeps the declarations of a schema. A schema that names no namespace gets the wanted namespace, if there is one."""
         namespaces = self.read.setdefault(place, set())
         target = self.targets.get(place)
         if target is not None and wanted not in (None, target):
@@ -57,8 +57,8 @@ class Taxonomy:
         namespaces.add(visitor.namespace)
 
     def refer(self, location: str, base: str, wanted: str) -> None:
-        """Schedules the schema to which a location in the document at `base` leads. A missing schema is recorded, unless it
-        belongs to a specification."""
+        """Schedules the schema at `location`, to which the document at `base` refers. A missing schema is recorded, unless it
+        is wanted for the namespace of a specification."""
         place, origin = self.rewrites.place_of(location, base)
         found = self.files.found(place, origin)
         if found:
@@ -67,7 +67,7 @@ class Taxonomy:
             self.missing.append(f"{base}: {shortened(location)} is not in the named files")
 
     def declare(self, part: Part, place: str) -> None:
-        """Keeps an element or a type of the schema at a place."""
+        """Keeps an element or a type of the schema at `place`. Errors: ValueError if an earlier declaration differs."""
         if part.is_type:
             is_same = self.types.setdefault(part.name, part.type) == part.type
         else:
@@ -76,7 +76,7 @@ class Taxonomy:
             raise ValueError(f"{part.name.shown()} is declared in two ways")
 
     def without_namespace(self) -> list[str]:
-        """Returns the schemas that have no namespace and were read for none."""
+        """Returns the schemas that do not name a namespace and were not read for the namespace of another schema."""
         return sorted(place for place, namespaces in self.read.items() if namespaces == {None})
 
 

@@ -1,6 +1,6 @@
 """Reads XML tag by tag, and keeps only the open tags.
 
-Prefixes are resolved here. expat would put the whole namespace into each name, and a long namespace would take quadratic
+Prefixes are resolved here. expat would put the whole namespace into each name, so a long namespace could take quadratic
 memory.
 """
 from __future__ import annotations
@@ -39,7 +39,7 @@ class Bindings:
             self.uris[prefix].pop()
 
     def expanded(self, text: str) -> Name:
-        """Returns the expanded name of a text, with or without a prefix."""
+        """Returns the expanded name of a text, with or without a prefix. Errors: ValueError if the prefix is not bound."""
         prefix, _, local = text.rpartition(":")
         uris = self.uris.get(prefix)
         if not uris:
