@@ -55,10 +55,7 @@ contradict_is_apart (Number m d) (Number n e) f g =
     (λ apart common. apart (meets.1 common), λ none meet. none (meets.0 meet))
 contradict_is_apart (AText t) w f g = absurd f
 contradict_is_apart (AName n) w f g = absurd f
-contradict_is_apart Nil (AText t) f g = absurd g
-contradict_is_apart Nil (AName n) f g = absurd g
-contradict_is_apart (Number m d) (AText t) f g = absurd g
-contradict_is_apart (Number m d) (AName n) f g = absurd g
+contradict_is_apart v w f g = absurd g
 
 pub numeric_inconsistent_is_apart : NumericInconsistentIsApart
 numeric_inconsistent_is_apart sheet b s fits numeric =

@@ -28,14 +28,9 @@ kind_number (Some Name) = 3
 of_kind : (kind : ConceptKind) (v : Value) → ValueFits kind v → v ≢ Nil → kind_order v ≡ kind_number (Some kind)
 of_kind kind Nil fits some = absurd (some refl)
 of_kind Numeric (Number m d) fits some = refl
-of_kind Numeric (AText t) fits some = absurd fits
-of_kind Numeric (AName n) fits some = absurd fits
-of_kind Text (Number m d) fits some = absurd fits
 of_kind Text (AText t) fits some = refl
-of_kind Text (AName n) fits some = absurd fits
-of_kind Name (Number m d) fits some = absurd fits
-of_kind Name (AText t) fits some = absurd fits
 of_kind Name (AName n) fits some = refl
+of_kind kind v fits some = absurd fits
 
 of_one_kind : (sheet : Sheet) (s : DimensionSet) (vs : List Value) → All (FactFits sheet) (facts_with s vs) → AreAlike vs
 of_one_kind sheet s vs fit v w first second some other = is v first some ∙ sym (is w second other)

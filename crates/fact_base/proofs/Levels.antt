@@ -34,9 +34,8 @@ use Rattle.fact_base.proofs.Members.{each_in_turn, in_flat_map, turn_there}
 -- ---- one dimension set
 
 abbrev pub level_of_values : List Value → Level
-level_of_values [] = Unique
-level_of_values (v ∷ []) = Unique
 level_of_values (v ∷ w ∷ vs) = cond (each_meet (v ∷ w ∷ vs)) Consistent AllLevel
+level_of_values o = Unique
 
 pub level_is : (vs : List Value) (verdict : Verdict) → verdict_of vs ≡ Some verdict → level_at verdict ≡ level_of_values vs
 level_is [] verdict h = absurd (true≢false (sym (ap is_some h)))
@@ -91,9 +90,8 @@ four P a b c d true true true p q = a
 four P a b c d false true true p q = b
 four P a b c d false false true p q = c
 four P a b c d false false false p q = d
-four P a b c d true true false p q = absurd (false≢true (q refl))
-four P a b c d false true false p q = absurd (false≢true (q refl))
 four P a b c d true false s p q = absurd (false≢true (p refl))
+four P a b c d o true false p q = absurd (false≢true (q refl))
 
 abbrev Together : Bool → Bool → Bool → Bool → Bool → Bool → Type 0
 Together u c s v d t = strictest (u && v) (c && d) (s && t) ≡ ord_max level_cmp (strictest u c s) (strictest v d t)
@@ -109,9 +107,8 @@ together u c s v d t p q r o =
 
 regrouped : (a b c d : Bool) → b ≡ true → ((a && b) && (c && d)) ≡ ((a && c) && d)
 regrouped true true true d h = refl
-regrouped true true false d h = refl
-regrouped false true c d h = refl
 regrouped a false c d h = absurd (false≢true h)
+regrouped a true c d h = refl
 
 append_allowed : (l : Level) (fs gs : List Fact) → AllByRecursion (λ f. list_all (allows l f) gs ≡ true) fs → allows_each l (fs ++ gs) ≡ (allows_each l fs && allows_each l gs)
 append_allowed l [] gs apart = refl

@@ -16,11 +16,10 @@ use Rattle.oim_report.proofs.Pairs.{level_of_is, strictest}
 use Rattle.fact_base.specs.Level.{SetsAreNeverComplete}
 
 by_dimensions : (o v : Ordering) → ordering_then o v ≡ Less → (not (is_eq o) || is_eq v) ≡ true → (not (is_eq o) || false) ≡ true
-by_dimensions Less v less allowed = refl
-by_dimensions Greater v less allowed = refl
 by_dimensions Equal Less less allowed = allowed
 by_dimensions Equal Equal less allowed = absurd (cc)
 by_dimensions Equal Greater less allowed = allowed
+by_dimensions o v less allowed = refl
 
 apart : (f g : Fact) → fact_cmp f g ≡ Less → allows Complete f g ≡ true → allows Unique f g ≡ true
 apart f g less allowed = by_dimensions (dimensions_cmp f.dimensions g.dimensions) (value_cmp f.value g.value) less allowed
@@ -39,10 +38,9 @@ each_once (f ∷ fs) rises allowed =
     and_from (list_all (allows Unique f) fs) (allows_each Unique fs) (beside_later f fs rises.0 both.0) (each_once fs rises.1 both.1)
 
 not_complete : (u c s : Bool) → (c ≡ true → u ≡ true) → strictest u c s ≢ Complete
-not_complete true c s unless is = absurd (cc)
 not_complete false true s unless is = absurd (false≢true (unless refl))
 not_complete false false true unless is = absurd (cc)
-not_complete false false false unless is = absurd (cc)
+not_complete u c s unless is = absurd (cc)
 
 pub sets_are_never_complete : SetsAreNeverComplete
 sets_are_never_complete facts rises is =

@@ -53,13 +53,11 @@ later P e es all k d within = all (suc k) d (omega (arith, within))
 
 pub all_below : (es : List Entry) (s : DimensionSet) (n : ℕ) (x : Entry) → IsRising dimensions_cmp entry_key es → NoneAbove s es → suc n ≡ length es → x ≡ get_or es n x → is_eq (dimensions_cmp x.0 s) ≡ false → AllBelow s es
 unfolding IsStrictlySortedBy
-all_below [] s n x rise up count is other = absurd (omega (arith, count))
 all_below (e ∷ []) s zero x rise up count is other = (less_from (dimensions_cmp e.0 s) (up zero e (omega arith)) (subst (λ (y : Entry). is_eq (dimensions_cmp y.0 s) ≡ false) is other), tt)
-all_below (e ∷ []) s (suc n) x rise up count is other = absurd (omega (arith, count))
-all_below (e ∷ d ∷ es) s zero x rise up count is other = absurd (omega (arith, count))
 all_below (e ∷ d ∷ es) s (suc n) x rise up count is other =
     let rest = all_below (d ∷ es) s n x rise.1 (later (λ (y : Entry). is_gt (dimensions_cmp y.0 s) ≡ false) e (d ∷ es) up) (omega (arith, count)) is other in
     (dimensions_cmp_total.trans e.0 d.0 s rise.0.0 rest.0, rest)
+all_below es s n x rise up count is other = absurd (omega (arith, count))
 
 pub none_below : (es : List Entry) (s : DimensionSet) → length es ≡ 0 → AllBelow s es
 none_below [] s count = tt
@@ -75,19 +73,17 @@ put_behind (e ∷ es) f below =
 
 pub put_last : (es : List Entry) (f : Fact) (n : ℕ) (x : Entry) (kept : Summed) → IsRising dimensions_cmp entry_key es → suc n ≡ length es → x ≡ get_or es n x → x.0 ≡ f.dimensions → kept ≡ with_value f.value x.1 → set es n (x.0, kept) ≡ with_fact f es
 unfolding IsStrictlySortedBy
-put_last [] f n x kept rise count is same made = absurd (omega (arith, count))
 put_last (e ∷ []) f zero x kept rise count is same made =
     let ties : dimensions_cmp f.dimensions e.0 ≡ Equal = ap (dimensions_cmp f.dimensions) (sym (ap (λ (y : Entry). y.0) is) ∙ same) ∙ tied_itself dimensions_cmp_total f.dimensions in
     let all : kept ≡ with_value f.value e.1 = made ∙ ap (λ (y : Entry). with_value f.value y.1) is in
     (λ i. ((is i).0, all i) ∷ [])
     ∙ sym (ap (λ r. match_ordering r (entry_of f ∷ e ∷ []) (merged_entries summed_of_both e (entry_of f) ∷ []) (e ∷ with_fact f [])) ties)
-put_last (e ∷ []) f (suc n) x kept rise count is same made = absurd (omega (arith, count))
-put_last (e ∷ d ∷ es) f zero x kept rise count is same made = absurd (omega (arith, count))
 put_last (e ∷ d ∷ es) f (suc n) x kept rise count is same made =
     let there : dimensions_cmp e.0 x.0 ≡ Less = turn_there (λ (y : Entry). dimensions_cmp e.0 y.0 ≡ Less) (d ∷ es) x rise.0 (n, omega (arith, count), sym is) in
     let less : dimensions_cmp e.0 f.dimensions ≡ Less = sym (ap (dimensions_cmp e.0) same) ∙ there in
     ap (λ ds. e ∷ ds) (put_last (d ∷ es) f n x kept rise.1 (omega (arith, count)) is same made)
     ∙ sym (ap (λ r. match_ordering r (entry_of f ∷ e ∷ d ∷ es) (merged_entries summed_of_both e (entry_of f) ∷ d ∷ es) (e ∷ with_fact f (d ∷ es))) (turned e.0 f.dimensions less))
+put_last es f n x kept rise count is same made = absurd (omega (arith, count))
 
 -- ---- facts that do not descend
 
@@ -102,14 +98,12 @@ none_above_next es f g up next =
     one (suc k) d within = absurd (omega (arith, within))
 
 first_up : (a b : Ordering) → is_gt (ordering_then a b) ≡ false → is_gt a ≡ false
-first_up Less b up = refl
-first_up Equal b up = refl
 first_up Greater b up = up
+first_up a b up = refl
 
 turned_up : (a : Ordering) → is_lt a ≡ false → is_gt (ordering_reverse a) ≡ false
 turned_up Less up = absurd (true≢false up)
-turned_up Equal up = refl
-turned_up Greater up = refl
+turned_up a up = refl
 
 -- ---- a list of facts that do not descend
 

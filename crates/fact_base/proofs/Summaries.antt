@@ -114,9 +114,8 @@ shared_parts s ends h = by_ends s.ends refl
     none is = true≢false (sym (ap is_some is))
 
     by_test : (found : Interval) (a b : Bool) → unless (a || b) found ≡ Some ends → (found ≡ ends) × ((a ≡ false) × (b ≡ false))
-    by_test found true b is = absurd (none is)
-    by_test found false true is = absurd (none is)
     by_test found false false is = (ap (λ o. unwrap_or o found) is, (refl, refl))
+    by_test found a b is = absurd (none is)
 
     by_ends : (a : Option Interval) → s.ends ≡ a → (s.ends ≡ Some ends) × ((s.nil ≡ false) × (int_lt ends.high ends.low ≡ false))
     by_ends None is = absurd (none (sym (ap (option_and_then (λ e. unless (s.nil || int_lt e.high e.low) e)) is) ∙ h))
@@ -165,9 +164,8 @@ meet_where_shared vs s summed several meet =
 -- ---- verdicts
 
 of_several : (vs : List Value) → 2 ≤ length vs → verdict_of vs ≡ Some (cond (each_meet vs) Consistent Inconsistent)
-of_several [] h = absurd (omega (arith, h))
-of_several (v ∷ []) h = absurd (omega (arith, h))
 of_several (v ∷ w ∷ vs) h = refl
+of_several vs h = absurd (omega (arith, h))
 
 pub shared_is_consistent : (vs : List Value) (s : Summarised) → AreSummarised vs s → 2 ≤ length vs → (ends : Interval) → shared_by s ≡ Some ends → verdict_of vs ≡ Some Consistent
 shared_is_consistent vs s summed several ends is =
@@ -189,15 +187,11 @@ shared_is_common vs s summed several ends is =
 
 number_kind : (v : Value) → has_interval v ≡ true → kind_order v ≡ 1
 number_kind (Number m d) h = refl
-number_kind Nil h = absurd (true≢false (sym h))
-number_kind (AText t) h = absurd (true≢false (sym h))
-number_kind (AName n) h = absurd (true≢false (sym h))
+number_kind v h = absurd (true≢false (sym h))
 
 of_number_kind : (v : Value) → kind_order v ≡ 1 → has_interval v ≡ true
 of_number_kind (Number m d) h = refl
-of_number_kind Nil h = absurd (omega (arith, h))
-of_number_kind (AText t) h = absurd (omega (arith, h))
-of_number_kind (AName n) h = absurd (omega (arith, h))
+of_number_kind v h = absurd (omega (arith, h))
 
 not_Nil : (v : Value) → has_interval v ≡ true → v ≢ Nil
 not_Nil v h is = true≢false (sym h ∙ ap has_interval is)
@@ -218,9 +212,8 @@ all_numbers vs alike none some v at =
     of_number_kind v (alike v found.0 at found.1.0 (λ is. none (subst (Contains vs) is at)) (not_Nil found.0 found.1.1) ∙ number_kind found.0 found.1.1)
 
 begins : (vs : List Value) → 2 ≤ length vs → ((v : Value) → Contains vs v → has_interval v ≡ true) → begin_with_numbers vs ≡ true
-begins [] several all = absurd (omega (arith, several))
-begins (v ∷ []) several all = absurd (omega (arith, several))
 begins (v ∷ w ∷ vs) several all = and_from (has_interval v) (has_interval w) (all v (first_there v (w ∷ vs))) (all w (later_there v (w ∷ vs) w (first_there w vs)))
+begins vs several all = absurd (omega (arith, several))
 
 shown_numbers : (vs : List Value) (i j : ℕ) → begin_with_numbers vs ≡ true → ((ends : Interval) → AreEnds ends (intervals_of vs) → (i ≡ place_of_least_high ends vs) × (j ≡ place_of_greatest_low ends vs)) → IsShownPair vs i j
 shown_numbers vs i j numbers shown = subst (λ b. IsPairOf b vs i j) (sym numbers) shown
@@ -272,17 +265,14 @@ begins_with_nil (v ∷ w ∷ vs) rises at = ⊎_elim (λ is. ap (λ x. has_inter
     below_nil x (y ∷ ys) below at = ⊎_elim (λ is. nothing_below x (ap (value_cmp x) (sym is) ∙ below.0)) (below_nil x ys below.1) (first_or_later y ys Nil at)
 
 begins_with_none : (vs : List Value) → list_any has_interval vs ≡ false → begin_with_numbers vs ≡ false
-begins_with_none [] h = refl
-begins_with_none (v ∷ []) h = refl
 begins_with_none (v ∷ w ∷ vs) h = by_test (has_interval v) refl
   where
     by_test : (b : Bool) → has_interval v ≡ b → (has_interval v && has_interval w) ≡ false
     by_test true is = absurd (true≢false (sym (ap (λ (b : Bool). b || (has_interval w || list_any has_interval vs)) is) ∙ h))
     by_test false is = ap (λ (b : Bool). b && has_interval w) is
+begins_with_none vs h = refl
 
 first_two : (vs : List Value) → 2 ≤ length vs → AreDifferent vs → begin_with_numbers vs ≡ false → AreApart vs 0 1
-first_two [] several different others = absurd (omega (arith, several))
-first_two (v ∷ []) several different others = absurd (omega (arith, several))
 first_two (v ∷ w ∷ vs) several different others = record {
   first = v;
   second = w;
@@ -292,6 +282,7 @@ first_two (v ∷ w ∷ vs) several different others = record {
       let numbers = different_meet_as_numbers v w (different 0 1 v (omega arith) (omega arith)) meet in
       true≢false (sym (and_from (has_interval v) (has_interval w) numbers.0 numbers.1) ∙ others);
 }
+first_two vs several different others = absurd (omega (arith, several))
 
 pub first_are_apart : (vs : List Value) → 2 ≤ length vs → AreDifferent vs → begin_with_numbers vs ≡ false → IsApartPair vs 0 1
 first_are_apart vs several different others = record { shown = shown_first vs others; apart = first_two vs several different others }

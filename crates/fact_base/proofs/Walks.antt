@@ -22,7 +22,7 @@ use Rattle.oim_value.specs.ValueOrder.{value_cmp}
 use Rattle.oim_value.specs.contracts.value.ValuePartialEq.TheImpl.{eq-value as value_eq}
 use Rattle.oim_dims.specs.contracts.dimensions.DimensionsPartialEq.TheImpl.{eq-value as dimensions_eq}
 use Rattle.oim_value.specs.declared.level.Level.{Level}
-use Rattle.oim_value.specs.declared.level.Level.TheVariants.{Unique, Complete, Consistent, All as AllLevel}
+use Rattle.oim_value.specs.declared.level.Level.TheVariants.{Unique}
 use Rattle.oim_value.specs.declared.value.Value.{Value}
 use Rattle.oim_value.proofs.ValueOrders.{value_cmp_exact, value_cmp_self}
 use Rattle.oim_dims.specs.DimensionSet.{DimensionSet}
@@ -61,9 +61,7 @@ starts es rise summed = highest_is Unique es rise (all_in_turn (λ e. IsSet valu
   where
     unique_first : (l : Level) → ord_max level_cmp Unique l ≡ l
     unique_first Unique = refl
-    unique_first Complete = refl
-    unique_first Consistent = refl
-    unique_first AllLevel = refl
+    unique_first l = refl
 
 pub level_further : (es : List Entry) (i : ℕ) (e : Entry) (level more : Level) (n : Level) → slice_get es i ≡ Some e → more ≡ ord_max level_cmp level (level_of_values e.1.0) → highest level (drop i es) ≡ n → highest more (drop (i + 1) es) ≡ n
 level_further es i e level more n at put known = ap (λ l. highest l (drop (i + 1) es)) put ∙ sym (ap (highest level) (next_drop es i e at)) ∙ known

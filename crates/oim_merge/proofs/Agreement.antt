@@ -107,9 +107,8 @@ module _ (sheet : Sheet) (writers : List Writer) (reports : List (List ℕ)) whe
   agree_receives : (sets : World Numbers Numbers) (bases : World Contents (List ℕ)) → Agreeing sets bases → (i : ℕ) (bytes : Option (List ℕ)) (message : Option Numbers) →
       AtBoth Says bytes message → Agreeing (receives sets_machine sets i message) (receives bytes_machine bases i bytes)
   agree_receives sets bases agree i None None h = agree
-  agree_receives sets bases agree i None (Some message) h = absurd h
-  agree_receives sets bases agree i (Some bytes) None h = absurd h
   agree_receives sets bases agree i (Some bytes) (Some message) h = agree_keeps sets bases agree i _ _ (says_received bytes message h _ _ (says_kept sets bases agree i))
+  agree_receives sets bases agree i o d h = absurd h
 
   agree_happens : (sets : World Numbers Numbers) (bases : World Contents (List ℕ)) → Agreeing sets bases → (event : Event) → Agreeing (happens sets_machine sets event) (happens bytes_machine bases event)
   agree_happens sets bases agree (Take i r) = agree_keeps sets bases agree i _ _ (says_taken r _ _ (says_kept sets bases agree i))

@@ -9,14 +9,13 @@ use Rattle.oim_merge.specs.Bundle.{is_line_end, filled_pieces, report_pieces}
 use Rattle.oim_merge.specs.Reports.{merged, refused}
 use Rattle.oim_merge.specs.Run.{BundleStops, ConsolidatesBundle, IsSheetOf, Stops, StopsBehindSheet, Writes}
 use Rattle.oim_merge.specs.declared.fault.Fault.{Fault}
-use Rattle.oim_merge.specs.declared.fault.Fault.TheVariants.{OutOfMemory, Device, TooLoose, Sheet as SheetFault}
+use Rattle.oim_merge.specs.declared.fault.Fault.TheVariants.{OutOfMemory, Sheet as SheetFault}
 use Rattle.oim_merge.proofs.LinePieces.{report_pieces-filled}
 
 pub behind_sheet : (bytes : List ℕ) (old new : Option (List ℕ)) (fault : Fault) → StopsBehindSheet bytes old new fault → BundleStops bytes old new fault
 behind_sheet bytes old new (OutOfMemory written) h = inr h
-behind_sheet bytes old new (Device written) h = h
-behind_sheet bytes old new (TooLoose row told) h = h
 behind_sheet bytes old new (SheetFault reason) h = absurd h.stops
+behind_sheet bytes old new fault h = h
 
 -- the sheet was read from the first line, and the other lines that are not empty were added
 pub record HasRead (bytes : List ℕ) (sheet : Sheet) (a : Added) : Type 0 where

@@ -6,7 +6,7 @@ use Rattle.std.specs.List.Sorted.{IsNonDecreasingBy, IsStableByKey, ties}
 use Rattle.std.specs.Cmp.{tied_itself}
 use Rattle.std.specs.Ordering.{is_eq, is_lt, nat_cmp, ordering_reverse}
 use Rattle.std.specs.declared.cmp.Ordering.{Ordering}
-use Rattle.std.specs.declared.cmp.Ordering.TheVariants.{Less, Equal, Greater}
+use Rattle.std.specs.declared.cmp.Ordering.TheVariants.{Less, Equal}
 use Rattle.std.proofs.lemmas.Bool.{cases_Bool}
 use Rattle.std.proofs.lemmas.Bool.Decides.{nat_tests}
 use Rattle.std.proofs.lemmas.Cmp.{nat_cmp_total}
@@ -17,9 +17,8 @@ abbrev pub has_place : ℕ → PlacedMention → Bool
 has_place k m = is_eq (nat_cmp k m.place)
 
 pub is_equal : (o : Ordering) → is_eq o ≡ true → o ≡ Equal
-is_equal Less e = absurd (cc)
 is_equal Equal e = refl
-is_equal Greater e = absurd (cc)
+is_equal o e = absurd (cc)
 
 pub place_is : (k p : ℕ) → is_eq (nat_cmp k p) ≡ true → k ≡ p
 place_is k p e = exact_unsigned k p (is_equal (nat_cmp k p) e)
@@ -91,8 +90,7 @@ grouped k n (m ∷ ms) up below = first_first k n m ms up.0 below.0 up.1 ∙ ap 
 
 tied : (o : Ordering) → (not (is_lt o) && not (is_lt (ordering_reverse o))) ≡ is_eq o
 tied Less = refl
-tied Equal = refl
-tied Greater = refl
+tied o = refl
 
 abbrev before : PlacedMention → PlacedMention → Bool
 before m n = is_lt (nat_cmp m.place n.place)

@@ -6,11 +6,11 @@ use Rattle.std.specs.Str.{bytes_eq}
 use Rattle.oim_names.specs.QName.{QName}
 use Rattle.oim_names.specs.Bindings.{Binding, uri_of}
 use Rattle.oim_value.specs.declared.value.Value.{Value}
-use Rattle.oim_value.specs.declared.value.Value.TheVariants.{Nil, Number, Text as AText, Name as AName}
+use Rattle.oim_value.specs.declared.value.Value.TheVariants.{Name as AName}
 use Rattle.oim_dims.specs.Unit.{Measures}
 use Rattle.oim_dims.specs.declared.fact.Fact.{Fact}
 use Rattle.oim_dims.specs.declared.member.Member.{Member}
-use Rattle.oim_dims.specs.declared.member.Member.TheVariants.{Nil as NoMember, Text as MemberText, Name as MemberName}
+use Rattle.oim_dims.specs.declared.member.Member.TheVariants.{Name as MemberName}
 use Rattle.oim_report.specs.ReadBack.{SpellsDimension, SpellsFact, SpellsMeasures, SpellsMember, SpellsName, SpellsValue}
 
 found_before_more : (bs more : List Binding) (p u : List ℕ) → uri_of bs p ≡ Some u → uri_of (bs ++ more) p ≡ Some u
@@ -37,18 +37,15 @@ module _ (bs more : List Binding) (spelled : QName → List ℕ) where
   }
 
   member_by_more : (m : Member) → SpellsMember bs spelled m → SpellsMember (bs ++ more) spelled m
-  member_by_more NoMember h = tt
-  member_by_more (MemberText t) h = tt
   member_by_more (MemberName n) h = name_by_more n h
+  member_by_more m h = tt
 
   dimension_by_more : (e : QName × Member) → SpellsDimension bs spelled e → SpellsDimension (bs ++ more) spelled e
   dimension_by_more e h = record { name = name_by_more e.0 h.name; member = member_by_more e.1 h.member }
 
   value_by_more : (v : Value) → SpellsValue bs spelled v → SpellsValue (bs ++ more) spelled v
-  value_by_more Nil h = tt
-  value_by_more (Number units places) h = tt
-  value_by_more (AText t) h = tt
   value_by_more (AName n) h = name_by_more n h
+  value_by_more v h = tt
 
   pub spelled_by_more : (f : Fact) → SpellsFact bs spelled f → SpellsFact (bs ++ more) spelled f
   spelled_by_more f h = record {

@@ -5,7 +5,7 @@ use Rattle.std.specs.List.{All, IsAllAdjacentAnswer}
 use Rattle.std.specs.List.Sorted.{IsStrictlySortedBy}
 use Rattle.std.specs.Ordering.{is_lt}
 use Rattle.std.specs.declared.cmp.Ordering.{Ordering}
-use Rattle.std.specs.declared.cmp.Ordering.TheVariants.{Less, Equal, Greater}
+use Rattle.std.specs.declared.cmp.Ordering.TheVariants.{Less}
 use Rattle.std.proofs.lemmas.Bool.{false≢true}
 use Rattle.std.proofs.lemmas.List.Elements.{All-cons, All-nil}
 use Rattle.std.proofs.lemmas.Map.Keys.{Less-from_sorted, sorted_from_all_adjacent}
@@ -27,8 +27,7 @@ use Rattle.oim_merge.proofs.ReadsBack.{canonical_reads_back}
 
 less_is : (o : Ordering) → true ≡ is_lt o → o ≡ Less
 less_is Less h = cc
-less_is Equal h = absurd (false≢true (sym h))
-less_is Greater h = absurd (false≢true (sym h))
+less_is o h = absurd (false≢true (sym h))
 
 pub rise_is : (facts : List Fact) (told : Bool) → IsAllAdjacentAnswer (λ x y b. b ≡ is_lt (fact_cmp x y)) facts told → IsTrue told ↔ IsSet fact_cmp facts
 unfolding IsStrictlySortedBy

@@ -15,7 +15,7 @@ use Rattle.fact_base.specs.Passed.{IsSet, Sheet}
 use Rattle.fact_base.specs.Rows.{Row, rows_of}
 use Rattle.fact_base.specs.Verdict.{IsEvidence}
 use Rattle.fact_base.specs.declared.evidence.Evidence.{Evidence}
-use Rattle.fact_base.specs.declared.evidence.Evidence.TheVariants.{Alike, Common, Apart}
+use Rattle.fact_base.specs.declared.evidence.Evidence.TheVariants.{Apart}
 use Rattle.fact_base.proofs.Members.{first_there, in_one_of_both, later_there}
 use Rattle.fact_base.proofs.RowsOf.{rows_tell_facts}
 use Rattle.oim_write.specs.Rank.{padded, width}
@@ -95,9 +95,8 @@ module _ (facts : List Fact) (rises : IsSet fact_cmp facts) (before : List Fact)
 -- ---- the next row
 
 pub places_within : (vs : List Value) (e : Evidence) → IsEvidence vs e → HasPlaces (length vs) e
-places_within vs Alike is = tt
-places_within vs (Common c) is = tt
 places_within vs (Apart i j) is = (slice_within vs i is.apart.first is.apart.first_there, slice_within vs j is.apart.second is.apart.second_there)
+places_within vs e is = tt
 
 module _ (b : Body) (rises : IsSet fact_cmp b.facts) (done rest : List Row) (r : Row) (all : done ++ (r ∷ rest) ≡ rows_of b.facts) where
   facts_split : b.facts ≡ rows_facts done ++ (row_facts r ++ rows_facts rest)

@@ -6,7 +6,7 @@ use Rattle.std.proofs.lemmas.List.Concat.{flat_map-append}
 use Rattle.std.proofs.lemmas.Option.{get_or_from_slice_get}
 use Rattle.oim_merge.specs.Schedule.{IsBadAt, IsFirstBad, Machine, NoneIsBad, World, happens, is_send, names_none, numbered, receives, run, sent_by}
 use Rattle.oim_merge.specs.declared.schedules.event.Event.{Event}
-use Rattle.oim_merge.specs.declared.schedules.event.Event.TheVariants.{Take, Join, Send, Receive, Restart}
+use Rattle.oim_merge.specs.declared.schedules.event.Event.TheVariants.{Send, Receive}
 use Rattle.oim_merge.proofs.Evidenced.{slice_within}
 
 take_suc : {A : Type 0} (xs : List A) (k : ℕ) (d : A) → k < length xs → take (suc k) xs ≡ take k xs ++ get_or xs k d ∷ []
@@ -48,11 +48,9 @@ module _ {S M : Type 0} (machine : Machine S M) where
   sent_receives world i (Some message) = refl
 
   sent_happens : (world : World S M) (event : Event) → length (happens machine world event).sent ≡ cond (is_send event) 1 0 + length world.sent
-  sent_happens world (Take i r) = none_more (length world.sent)
-  sent_happens world (Join i j) = none_more (length world.sent)
   sent_happens world (Send i) = length-append world.sent _ ∙ one_more (length world.sent)
   sent_happens world (Receive i k) = sent_receives world i (numbered world.sent k) ∙ none_more (length world.sent)
-  sent_happens world (Restart i) = none_more (length world.sent)
+  sent_happens world event = none_more (length world.sent)
 
   pub sent_run : (events : List Event) (world : World S M) → length (run machine events world).sent ≡ sent_by events + length world.sent
   sent_run [] world = none_more (length world.sent)

@@ -96,9 +96,7 @@ abbrev IsMentioned : List Mention → Fact → Type 0
 IsMentioned ms f = (m : Mention) × (Contains ms m × (m.fact ≡ f))
 
 in_zip : (R : List ℕ × Data → Fact → Type 0) (n : ℕ) (objects : List (List ℕ × Data)) (fs : List Fact) → AllZip R objects fs → (f : Fact) → Contains fs f → IsMentioned (mentions_in n (map (λ o. o.0) objects) fs) f
-in_zip R n [] [] zip f at = none_there f at
 in_zip R n [] (g ∷ fs) zip f at = absurd zip
-in_zip R n (o ∷ objects) [] zip f at = none_there f at
 in_zip R n (o ∷ objects) (g ∷ fs) zip f at =
     let this : Mention = record { report = n; identifier = o.0; fact = g } in
     let later = mentions_in n (map (λ o. o.0) objects) fs in
@@ -106,6 +104,7 @@ in_zip R n (o ∷ objects) (g ∷ fs) zip f at =
     (λ is. (this, (first_there this later, is)))
     (λ behind. let found = in_zip R n objects fs zip.1 f behind in (found.0, (later_there this later found.0 found.1.0, found.1.1)))
     (first_or_later g fs f at)
+in_zip R n objects [] zip f at = none_there f at
 
 in_accepted : (n : ℕ) (sheet : Sheet) (bytes : List ℕ) (d : Document) → outcome sheet bytes ≡ Ok d → (f : Fact) → Contains d.facts f → IsMentioned (mentions_of n (identifiers bytes) (Ok d)) f
 in_accepted n sheet bytes d is f at =
@@ -144,9 +143,8 @@ each_fact_is_said sheet reports f at =
 
 zip_long : (R : List ℕ × Data → Fact → Type 0) (objects : List (List ℕ × Data)) (fs : List Fact) → AllZip R objects fs → length (map (λ o. o.0) objects) ≡ length fs
 zip_long R [] [] zip = refl
-zip_long R [] (g ∷ fs) zip = absurd zip
-zip_long R (o ∷ objects) [] zip = absurd zip
 zip_long R (o ∷ objects) (g ∷ fs) zip = ap suc (zip_long R objects fs zip.1)
+zip_long R objects fs zip = absurd zip
 
 some_is : {A : Type 0} (a b : A) → Some a ≡ Some b → a ≡ b
 some_is a b e = cc

@@ -1,5 +1,5 @@
 -- The facts mentioned by accepted reports are exactly the facts of the merged body.
-use Rattle.std.proofs.Common.{◌≡◌, ◌⊎◌, ℕ, suc, List, [], ◌∷◌, ◌++◌, Option, Some, None, Result, Ok, Err, sym, subst, inl, inr}
+use Rattle.std.proofs.Common.{◌≡◌, ◌⊎◌, ℕ, suc, List, [], ◌∷◌, ◌++◌, Option, Some, Result, Ok, sym, subst, inl, inr}
 use Rattle.std.specs.Prelude.{Contains}
 use Rattle.std.specs.List.{AllByRecursion}
 use Rattle.std.proofs.lemmas.Grind.{flat_map-append}
@@ -23,14 +23,12 @@ both_all P (x ∷ xs) ys h g = (h.0, both_all P xs ys h.1 g)
 
 module _ (facts : List Fact) where
   in_report : (n : ℕ) (is : List (List ℕ)) (fs : List Fact) → ((f : Fact) → Contains fs f → Contains facts f) → AreOf facts (mentions_in n is fs)
-  in_report n [] fs there = tt
-  in_report n (i ∷ is) [] there = tt
   in_report n (i ∷ is) (f ∷ fs) there = (there f (first_there f fs), in_report n is fs (λ g at. there g (later_there f fs g at)))
+  in_report n is fs there = tt
 
   of_report : (n : ℕ) (is : Option (List (List ℕ))) (o : Result Document Refusal) → ((f : Fact) → Contains (all_facts (document_in o)) f → Contains facts f) → AreOf facts (mentions_of n is o)
-  of_report n None o there = tt
   of_report n (Some is) (Ok d) there = in_report n is d.facts (λ f at. there f ((in_one_of_both d.facts [] f).1 (inl at)))
-  of_report n (Some is) (Err r) there = tt
+  of_report n is o there = tt
 
   all_of : (n : ℕ) (sheet : Sheet) (reports : List (List ℕ)) → ((f : Fact) → Contains (all_facts (accepted sheet reports)) f → Contains facts f) → AreOf facts (mentions_from n sheet reports)
   all_of n sheet [] there = tt

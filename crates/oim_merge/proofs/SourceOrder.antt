@@ -1,5 +1,5 @@
 -- Reordered reports have the same mentions, except for the report numbers and the order.
-use Rattle.std.proofs.Common.{◌≡◌, ℕ, suc, ◌-◌, ◌+◌, List, [], ◌∷◌, ◌++◌, map, length, get_or, Option, Some, None, Result, Ok, Err, refl, sym, ap, ◌∙◌, subst, append_assoc, arith}
+use Rattle.std.proofs.Common.{◌≡◌, ℕ, suc, ◌-◌, ◌+◌, List, [], ◌∷◌, ◌++◌, map, length, get_or, Option, Some, Result, Ok, refl, sym, ap, ◌∙◌, subst, append_assoc, arith}
 use Rattle.std.specs.Prelude.{flat_map}
 use Rattle.std.specs.List.Sorted.{IsPermutation}
 use Rattle.std.proofs.lemmas.List.{get_or-append-add, length-append, map-append}
@@ -26,14 +26,12 @@ sayings_of sheet bytes = map (said_in bytes) (mentions_of 0 (identifiers bytes) 
 
 module _ (reports : List (List ℕ)) (bytes : List ℕ) (n : ℕ) (here : get_or reports (n - 1) [] ≡ bytes) where
   in_report : (is : List (List ℕ)) (fs : List Fact) → map (saying reports) (mentions_in n is fs) ≡ map (said_in bytes) (mentions_in 0 is fs)
-  in_report [] fs = refl
-  in_report (i ∷ is) [] = refl
   in_report (i ∷ is) (f ∷ fs) = λ k. (record { bytes = here k; identifier = i; fact = f }) ∷ in_report is fs k
+  in_report is fs = refl
 
   of_report : (is : Option (List (List ℕ))) (o : Result Document Refusal) → map (saying reports) (mentions_of n is o) ≡ map (said_in bytes) (mentions_of 0 is o)
-  of_report None o = refl
   of_report (Some is) (Ok d) = in_report is d.facts
-  of_report (Some is) (Err r) = refl
+  of_report is o = refl
 
 of_reports : (sheet : Sheet) (done rest : List (List ℕ)) (n : ℕ) → n ≡ suc (length done) → map (saying (done ++ rest)) (mentions_from n sheet rest) ≡ flat_map (sayings_of sheet) rest
 of_reports sheet done [] n count = refl

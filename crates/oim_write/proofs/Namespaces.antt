@@ -4,11 +4,11 @@ use Rattle.std.proofs.lemmas.List.Elements.{All-contains}
 use Rattle.std.specs.Prelude.{All, Contains, flat_map}
 use Rattle.oim_names.specs.QName.{QName}
 use Rattle.oim_value.specs.declared.value.Value.{Value}
-use Rattle.oim_value.specs.declared.value.Value.TheVariants.{Nil, Number, Text as AText, Name as AName}
+use Rattle.oim_value.specs.declared.value.Value.TheVariants.{Name as AName}
 use Rattle.oim_dims.specs.Unit.{Measures}
 use Rattle.oim_dims.specs.declared.fact.Fact.{Fact}
 use Rattle.oim_dims.specs.declared.member.Member.{Member}
-use Rattle.oim_dims.specs.declared.member.Member.TheVariants.{Nil as NoMember, Text as MemberText, Name as MemberName}
+use Rattle.oim_dims.specs.declared.member.Member.TheVariants.{Name as MemberName}
 use Rattle.fact_base.specs.Body.{Body}
 use Rattle.fact_base.specs.Fits.{Fits}
 use Rattle.fact_base.specs.Passed.{ConceptKind, DimensionFits, DimensionKind, EntityFits, Explicit, FactFits, FitsName, IsNamespace, MemberFits, Name, Numeric, Sheet, Text, Typed, UnitFits, ValueFits}
@@ -31,18 +31,15 @@ unit_allowed kind None fits n at = none_there n at
 unit_allowed kind (Some m) fits n at = ⊎_elim (λ l. (All-contains FitsName m.numerators n fits.numerators l).namespace) (λ r. (All-contains FitsName m.denominators n fits.denominators r).namespace) ((in_one_of_both m.numerators m.denominators n).0 at)
 
 member_allowed : (kind : DimensionKind) (m : Member) → MemberFits kind m → (e n : QName) → Allowed e → Contains (defined_names (e, m)) n → Allowed n
-member_allowed kind NoMember fits e n own at = only e n own at
-member_allowed kind (MemberText t) fits e n own at = only e n own at
 member_allowed Explicit (MemberName m) fits e n own at = ⊎_elim (λ is. subst Allowed is own) (λ later. only m n fits.namespace later) (first_or_later e (m ∷ []) n at)
 member_allowed Typed (MemberName m) fits e n own at = absurd fits
+member_allowed kind m fits e n own at = only e n own at
 
 value_allowed : (kind : ConceptKind) (v : Value) → ValueFits kind v → (n : QName) → Contains (value_names v) n → Allowed n
-value_allowed kind Nil fits n at = none_there n at
-value_allowed kind (Number units d) fits n at = none_there n at
-value_allowed kind (AText t) fits n at = none_there n at
 value_allowed Numeric (AName m) fits n at = absurd fits
 value_allowed Text (AName m) fits n at = absurd fits
 value_allowed Name (AName m) fits n at = only m n fits.namespace at
+value_allowed kind v fits n at = none_there n at
 
 dimensions_allowed : (sheet : Sheet) (f : Fact) → FactFits sheet f → (n : QName) → Contains (dimension_names f.dimensions) n → Allowed n
 dimensions_allowed sheet f fits n at =

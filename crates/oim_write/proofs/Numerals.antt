@@ -81,14 +81,13 @@ module _ {K : Type 0} {R : K → K → Ordering} (o : IsTotalOrder R) where
 
 pub front_decides : (xs ys us vs : List ℕ) → length xs ≡ length ys → slice_cmp nat_cmp xs ys ≡ Less → slice_cmp nat_cmp (xs ++ us) (ys ++ vs) ≡ Less
 front_decides [] [] us vs long less = cc
-front_decides [] (y ∷ ys) us vs long less = absurd (omega (arith, long))
-front_decides (x ∷ xs) [] us vs long less = absurd (omega (arith, long))
 front_decides (x ∷ xs) (y ∷ ys) us vs long less =
     (elim (nat_cmp x y) as (λ r. ordering_then r (slice_cmp nat_cmp xs ys) ≡ Less → ordering_then r (slice_cmp nat_cmp (xs ++ us) (ys ++ vs)) ≡ Less) [
       | Less ↦ λ e. refl
       | Equal ↦ λ e. front_decides xs ys us vs (omega (arith, long)) e
       | Greater ↦ λ e. e
     ]) less
+front_decides xs ys us vs long less = absurd (omega (arith, long))
 
 less_byte : (m n : ℕ) → m < n → slice_cmp nat_cmp (m ∷ []) (n ∷ []) ≡ Less
 less_byte m n h = ap (λ r. ordering_then r Equal) (sym (nat_cmp_is m n Less h))

@@ -12,7 +12,7 @@ use Rattle.json.proofs.Printed.Utf8.{IsUtf8-are_ascii}
 use Rattle.serde_json.specs.Data.{Data, string, array, object, Items, Members, no_members, member, depth, items_depth, members_depth}
 use Rattle.oim_value.specs.Level.{level_entry}
 use Rattle.oim_value.specs.declared.level.Level.{Level}
-use Rattle.oim_value.specs.declared.level.Level.TheVariants.{Unique, Complete, Consistent, All as AllLevel}
+use Rattle.oim_value.specs.declared.level.Level.TheVariants.{Unique}
 use Rattle.oim_dims.specs.FactOrder.{fact_cmp}
 use Rattle.oim_dims.specs.declared.fact.Fact.{Fact}
 use Rattle.oim_dims.proofs.Orders.{fact_cmp_total}
@@ -91,9 +91,7 @@ module _ {A : Type 0} (key : A → List ℕ) (shown : A → Data) (others : Memb
 
 level_utf8 : (l : Level) → IsUtf8 (level_entry l).text
 level_utf8 Unique = IsUtf8-are_ascii _ refl
-level_utf8 Complete = IsUtf8-are_ascii _ refl
-level_utf8 Consistent = IsUtf8-are_ascii _ refl
-level_utf8 AllLevel = IsUtf8-are_ascii _ refl
+level_utf8 l = IsUtf8-are_ascii _ refl
 
 prefix_before : (declared : Option Level) (us : List (List ℕ)) (u : List ℕ) → IsBefore (prefix us u) (xbrl_member declared)
 prefix_before None us u = tt

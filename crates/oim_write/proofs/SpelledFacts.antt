@@ -7,11 +7,11 @@ use Rattle.std.proofs.lemmas.Bool.Decides.{nat_tests}
 use Rattle.std.proofs.lemmas.List.Elements.{Contains-append_left, Contains-append_right}
 use Rattle.oim_names.specs.QName.{QName, is_name_byte, is_part}
 use Rattle.oim_value.specs.declared.value.Value.{Value}
-use Rattle.oim_value.specs.declared.value.Value.TheVariants.{Nil, Number, Text as AText, Name as AName}
+use Rattle.oim_value.specs.declared.value.Value.TheVariants.{Name as AName}
 use Rattle.oim_dims.specs.Unit.{Measures}
 use Rattle.oim_dims.specs.declared.fact.Fact.{Fact}
 use Rattle.oim_dims.specs.declared.member.Member.{Member}
-use Rattle.oim_dims.specs.declared.member.Member.TheVariants.{Nil as NoMember, Text as MemberText, Name as MemberName}
+use Rattle.oim_dims.specs.declared.member.Member.TheVariants.{Name as MemberName}
 use Rattle.fact_base.specs.Body.{text_cmp}
 use Rattle.fact_base.specs.Passed.{IsSet, SpellsDimension, SpellsMeasures, SpellsName, SpellsValue}
 use Rattle.fact_base.proofs.Members.{each_by_there, first_there, in_flat_map, later_there, some_there}
@@ -81,15 +81,12 @@ module _ (facts : List Fact) (f : Fact) (at : Contains facts f) where
   }
 
   of_member : (n : QName) (m : Member) → ((k : QName) → Contains (defined_names (n, m)) k → Spelled k) → SpellsDimension (bindings_of us) (name_text us) (n, m)
-  of_member n NoMember each = record { name = each n (first_there n []); member = tt }
-  of_member n (MemberText t) each = record { name = each n (first_there n []); member = tt }
   of_member n (MemberName m) each = record { name = each n (first_there n (m ∷ [])); member = each m (later_there n (m ∷ []) m (first_there m [])) }
+  of_member n m each = record { name = each n (first_there n []); member = tt }
 
   of_value : (v : Value) → ((n : QName) → Contains (value_names v) n → Spelled n) → SpellsValue (bindings_of us) (name_text us) v
-  of_value Nil each = tt
-  of_value (Number units d) each = tt
-  of_value (AText t) each = tt
   of_value (AName n) each = each n (first_there n [])
+  of_value v each = tt
 
 pub facts_are_spelled : FactsAreSpelled
 facts_are_spelled facts f at =

@@ -8,7 +8,7 @@ use Rattle.serde_json.specs.Data.{Data, object, Members, no_members, member}
 use Rattle.serde_json.specs.Written.{members_outline, outline}
 use Rattle.oim_names.specs.QName.{QName}
 use Rattle.oim_value.specs.declared.value.Value.{Value}
-use Rattle.oim_value.specs.declared.value.Value.TheVariants.{Nil, Number, Text as AText, Name as AName}
+use Rattle.oim_value.specs.declared.value.Value.TheVariants.{Number}
 use Rattle.oim_dims.specs.declared.member.Member.{Member}
 use Rattle.fact_base.specs.Passed.{member_data}
 use Rattle.oim_write.specs.Ordered.{decimals_member, defined_members, text_member}
@@ -27,10 +27,7 @@ text_tokens k (Some t) ms = refl
 
 pub decimals_tokens : (v : Value) (ms : Members) → members_tokens (decimals_member v ms) ≡ members_tokens (decimals_member v no_members) ++ members_tokens ms
 decimals_tokens (Number units (Some d)) ms = refl
-decimals_tokens (Number units None) ms = refl
-decimals_tokens Nil ms = refl
-decimals_tokens (AText t) ms = refl
-decimals_tokens (AName n) ms = refl
+decimals_tokens v ms = refl
 
 module _ (spelled : QName → List ℕ) where
   pub defined_tokens : (es : List (QName × Member)) (ms : Members) → members_tokens (defined_members spelled es ms) ≡ members_tokens (defined_members spelled es no_members) ++ members_tokens ms

@@ -7,7 +7,7 @@ use Rattle.std.proofs.lemmas.Bool.{and_parts}
 use Rattle.serde_json.specs.Data.{Data, string, object, Members, no_members, member, put}
 use Rattle.oim_names.specs.QName.{QName, name_cmp}
 use Rattle.oim_value.specs.declared.value.Value.{Value}
-use Rattle.oim_value.specs.declared.value.Value.TheVariants.{Nil, Number, Text as AText, Name as AName}
+use Rattle.oim_value.specs.declared.value.Value.TheVariants.{Number}
 use Rattle.oim_dims.specs.DimensionSet.{DimensionSet, is_below, rises}
 use Rattle.oim_dims.specs.Period.{period_text}
 use Rattle.oim_dims.specs.declared.member.Member.{Member}
@@ -106,11 +106,8 @@ module _ (us : List (List ℕ)) where
 -- ---- the fact object
 
 decimals_first : (spelled : QName → List ℕ) (v : Value) (ms : Members) → IsBefore (codes "decimals") ms → with_decimals spelled v ms ≡ decimals_member v ms
-decimals_first spelled Nil ms before = refl
-decimals_first spelled (Number units None) ms before = refl
 decimals_first spelled (Number units (Some places)) ms before = put_first (codes "decimals") _ ms before
-decimals_first spelled (AText t) ms before = refl
-decimals_first spelled (AName n) ms before = refl
+decimals_first spelled v ms before = refl
 
 pub facts_are_written_in_order : FactsAreWrittenInOrder
 facts_are_written_in_order facts f at set =
