@@ -6,7 +6,8 @@
 The script runs the program on the examples, on texts with quotes, line ends and formulas, and on SETS sets of drawn reports.
 It computes the output of `--format json` and `--format csv` from the lines and from the output of `merge`. The program's
 output must be the same, byte for byte. `--format lines` must print the same as no `--format`. `--spreadsheet` may add a ' only
-at the start of a value or an identifier. It must add a ' there if tools/contradictions does, except before a number.
+at the start of a value or an identifier. It must add a ' there if tools/contradictions does, unless the text is a number or
+begins with a '.
 
 Status 0: all is as expected. 1: something is not. 2: the program is not built.
 """

@@ -207,7 +207,7 @@ def broken(chance, text, other):
 
 
 class Batch:
-    """A folder in which cases are run, with a sheet and two good reports."""
+    """Cases that share a sheet and two good reports, which are written to the current folder."""
 
     def __init__(self, program, number):
         chance = random.Random(f"{SEED} of {number}")

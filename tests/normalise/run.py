@@ -8,8 +8,8 @@ the output files must equal the files beside the report. If nothing is lost and 
 `verdicts` and `merge` must print the same for the report and the result. If normalising also respells a set of names, only
 the output of `check` must be the same.
 
-The script also draws a tidy and an untidy report from each of DRAWN seeds, 200 by default. The tidy report must be accepted,
-and is also spelled as another tool might spell it. After normalising, the program must print the same for both spellings as for
+The script also draws a tidy and an untidy report from each of DRAWN seeds, 200 by default. The tidy report must be accepted.
+The script also respells it as another tool might. After normalising, the program must print the same for both spellings as for
 the tidy report. The untidy report must be accepted once it is normalised with all lossy options.
 
 Status 0: all is as expected. 1: something is not; each difference is printed. 2: the arguments are invalid, there is no

@@ -75,7 +75,7 @@ INPUTS = (test_contradictions.MERGED, test_contradictions.SHEET, test_contradict
 
 
 class Nearby(test_contradictions.ToolTest):
-    """Tests of --near on rows that differ in their dimensions. A, B or both report each row."""
+    """Tests of --near on rows that differ in their dimensions. Provider A, provider B or both report each row."""
 
     URIS = {"n1": "http://a.example", "n2": "https://a.example", "n3": "http://b.example/t"}
     SHEET = {

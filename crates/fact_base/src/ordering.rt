@@ -27,7 +27,7 @@ pub(crate) fn in_order(mut facts: Vec<Fact>, order: Vec<usize>) -> Result<Vec<Fa
 }
 
 // Returns the current index of the fact that belongs at index `i`. Its original index is
-// `places[i]`. The fact that was at an index `j` below `i` was swapped to the index `places[j]`.
+// `places[i]`. Each earlier step `j` swapped the fact then at index `j` to the index `places[j]`.
 fn place_now(places: &[usize], i: usize) -> usize
     requires here { i < length places.now }
     requires within { All (λ place. place < length places.now) places.now }

@@ -96,7 +96,8 @@ impl SinkBuffer {
         }
     }
 
-    /// The number of bytes that the sink took. The number saturates at the greatest `u64`.
+    /// The number of bytes that the sink took before any fault. The number saturates at the greatest
+    /// `u64`.
     pub fn written(&self) -> u64
         ensures { result ≡ self.now.written }
     {

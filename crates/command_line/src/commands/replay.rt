@@ -33,7 +33,7 @@ and messages are counted from 1.
   take I R      replica I takes report R
   join I J      replica I takes everything that replica J has
   send I        replica I sends its merged report, which is the next message
-  receive I K   replica I takes message K, at any later time and any number of times
+  receive I K   replica I takes message K, which may be late, repeated or reordered
   restart I     replica I loses everything
 
 At the end, the merged report of each replica is written, one per line. For every schedule, it

@@ -206,7 +206,7 @@ fn tells_what_is_apart(alloc: Global) -> Result<bool, AllocError> {
 }
 
 /// The number of replicas, the event lines, and the number of the first line that names a replica,
-/// a report or a sent text that does not exist. There are two reports.
+/// a report or a sent message that does not exist. There are two reports.
 const MISSING: &[(usize, &str, u64)] = &[
     (2, "receive 1 1", 1),
     (2, "take 3 1", 1),
