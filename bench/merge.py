@@ -120,7 +120,7 @@ def report(number, facts, rng):
 def reports_of(workload, size, rng):
     """Returns the facts of each report in a workload."""
     def drawn(count, entity):
-        # one fact in twenty has decimals from the whole range, -18 to 18
+        # one fact in twenty has decimals from -18 to 18 in turn (in a report of 50 facts, only -18 to -16); the others have 0
         return [(n, entity, rng.randrange(10**9), n // 20 % 37 - 18 if n % 20 == 7 else 0) for n in range(count)]
 
     if workload == "one report":

@@ -6,7 +6,7 @@
 A node of a fold merges one group. The script draws reports that overlap, agree, contradict each other, or are refused. The
 results of examples/fold/Makefile and examples/fold/fold_dask.py must equal the bytes of one run. The Makefile runs with three
 numbers of branches, and fold_dask.py with three numbers of files per node. The script also tests late, changed and removed
-reports, files with odd names, and nodes that fail or are stopped. If Dask is not installed, a substitute of two functions runs
+reports, files with odd names, and nodes that fail or are stopped. If Dask is not installed, a small module replaces it and runs
 the nodes in turn. Nodes that call the library are skipped if there is no lib/libxbrlmerge.so, which ./build --library makes.
 
 Status 0: all is as expected. 1: something is not; each fault is printed. 2: the program is not built.
