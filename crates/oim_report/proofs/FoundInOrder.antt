@@ -12,14 +12,18 @@ use Rattle.std.proofs.lemmas.Bool.{false≢true}
 use Rattle.oim_names.specs.Bindings.{Binding}
 use Rattle.oim_dims.specs.declared.fact.Fact.{Fact}
 use Rattle.serde_json.specs.Data.{Data, Members, no_members, member, put}
+use Rattle.oim_report.proofs.PutMembers.{before_all}
+use Rattle.oim_report.specs.code.TapeParts.{Ascends}
+use Rattle.oim_report.specs.PlainJson.{IsBefore}
 use Rattle.oim_report.specs.code.FoundFacts.{AreFound, is_above, rise_after}
-use Rattle.oim_report.specs.Json.{values}
+use Rattle.oim_report.specs.Identifiers.{identifiers_in}
+use Rattle.oim_report.specs.Json.{entries, values}
 use Rattle.oim_report.specs.Outcome.{fact_outcome, all_or_first, facts_said}
 use Rattle.oim_report.specs.Pieces.{put_all}
 use Rattle.oim_report.specs.code.Pieces.{append}
 use Rattle.oim_report.specs.Refusal.{map_ok}
 use Rattle.oim_report.specs.Sheet.{Sheet}
-use Rattle.oim_report.proofs.MembersPut.{IsBefore, IsRising, before_all, rising_stays}
+use Rattle.oim_report.proofs.MembersPut.{rising_stays}
 
 module _ (sheet : Sheet) (bs : List Binding) where
   -- ---- one piece after another
@@ -50,7 +54,7 @@ module _ (sheet : Sheet) (bs : List Binding) where
   both_true true b e = (refl, e)
   both_true false b e = absurd (false≢true e)
 
-  rise_behind : (k : List ℕ) (ms : Members) (ss : List (String Global)) (fs : List Fact) → AreFound sheet bs ms ss fs → rise_after (Some k) ss ≡ true → IsBefore k ms × IsRising ms
+  rise_behind : (k : List ℕ) (ms : Members) (ss : List (String Global)) (fs : List Fact) → AreFound sheet bs ms ss fs → rise_after (Some k) ss ≡ true → IsBefore k ms × Ascends ms
   rise_behind k no_members [] [] h e = (tt, tt)
   rise_behind k (member l d ms) (s ∷ ss) (f ∷ fs) h e =
       let t = both_true (is_above (Some k) (string_bytes s)) (rise_after (Some (string_bytes s)) ss) e in
@@ -59,13 +63,18 @@ module _ (sheet : Sheet) (bs : List Binding) where
       ((below, before_all k l ms below rest.0), rest)
   rise_behind k ms ss fs h e = absurd h
 
-  rises : (ms : Members) (ss : List (String Global)) (fs : List Fact) → AreFound sheet bs ms ss fs → rise_after None ss ≡ true → IsRising ms
+  rises : (ms : Members) (ss : List (String Global)) (fs : List Fact) → AreFound sheet bs ms ss fs → rise_after None ss ≡ true → Ascends ms
   rises no_members ss fs h e = tt
   rises (member l d ms) (s ∷ ss) (f ∷ fs) h e = rise_behind l ms ss fs h.2 (ap (λ x. rise_after (Some x) ss) (sym h.0) ∙ e)
   rises (member l d ms) ss fs h e = absurd h
 
-  pub rising_said : (ms : Members) (ss : List (String Global)) (fs : List Fact) → AreFound sheet bs ms ss fs → rise_after None ss ≡ true → facts_said sheet bs (put_all ms no_members) ≡ Ok fs
-  rising_said ms ss fs h e = ap (facts_said sheet bs) (rising_stays ms (rises ms ss fs h e)) ∙ found_said ms ss fs h
+  pub rising_found : (ms : Members) (ss : List (String Global)) (fs : List Fact) → AreFound sheet bs ms ss fs → rise_after None ss ≡ true → AreFound sheet bs (put_all ms no_members) ss fs
+  rising_found ms ss fs h e = subst (λ l. AreFound sheet bs l ss fs) (sym (rising_stays ms (rises ms ss fs h e))) h
+
+  pub keys_found : (ms : Members) (ss : List (String Global)) (fs : List Fact) → AreFound sheet bs ms ss fs → identifiers_in (entries ms) ≡ map string_bytes ss
+  keys_found no_members [] [] h = refl
+  keys_found (member l d ms) (s ∷ ss) (f ∷ fs) h = λ i. sym h.0 i ∷ keys_found ms ss fs h.2 i
+  keys_found ms ss fs h = absurd h
 
   pub none_found : (ss : List (String Global)) (fs : List Fact) → ss ≡ [] → fs ≡ [] → AreFound sheet bs no_members ss fs
   none_found ss fs e f = subst (λ l. AreFound sheet bs no_members l fs) (sym e) (subst (AreFound sheet bs no_members []) (sym f) tt)

@@ -1,4 +1,4 @@
--- The members of taxonomy-defined dimensions are all collected before they are sorted. `said_members` returns the same list.
+-- The reader collects all members of taxonomy-defined dimensions, then sorts them. `said_members` returns the same list.
 use Rattle.std.proofs.Common.{◌≡◌, ◌⊎◌, inl, inr, ⊎_elim, ℕ, zero, suc, ◌≤◌, ◌<◌, ◌+◌, length, drop, get_or, append-nil, List, [], ◌∷◌, ◌++◌, false, ◌||◌, Some, None, refl, sym, ap, subst, ◌∙◌, arith}
 use Rattle.std.specs.Prelude.{Contains, IsTrue, IsPermutation, if◌then◌else◌}
 use Rattle.std.specs.Borrow.{Bor}

@@ -15,6 +15,7 @@ use Rattle.json.proofs.Unique.Spelling.{value-json_tokens_back}
 use Rattle.json.proofs.Nesting.{value-depth}
 use Rattle.oim_report.specs.Pieces.{alone}
 use Rattle.oim_report.specs.code.Pieces.{Closed}
+use Rattle.oim_report.specs.code.TapeParts.{one}
 use Rattle.oim_report.proofs.JsonLexemes.{NoQuote, AllGood, piece_of}
 use Rattle.oim_report.proofs.PlacedValues.{NoBad, Fits, opened, opens, split, at_token}
 
@@ -126,10 +127,7 @@ shut-body o (j.member k v ms) e = opened-append true (json_tokens v) (body ms) �
 
 -- ---- a text of members, alone and before another
 
-abbrev pub one : Members → Json
-one ms = j.array (j.item (j.object ms) j.no_items)
-
--- the text, inside an object and an array, is read as these members, and no token is left
+-- the text, inside an object inside an array, is read as these members, and no token is left
 abbrev pub Reads : ℕ → List ℕ → Members → Type 0
 Reads d a ms = value d (tokens (alone a)) ≡ Some (one ms, [])
 

@@ -1,5 +1,5 @@
--- The lexemes of a prefix that ends with a closing brace do not depend on the rest of the text. The rest must have no
--- quote, and all lexemes of the text must be good.
+-- If a prefix ends with a closing brace, the rest has no quote, and all lexemes of the text are good, then the prefix has
+-- the same lexemes before every other rest.
 use Rattle.std.proofs.Common.{◌≡◌, ℕ, suc, zero, ◌≤◌, Bool, true, false, cond, ◌&&◌, ◌||◌, ◌==◌, nat_lt, List, [], ◌∷◌, ◌++◌, length, Option, Some, None, option_and_then, refl, sym, ap, ◌∙◌, subst, arith, append_assoc}
 use Rattle.std.proofs.lemmas.Bool.{false≢true, true≢false, eqb-true, and_parts}
 use Rattle.std.proofs.lemmas.List.{length-append}

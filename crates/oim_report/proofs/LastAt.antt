@@ -15,7 +15,7 @@ use Rattle.serde_json.specs.View.{members_view}
 use Rattle.serde_json.proofs.Views.{Entry}
 use Rattle.oim_report.specs.Json.{has_colon, is_unknown}
 use Rattle.oim_report.specs.PlainJson.{IsBefore}
-use Rattle.oim_report.proofs.PutMembers.{Ascends}
+use Rattle.oim_report.specs.code.TapeParts.{Ascends}
 use mathlib.Core.Bool.{false≢true}
 
 -- the value at a key once these members are read; the second argument is the value found in earlier members

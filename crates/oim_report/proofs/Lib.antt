@@ -48,6 +48,11 @@ pub mod GivenKeys
 pub mod ReadMembers
 pub mod WrittenTexts
 pub mod PutMembers
+pub mod PartsPut
+pub mod Leaves
+pub mod DefinedPlaces
+pub mod DefinedPut
+pub mod MembersInTurn
 pub mod WrittenParts
 pub mod ReadParts
 pub mod ReadUnits
@@ -92,6 +97,8 @@ pub mod JoinedPieces
 pub mod AroundFacts
 pub mod PieceEntries
 pub mod PiecesInTurn
+pub mod TapedPieces
+pub mod TapedFacts
 pub mod Outlines
 pub mod FoundInOrder
 pub mod SpacesAtEnds

@@ -11,22 +11,17 @@ use Rattle.json.specs.Json as j
 use Rattle.serde_json.specs.Data.{Data, Members, no_members, member, put}
 use Rattle.serde_json.specs.Read.{of_json, of_members}
 use Rattle.oim_report.specs.Pieces.{put_all}
+use Rattle.oim_report.specs.PlainJson.{IsBefore}
+use Rattle.oim_report.specs.code.TapeParts.{Ascends}
 use Rattle.oim_report.proofs.JoinedMembers.{plus}
 use Rattle.oim_report.proofs.PieceTrees.{then_some}
+use Rattle.oim_report.proofs.PutMembers.{before_all, ascends_put}
 
 abbrev cmp : List ℕ → List ℕ → Ordering
 cmp k l = slice_cmp nat_cmp k l
 
 flipped : (k l : List ℕ) (o : Ordering) → cmp k l ≡ o → cmp l k ≡ ordering_reverse o
 flipped k l o e = nat_list_cmp_total.antisymm l k ∙ ap ordering_reverse e
-
-abbrev pub IsBefore : List ℕ → Members → Type 0
-IsBefore k no_members = ⊤
-IsBefore k (member l d ms) = (cmp k l ≡ Less) × IsBefore k ms
-
-abbrev pub IsRising : Members → Type 0
-IsRising no_members = ⊤
-IsRising (member k d ms) = IsBefore k ms × IsRising ms
 
 -- ---- the index at which a member is inserted
 
@@ -105,19 +100,15 @@ lacks_before : (k : List ℕ) (ms : Members) → IsBefore k ms → Lacks k ms
 lacks_before k no_members h = tt
 lacks_before k (member l d ms) h = (differs k l h.0, lacks_before k ms h.1)
 
-pub before_all : (k l : List ℕ) (ms : Members) → cmp k l ≡ Less → IsBefore l ms → IsBefore k ms
-before_all k l no_members less h = tt
-before_all k l (member m d ms) less h = (nat_list_cmp_total.trans k l m less h.0, before_all k l ms less h.1)
-
 put_first : (k : List ℕ) (d : Data) (ms : Members) → IsBefore k ms → put k d ms ≡ member k d ms
 put_first k d no_members h = refl
 put_first k d (member l e ms) h = put_less k l d e ms h.0
 
-pub rising_stays : (ms : Members) → IsRising ms → put_all ms no_members ≡ ms
+pub rising_stays : (ms : Members) → Ascends ms → put_all ms no_members ≡ ms
 rising_stays no_members h = refl
 rising_stays (member k d ms) h = put_all_later k d ms no_members (lacks_before k ms h.0) ∙ ap (put k d) (rising_stays ms h.1) ∙ put_first k d ms h.0
 
-pub put_onto : (k : List ℕ) (d : Data) (ms onto : Members) → IsRising ms → put_all (put k d ms) onto ≡ put k d (put_all ms onto)
+pub put_onto : (k : List ℕ) (d : Data) (ms onto : Members) → Ascends ms → put_all (put k d ms) onto ≡ put k d (put_all ms onto)
 put_onto k d no_members onto h = refl
 put_onto k d (member l e ms) onto h =
     elim (cmp k l) as (λ o. cmp k l ≡ o → put_all (put k d (member l e ms)) onto ≡ put k d (put_all ms (put l e onto))) [
@@ -134,35 +125,17 @@ put_onto k d (member l e ms) onto h =
 
 -- ---- the keys of an object that was read ascend
 
-before_put : (l k : List ℕ) (d : Data) (ms : Members) → cmp l k ≡ Less → IsBefore l ms → IsBefore l (put k d ms)
-before_put l k d no_members less h = (less, tt)
-before_put l k d (member m e ms) less h =
-    elim (cmp k m) as (λ o. IsBefore l (match_ordering o (member k d (member m e ms)) (member m d ms) (member m e (put k d ms)))) [
-      | Less ↦ (less, h)
-      | Equal ↦ h
-      | Greater ↦ (h.0, before_put l k d ms less h.1)
-    ]
-
-pub rising_put : (k : List ℕ) (d : Data) (ms : Members) → IsRising ms → IsRising (put k d ms)
-rising_put k d no_members h = (tt, tt)
-rising_put k d (member l e ms) h =
-    elim (cmp k l) as (λ o. cmp k l ≡ o → IsRising (match_ordering o (member k d (member l e ms)) (member l d ms) (member l e (put k d ms)))) [
-      | Less ↦ λ o. ((o, before_all k l ms o h.0), h)
-      | Equal ↦ λ o. h
-      | Greater ↦ λ o. (before_put l k d ms (flipped k l Greater o) h.0, rising_put k d ms h.1)
-    ] refl
-
-pub rising_found : (ms : j.Members) (old found : Members) → of_members ms old ≡ Some found → IsRising old → IsRising found
-rising_found j.no_members old found e h = let same : old ≡ found = Prim.cc in subst IsRising same h
-rising_found (j.member k v ms) old found e h = let t = then_some _ (of_json v) found e in rising_found ms (put k t.0 old) found t.2 (rising_put k t.0 old h)
+pub rising_found : (ms : j.Members) (old found : Members) → of_members ms old ≡ Some found → Ascends old → Ascends found
+rising_found j.no_members old found e h = let same : old ≡ found = Prim.cc in subst Ascends same h
+rising_found (j.member k v ms) old found e h = let t = then_some _ (of_json v) found e in rising_found ms (put k t.0 old) found t.2 (ascends_put k t.0 old h)
 
 -- ---- the members of a text, added to other members
 
-of_members_onto : (ms : j.Members) (old found onto : Members) → IsRising old → of_members ms old ≡ Some found → of_members ms (put_all old onto) ≡ Some (put_all found onto)
+of_members_onto : (ms : j.Members) (old found onto : Members) → Ascends old → of_members ms old ≡ Some found → of_members ms (put_all old onto) ≡ Some (put_all found onto)
 of_members_onto j.no_members old found onto h e = let same : old ≡ found = Prim.cc in ap (λ l. Some (put_all l onto)) same
 of_members_onto (j.member k v ms) old found onto h e =
     let t = then_some _ (of_json v) found e in
-    ap (option_and_then (λ d. of_members ms (put k d (put_all old onto)))) t.1 ∙ ap (of_members ms) (sym (put_onto k t.0 old onto h)) ∙ of_members_onto ms (put k t.0 old) found onto (rising_put k t.0 old h) t.2
+    ap (option_and_then (λ d. of_members ms (put k d (put_all old onto)))) t.1 ∙ ap (of_members ms) (sym (put_onto k t.0 old onto h)) ∙ of_members_onto ms (put k t.0 old) found onto (ascends_put k t.0 old h) t.2
 
 pub found_onto : (ms : j.Members) (found onto : Members) → of_members ms no_members ≡ Some found → of_members ms onto ≡ Some (put_all found onto)
 found_onto ms found onto e = of_members_onto ms no_members found onto tt e

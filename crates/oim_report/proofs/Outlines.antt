@@ -7,10 +7,11 @@ use Rattle.std.proofs.lemmas.Cmp.{nat_list_cmp_total, tied_itself}
 use Rattle.serde_json.specs.Data.{Data, object, Members, no_members, member, put}
 use Rattle.serde_json.specs.Read.{read}
 use Rattle.serde_json.specs.Find.{get, get_member}
+use Rattle.oim_report.specs.code.TapeParts.{Ascends}
 use Rattle.oim_report.specs.Pieces.{one_data, IsPiece, put_all}
 use Rattle.oim_report.specs.code.Pieces.{IsOutline, AfterSpaces, BeforeSpaces, IsEnd, IsTail, IsSplit, IsBeside, facts_key, facts_text, with_before, with_behind}
-use Rattle.oim_report.proofs.MembersPut.{IsRising, Lacks, lacks_parts, put_all_later, put_onto, rising_found}
-use Rattle.oim_report.proofs.PiecesInTurn.{both_pieces, alone_same, piece_as}
+use Rattle.oim_report.proofs.MembersPut.{Lacks, lacks_parts, put_all_later, put_onto, rising_found, rising_stays}
+use Rattle.oim_report.proofs.PiecesInTurn.{both_pieces, piece_as}
 use Rattle.oim_report.proofs.AroundFacts.{Gives, piece_gives, less_deep, led_gives, both_give, facts_give, document_gives}
 
 -- ---- if a look-up finds nothing, the key is missing
@@ -75,7 +76,7 @@ together text facts before behind s =
 
 -- ---- the result
 
-rising_piece : (a : List ℕ) (found : Members) → IsPiece a found → IsRising found
+rising_piece : (a : List ℕ) (found : Members) → IsPiece a found → Ascends found
 rising_piece a found p = let r = piece_as a found p in rising_found r.ms no_members found r.gives tt
 
 only_one : (a : List ℕ) (found more : Members) → IsPiece a found → IsPiece a more → found ≡ more
@@ -105,7 +106,7 @@ module _ (text facts : List ℕ) (fs : Members) (p : IsPiece facts fs) where
       (both_give own s.tail_is.ends.s6 e 126 own_member found s.tail_is.ends.are.0 (facts_first before (Some e) s) (less_deep e found (piece_gives e found q)))
 
   later : (e : List ℕ) (found : Members) → IsPiece e found → Lacks (codes "facts") found → put_all found own_member ≡ put (codes "facts") (object fs) found
-  later e found q lack = put_all_later (codes "facts") (object fs) found no_members lack ∙ ap (put (codes "facts") (object fs)) (alone_same e found q)
+  later e found q lack = put_all_later (codes "facts") (object fs) found no_members lack ∙ ap (put (codes "facts") (object fs)) (rising_stays found (rising_piece e found q))
 
   behind_only : (e : List ℕ) (found : Members) → IsSplit text None facts (Some e) → IsPiece e found → Lacks (codes "facts") found → read text ≡ Some (object (put (codes "facts") (object fs) found))
   behind_only e found s q lack =

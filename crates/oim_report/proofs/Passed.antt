@@ -22,8 +22,8 @@ use Rattle.oim_report.proofs.Pairs.{allows_each-push, passes_is}
 use Rattle.oim_report.proofs.Places.{facts_at, facts_at-cons, facts_at-drop, level_at_order, places_within, rises_from_first}
 use Rattle.oim_report.proofs.Runs.{RisesFrom, walk, walk-nil, walk_from_first}
 
--- The loop has read `first` and `before`, and has yet to read the facts at the indices of `rest` from i on. For every list of
--- further facts, it returns the same level from this state as from the start.
+-- The loop has read `first` and `before`. The indices of the unread facts are `rest` without its first i items. Whatever facts
+-- follow, the loop returns the same level from this state as from the start.
 pub record Passed (facts : List Fact) (order rest : List ℕ) (i : ℕ) (last : Fact) (shared : Option Interval) (level : Level) : Type 0 where
   pub first : Fact
   pub before : List Fact

@@ -8,7 +8,8 @@ use Rattle.serde_json.specs.Data as d
 use Rattle.serde_json.specs.Data.{Data}
 use Rattle.serde_json.specs.Read.{of_json, of_items, of_members, number_of, max_depth, read}
 use Rattle.oim_report.specs.Pieces.{alone, one_data, HasMember}
-use Rattle.oim_report.proofs.JoinedMembers.{one, Reads, HasSome}
+use Rattle.oim_report.specs.code.TapeParts.{one}
+use Rattle.oim_report.proofs.JoinedMembers.{Reads, HasSome}
 
 -- `serde_json` reads the text as JSON members, and their data are `found`
 pub record ReadAs (a : List ℕ) (found : d.Members) : Type 0 where

@@ -1,4 +1,4 @@
--- The facts at the indices in a list that sorts all facts.
+-- Facts in ascending order, given a list of indices that sorts them.
 use Rattle.std.proofs.Common.{◌≡◌, ℕ, suc, ◌<◌, ◌+◌, false, List, [], ◌∷◌, length, map, drop, drop-cons, get_or, refl, sym, ap, subst, ◌∙◌, arith, All, Option, Some, filter_map, slice_get, IsPermutation, IsSorted}
 use Rattle.std.specs.List.{cons_option, range_with_len}
 use Rattle.std.specs.Cmp.{IsStrictWeakOrder}

@@ -1,6 +1,6 @@
 -- The members of an object after a member is added.
 use Rattle.std.proofs.Common.{◌≡◌, ◌≢◌, ℕ, List, [], ◌∷◌, Bool, true, false, cond, Option, Some, None, refl, sym, ap, ◌∙◌}
-use Rattle.std.specs.Prelude.{◌&&◌, ⊤}
+use Rattle.std.specs.Prelude.{◌&&◌}
 use Rattle.std.specs.Option.{option_map}
 use Rattle.std.specs.Ordering.{nat_cmp, match_ordering, ordering_reverse}
 use Rattle.std.specs.Cmp.Lexicographic.{slice_cmp}
@@ -17,10 +17,7 @@ use Rattle.oim_report.specs.Json.{Given, given, any_member, has_colon, is_unknow
 use Rattle.oim_report.specs.Parts.{defined_in}
 use Rattle.oim_report.specs.PlainJson.{IsBefore}
 use Rattle.oim_report.specs.ReadBack.{with_given}
-
-abbrev pub Ascends : Members → Type 0
-Ascends no_members = ⊤
-Ascends (member k d ms) = IsBefore k ms × Ascends ms
+use Rattle.oim_report.specs.code.TapeParts.{Ascends}
 
 pub before_all : (k l : List ℕ) (ms : Members) → slice_cmp nat_cmp k l ≡ Less → IsBefore l ms → IsBefore k ms
 before_all k l no_members less h = tt

@@ -89,9 +89,6 @@ module _ (bs : List Binding) (m : Names) (k : List ℕ) (d : Data) (es : List En
   pub passes : defined_name bs k ≡ None → rest (is_defined k) ≡ repeated_in bs m es
   passes h = passes_by (is_defined k) h
 
-  pub comes_first : (n : QName) → defined_name bs k ≡ Some n → map.contains_key m n ≡ true → rest (is_defined k) ≡ Some (k, d)
-  comes_first n is known = at_some (is_defined k) n is ∙ ap (λ b. if b then Some (k, d) else repeated_in bs (map.insert m n Explicit) es) known
-
   pub goes_on : (n : QName) (after : Names) → defined_name bs k ≡ Some n → map.contains_key m n ≡ false → after ≡ (if map.contains_key m n then m else map.insert m n Explicit) → rest (is_defined k) ≡ repeated_in bs after es
   goes_on n after is new put =
       at_some (is_defined k) n is ∙ ap (λ b. if b then Some (k, d) else repeated_in bs (map.insert m n Explicit) es) new ∙ ap (λ m. repeated_in bs m es) (sym (put ∙ put_as m n Explicit new))

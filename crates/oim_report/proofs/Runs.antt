@@ -54,8 +54,8 @@ up_then_less {K} {R} o x y z up less = up_cases (R x y) up (λ e. o.trans x y z 
 
 -- ---- the loop, step by step
 
--- the level that the loop returns after the remaining facts of a sorted list; the loop's state is the last fact, the common
--- part of the intervals of all facts so far with the last fact's dimensions, and the level so far
+-- The level that the loop returns after the remaining facts of a sorted list. `last` is the last fact so far, `level` is the
+-- level so far, and `shared` is the common part of the intervals of all facts so far that have the dimensions of `last`.
 unfoldable pub walk : Fact → Option Interval → Level → List Fact → Level
 walk last shared level [] = level
 walk last shared level (f ∷ fs) =
@@ -78,8 +78,8 @@ walk-other last f shared level fs h =
 
 -- ---- properties of the facts so far
 
--- no fact so far has greater dimensions than the last fact; `Consistent` allows a later fact with the same dimensions and a
--- greater value beside all facts so far exactly if its interval meets `shared`
+-- No fact so far has greater dimensions than `last`. If a later fact has the dimensions of `last` and a greater value,
+-- `Consistent` allows it beside all facts so far exactly if its interval meets `shared`.
 pub record Knows (before : List Fact) (last : Fact) (shared : Option Interval) : Type 0 where
   pub below : list_all (λ f. not (is_gt (dims f last))) (before ++ last ∷ []) ≡ true
   pub sharing : (h : Fact) → dims last h ≡ Equal → value_cmp last.value h.value ≡ Less → list_all (λ f. allows Consistent f h) (before ++ last ∷ []) ≡ both_meet shared (interval_at h.value)

@@ -10,7 +10,7 @@ use Rattle.std.specs.FinMap.{FinMap, find, same_map, get-empty, get-insert, get-
 use Rattle.oim_names.specs.QName.{QName, name_cmp, exact_name, is_name}
 use Rattle.oim_names.specs.Bindings.{Binding}
 use Rattle.oim_names.specs.Expansion.{refusal_as, a_name}
-use Rattle.serde_json.specs.Data.{Data, Members, no_members, member}
+use Rattle.serde_json.specs.Data.{Data, Members, member}
 use Rattle.serde_json.specs.View.{view, members_view}
 use Rattle.serde_json.proofs.Views.{Entry}
 use Rattle.oim_report.specs.Json.{any_member}
@@ -64,7 +64,7 @@ module _ {X : Type 0} where
   onto_empty es = same_map name_total exact_name _ _ (λ q. get-onto map.empty es q ∙ ap (λ o. first_of o (find name_cmp q es)) (get-empty name_cmp q) ∙ sym (get-from_entries name_total es q))
 
 module _ {K : Type 0} (kind_named : List ℕ → Option K) (same : K → K → Bool) where
-  -- the state while the members of an object are added: all members, the remaining members, and the map so far
+  -- no name of `rest` is refused, `m` with the entries of `rest` is the map of `all`, and the tests of kinds agree on both
   pub record Lists (bs : List Binding) (all rest : Members) (m : FinMap name_cmp K) : Type 0 where
     pub names : names_refusal bs (key_names rest) ≡ None
     pub map_is : onto m (entries_in kind_named same bs rest) ≡ listed kind_named same bs all
@@ -86,9 +86,6 @@ module _ {K : Type 0} (kind_named : List ℕ → Option K) (same : K → K → B
   other : (a b : Bool) → b ≡ true → (a || b) ≡ true
   other true b h = refl
   other false b h = h
-
-  pub no_kind : (bs : List Binding) (all rest : Members) (m : FinMap name_cmp K) (key : List ℕ) (d : Data) → Lists bs all (member key d rest) m → kind_in kind_named same d ≡ None → has_bad_kind kind_named same bs all ≡ true
-  no_kind bs all rest m key d l none = either _ _ (sym l.kinds ∙ either _ _ (ap (λ k. not (is_some k)) none))
 
   pub other_kind : (bs : List Binding) (all rest : Members) (m : FinMap name_cmp K) (key : List ℕ) (d : Data) (n : QName) (k known : K) → Lists bs all (member key d rest) m → named bs key ≡ Some n → kind_in kind_named same d ≡ Some k → map.get (with_entry m (n, k)) n ≡ Some known → same k known ≡ false → has_bad_kind kind_named same bs all ≡ true
   other_kind bs all rest m key d n k known l name kind here differs =
@@ -112,6 +109,3 @@ module _ {K : Type 0} (kind_named : List ℕ → Option K) (same : K → K → B
         kinds = sym (ap (λ o. not (is_some o) || any_member (names_no_kind kind_named same) rest) kind) ∙ l.kinds;
         others = sym (ap (list_any (has_other_kind kind_named same (listed kind_named same bs all))) first ∙ ap (λ b. b || list_any (has_other_kind kind_named same (listed kind_named same bs all)) es) test) ∙ l.others;
       }
-
-  pub all_listed : (bs : List Binding) (all : Members) (m : FinMap name_cmp K) → Lists bs all no_members m → (m ≡ listed kind_named same bs all) × (has_bad_kind kind_named same bs all ≡ false)
-  all_listed bs all m l = (l.map_is, ap (λ a. a || has_two_kinds kind_named same bs all) (sym l.kinds) ∙ sym l.others)

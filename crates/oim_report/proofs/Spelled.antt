@@ -1,4 +1,5 @@
--- The text that spells a fitting name expands to that name, is UTF-8 and has a colon. Different names have different texts.
+-- If a name satisfies `FitsName`, the text that spells it expands to it, is UTF-8 and has a colon. Different names have different
+-- texts.
 use Rattle.std.proofs.Common.{◌≡◌, ◌≢◌, ◌<◌, ℕ, suc, List, [], ◌∷◌, length, Bool, true, not, Some, refl, sym, ap, ◌∙◌, arith}
 use Rattle.std.specs.Prelude.{◌==◌, IsUtf8}
 use Rattle.std.specs.List.{list_all}

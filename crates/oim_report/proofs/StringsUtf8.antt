@@ -90,7 +90,7 @@ IsUtf8-one c ascii =
     let is : encode_utf8 c ≡ c ∷ [] = grind (arith, nat_tests) in
     subst IsUtf8 is (IsUtf8-encode c scalar)
 
--- the bytes of an unfinished character; there are none after an escape has begun
+-- the bytes since the start or the last escape; none while an escape is read
 abbrev open_run : Within → List ℕ → List ℕ
 open_run plain run = run
 open_run o run = []

@@ -28,7 +28,7 @@ each_named bs (p ∷ ps) ns e =
     let b = map_some (λ ms. a.0 ∷ ms) (all_named bs ps) ns a.2 in
     subst (AllZip (Expands bs) (p ∷ ps)) b.2 (stands is_name bs p a.0 a.1, each_named bs ps b.0 b.1)
 
--- the names of one side, sorted
+-- `ns` are the names that the pieces `ps` of one side denote, sorted
 pub record IsSide (bs : List Binding) (ps : List (List ℕ)) (ns : List QName) : Type 0 where
   pub names : NamesEach bs ps ns
   pub order : IsSorted name_cmp ns

@@ -33,7 +33,8 @@ use Rattle.oim_report.specs.ReadBack.{SpellsName, SpellsMeasures, SpellsMember, 
 use Rattle.oim_report.proofs.Givens.{given_text}
 use Rattle.oim_report.proofs.Spelled.{spelled_utf8, spelled_colon}
 use Rattle.oim_report.proofs.WrittenTexts.{plain_utf8, period_utf8, language_utf8, unit_utf8}
-use Rattle.oim_report.proofs.PutMembers.{Ascends, ascends_put, defined_put, known_put, text_there, text_past, text_ascends, text_undefined, text_known}
+use Rattle.oim_report.specs.code.TapeParts.{Ascends}
+use Rattle.oim_report.proofs.PutMembers.{ascends_put, defined_put, known_put, text_there, text_past, text_ascends, text_undefined, text_known}
 
 -- ---- written texts are read back unchanged
 

@@ -48,7 +48,7 @@ is_above_level sheet tree = is_lt (level_cmp (unwrap_or (level_said tree) AllLev
 abbrev pub level_faults : Sheet → Data → List Refusal
 level_faults sheet tree = if is_above_level sheet tree then at AtDocument DisallowedDuplicates ∷ [] else []
 
--- the faults of the document, or else of its facts in byte order of their identifiers, or else of the level
+-- the faults of the document, or else those of its facts in byte order of their identifiers, or else `level_faults`
 abbrev pub tree_faults : Sheet → Data → List Refusal
 tree_faults sheet tree =
     or_else (map (at AtDocument) (told (document_holds tree)))

@@ -1,5 +1,5 @@
 -- The conditions of a document and of a fact object, one clause per condition (OIM Common 1.0; xBRL-JSON 1.0; own where marked).
--- A condition on a missing part applies only if the condition requires the part.
+-- If a part is missing, only a condition that requires the part applies.
 use Rattle.std.specs.Prelude.{ℕ, ℤ, List, [], ◌∷◌, ◌++◌, map, length, Bool, true, false, not, ◌||◌, ◌&&◌, nat_lt, int_lt, if◌then◌else◌, bytes_eq, codes, Option, Some, None, is_none, is_some, option_and_then}
 use Rattle.std.specs.Option.{option_map_or, option_to_list}
 use Rattle.std.specs.List.{filter, filter_map, flat_map, list_any}
@@ -38,7 +38,7 @@ use Rattle.oim_report.specs.Sheet.{Sheet, same_concept_kind, same_dimension_kind
 abbrev pub is_some_and : {A : Type 0} → (A → Bool) → Option A → Bool
 is_some_and test o = option_map_or test o false
 
--- the text of a string; every string that was read is UTF-8
+-- the text of a UTF-8 string; every string that was read is UTF-8
 abbrev pub as_text : Data → Option (List ℕ)
 as_text d = option_and_then (λ s. if is_utf8 s then Some s else None) (as_str d)
 

@@ -23,7 +23,7 @@ tree_identifiers tree = identifiers_in (entries (facts_of tree))
 abbrev pub identifiers : List ℕ → Option (List (List ℕ))
 identifiers bytes = option_map tree_identifiers (json bytes)
 
--- if the bytes are JSON, the identifiers are in strictly ascending byte order
+-- if the bytes are JSON, the listed identifiers are in strictly ascending byte order, whatever their order in the file
 abbrev pub IdentifiersRise : Type 0
 IdentifiersRise = (bytes : List ℕ) (tree : Data) → json bytes ≡ Some tree → IsStrictlySortedBy (slice_cmp nat_cmp) (tree_identifiers tree)
 

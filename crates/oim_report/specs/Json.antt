@@ -23,7 +23,7 @@ json bytes = json_text (without_mark bytes)
 -- ---- the value at a key
 
 -- a JSON value that may be absent: `nil` is null, `text` is a UTF-8 string, `whole` is a number that `serde_json` reads as an
--- integer, and `other` is any other value; every string that was read is UTF-8
+-- integer, and `other` is any other value. A string that was read is never `other`, because it is UTF-8.
 
 pub data Given : Type 0 where
   absent : Given

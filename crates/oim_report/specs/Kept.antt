@@ -25,8 +25,8 @@ web_text None = None
 web_text (Some url) = if is_web_text (serialize url) then Some (serialize url) else None
 
 -- the kept text of a reference: an http or https URL is kept as its serialization, and another URL as it is spelled. A reference
--- that is not a URL is kept as it is spelled if there is no base URL. If there is a base URL, a reference that is not a URL is
--- resolved against it to an http or https URL, and the serialization of that URL is kept.
+-- that is not a URL is kept as it is spelled if there is no base URL. If there is a base URL, the reference is resolved, and the
+-- serialization of the resulting http or https URL is kept.
 abbrev pub kept_by : Parsed Parts → Option Parts → List ℕ → Option (List ℕ)
 kept_by (Ok url) base reference = if is_web url then web_text (Some url) else Some reference
 kept_by (Err e) None reference = Some reference
@@ -49,7 +49,7 @@ base_url text = if is_within_limit text then web_url (parse_url None text) else 
 abbrev pub is_text_within_limit : Option (List ℕ) → Bool
 is_text_within_limit text = option_map_or is_within_limit text false
 
--- a reference is too long, does not resolve, or has a kept text that is too long (own)
+-- a reference is too long, has no kept text, or has a kept text that is too long (own)
 abbrev pub is_reference_refused : Option Parts → List ℕ → Bool
 is_reference_refused base reference = not (is_within_limit reference && is_text_within_limit (kept base reference))
 

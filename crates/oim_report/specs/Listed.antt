@@ -1,4 +1,4 @@
--- The names that a sheet lists, in terms of its members (own).
+-- The names that a sheet lists, in terms of the members of its JSON objects (own).
 use Rattle.std.specs.Prelude.{◌≡◌, ◌⊎◌, ◌↔◌, ℕ, List, Option, Some, Ok, option_and_then}
 use Rattle.std.specs.FinMap as map
 use Rattle.oim_names.specs.QName.{QName}

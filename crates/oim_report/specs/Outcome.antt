@@ -129,13 +129,13 @@ pub record RefusesLevel (sheet : Sheet) (bytes : List ℕ) (r : Refusal) : Type 
   pub above : is_lt (level_cmp document.level (level_of document.facts)) ≡ true
   pub answer : r ≡ at AtDocument DisallowedDuplicates
 
--- r is the refusal of the first fact to which a condition applies, or else of the level
+-- r is the refusal of the first fact to which a condition applies; if there is no such fact, `RefusesLevel` holds
 abbrev pub RefusesFacts : Sheet → List ℕ → Data → Refusal → Type 0
 RefusesFacts sheet bytes tree r =
     RefusesOne sheet (bindings_of tree) 1 (values (facts_of tree)) r
     ⊎ (AllByRecursion (IsFree sheet (bindings_of tree)) (values (facts_of tree)) × RefusesLevel sheet bytes r)
 
--- r is the refusal for the lowest-numbered condition that applies to the document, or else the refusal of its facts
+-- r is the refusal for the lowest-numbered condition that applies to the document; if none applies, `RefusesFacts` holds
 abbrev pub RefusesTree : Sheet → List ℕ → Data → Refusal → Type 0
 RefusesTree sheet bytes tree r =
     ((reason : Reason) × IsLeast (document_holds tree) reason × (r ≡ at AtDocument reason)) ⊎ (((reason : Reason) → document_holds tree reason ≡ false) × RefusesFacts sheet bytes tree r)

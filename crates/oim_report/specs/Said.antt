@@ -104,7 +104,7 @@ said_member bs (Some Typed) (text t) = Some (MemberText t)
 said_member bs (Some Typed) nil = Some NoMember
 said_member bs kind g = None
 
--- adds to `es` a dimension and its member for each key with its value; None if a key or value is not accepted
+-- adds to `es` the dimension and the member that each key and its value denote; None if a key or value is not accepted
 abbrev pub members_with : Sheet → List Binding → List (QName × Member) → List (List ℕ × Given) → Option (List (QName × Member))
 members_with sheet bs es [] = Some es
 members_with sheet bs es (d ∷ ds) =

@@ -11,5 +11,6 @@ pub mod Rows
 pub mod Scope
 pub mod SeenParts
 pub mod SheetCode
+pub mod TapeParts
 pub mod TextCache
 pub mod TextCaches

@@ -10,5 +10,7 @@ pub(crate) mod fact_values;
 pub(crate) mod facts_reader;
 pub(crate) mod json_member;
 pub(crate) mod name_cache;
+pub(crate) mod tape_parts;
 pub(crate) mod text_cache;
 pub(crate) mod text_caches;
+pub(crate) mod whole_number;

@@ -102,8 +102,8 @@ pub fn each_fact_has_an_identifier()
     ensures { EachFactHasAnIdentifier }
 {}
 
-/// If the bytes of a file are JSON, the identifiers of its facts are in strictly ascending byte
-/// order.
+/// If the bytes of a file are JSON, the listed identifiers of its facts are in strictly ascending
+/// byte order, whatever their order in the file.
 pub fn identifiers_rise()
     ensures { IdentifiersRise }
 {}

@@ -12,10 +12,10 @@ pub const MOST_MEANINGS: usize = 1_024;
 /// which a `ReportReader` keeps even after a report is refused.
 pub const MOST_MEANING_BYTES: usize = 1_024;
 
-/// The least size in bytes of each piece of a report's facts, except the last piece. For each
-/// piece, the JSON parser fills 16 kB with zeros, so small pieces are slow. Larger pieces cause
-/// more page faults.
+/// The least size in bytes of each piece of a report's facts, except the last piece. Larger pieces
+/// cause more page faults.
 pub const PIECE_BYTES: usize = 65_536;
 
-/// The least size in bytes of a report that is read in pieces.
-pub const LEAST_IN_PIECES: usize = 131_072;
+/// The greatest number of taxonomy-defined dimensions of a fact that is read from a tape. Each one
+/// is inserted into a sorted list, so the time grows with the square of their number.
+pub const MOST_INSERTED: usize = 64;

@@ -1,16 +1,17 @@
-ghost use Rattle.std.specs.Prelude.{◌≡◌, ◌⊎◌, Some, Ok, Err, IfOk, IfErr, IfSome};
+ghost use Rattle.std.specs.Prelude.{◌≡◌, ◌⊎◌, Some, Ok, Err, IfOk, IfErr, IfSome, map, string_bytes};
 ghost use Rattle.serde_json.specs.View.{view};
 ghost use Rattle.oim_report.specs.Document.{SaysDocument};
 ghost use Rattle.oim_report.specs.Identifiers.{identifiers};
 ghost use Rattle.oim_report.specs.Outcome.{at, outcome, tree_outcome};
 
 use crate::document::duplicates::is_above;
-use crate::document::identifiers::identifiers_of;
+use crate::document::found_facts::FoundFacts;
+use crate::document::identifiers::{identifiers_of, texts_of};
 use crate::document::info::read_info;
 use crate::document::json_tree::{read_json, read_json_outline};
 use crate::fact::fact_reader::FactReader;
 use crate::fact::facts_reader::read_facts;
-use crate::limits::{LEAST_IN_PIECES, PIECE_BYTES};
+use crate::limits::PIECE_BYTES;
 use crate::order::order_of;
 use crate::pieces::facts_in_pieces::read_facts_in_pieces;
 use crate::place::Place;
@@ -89,15 +90,15 @@ impl<'s> ReportReader<'s> {
         ensures errors { IfErr result
             (λ r. (r ≡ at Place.Document Reason.OutOfMemory) ⊎ (outcome self.old bytes.now ≡ Err r)) }
     {
-        if let Some(report) = self.read_in_pieces(bytes) {
+        if let Some((report, _identifiers)) = self.read_in_pieces(bytes) {
             return Ok(report);
         }
         let tree = read_json(self.alloc, bytes)?;
         self.read_tree(&tree)
     }
 
-    /// Reads a report as `read` does, and its identifiers as `fact_identifiers` does (xBRL-JSON 1.0;
-    /// further conditions are our own). The bytes are parsed only once.
+    /// Reads a report as `read` does, and its identifiers as `fact_identifiers` does (xBRL-JSON
+    /// 1.0; further conditions are our own). The bytes are parsed only once.
     ///
     /// Errors: as for `read`.
     #[tactic(auto, unfolding(crate::specs::Outcome::outcome))]
@@ -109,6 +110,9 @@ impl<'s> ReportReader<'s> {
         ensures errors { IfErr result
             (λ r. (r ≡ at Place.Document Reason.OutOfMemory) ⊎ (outcome self.old bytes.now ≡ Err r)) }
     {
+        if let Some((report, identifiers)) = self.read_in_pieces(bytes) {
+            return Ok((report, texts_of(self.alloc, identifiers)?));
+        }
         let tree = read_json(self.alloc, bytes)?;
         let report = self.read_tree(&tree)?;
         let identifiers = identifiers_of(self.alloc, &tree)?;
@@ -135,28 +139,32 @@ impl<'s> ReportReader<'s> {
         Ok(Report::new(sheet, facts, info.references, info.level, order))
     }
 
-    /// Does the same as `read`, but parses the facts in pieces. Only one piece at a time is in
-    /// memory as a tree. The result is `None` if the text has fewer than `LEAST_IN_PIECES` bytes or
-    /// cannot be read in pieces, or if the report or a request for memory is refused. After `None`,
-    /// `read` reads the whole text.
-    fn read_in_pieces(&mut self, bytes: &[u8]) -> Option<Report<'s>>
+    /// Does the same as `read_identified`, but parses the facts in pieces. Only one piece at a time
+    /// is held as a tape. The result is `None` if the text cannot be read in pieces, or if the
+    /// report or a request for memory is refused. After `None`, the whole text is read as a tree.
+    fn read_in_pieces(&mut self, bytes: &[u8]) -> Option<(Report<'s>, Vec<String>)>
         ensures same { self.new ≡ self.old }
-        ensures ok { IfSome result (λ r. outcome self.old bytes.now ≡ Ok r.document) }
-        ensures sheet { IfSome result (λ r. r.sheet ≡ self.old) }
+        ensures ok { IfSome result (λ read. outcome self.old bytes.now ≡ Ok read.0.document) }
+        ensures sheet { IfSome result (λ read. read.0.sheet ≡ self.old) }
+        ensures identifiers { IfSome result
+            (λ read. identifiers bytes.now ≡ Some (map string_bytes read.1.items)) }
     {
-        if bytes.len() < LEAST_IN_PIECES {
-            return None;
-        }
         let alloc = self.alloc;
         let sheet = self.facts.sheet();
         let outline = read_json_outline(alloc, bytes)?;
         let info = read_info(alloc, &outline.tree).ok()?;
         self.facts.turn_to(info.aliases);
-        let facts = read_facts_in_pieces(alloc, &mut self.facts, outline.facts, PIECE_BYTES)?;
+        let FoundFacts { identifiers, facts } = read_facts_in_pieces(
+            alloc,
+            &mut self.facts,
+            outline.facts,
+            PIECE_BYTES,
+        )?;
         let order = order_of(alloc, facts.as_slice()).ok()?;
         if is_above(info.level, facts.as_slice(), order.as_slice()) {
             return None;
         }
-        Some(Report::new(sheet, facts, info.references, info.level, order))
+        let report = Report::new(sheet, facts, info.references, info.level, order);
+        Some((report, identifiers))
     }
 }

@@ -21,7 +21,8 @@ abbrev pub both_meet : Option Interval → Option Interval → Bool
 both_meet (Some i) (Some j) = intervals_meet i j
 both_meet i j = false
 
--- the level of v beside other values. `last` is the greatest of the other values, and `common` is the common part of their
--- intervals. The level of all values is the maximum of the level of the other values and this level.
+-- the level that v requires beside other values. `last` is the greatest of the other values. `common` is the common part of their
+-- intervals, or None if one of them is not a number. The level of all values is the greater of this level and the level of the
+-- other values.
 abbrev pub level_beside : Value → Option Interval → Value → Level
 level_beside last common v = if is_eq (value_cmp last v) then Complete else (if both_meet common (interval_at v) then Consistent else All)

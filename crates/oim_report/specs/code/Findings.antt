@@ -1,4 +1,4 @@
--- Tests of texts and base URLs, and the reason if a test passes (own).
+-- Conditions on texts and base URLs, and the reason if a condition holds (own).
 use Rattle.std.specs.Prelude.{ℕ, List, Bool, false, bytes_eq, is_none, if◌then◌else◌, Option, Some, None}
 use Rattle.std.specs.Option.{option_map_or}
 use Rattle.oim_names.specs.declared.reason.Reason.{Reason}

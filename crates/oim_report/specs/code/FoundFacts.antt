@@ -10,7 +10,7 @@ use Rattle.serde_json.specs.Data.{Members, no_members, member}
 use Rattle.oim_report.specs.Outcome.{fact_outcome}
 use Rattle.oim_report.specs.Sheet.{Sheet}
 
--- the lists are the keys of the members and the facts that their values denote
+-- the lists are the keys of the members and the facts that the members' values denote
 abbrev pub AreFound : Sheet → List Binding → Members → List (String Global) → List Fact → Type 0
 AreFound sheet bs no_members [] [] = ⊤
 AreFound sheet bs no_members [] (f ∷ fs) = ⊥

@@ -20,11 +20,6 @@ abbrev pub with_rest : List ℕ → Option (List ℕ) → List ℕ
 with_rest piece None = piece
 with_rest piece (Some rest) = piece ++ 44 ∷ rest
 
-pub record IsNext (text : List ℕ) (found : Members) (rest : Option (List ℕ)) : Type 0 where
-  pub piece : List ℕ
-  pub splits : text ≡ with_rest piece rest
-  pub is : IsPiece piece found
-
 -- white space (RFC 8259)
 abbrev pub AreSpaces : List ℕ → Type 0
 AreSpaces [] = ⊤

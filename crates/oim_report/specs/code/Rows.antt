@@ -1,4 +1,4 @@
--- Tests from the table of conditions, for members of `dimensions` and `features` (own).
+-- The tests of `Holds.antt` on single members of `dimensions` and `features` (own).
 use Rattle.std.specs.Prelude.{ℕ, List, [], ◌∷◌, map, Bool, ◌&&◌, Option, None, if◌then◌else◌, codes, is_none}
 use Rattle.std.specs.Option.{option_map_or, option_to_list}
 use Rattle.std.specs.List.{filter, find, flat_map}

@@ -32,7 +32,7 @@ pub(crate) fn level_of(facts: &[Fact], order: &[usize]) -> Level
 
 /// Returns the level of the facts. If the level is above `limit`, the error is the index of the
 /// first fact, in sorted order, that `limit` does not allow beside an earlier fact. One visit to
-/// each fact suffices, because every two values meet exactly if all values are equal, or all are
+/// each fact suffices: each pair of values meets exactly if all values are equal, or if all are
 /// numbers whose intervals have a common part.
 pub(crate) fn level_within(limit: Level, facts: &[Fact], order: &[usize]) -> Result<Level, usize>
     requires { IsOrderOf facts.now order.now }
@@ -64,9 +64,10 @@ pub(crate) fn level_within(limit: Level, facts: &[Fact], order: &[usize]) -> Res
     Ok(level)
 }
 
-// Returns the level that `value` requires beside earlier values with the same dimensions. The level
-// of all these values is the maximum of the level of the earlier values and the result. `last` is
-// the last earlier value, and `shared` is the common part of the intervals of all earlier values.
+// Returns the level that `value` requires beside earlier values with the same dimensions. `last` is
+// the last earlier value. `shared` is the common part of the intervals of all earlier values, or
+// `None` if one of them is not a number. The level of all these values is the greater of the result
+// and the level of the earlier values.
 fn level_beside(last: &Value, shared: Option<Interval>, value: &Value) -> Level
     ensures { result ≡ level_beside last.now shared value.now }
 {

@@ -1,10 +1,9 @@
-ghost use Rattle.std.specs.Prelude.{◌≡◌, List, None, Ok, true, map, IfSome};
+ghost use Rattle.std.specs.Prelude.{◌≡◌, List, None, true, map, IfSome};
 ghost use Rattle.std.specs.BTreeMap.{insert_entry};
 ghost use Rattle.std.specs.String.{string_cmp};
 ghost use Rattle.oim_names.specs.Bindings.{Binding};
 ghost use Rattle.serde_json.specs.Data.{Members, no_members};
 ghost use Rattle.oim_report.specs.code.FoundFacts.{AreFound, rise_after};
-ghost use Rattle.oim_report.specs.Outcome.{facts_said};
 ghost use Rattle.oim_report.specs.Pieces.{put_all};
 ghost use Rattle.oim_report.specs.Sheet.{Sheet as ASheet};
 
@@ -12,8 +11,8 @@ use oim_dims::Fact;
 use std::alloc::Global;
 use std::collections::BTreeMap;
 
-/// The facts of one or more pieces, with their identifiers. The pieces are in the order of the
-/// text. In each piece, the identifiers are in byte order.
+/// The facts of one or more pieces, with their identifiers, in the order of the text. Identifiers
+/// may be repeated.
 #[derive(Drop)]
 pub(crate) struct FoundFacts {
     pub(crate) identifiers: Vec<String>,
@@ -21,19 +20,19 @@ pub(crate) struct FoundFacts {
 }
 
 impl FoundFacts {
-    /// Returns the facts in byte order of their identifiers. If an identifier is repeated, only its
-    /// last fact is returned. The result is `None` if a request for memory is refused.
-    pub(crate) fn in_order(self, alloc: Global) -> Option<Vec<Fact>>
-        ensures { IfSome result (λ facts. (sheet : ASheet) (bs : List Binding) (ms : Members) →
+    /// Sorts the facts by their identifiers in byte order. If an identifier is repeated, only its
+    /// last fact is kept. The result is `None` if a request for memory is refused.
+    pub(crate) fn in_order(self, alloc: Global) -> Option<FoundFacts>
+        ensures { IfSome result (λ f. (sheet : ASheet) (bs : List Binding) (ms : Members) →
             AreFound sheet bs ms self.identifiers.items self.facts.items →
-            facts_said sheet bs (put_all ms no_members) ≡ Ok facts.items) }
+            AreFound sheet bs (put_all ms no_members) f.identifiers.items f.facts.items) }
     {
         let FoundFacts { identifiers, facts } = self;
         if rise(identifiers.as_slice()) {
-            return Some(facts);
+            return Some(FoundFacts { identifiers, facts });
         }
         let found = by_identifier(alloc, identifiers, facts)?;
-        facts_of(alloc, found)
+        found_in(alloc, found)
     }
 }
 
@@ -79,12 +78,15 @@ fn put(found: &mut BTreeMap<String, Fact>, identifier: String, fact: Fact) -> bo
     found.insert(identifier, fact).is_ok()
 }
 
-fn facts_of(alloc: Global, found: BTreeMap<String, Fact>) -> Option<Vec<Fact>>
-    ensures { IfSome result (λ facts. facts.items ≡ map (λ e. e.1) found.entries) }
+fn found_in(alloc: Global, found: BTreeMap<String, Fact>) -> Option<FoundFacts>
+    ensures { IfSome result (λ f. (f.identifiers.items ≡ map (λ e. e.0) found.entries)
+        × (f.facts.items ≡ map (λ e. e.1) found.entries)) }
 {
+    let mut identifiers = Vec::with_capacity(alloc, found.len()).ok()?;
     let mut facts = Vec::with_capacity(alloc, found.len()).ok()?;
-    for (_identifier, fact) in found {
+    for (identifier, fact) in found {
+        identifiers.push(identifier).ok()?;
         facts.push(fact).ok()?;
     }
-    Some(facts)
+    Some(FoundFacts { identifiers, facts })
 }

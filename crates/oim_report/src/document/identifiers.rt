@@ -1,4 +1,4 @@
-ghost use Rattle.std.specs.Prelude.{◌≡◌, ◌⊎◌, Some, None, IfOk, IfErr};
+ghost use Rattle.std.specs.Prelude.{◌≡◌, ◌⊎◌, Some, None, IfOk, IfErr, map, string_bytes};
 ghost use Rattle.serde_json.specs.View.{view, members_view};
 ghost use Rattle.oim_report.specs.Identifiers.{identifiers, identifiers_in, tree_identifiers};
 ghost use Rattle.oim_report.specs.Json.{entries, json};
@@ -6,7 +6,7 @@ ghost use Rattle.oim_report.specs.Json.{entries, json};
 use crate::document::json_tree::{object_at, read_json};
 use oim_names::{Reason, Text};
 use serde_json::{Map, Value};
-use std::alloc::Global;
+use std::alloc::{AllocError, Global};
 
 /// Returns the identifiers of a report's facts, in byte order (xBRL-JSON 1.0, section 2).
 /// `Report::facts` has the same order if the report is accepted. If the bytes are JSON without an
@@ -43,4 +43,15 @@ fn keys_of(alloc: Global, objects: &Map<String, Value>) -> Result<Vec<Text>, Rea
         keys.push(key)?;
     }
     Ok(keys)
+}
+
+/// Returns the identifiers as texts, in the same order.
+pub(crate) fn texts_of(alloc: Global, identifiers: Vec<String>) -> Result<Vec<Text>, AllocError>
+    ensures { IfOk result (λ texts. texts.items ≡ map string_bytes identifiers.items) }
+{
+    let mut texts = Vec::with_capacity(alloc, identifiers.len())?;
+    for identifier in identifiers {
+        texts.push(Text::from_string(alloc, identifier)?)?;
+    }
+    Ok(texts)
 }

@@ -11,9 +11,8 @@ use url::{ParseError, Url};
 
 /// Returns the text under which a taxonomy reference is kept. An http or https URL is kept as its
 /// serialization (URL Standard, section 4.5), and another URL as it is spelled. A reference
-/// that is not a URL is kept as it is spelled if there is no base URL. If there is a base URL, a
-/// reference that is not a URL is resolved against it to an http or https URL, and the
-/// serialization of that URL is kept.
+/// that is not a URL is kept as it is spelled if there is no base URL. If there is a base URL, the
+/// reference is resolved, and the serialization of the resulting http or https URL is kept.
 ///
 /// Errors: `TaxonomyUrl` if the reference or its kept text has more than `MOST_REFERENCE_BYTES`
 /// bytes, or if resolving the reference does not give an http or https URL; `OutOfMemory`.

@@ -1,4 +1,5 @@
 ghost use Rattle.std.specs.Prelude.{◌≡◌, ◌⊎◌, Ok, Err, Some, None, IsTrue, IfOk, IfErr, IfSome, option_map};
+ghost use Rattle.serde_json.specs.Data.{Data};
 ghost use Rattle.serde_json.specs.View.{view};
 ghost use Rattle.oim_report.specs.code.JsonMember.{seen};
 ghost use Rattle.oim_report.specs.code.TextCache.{concept_with};
@@ -6,6 +7,7 @@ ghost use Rattle.oim_report.specs.code.SeenParts.{seen_defined, seen_dimensions,
 ghost use Rattle.oim_report.specs.Outcome.{fact_outcome};
 ghost use Rattle.oim_report.specs.Said.{concept_kind, dimension_kind, fact_of, said_concept, said_dimensions, said_member, said_members};
 ghost use Rattle.oim_report.specs.Names.{named};
+ghost use Rattle.oim_report.specs.Parts.{fact_parts};
 
 use crate::concept_kind::ConceptKind;
 use crate::dimension_kind::DimensionKind;
@@ -28,8 +30,8 @@ use std::marker::Model;
 
 /// Reads facts under a sheet and the prefixes of a report. Reports often bind the same prefixes to
 /// the same URIs, and then a text means the same in all these reports. So the reader caches the
-/// meanings of texts; `turn_to` empties the caches if necessary. Contracts represent a reader by
-/// its sheet and its prefixes.
+/// meanings of texts; `turn_to` decides when the caches are emptied. Contracts represent a reader
+/// by its sheet and its prefixes.
 #[derive(Drop)]
 pub(crate) struct FactReader<'s> {
     alloc: Global,
@@ -71,8 +73,8 @@ impl<'s> FactReader<'s> {
     }
 
     /// Prepares for the prefixes of the next report. The caches are emptied if the report binds
-    /// prefixes differently than the reader, or if a cache is full, because a full cache takes no
-    /// new texts.
+    /// prefixes differently than the reader. They are also emptied if one of them is full, because
+    /// a full cache takes no new texts.
     pub(crate) fn turn_to(&mut self, aliases: Aliases)
         ensures { self.new ≡ record self.old { aliases = aliases } }
     {
@@ -133,10 +135,20 @@ impl<'s> FactReader<'s> {
         let Some(parts) = FactParts::of(self.alloc, object)? else {
             return Err(Reason::MemberForm);
         };
-        let Some(dimensions) = well_formed(&parts) else {
+        self.read_parts(&parts)
+    }
+
+    /// Reads a fact from the parts of its object. An error shows only that some condition applies,
+    /// or that a request for memory was refused.
+    pub(crate) fn read_parts(&mut self, parts: &FactParts<'_>) -> Result<Fact, Reason>
+        ensures same { self.new ≡ self.old }
+        ensures ok { IfOk result (λ f. (d : Data) → fact_parts d ≡ Some (seen_parts parts.now)
+            → fact_outcome self.old.sheet self.old.aliases d ≡ Ok f) }
+    {
+        let Some(dimensions) = well_formed(parts) else {
             return Err(Reason::MemberForm);
         };
-        self.read_content(&parts, dimensions)
+        self.read_content(parts, dimensions)
     }
 
     fn read_content(

@@ -1,4 +1,4 @@
-//! Reads single values for the search for faults (`findings`).
+//! Reads single JSON values while `findings` searches for faults.
 
 ghost use Rattle.std.specs.Prelude.{◌≡◌, is_none, codes, option_map, option_and_then};
 ghost use Rattle.serde_json.specs.View.{view};

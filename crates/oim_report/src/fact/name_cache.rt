@@ -20,7 +20,8 @@ pub(crate) struct NameCache<'s, K: Kind> {
     alloc: Global,
     /// The texts that spell a name of the sheet, each with the name and its kind.
     pub(crate) texts: TextCache<(&'s Name, K)>,
-    /// The prefixes that were used, each with the sheet's group for its namespace, if there is one.
+    /// The bound prefixes that were looked up, each with the sheet's group for its namespace, if
+    /// the sheet has that group.
     pub(crate) groups: BTreeMap<String, Option<&'s Group<K>>>,
 }
 

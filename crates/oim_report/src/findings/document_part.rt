@@ -11,10 +11,12 @@ use oim_names::Reason;
 use serde_json::Value;
 use std::alloc::{AllocError, Global};
 
-/// Returns the first part of a document to which `reason` applies, a condition from `MemberForm` to
-/// `Feature` (own). If `xbrl:allowedDuplicates` is repeated with valid values, the part is all
-/// features. The result is `None` exactly if `reason` is not one of these conditions, does not
-/// apply, or is `Feature` while `Namespace` applies too.
+/// Returns the part at fault if the condition `reason` applies to a document, for the conditions
+/// from `MemberForm` to `Feature` (own). If several parts are at fault, the first in the order of
+/// `document_shown` is returned. If `xbrl:allowedDuplicates` is declared under several prefixes,
+/// each time with a valid level, the part is the object `features`. The result is `None` exactly if
+/// `reason` is not one of these conditions, does not apply, or is `Feature` while `Namespace`
+/// applies too.
 ///
 /// Errors: out of memory.
 #[tactic(auto, unfolding(crate::specs::Holds::document_holds, crate::specs::Shown::document_shown))]

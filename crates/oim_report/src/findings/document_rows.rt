@@ -88,8 +88,9 @@ fn is_refused(alloc: Global, base: Option<&Base>, reference: &Value) -> Result<b
     Ok(kept.is_none())
 }
 
-/// If the feature is repeated and each value is a level, returns all features. If the prefixes are
-/// refused, the features are not tested.
+/// Returns the first declaration of the feature whose value is not a level, or all features if the
+/// feature is repeated and each value is a level. If the prefixes are refused, the features are not
+/// tested.
 pub(crate) fn refused_feature(alloc: Global, tree: &Value) -> Result<Option<Part<'_>>, AllocError>
     ensures { IfOk result (λ part. option_map seen part ≡ document_part (view tree.now) Reason.Feature) }
 {

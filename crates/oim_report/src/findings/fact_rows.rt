@@ -9,9 +9,9 @@ use oim_names::{Aliases, Reason};
 use serde_json::Value;
 use std::alloc::{AllocError, Global};
 
-/// Returns the part at fault if a condition applies to a fact object under a sheet and these
-/// prefixes, and `None` if the condition does not apply (own). If several parts are at fault, the
-/// first is returned.
+/// Returns the part at fault if the condition `reason` applies to a fact object under a sheet and
+/// these prefixes, otherwise `None` (own). If several parts are at fault, the first in the order of
+/// `fact_shown` is returned.
 ///
 /// Errors: out of memory.
 pub fn fact_part<'a>(

@@ -1,29 +1,12 @@
-ghost use Rattle.std.specs.Prelude.{◌≡◌, ◌∷◌, ◌++◌, Some, IfSome, option_map};
-ghost use Rattle.serde_json.specs.View.{members_view};
-ghost use Rattle.oim_report.specs.code.Pieces.{IsNext, with_rest};
+ghost use Rattle.std.specs.Prelude.{◌≡◌, ◌∷◌, ◌++◌, IfSome, option_map};
+ghost use Rattle.oim_report.specs.code.Pieces.{with_rest};
 
-use crate::pieces::piece::read_piece;
 use crate::pieces::spaces::strip_front;
-use serde_json::{Map, Value};
-use std::alloc::Global;
 
-/// Reads the first piece of `text`. The piece has at least `size` bytes and ends before a comma, or
+/// Cuts the first piece off `text`. The piece has at least `size` bytes and ends before a comma, or
 /// it is the whole text. If the piece ends before a comma, the text after this comma is returned
-/// too. The result is `None` if the piece cannot be read or a request for memory is refused.
-pub(crate) fn read_next<'t>(
-    alloc: Global,
-    buffer: &mut String,
-    text: &'t str,
-    size: usize,
-) -> Option<(Map<String, Value>, Option<&'t str>)>
-    ensures { IfSome result
-        (λ p. IsNext text.now (members_view p.0.entries) (option_map (λ r. r.now) p.1)) }
-{
-    let (piece, rest) = split_piece(text, size);
-    Some((read_piece(alloc, buffer, piece)?, rest))
-}
-
-fn split_piece(text: &str, size: usize) -> (&str, Option<&str>)
+/// too.
+pub(crate) fn split_piece(text: &str, size: usize) -> (&str, Option<&str>)
     ensures { text.now ≡ with_rest result.0.now (option_map (λ r. r.now) result.1) }
 {
     match guess_end(text, size) {

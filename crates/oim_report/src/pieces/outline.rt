@@ -9,7 +9,7 @@ use std::alloc::Global;
 
 // `guess_end` looks for the end of `facts` only in the last `MOST_BEHIND` bytes of a document, not
 // counting white space at the end.
-const MOST_BEHIND: usize = 16_384;
+const MOST_BEHIND: usize = 4_096;
 
 /// A document without its member `facts`, and the text of the members of `facts`.
 #[derive(Drop)]
@@ -57,7 +57,7 @@ fn split_document(text: &str) -> Option<Split<'_>>
 }
 
 // Returns the text of the members before `facts`, `Some(None)` if there are no such members, or
-// `None` if `text` is not the beginning of an object.
+// `None` if `text` lacks the brace that opens the document or the comma before `facts`.
 fn split_head(text: &str) -> Option<Option<&str>>
     ensures { IfSome result (λ b. IsHead text.now (option_map (λ t. t.now) b)) }
 {
@@ -90,7 +90,7 @@ fn cut_at_brace(text: &str, at: usize) -> Option<(&str, &str)>
 }
 
 // Returns the text of the members after `facts`, `Some(None)` if there are no such members, or
-// `None` if `text` is not the end of an object.
+// `None` if `text` lacks the brace that closes the document or the comma after `facts`.
 fn split_end(text: &str) -> Option<Option<&str>>
     ensures { IfSome result (λ b. IsEnd text.now (option_map (λ t. t.now) b)) }
 {

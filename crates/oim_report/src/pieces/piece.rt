@@ -1,4 +1,4 @@
-ghost use Rattle.std.specs.Prelude.{◌≡◌, true, Some, IfSome};
+ghost use Rattle.std.specs.Prelude.{◌≡◌, true, Some, IfSome, OnSome, string_bytes};
 ghost use Rattle.serde_json.specs.Read.{read};
 ghost use Rattle.serde_json.specs.View.{view, members_view};
 ghost use Rattle.oim_report.specs.Pieces.{alone, one_data, EndsWithBrace, IsPiece};
@@ -6,8 +6,8 @@ ghost use Rattle.oim_report.specs.Pieces.{alone, one_data, EndsWithBrace, IsPiec
 use serde_json::{Map, Value};
 use std::alloc::Global;
 
-/// Reads a piece as the members of the only object of an array. Members of `facts` are then nested
-/// as deep as in the report, so the limit on levels is the same.
+/// Reads a piece as the members of the only object of an array. The result is `None` if the text is
+/// not a piece (`IsPiece`), or if a request for memory is refused.
 pub(crate) fn read_piece(
     alloc: Global,
     buffer: &mut String,
@@ -25,7 +25,7 @@ pub(crate) fn read_piece(
     Some(members)
 }
 
-fn ends_with_brace(piece: &str) -> bool
+pub(crate) fn ends_with_brace(piece: &str) -> bool
     ensures { result ≡ true → EndsWithBrace piece.now }
 {
     match piece.as_bytes().last() {
@@ -37,11 +37,18 @@ fn ends_with_brace(piece: &str) -> bool
 fn read_alone(alloc: Global, buffer: &mut String, piece: &str) -> Option<Value>
     ensures { IfSome result (λ v. read (alone piece.now) ≡ Some (view v)) }
 {
+    fill_alone(buffer, piece)?;
+    Value::from_str(alloc, buffer.as_str()).ok()
+}
+
+/// Sets `buffer` to an array with one object, whose members are the piece.
+pub(crate) fn fill_alone(buffer: &mut String, piece: &str) -> Option<()>
+    ensures { OnSome result (string_bytes buffer.new ≡ alone piece.now) }
+{
     buffer.clear();
     buffer.push_str("[{").ok()?;
     buffer.push_str(piece).ok()?;
-    buffer.push_str("}]").ok()?;
-    Value::from_str(alloc, buffer.as_str()).ok()
+    buffer.push_str("}]").ok()
 }
 
 fn only_object(value: Value) -> Option<Map<String, Value>>

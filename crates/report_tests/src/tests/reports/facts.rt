@@ -24,7 +24,7 @@ const PLACES: [Table; 3] = [
         ],
         end: "}}",
     },
-    // facts are in byte order of their identifiers
+    // facts are numbered in byte order of their identifiers
     Table {
         start: FACTS,
         rows: &[
@@ -81,7 +81,7 @@ const PLACES: [Table; 3] = [
     },
 ];
 
-const PARTS: [Table; 5] = [
+const PARTS: [Table; 6] = [
     // notes are refused, and so are links that are not empty
     Table {
         start: r#"{"documentInfo":{"documentType":"https://xbrl.org/2021/xbrl-json","namespaces":{"eg":"http://example.org/t"}},"facts":{"a":"#,
@@ -97,6 +97,38 @@ const PARTS: [Table; 5] = [
             (
                 Read,
                 &[r#"{"value":"1","dimensions":{"concept":"eg:A"},"links":{}}"#],
+            ),
+        ],
+        end: "}}",
+    },
+    // the last of repeated members counts, and the value of an extension may be any JSON value
+    Table {
+        start: r#"{"documentInfo":{"documentType":"https://xbrl.org/2021/xbrl-json","namespaces":{"eg":"http://example.org/t"}},"facts":{"a":"#,
+        rows: &[
+            (
+                Read,
+                &[
+                    r#"{"value":"x","value":"1","dimensions":{"concept":"eg:A"}}"#,
+                    r#"{"value":"1","dimensions":{"concept":"q:A"},"dimensions":{"concept":"eg:A"}}"#,
+                    r#"{"value":"1","dimensions":{"concept":"q:A","concept":"eg:A"}}"#,
+                    r#"{"value":"1","dimensions":{"concept":"eg:A","eg:Reg":"q:a","eg:Reg":"eg:North"}}"#,
+                    r#"{"value":"1","links":{"eg:l":{}},"links":{},"dimensions":{"concept":"eg:A"}}"#,
+                    r#"{"value":"1","eg:note":{"deep":[1.5,true,{}]},"dimensions":{"concept":"eg:A"}}"#,
+                ],
+            ),
+            (
+                InFact(13, 1),
+                &[
+                    r#"{"value":"1","dimensions":{"concept":"eg:A"},"dimensions":{"concept":"q:A"}}"#,
+                    r#"{"value":"1","dimensions":{"concept":"eg:A","concept":"q:A"}}"#,
+                    r#"{"value":"1","dimensions":{"concept":"eg:A","eg:Reg":"eg:North","eg:Reg":"q:a"}}"#,
+                ],
+            ),
+            (
+                InFact(9, 1),
+                &[
+                    r#"{"value":"1","links":{},"links":{"eg:l":{}},"dimensions":{"concept":"eg:A"}}"#,
+                ],
             ),
         ],
         end: "}}",

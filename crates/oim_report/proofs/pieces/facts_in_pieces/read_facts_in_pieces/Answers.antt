@@ -1,11 +1,9 @@
-use Rattle.std.proofs.Common.{rules, ◌≡◌, ◌++◌, List, option_map, Ok, subst, refl, ◌∙◌}
+use Rattle.std.proofs.Common.{rules, ◌≡◌, ◌++◌, List, option_map, subst, refl, ap, ◌∙◌}
 use Rattle.oim_names.specs.Bindings.{Binding}
 use Rattle.serde_json.specs.Data.{Members, no_members}
-use Rattle.serde_json.specs.View.{members_view}
 use Rattle.oim_report.specs.code.FoundFacts.{AreFound}
-use Rattle.oim_report.specs.Outcome.{facts_said}
 use Rattle.oim_report.specs.Pieces.{IsPiece, put_all}
-use Rattle.oim_report.specs.code.Pieces.{IsNext, append}
+use Rattle.oim_report.specs.code.Pieces.{with_rest, append}
 use Rattle.oim_report.specs.Sheet.{Sheet}
 use Rattle.oim_report.proofs.FoundInOrder.{none_found, found_append, found_by, weaker}
 use Rattle.oim_report.proofs.PiecesInTurn.{one_more, last_one}
@@ -17,34 +15,40 @@ loop-init c =
     let bs = c.args.reader.now.aliases in
     (search rules, no_members, refl, none_found sheet bs _ _ c.new-identifiers.ensures.items c.new-facts.ensures.items, refl)
 
-pub returns-in-None-clause-facts : goal.returns-in-None-clause-facts
-returns-in-None-clause-facts c =
+pub returns-in-None-clause-found : goal.returns-in-None-clause-found
+returns-in-None-clause-found c =
     let sheet = c.args.reader.now.sheet in
     let bs = c.args.reader.now.aliases in
-    let new = members_view c.in_ok-objects.objects.entries in
+    let read = c.in_ok-more.ensures.found in
+    let new = read.0 in
     let more = c.in_ok-more.more in
     let objects = c.loop.invariant.1 in
-    let next = subst (λ r. IsNext c.loop.left.now new (option_map (λ r. r.now) r)) c.in-None.is c.in_ok-objects.ensures in
+    let piece = c.split_piece.result.0.now in
+    let splits : c.loop.left.now ≡ with_rest piece (option_map (λ r. r.now) c.split_piece.result.1) = c.split_piece.ensures in
+    let next = splits ∙ ap (λ r. with_rest piece (option_map (λ r. r.now) r)) c.in-None.is in
     let pushed : c.append.new.self.items ≡ c.loop.identifiers.items ++ more.identifiers.items = search rules in
     let added : c.append-in-loop.new.self.items ≡ c.loop.facts.items ++ more.facts.items = search rules in
-    let more_found = subst (λ r. AreFound r.sheet r.aliases new more.identifiers.items more.facts.items) c.loop.invariant.4 c.in_ok-more.ensures.found in
+    let more_found = subst (λ r. AreFound r.sheet r.aliases new more.identifiers.items more.facts.items) c.loop.invariant.4 read.2 in
     let found = found_by sheet bs _ _ _ _ _ pushed added (found_append sheet bs objects new c.loop.identifiers.items more.identifiers.items c.loop.facts.items more.facts.items c.loop.invariant.3 more_found) in
     weaker c.in_order.result
-    (λ facts. (s : Sheet) (b : List Binding) (ms : Members) → AreFound s b ms c.append.new.self.items c.append-in-loop.new.self.items → facts_said s b (put_all ms no_members) ≡ Ok facts.items)
-    (λ facts. (ms : Members) × IsPiece c.args.text.now ms × (facts_said sheet bs ms ≡ Ok facts.items))
+    (λ f. (s : Sheet) (b : List Binding) (ms : Members) → AreFound s b ms c.append.new.self.items c.append-in-loop.new.self.items → AreFound s b (put_all ms no_members) f.identifiers.items f.facts.items)
+    (λ f. (ms : Members) × IsPiece c.args.text.now ms × AreFound sheet bs ms f.identifiers.items f.facts.items)
     c.in_order.ensures
-    (λ facts h. (put_all (append objects new) no_members, last_one c.args.text.now c.loop.left.now objects new c.loop.invariant.2 next, h sheet bs (append objects new) found))
+    (λ f h. (put_all (append objects new) no_members, last_one c.args.text.now c.loop.left.now piece objects new c.loop.invariant.2 next read.1, h sheet bs (append objects new) found))
 
 pub loop-preserved : goal.loop-preserved
 loop-preserved c =
     let sheet = c.args.reader.now.sheet in
     let bs = c.args.reader.now.aliases in
-    let new = members_view c.in_ok-objects.objects.entries in
+    let read = c.in_ok-more.ensures.found in
+    let new = read.0 in
     let more = c.in_ok-more.more in
     let objects = c.loop.invariant.1 in
-    let next = subst (λ r. IsNext c.loop.left.now new (option_map (λ r. r.now) r)) c.in-Some.is c.in_ok-objects.ensures in
+    let piece = c.split_piece.result.0.now in
+    let splits : c.loop.left.now ≡ with_rest piece (option_map (λ r. r.now) c.split_piece.result.1) = c.split_piece.ensures in
+    let next = splits ∙ ap (λ r. with_rest piece (option_map (λ r. r.now) r)) c.in-Some.is in
     let pushed : c.append.new.self.items ≡ c.loop.identifiers.items ++ more.identifiers.items = search rules in
     let added : c.append-in-loop.new.self.items ≡ c.loop.facts.items ++ more.facts.items = search rules in
-    let more_found = subst (λ r. AreFound r.sheet r.aliases new more.identifiers.items more.facts.items) c.loop.invariant.4 c.in_ok-more.ensures.found in
+    let more_found = subst (λ r. AreFound r.sheet r.aliases new more.identifiers.items more.facts.items) c.loop.invariant.4 read.2 in
     let found = found_by sheet bs _ _ _ _ _ pushed added (found_append sheet bs objects new c.loop.identifiers.items more.identifiers.items c.loop.facts.items more.facts.items c.loop.invariant.3 more_found) in
-    (search rules, append objects new, one_more c.args.text.now c.loop.left.now c.in-Some.rest.now objects new c.loop.invariant.2 next, found, c.read_objects.ensures.same ∙ c.loop.invariant.4)
+    (search rules, append objects new, one_more c.args.text.now c.loop.left.now piece c.in-Some.rest.now objects new c.loop.invariant.2 next read.1, found, c.read_piece_facts.ensures.same ∙ c.loop.invariant.4)

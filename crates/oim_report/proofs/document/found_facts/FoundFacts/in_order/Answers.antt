@@ -1,22 +1,21 @@
-use Rattle.std.proofs.Common.{◌≡◌, List, None, Ok, map, sym, ap, ◌∙◌}
+use Rattle.std.proofs.Common.{◌≡◌, List, None, map, sym, ap, ◌∙◌}
 use Rattle.oim_names.specs.Bindings.{Binding}
 use Rattle.serde_json.specs.Data.{Members, no_members}
 use Rattle.oim_report.specs.code.FoundFacts.{AreFound, rise_after}
-use Rattle.oim_report.specs.Outcome.{facts_said}
 use Rattle.oim_report.specs.Pieces.{put_all}
 use Rattle.oim_report.specs.Sheet.{Sheet}
-use Rattle.oim_report.proofs.FoundInOrder.{rising_said, found_said, weaker}
+use Rattle.oim_report.proofs.FoundInOrder.{rising_found, found_by, weaker}
 use Rattle.oim_report.proofs.document.found_facts.FoundFacts.in_order.Goals as goal
 
 pub returns-then-rise : goal.returns-then-rise
 returns-then-rise c = λ sheet bs ms h.
-    rising_said sheet bs ms _ _ h (ap (rise_after None) (sym c.as_slice.ensures.value) ∙ sym c.rise.ensures ∙ c.if-rise.true)
+    rising_found sheet bs ms _ _ h (ap (rise_after None) (sym c.as_slice.ensures.value) ∙ sym c.rise.ensures ∙ c.if-rise.true)
 
 pub returns : goal.returns
 returns c =
     let es = c.in_ok-found.found.entries in
-    weaker c.facts_of.result
-    (λ facts. facts.items ≡ map (λ e. e.1) es)
-    (λ facts. (sheet : Sheet) (bs : List Binding) (ms : Members) → AreFound sheet bs ms c.args.self.identifiers.items c.args.self.facts.items → facts_said sheet bs (put_all ms no_members) ≡ Ok facts.items)
-    c.facts_of.ensures
-    (λ facts e sheet bs ms h. found_said sheet bs (put_all ms no_members) (map (λ e. e.0) es) (map (λ e. e.1) es) (c.in_ok-found.ensures sheet bs ms h) ∙ ap Ok (sym e))
+    weaker c.found_in.result
+    (λ f. (f.identifiers.items ≡ map (λ e. e.0) es) × (f.facts.items ≡ map (λ e. e.1) es))
+    (λ f. (sheet : Sheet) (bs : List Binding) (ms : Members) → AreFound sheet bs ms c.args.self.identifiers.items c.args.self.facts.items → AreFound sheet bs (put_all ms no_members) f.identifiers.items f.facts.items)
+    c.found_in.ensures
+    (λ f e sheet bs ms h. found_by sheet bs (put_all ms no_members) _ _ _ _ e.0 e.1 (c.in_ok-found.ensures sheet bs ms h))

@@ -1,0 +1,142 @@
+-- The parts of an object after a member is put into it.
+use Rattle.std.proofs.Common.{◌≡◌, ℕ, List, Bool, true, false, cond, ◌||◌, Option, Some, codes, bytes_eq, nat_cmp, Less, Equal, Greater, refl, sym, ap, ◌∙◌}
+use Rattle.std.specs.Ordering.{match_ordering}
+use Rattle.std.specs.Cmp.Lexicographic.{slice_cmp}
+use Rattle.std.specs.Str.{is_utf8}
+use Rattle.std.proofs.lemmas.Bool.{false≢true, or_parts, and_from}
+use Rattle.std.proofs.lemmas.Slice.Eq.{bytes_eq-Decides}
+use Rattle.serde_json.specs.Data.{Data, object, Members, no_members, member, put}
+use Rattle.serde_json.specs.Find.{get_member}
+use Rattle.serde_json.proofs.Views.{get_member-put, get_member-put_other}
+use Rattle.oim_report.specs.Json.{Given, given, given_of, any_member, has_colon, is_unknown, is_no_object}
+use Rattle.oim_report.specs.Parts.{DimensionParts, FactParts, core_keys, fact_keys, defined_in, dimension_parts, parts_of}
+use Rattle.oim_report.specs.ReadBack.{with_given}
+use Rattle.oim_report.specs.code.TapeParts.{Ascends, IsSoFar}
+use Rattle.oim_report.proofs.LastAt.{colon_other, colon_known}
+use Rattle.oim_report.proofs.PartsOf.{fact_found}
+use Rattle.oim_report.proofs.PutMembers.{defined_put, undefined_put}
+
+-- the value at a name after `put`: the new value if the name is the key
+pub got : (name key : List ℕ) (d : Data) (ms : Members) → get_member name (put key d ms) ≡ cond (bytes_eq name key) (Some d) (get_member name ms)
+got name key d ms = by_test (bytes_eq name key) refl
+  where
+    by_test : (b : Bool) → bytes_eq name key ≡ b → get_member name (put key d ms) ≡ cond b (Some d) (get_member name ms)
+    by_test true e = let same : name ≡ key = (bytes_eq-Decides name key).0 e in ap (λ n. get_member n (put key d ms)) same ∙ get_member-put key d ms
+    by_test false e = get_member-put_other name key d ms (λ same. false≢true (sym e ∙ (bytes_eq-Decides name key).1 same))
+
+-- a new key that is not unknown does not change whether some key is unknown
+known_still : (known : List (List ℕ)) (key : List ℕ) (d : Data) (ms : Members) → is_unknown known key d ≡ false → any_member (is_unknown known) (put key d ms) ≡ any_member (is_unknown known) ms
+known_still known key d no_members is = ap (λ b. b || false) is
+known_still known key d (member l e ms) is =
+    elim (slice_cmp nat_cmp key l) as (λ o. any_member (is_unknown known) (match_ordering o (member key d (member l e ms)) (member l d ms) (member l e (put key d ms))) ≡ any_member (is_unknown known) (member l e ms)) [
+      | Less ↦ ap (λ b. b || any_member (is_unknown known) (member l e ms)) is
+      | Equal ↦ refl
+      | Greater ↦ ap (λ b. is_unknown known l e || b) (known_still known key d ms is)
+    ]
+
+-- the parts with a core dimension put in, or the same parts if the key is no core dimension
+abbrev pub with_core : List ℕ → Given → DimensionParts → DimensionParts
+with_core key g p = record {
+  concept = cond (bytes_eq (codes "concept") key) g p.concept;
+  entity = cond (bytes_eq (codes "entity") key) g p.entity;
+  period = cond (bytes_eq (codes "period") key) g p.period;
+  unit = cond (bytes_eq (codes "unit") key) g p.unit;
+  language = cond (bytes_eq (codes "language") key) g p.language;
+  note = cond (bytes_eq (codes "noteId") key) g p.note;
+  defined = p.defined;
+  unknown = p.unknown;
+}
+
+given_cond : (b : Bool) (d : Data) (o : Option Data) → given_of (cond b (Some d) o) ≡ cond b (given d) (given_of o)
+given_cond true d o = refl
+given_cond false d o = refl
+
+given_got : (name key : List ℕ) (d : Data) (ms : Members) → given_of (get_member name (put key d ms)) ≡ cond (bytes_eq name key) (given d) (given_of (get_member name ms))
+given_got name key d ms = ap given_of (got name key d ms) ∙ given_cond (bytes_eq name key) d (get_member name ms)
+
+pub core_put : (key : List ℕ) (d : Data) (ms : Members) → has_colon key ≡ false → is_unknown core_keys key d ≡ false → dimension_parts (put key d ms) ≡ with_core key (given d) (dimension_parts ms)
+core_put key d ms plain known = λ i. record {
+  concept = given_got (codes "concept") key d ms i;
+  entity = given_got (codes "entity") key d ms i;
+  period = given_got (codes "period") key d ms i;
+  unit = given_got (codes "unit") key d ms i;
+  language = given_got (codes "language") key d ms i;
+  note = given_got (codes "noteId") key d ms i;
+  defined = undefined_put key d ms plain i;
+  unknown = known_still core_keys key d ms known i;
+}
+
+-- a name without a colon keeps its value if the new key has a colon
+kept_name : (name key : List ℕ) (d : Data) (ms : Members) → has_colon name ≡ false → has_colon key ≡ true → get_member name (put key d ms) ≡ get_member name ms
+kept_name name key d ms plain colon = got name key d ms ∙ ap (λ b. cond b (Some d) (get_member name ms)) (colon_other name key plain colon)
+
+pub defined_dimension : (key : List ℕ) (d : Data) (ms : Members) → has_colon key ≡ true → is_utf8 key ≡ true → Ascends ms → dimension_parts (put key d ms) ≡ record (dimension_parts ms) { defined = with_given key (given d) (defined_in ms) }
+defined_dimension key d ms colon utf8 rises = λ i. record {
+  concept = given_of (kept_name (codes "concept") key d ms refl colon i);
+  entity = given_of (kept_name (codes "entity") key d ms refl colon i);
+  period = given_of (kept_name (codes "period") key d ms refl colon i);
+  unit = given_of (kept_name (codes "unit") key d ms refl colon i);
+  language = given_of (kept_name (codes "language") key d ms refl colon i);
+  note = given_of (kept_name (codes "noteId") key d ms refl colon i);
+  defined = defined_put key d ms (and_from (has_colon key) (is_utf8 key) colon utf8) rises i;
+  unknown = known_still core_keys key d ms (colon_known core_keys key d colon) i;
+}
+
+-- if the members have the parts `old`, they have the parts `new` after the core dimension is put in
+pub core_at : (name : List ℕ) → has_colon name ≡ false → ((d : Data) → is_unknown core_keys name d ≡ false) → (key : List ℕ) → key ≡ name → (g : Given) (old new : DimensionParts) → with_core name g old ≡ new
+    → (d : Data) (ms : Members) → given d ≡ g → Ascends ms → dimension_parts ms ≡ old → dimension_parts (put key d ms) ≡ new
+core_at name plain known key same g old new becomes d ms is rises are =
+    ap (λ k. dimension_parts (put k d ms)) same ∙ core_put name d ms plain (known d) ∙ (λ i. with_core name (is i) (are i)) ∙ becomes
+
+-- ---- a fact object
+
+fact_put : (key : List ℕ) (d : Data) (ms : Members) → is_unknown fact_keys key d ≡ false → parts_of (put key d ms)
+    ≡ fact_found (cond (bytes_eq (codes "value") key) (Some d) (get_member (codes "value") ms)) (cond (bytes_eq (codes "decimals") key) (Some d) (get_member (codes "decimals") ms))
+    (cond (bytes_eq (codes "dimensions") key) (Some d) (get_member (codes "dimensions") ms)) (cond (bytes_eq (codes "links") key) (Some d) (get_member (codes "links") ms)) (any_member (is_unknown fact_keys) ms)
+fact_put key d ms known = λ i. fact_found (got (codes "value") key d ms i) (got (codes "decimals") key d ms i) (got (codes "dimensions") key d ms i) (got (codes "links") key d ms i) (known_still fact_keys key d ms known i)
+
+pub value_put : (d : Data) (g : Given) (ms : Members) (p : FactParts) → given d ≡ g → IsSoFar ms p → IsSoFar (put (codes "value") d ms) (record p { value = g })
+value_put d g ms p is h = record {
+  are = fact_put (codes "value") d ms refl
+      ∙ (λ i. record { value = is i; decimals = (h.are i).decimals; dimensions = (h.are i).dimensions; linked = (h.are i).linked; misshapen = (h.are i).misshapen; unknown = (h.are i).unknown });
+  shaped = h.shaped;
+  unlinked = h.unlinked;
+}
+
+pub decimals_put : (d : Data) (g : Given) (ms : Members) (p : FactParts) → given d ≡ g → IsSoFar ms p → IsSoFar (put (codes "decimals") d ms) (record p { decimals = g })
+decimals_put d g ms p is h = record {
+  are = fact_put (codes "decimals") d ms refl
+      ∙ (λ i. record { value = (h.are i).value; decimals = is i; dimensions = (h.are i).dimensions; linked = (h.are i).linked; misshapen = (h.are i).misshapen; unknown = (h.are i).unknown });
+  shaped = h.shaped;
+  unlinked = h.unlinked;
+}
+
+pub dimensions_put : (ds : Members) (parts : DimensionParts) (ms : Members) (p : FactParts) → dimension_parts ds ≡ parts → IsSoFar ms p → IsSoFar (put (codes "dimensions") (object ds) ms) (record p { dimensions = Some parts })
+dimensions_put ds parts ms p is h =
+    let whole : (is_no_object (get_member (codes "dimensions") ms) || is_no_object (get_member (codes "links") ms)) ≡ false = ap (λ q. q.misshapen) h.are ∙ h.shaped in
+    let links : is_no_object (get_member (codes "links") ms) ≡ false = (or_parts _ _ whole).1 in
+    record {
+      are = fact_put (codes "dimensions") (object ds) ms refl
+          ∙ (λ i. record { value = (h.are i).value; decimals = (h.are i).decimals; dimensions = Some (is i); linked = (h.are i).linked; misshapen = (links ∙ sym h.shaped) i; unknown = (h.are i).unknown });
+      shaped = h.shaped;
+      unlinked = h.unlinked;
+    }
+
+pub extension_put : (key : List ℕ) (d : Data) (ms : Members) (p : FactParts) → has_colon key ≡ true → IsSoFar ms p → IsSoFar (put key d ms) p
+extension_put key d ms p colon h = record {
+  are = (λ i. fact_found (kept_name (codes "value") key d ms refl colon i) (kept_name (codes "decimals") key d ms refl colon i) (kept_name (codes "dimensions") key d ms refl colon i) (kept_name (codes "links") key d ms refl colon i)
+      (known_still fact_keys key d ms (colon_known fact_keys key d colon) i)) ∙ h.are;
+  shaped = h.shaped;
+  unlinked = h.unlinked;
+}
+
+pub links_put : (ms : Members) (p : FactParts) → IsSoFar ms p → IsSoFar (put (codes "links") (object no_members) ms) p
+links_put ms p h =
+    let whole : (is_no_object (get_member (codes "dimensions") ms) || is_no_object (get_member (codes "links") ms)) ≡ false = ap (λ q. q.misshapen) h.are ∙ h.shaped in
+    let dimensions : is_no_object (get_member (codes "dimensions") ms) ≡ false = (or_parts _ _ whole).0 in
+    record {
+      are = fact_put (codes "links") (object no_members) ms refl
+          ∙ (λ i. record { value = (h.are i).value; decimals = (h.are i).decimals; dimensions = (h.are i).dimensions; linked = (sym h.unlinked) i; misshapen = (ap (λ b. b || false) dimensions ∙ sym h.shaped) i; unknown = (h.are i).unknown });
+      shaped = h.shaped;
+      unlinked = h.unlinked;
+    }

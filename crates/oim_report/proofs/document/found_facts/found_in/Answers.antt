@@ -1,0 +1,30 @@
+use Rattle.std.proofs.Common.{rules, ◌≡◌, ◌++◌, ◌∷◌, List, [], map, sym, ap, ◌∙◌, append-nil, append_assoc}
+use Rattle.oim_report.proofs.document.found_facts.found_in.Goals as goal
+
+one_on : {A B : Type 0} (f : A → B) (xs ys more : List B) (e : A) (es rest : List A) → more ≡ xs ++ f e ∷ [] → es ≡ e ∷ rest → xs ++ map f es ≡ ys → more ++ map f rest ≡ ys
+one_on f xs ys more e es rest m s h = ap (λ l. l ++ map f rest) m ∙ append_assoc xs (f e ∷ []) (map f rest) ∙ ap (λ l. xs ++ map f l) (sym s) ∙ h
+
+all_on : {A B : Type 0} (f : A → B) (xs ys : List B) (es : List A) → es ≡ [] → xs ++ map f es ≡ ys → xs ≡ ys
+all_on f xs ys es e h = sym (append-nil xs) ∙ ap (λ l. xs ++ map f l) (sym e) ∙ h
+
+pub loop-identifier-init : goal.loop-identifier-init
+loop-identifier-init c =
+    let identifiers : c.in_ok-identifiers.identifiers.items ≡ [] = search rules in
+    let facts : c.in_ok-facts.facts.items ≡ [] = search rules in
+    let es = c.into_iter-identifier-iterator.result in
+    (ap (λ l. l ++ map (λ e. e.0) es) identifiers, ap (λ l. l ++ map (λ e. e.1) es) facts)
+
+pub loop-identifier-preserved : goal.loop-identifier-preserved
+loop-identifier-preserved c =
+    let l = c.loop-identifier in
+    let pushed : c.push.new.self.items ≡ l.identifiers.items ++ c.in-Some.identifier ∷ [] = search rules in
+    let added : c.push-in-loop-identifier.new.self.items ≡ l.facts.items ++ c.in-Some.fact ∷ [] = search rules in (
+      one_on (λ e. e.0) _ _ _ (c.in-Some.identifier, c.in-Some.fact) _ c.next.new.self pushed c.in-Some.ensures.steps l.invariant.0,
+      one_on (λ e. e.1) _ _ _ (c.in-Some.identifier, c.in-Some.fact) _ c.next.new.self added c.in-Some.ensures.steps l.invariant.1,
+    )
+
+pub returns : goal.returns
+returns c =
+    let l = c.loop-identifier in
+    let es = c.into_iter-identifier-iterator.ensures.into_iter_gives.0 in
+    (all_on (λ e. e.0) _ _ _ c.in-None.ensures.steps.0 l.invariant.0 ∙ ap (map (λ e. e.0)) es, all_on (λ e. e.1) _ _ _ c.in-None.ensures.steps.0 l.invariant.1 ∙ ap (map (λ e. e.1)) es)

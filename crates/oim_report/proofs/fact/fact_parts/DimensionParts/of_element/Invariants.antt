@@ -1,0 +1,13 @@
+use Rattle.std.proofs.Common.{◌≡◌, length}
+use Rattle.json.specs.Json as j
+use Rattle.json.specs.Find.{InMembers}
+use Rattle.oim_report.specs.Parts.{dimension_parts}
+use Rattle.oim_report.specs.code.SeenParts.{seen_dimensions}
+use Rattle.oim_report.proofs.MembersInTurn.{IsReading}
+use Rattle.oim_report.proofs.fact.fact_parts.DimensionParts.of_element.Given as goal
+
+abbrev pub invariant-loop-key : goal.invariant-loop-key
+invariant-loop-key l = (vs : j.Members) → InMembers l.initial.members vs → IsReading 0 vs l.members (λ ms. dimension_parts ms ≡ seen_dimensions l.parts)
+
+abbrev pub decreases-loop-key : goal.decreases-loop-key
+decreases-loop-key l = length l.members

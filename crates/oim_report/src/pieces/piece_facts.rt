@@ -1,0 +1,72 @@
+ghost use Rattle.std.specs.Prelude.{◌≡◌, IfSome};
+ghost use Rattle.json.specs.Find.{BeginsWith, InMembers};
+ghost use Rattle.json.specs.Json.{Json};
+ghost use Rattle.json.specs.Json as spec;
+ghost use Rattle.serde_json.specs.Data as tree;
+ghost use Rattle.serde_json.specs.Data.{no_members};
+ghost use Rattle.oim_report.specs.Pieces.{put_all, HasMember, IsPiece};
+ghost use Rattle.oim_report.specs.code.FoundFacts.{AreFound};
+ghost use Rattle.oim_report.specs.code.TapeParts.{AreData, one};
+
+use crate::document::found_facts::FoundFacts;
+use crate::fact::fact_parts::FactParts;
+use crate::fact::fact_reader::FactReader;
+use crate::pieces::piece::{ends_with_brace, fill_alone};
+use json::{Element, Members, Scratch, Tape};
+use std::alloc::Global;
+
+/// Reads the facts of a piece, in the order of the text. The result is `None` if the piece cannot
+/// be read, a fact cannot be read from a tape, or a fact or a request for memory is refused.
+pub(crate) fn read_piece_facts(
+    alloc: Global,
+    reader: &mut FactReader<'_>,
+    buffer: &mut String,
+    scratch: &mut Scratch,
+    piece: &str,
+) -> Option<FoundFacts>
+    ensures same { reader.new ≡ reader.old }
+    ensures found { IfSome result (λ f. (ms : tree.Members) × IsPiece piece.now (put_all ms no_members)
+        × AreFound reader.old.sheet reader.old.aliases ms f.identifiers.items f.facts.items) }
+{
+    if !ends_with_brace(piece) {
+        return None;
+    }
+    fill_alone(buffer, piece)?;
+    let tape = Tape::parse(buffer.as_str(), scratch, Vec::new(alloc)).ok()?;
+    read_members(alloc, reader, only_object(&tape.root())?)
+}
+
+fn only_object<'t, 'a>(root: &Element<'t, 'a>) -> Option<Members<'t, 'a>>
+    ensures { (v : Json) → BeginsWith root.now v → IfSome result
+        (λ m. (vs : spec.Members) × (v ≡ one vs) × InMembers m vs) }
+{
+    let mut items = root.items()?;
+    let object = items.next()?;
+    match items.next() {
+        Some(_) => None,
+        None => object.members(),
+    }
+}
+
+fn read_members(
+    alloc: Global,
+    reader: &mut FactReader<'_>,
+    mut members: Members<'_, '_>,
+) -> Option<FoundFacts>
+    ensures same { reader.new ≡ reader.old }
+    ensures found { (vs : spec.Members) → InMembers members.entry vs
+        → IfSome result (λ f. (ms : tree.Members) × AreData vs ms × HasMember ms
+        × AreFound reader.old.sheet reader.old.aliases ms f.identifiers.items f.facts.items) }
+{
+    let mut identifiers = Vec::new(alloc);
+    let mut facts = Vec::new(alloc);
+    while let Some((key, object)) = members.next() {
+        let parts = FactParts::of_element(alloc, &object)?;
+        facts.push(reader.read_parts(&parts).ok()?).ok()?;
+        identifiers.push(String::from_str(alloc, key).ok()?).ok()?;
+    }
+    if facts.is_empty() {
+        return None;
+    }
+    Some(FoundFacts { identifiers, facts })
+}
