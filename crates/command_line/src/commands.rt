@@ -43,8 +43,8 @@ pub(crate) fn execute<'n, F: Files, E: Write, S: Sink>(
     }
 }
 
-/// Reads the reports and writes the text of the subcommand to `out`. Returns the refused reports
-/// with their numbers, from 1.
+/// Reads the reports and writes the output of the subcommand to `out`. Returns the refusals (for
+/// `replay`, of takes) with the numbers of their reports, from 1.
 fn execute_under<'n, F: Files, E: Write, S: Sink>(
     sheet: &Sheet,
     subcommand: Subcommand<'n>,

@@ -20,7 +20,7 @@ pub(crate) fn put_text<S: Sink>(out: &mut S, text: &str) -> Result<(), WriteFaul
     }
 }
 
-/// Prints the line for users who gave no arguments on a terminal.
+/// Prints that a bundle is expected, and how to list the commands.
 pub(crate) fn print_awaited<E: Write>(err: &mut E) {
     let _ = writeln!(
         err,
@@ -44,7 +44,7 @@ fn print_refusal<E: Write>(err: &mut E, report: u64, refusal: &Refusal) {
 }
 
 /// Prints why the program stopped. If a row is above the allowed level, the refused reports are
-/// printed first. On a terminal, the cause of `Unread` is also printed if the cause is known.
+/// printed first. The cause of `Unread` is printed only on a terminal, and only if it is known.
 pub(crate) fn print_error<E: Write>(err: &mut E, is_terminal: bool, error: &Error<'_>) {
     let _ = match error {
         Error::Usage(error) => write!(err, "{error}"),

@@ -78,7 +78,7 @@ fn settle<'n, F: Files>(
 
 type Named<F> = (String, F);
 
-/// Creates a file in the folder of the file with this name, to replace that file. If there is an
+/// Creates the file that will replace the file with this name, in the same folder. If there is an
 /// old file, the new one gets the old mode bits within `KEPT_BITS`.
 ///
 /// Errors: `Unwritten` if `old_mode` returns it, or if the new file cannot be created or its mode

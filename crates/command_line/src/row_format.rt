@@ -14,7 +14,7 @@ pub(crate) enum PrintFormat {
 
 const FORMAT: &str = "format";
 
-/// The option that marks texts in CSV that a spreadsheet would read as formulas.
+/// The option that puts a `'` before each text in CSV that a spreadsheet may read as a formula.
 const SPREADSHEET: &str = "spreadsheet";
 
 static FORMATS: [&str; 3] = ["lines", "json", "csv"];
@@ -33,7 +33,7 @@ pub(crate) fn with_format<'w>(
     let spreadsheet = Arg::new(alloc, SPREADSHEET)
         .long(SPREADSHEET)
         .action(ArgAction::SetTrue)
-        .help("In CSV, put a ' before each text that a spreadsheet would read as a formula")
+        .help("In CSV, put a ' before each text that a spreadsheet may read as a formula")
         .requires_arg(FORMAT)?;
     command.arg(format)?.arg(spreadsheet)
 }

@@ -1,4 +1,4 @@
--- With the orders and merges of the code's types, entries merge, are found and ascend as the specifications define.
+-- Entries merge, are found and ascend under the derived orders of the code's types as under the specified orders.
 use Rattle.std.proofs.Common.{◌≡◌, List, sym, subst}
 use Rattle.merge_laws.specs.Ends.{both_summaries}
 use Rattle.merge_laws.specs.Sorted.{IsRising, entry_key, value_at}

@@ -18,7 +18,7 @@ use Rattle.fact_base.specs.code.Entries.{EntryFits}
 use Rattle.fact_base.specs.code.Judged.{AreAlike, AreSummarised}
 use Rattle.fact_base.proofs.EntryFacts.{in_facts_with}
 
--- the number that `kind_order` returns for values of this kind, or 0 for None
+-- the number that `kind_order` returns for values of this kind that are not nil; 0 for None
 abbrev kind_number : Option ConceptKind → ℕ
 kind_number None = 0
 kind_number (Some Numeric) = 1

@@ -105,7 +105,7 @@ turned_up : (a : Ordering) → is_lt a ≡ false → is_gt (ordering_reverse a) 
 turned_up Less up = absurd (true≢false up)
 turned_up a up = refl
 
--- ---- a list of facts that do not descend
+-- ---- a sorted list of facts
 
 rise_in : (facts : List Fact) (i : ℕ) (f g : Fact) → IsSorted fact_cmp facts → i + 1 < length facts → f ≡ get_or facts i f → g ≡ get_or facts (i + 1) g → is_gt (dimensions_cmp f.dimensions g.dimensions) ≡ false
 rise_in facts i f g sorted within here there =

@@ -13,7 +13,7 @@ pub record IsBody (b : Body) : Type 0 where
   pub facts : IsSet fact_cmp b.facts
   pub references : IsSet text_cmp b.references
 
--- the body has exactly the facts and references of the documents
+-- the body has exactly the facts and references of the documents, each once and in order
 pub record HasWhatDocumentsHave (docs : List Document) (b : Body) : Type 0 where
   pub rises : IsBody b
   pub facts : (f : Fact) → Contains b.facts f ↔ Any (λ d. Contains d.facts f) docs
@@ -22,7 +22,7 @@ pub record HasWhatDocumentsHave (docs : List Document) (b : Body) : Type 0 where
 abbrev pub BodyHasWhatDocumentsHave : Type 0
 BodyHasWhatDocumentsHave = (docs : List Document) → HasWhatDocumentsHave docs (body docs)
 
--- one body has exactly the facts and references of two others
+-- `both` has exactly the facts and references of `a` and `b`, each once and in order
 pub record HasBoth (a b both : Body) : Type 0 where
   pub rises : IsBody both
   pub facts : (f : Fact) → Contains both.facts f ↔ (Contains a.facts f ⊎ Contains b.facts f)

@@ -42,8 +42,8 @@ InconsistentIsApart =
 
 -- ---- evidence
 
--- there are several values, and every two meet; the interval is not empty, and contains exactly the numbers that lie in every
--- interval of the values
+-- there are several values, and every two meet; the interval is not empty, and contains exactly the numbers that lie in the
+-- interval of every value that has one
 pub record IsCommonOf (vs : List Value) (common : Interval) : Type 0 where
   pub several : 2 ≤ length vs
   pub each : EachTwoValuesMeet vs

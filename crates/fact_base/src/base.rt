@@ -79,8 +79,9 @@ impl<'s> Base<'s> {
         }
     }
 
-    /// Returns the base's sheet. Each fact of the base fits the sheet, facts and references ascend,
-    /// and resolving a reference again without a base URL changes nothing.
+    /// Returns the base's sheet. The contract also states that each fact of the base fits the
+    /// sheet, that facts and references ascend, and that resolving a reference again without a base
+    /// URL changes nothing.
     pub fn sheet(&self) -> &'s Sheet
         ensures sheet { result.now ≡ self.now.sheet }
         ensures fits { Fits self.now.sheet self.now.body }

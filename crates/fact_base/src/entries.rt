@@ -60,8 +60,8 @@ fn push_given(alloc: Global, entries: &mut Vec<Entry>, fact: Fact) -> Result<(),
     Ok(())
 }
 
-// If the last entry has the fact's dimensions, adds the value to it and returns true. Otherwise, or
-// without entries, returns false.
+// If there is a last entry and it has the fact's dimensions, adds the value to it and returns true.
+// Otherwise returns false.
 fn joins_last(alloc: Global, entries: &mut Vec<Entry>, fact: &Fact) -> Result<bool, AllocError>
     requires rise { IsRising dimensions_cmp entry_key entries.old.items }
     requires below { NoneAbove fact.now.dimensions entries.old.items }

@@ -20,11 +20,11 @@ use std::marker::Model;
 /// The base absorbs a report that has at least half as many facts and references as the base,
 /// rounded down. If providers report the same figures, each fact then costs one look-up. Absorbing
 /// a smaller report would walk the whole base, so its facts and references are appended to two
-/// lists instead. Before that, a list is sorted and its repeats are removed if half its length,
-/// rounded down, exceeds its length after the last sort.
+/// lists instead. Before the lists grow, each list is sorted and its repeats are removed if half
+/// its length, rounded down, exceeds its length after the last sort.
 ///
-/// References count like facts in this comparison of sizes. Otherwise the base would absorb each
-/// report of the same facts with new references, and copy all references each time.
+/// References count like facts in this comparison of sizes. Otherwise the base would absorb every
+/// report that repeats its facts with new references, and would copy all its references each time.
 #[derive(Drop)]
 pub struct Gathering<'s> {
     alloc: Global,
@@ -72,8 +72,9 @@ impl<'s> Gathering<'s> {
         }
     }
 
-    /// Returns the gathering's sheet. Each fact of the gathering fits the sheet, facts and
-    /// references ascend, and resolving a reference again without a base URL changes nothing.
+    /// Returns the gathering's sheet. The contract also states that each fact of the gathering fits
+    /// the sheet, that facts and references ascend, and that resolving a reference again without a
+    /// base URL changes nothing.
     pub fn sheet(&self) -> &'s Sheet
         ensures sheet { result.now ≡ self.now.sheet }
         ensures fits { Fits self.now.sheet self.now.body }

@@ -8,8 +8,8 @@ use crate::verdict::Verdict;
 use merge_laws::Summary;
 use oim_value::{Interval, Value, interval_of};
 
-/// Returns the verdict on the values. Their number and their summary determine it: different values
-/// meet only if both are numbers, and all values that are not nil are of one kind.
+/// Returns the verdict on the values. Their count and their summary suffice, because different
+/// values meet only if both are numbers, and all values that are not nil are of one kind.
 pub(crate) fn verdict_of(values: &[Value], summary: &Summary) -> Verdict
     requires { AreSummarised values.now summary.now }
     ensures { verdict_of values.now ≡ Some result }

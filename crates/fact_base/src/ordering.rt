@@ -9,8 +9,8 @@ use oim_dims::Fact;
 use oim_names::Key;
 use std::alloc::AllocError;
 
-/// Swaps put the facts in order without copying them. The order after the swaps is not proved, so a
-/// sort follows: it finds the facts sorted, and only compares each fact with the next one.
+/// Returns the facts in order. Swaps move them without copying. The order after the swaps is not
+/// proved, so a sort follows: it finds the facts sorted, and only compares each with the next.
 pub(crate) fn in_order(mut facts: Vec<Fact>, order: Vec<usize>) -> Result<Vec<Fact>, AllocError>
     requires { IsOrderOf facts.items order.items }
     ensures moved { IfOk result (λ sorted. IsPermutation facts.items sorted.items) }

@@ -72,7 +72,7 @@ module _ {K V : Type 0} {R : K → K → Ordering} (o : IsTotalOrder R) where
       ] refl
 
   module _ (merged : V → V → V) where
-    -- one map's entry at a key, with the value of the other map's entry at the key merged into it; either entry may be missing
+    -- the first map's entry at a key, with the second map's value at the key merged in; None if the first map lacks the key
     abbrev pub revalued : Option (K × V) → Option (K × V) → Option (K × V)
     revalued None b = None
     revalued (Some e) None = Some e

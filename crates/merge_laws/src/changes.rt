@@ -10,7 +10,7 @@ use crate::search::find_from;
 use oim_names::{Copied, Key};
 use std::alloc::{AllocError, Global};
 
-/// The changes to a map if another map is merged into it.
+/// The changes to a map when another map is merged into it.
 #[derive(Drop)]
 pub(crate) struct Changes<K: Drop, V: Drop> {
     /// The merged values of the keys that both maps have, each with the index of its key.

@@ -9,7 +9,7 @@ pub trait Merge: Copied {
     /// The property that every value of the type has.
     ghost is_known: { Self → Type 0 };
 
-    /// The value that results if the second value is merged into the first.
+    /// The first value after the second value is merged into it.
     ghost merged: { Self → Self → Self };
 
     /// Merges another value into this one.

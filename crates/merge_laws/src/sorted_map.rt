@@ -93,8 +93,7 @@ impl<K: Key, V: Merge> SortedMap<K, V> {
         }
     }
 
-    /// Returns the entry at an index, or None. Entries are in the order of their keys, and indices
-    /// begin with 0.
+    /// Returns the entry at an index, or None. Indices start at 0, in the order of the keys.
     pub fn at(&self, place: usize) -> Option<(&K, &V)>
         ensures { option_map (λ e. (e.0.now, e.1.now)) result ≡ slice_get self.now place }
     {

@@ -21,7 +21,7 @@ first_day = day_count-early (pos 1) 10000 1 1 refl (omega arith) (omega arith) (
 zero_day : day_count (pos 0) 1 1 ≡ 3_652_425
 zero_day = day_count-early (pos 0) 9999 1 1 refl (omega arith) (omega arith) (omega arith)
 
--- the day number of a date in the year 0001 or later is at least that of 0001-01-01 and at most that of 9999-12-31
+-- a date in the year 0001 or later has a day number from -719162 (0001-01-01) to 2932896 (9999-12-31)
 pub day_range : (y m d : ℕ) → 1 ≤ y → IsCivilDate (pos y) m d → IsBetween (neg_ℤ (pos 719_162)) (pos 2_932_896) (days_from_civil (pos y) m d)
 day_range y m d low h =
     let year_zero : IsCivilDate (pos 0) 12 31 = search rules in

@@ -45,7 +45,7 @@ le_is a b h = grind (arith, ints)
 lt_is : (a b : ℤ) → int_le a b ≡ false → b <ℤ a
 lt_is a b h = grind (arith, ints)
 
--- the day is in the year that is found for it
+-- the day z is in the year found for z
 year_holds : (z : ℤ) → IsBetween (neg_ℤ (pos 719_162)) (pos 2_932_896) z → (y : ℕ) → IsGreatest (λ n. int_le (days_from_civil (pos n) 1 1) z) 9999 1 y → (days_from_civil (pos y) 1 1 ≤ℤ z) × (z <ℤ (days_from_civil (pos y) 1 1 +ℤ pos (days_in_year (pos y))))
 year_holds z h y g =
     let here : days_from_civil (pos y) 1 1 ≤ℤ z = le_is _ _ g.here in
@@ -57,7 +57,7 @@ year_holds z h y g =
       | inr le ↦ let e : y + 1 ≡ 10000 = omega (arith, g.high) in let end = rw e at next in (here, omega (arith, signed_arith, number, end, day_count-end, h.1))
     ]
 
--- the day is in the month that is found for it
+-- the day z is in the month found for z
 month_holds : (y : ℕ) (z : ℤ) → z <ℤ (days_from_civil (pos y) 1 1 +ℤ pos (days_in_year (pos y))) → (m : ℕ) → IsGreatest (λ n. int_le (days_from_civil (pos y) n 1) z) 12 1 m → (days_from_civil (pos y) m 1 ≤ℤ z) × (z <ℤ (days_from_civil (pos y) m 1 +ℤ pos (days_in_month (pos y) m)))
 month_holds y z within m g =
     let here : days_from_civil (pos y) m 1 ≤ℤ z = le_is _ _ g.here in
@@ -67,7 +67,7 @@ month_holds y z within m g =
       | inr le ↦ let e : m ≡ 12 = omega (arith, g.high) in let here' = rw e at here in (here, rw e (omega (arith, signed_arith, within, days_from_civil-day_count (pos y) 1 1, days_from_civil-day_count (pos y) 12 1, day_count-last_of_year (pos y), day_count-day (pos y) 12 31 1 (omega arith) (omega arith))))
     ]
 
--- z is the day number of the date that has the day of the month found for z
+-- the day of the month found for z is in the month, and z is the day number of that date
 day_holds : (y m : ℕ) (z : ℤ) → z <ℤ (days_from_civil (pos y) m 1 +ℤ pos (days_in_month (pos y) m)) → (n : ℕ) → IsGreatest (λ j. int_le (days_from_civil (pos y) m j) z) 31 1 n → (n ≤ days_in_month (pos y) m) × (days_from_civil (pos y) m n ≡ z)
 day_holds y m z within n g =
     let here : days_from_civil (pos y) m n ≤ℤ z = le_is _ _ g.here in

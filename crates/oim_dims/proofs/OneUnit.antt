@@ -93,7 +93,7 @@ all_named bs (p ∷ ps) h =
 each_named : (bs : List Binding) (ps : List (List ℕ)) → All (λ p. name_refusal bs p ≡ None) ps → (ns : List QName) × NamesEach bs ps ns
 each_named bs ps h = let found = all_named bs ps h in (found.0, record { spelled = found.0; expands = found.1; same = IsPermutation-refl found.0 })
 
--- equality of names can be decided, so measures are `pure` alone or they are not
+-- two names are equal or different, so measures are `pure` alone or they are not
 same_name : (m n : QName) → (m ≡ n) ⊎ (m ≢ n)
 same_name m n =
     elim (name_cmp m n) as (λ r. name_cmp m n ≡ r → (m ≡ n) ⊎ (m ≢ n)) [

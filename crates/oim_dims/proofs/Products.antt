@@ -14,6 +14,6 @@ product_next f m n ns i within is =
     ∙ (ap (λ x. join_with_byte 42 (f m ∷ x)) (map-append f (take i ns) (n ∷ []))
     ∙ join_push 42 (f m) (f n) (map f (take i ns)))
 
--- a text to which `*` and one more measure are appended
+-- appending `*` and one more measure to a text
 pub written_on : (new starred text before p q m : List ℕ) → starred ≡ text ++ 42 ∷ [] → new ≡ starred ++ m → text ≡ before ++ p → q ≡ p ++ 42 ∷ m → new ≡ before ++ q
 written_on new starred text before p q m star measure so_far next = rw (measure, star, so_far, next) (simp append_assoc)

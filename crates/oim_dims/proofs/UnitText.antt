@@ -106,7 +106,7 @@ split_joined bs (t ∷ u ∷ ts) (n ∷ m ∷ ns) z h =
 no_opening : (s : List ℕ) → list_any is_opening s ≡ false → s ≡ inner s
 no_opening s h = unopened s (λ rest is. absurd (cc (rw is at h)))
 
--- a side with one or more measures, each of which f spells
+-- a side with one or more measures; f spells each measure
 record IsSide (bs : List Binding) (f : QName → List ℕ) (ns : List QName) : Type 0 where
   some : 0 < length ns
   texts : AllZip (Spells bs) (map f ns) ns

@@ -4,7 +4,7 @@ const MOST_CHARACTERS: usize = 80;
 
 /// A text to print safely on a terminal. Control characters, common invisible characters, and
 /// characters that end the line or change its direction are written as JSON escapes. Otherwise a
-/// name with an invisible character would look correct, and a file name could imitate a line.
+/// name with invisible characters would look correct, and a file name could fake an output line.
 #[derive(Clone, Copy)]
 pub struct Escaped<'t>(pub &'t str);
 

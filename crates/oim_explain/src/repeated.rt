@@ -21,7 +21,7 @@ pub(crate) fn push_repeated(
     let Ok(text) = str::from_utf8(after_mark(bytes)) else {
         return Ok(());
     };
-    // most files have no repeated members at all
+    // only a file with repeated members is parsed a second time
     match Value::parse_strict(lines.alloc, text, &mut Scratch::new(lines.alloc)) {
         Err(Error::DuplicateKey) => push_of_text(lines, role, text),
         Err(Error::OutOfMemory) => Err(AllocError),

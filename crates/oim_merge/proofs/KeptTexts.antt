@@ -105,7 +105,7 @@ none_is_current texts (suc n) base = (tt, none_is_current texts n base)
 pub kept_new : (sheet : Sheet) (texts : List (List ℕ)) (kept : List (Option (Result Contents Refusal))) (text : List ℕ) → AreReadings sheet texts kept → AreReadings sheet (texts ++ text ∷ []) (kept ++ None ∷ [])
 kept_new sheet texts kept text each = zip_push (IsReadingOf sheet) texts kept text None each tt
 
--- `sent` has the index in `texts` of each sent text; the text at the index for a number is the sent text with that number
+-- `sent` has the index in `texts` of each sent text, so looking up a number in `sent` and the index in `texts` finds the text
 pub text_of_number : (texts : List (List ℕ)) (sent : List ℕ) (number before held : ℕ) (text : Option (Bor (List ℕ))) → AreWithin texts sent → number ≡ suc before → before < length sent → held ≡ get_or sent before held →
     MatchOption text (length texts ≤ held) (λ t. (held < length texts) × HoldsAt (λ y. t.now ≡ y) texts held) →
     MatchOption text (numbered (texts_at texts sent) number ≡ None) (λ t. numbered (texts_at texts sent) number ≡ Some t.now)

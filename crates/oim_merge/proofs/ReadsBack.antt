@@ -165,7 +165,7 @@ not_empty : (u : List ℕ) → u ≢ [] → bytes_eq u [] ≡ false
 not_empty [] h = absurd (h refl)
 not_empty (c ∷ cs) h = refl
 
--- what follows the bindings of the names' URIs: the binding of `xbrl` if a level is declared, otherwise nothing
+-- the bindings after those of the names' URIs: the binding of `xbrl` if a level is declared, otherwise none
 abbrev last_bindings : Option Level → List Binding
 last_bindings None = []
 last_bindings (Some l) = (record { prefix = codes "xbrl"; uri = reserved_uri }) ∷ []

@@ -78,7 +78,7 @@ numbered_there xs (suc place) d inside =
     let before : place ≡ suc place - 1 = omega arith in
     slice_there xs place d (omega (arith, within)) ∙ ap (λ k. Some (get_or xs k d)) before
 
--- the list of bases after one of them received a text
+-- putting back a base that received a text gives the world after the event `Receive`
 pub receives_text : (sheet : Sheet) (reports : List (List ℕ)) (bases : List Contents) (sent : List (List ℕ)) (i k : ℕ) (base given : Contents) (more : List Contents) (after : List (List ℕ)) →
     (is_outside (length bases) i || is_outside (length sent) k) ≡ false → base ≡ get_or bases (i - 1) base →
     given ≡ with_outcome (outcome sheet (get_or sent (k - 1) [])) base → more ≡ set bases (i - 1) given → after ≡ sent →

@@ -26,7 +26,7 @@ evidence_text name Alike = codes "complete"
 evidence_text name (Common c) = codes "consistent common " ++ (plain c.low ++ 32 ∷ plain c.high)
 evidence_text name (Apart i j) = codes "inconsistent apart " ++ (name i ++ 32 ∷ name j)
 
--- a text for a row, given the identifiers of its facts, its number and its evidence
+-- how to write a row, given the identifiers of its facts, its number, its dimensions and values, and its evidence
 abbrev pub RowText : Type 0
 RowText = (ℕ → List ℕ) → ℕ → Row → Evidence → List ℕ
 

@@ -29,7 +29,7 @@ module _ (header : List ℕ) (written : RowText) where
     pub refusals_are : told ≡ refusals
     pub listed : AppendsRows b old new
 
-  -- a fault: memory was refused or the device failed, with a first part of the header and the rows appended
+  -- a fault: memory was refused or the device failed; a first part of the header and the rows was appended, or nothing yet
   abbrev pub ListStops : Body → Option (List ℕ) → Option (List ℕ) → Fault → Type 0
   ListStops b old new (OutOfMemory count) = StopsBefore old new count ⊎ AppendsFrontOfRows b old new count
   ListStops b old new (Device count) = AppendsFrontOfRows b old new count

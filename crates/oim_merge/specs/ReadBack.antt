@@ -41,7 +41,7 @@ pub record IsHeldTo (declared found : Level) (d : Document) (said : Result Docum
   pub read : (said ≡ Ok d) ↔ IsTrue (is_le (level_cmp found declared))
 
 -- the text of a body that fits a sheet, with any level declared, is refused if and only if that level is stricter than the
--- level of the facts
+-- level of the facts; otherwise it is read as the body's document
 abbrev pub LeastLevelIsDeclared : Type 0
 LeastLevelIsDeclared =
     (sheet : Sheet) (b : Body) (level : Level) → Fits sheet b →

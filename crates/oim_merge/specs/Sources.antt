@@ -55,7 +55,7 @@ by_fact facts ms = flat_map (λ f. filter (is_of f) ms) facts
 abbrev pub mentions_by_fact : Sheet → List (List ℕ) → List Mention
 mentions_by_fact sheet reports = by_fact (merged sheet reports).facts (mentions sheet reports)
 
--- a text for a mention, given the canonical identifier of its fact, the number of the report, and the object's own identifier
+-- how to write a mention, given the canonical identifier of its fact, the number of the report, and the object's own identifier
 abbrev pub SourceText : Type 0
 SourceText = List ℕ → ℕ → List ℕ → List ℕ
 
@@ -75,7 +75,7 @@ sources = sources_by source_line
 
 -- ---- laws
 
--- the fact has a mention
+-- an accepted report mentions the fact
 pub record IsSaid (sheet : Sheet) (reports : List (List ℕ)) (f : Fact) : Type 0 where
   pub mention : Mention
   pub there : Contains (mentions_by_fact sheet reports) mention

@@ -48,8 +48,8 @@ pub fn check_report(alloc: Global, sheet: &Sheet, bytes: &[u8]) -> Result<Checke
     })
 }
 
-// The facts of a canonical text ascend strictly. If the report's facts do not ascend strictly, no
-// text is made.
+// The facts of a canonical text ascend strictly. If the report's facts do not, the report is not
+// canonical, and no text is made.
 fn is_canonical(
     alloc: Global,
     sheet: &Sheet,

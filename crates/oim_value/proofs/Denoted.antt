@@ -1,4 +1,4 @@
--- A text denotes at most one number of units.
+-- A text that is accepted as a number denotes exactly the units in `units_of`.
 use Rattle.std.proofs.Common.{◌≡◌, ℕ, zero, suc, ◌+◌, ◌-◌, ◌*◌, ◌/◌, ◌^◌, ◌<◌, ◌≤◌, List, ◌++◌, length, Bool, true, false, refl, sym, ap, subst, ◌∙◌, Some, None, arith}
 use Rattle.std.specs.Prelude.{not, if◌then◌else◌, ℤ, pos, negsuc, ◌*ℤ◌, unsigned_abs, IsTrue}
 use Rattle.std.proofs.lemmas.Bool.Decides.{nat_tests}

@@ -32,7 +32,7 @@ le_from x y h = grind (arith, ints)
 le_to : (x y : ℤ) → x ≤ℤ y → int_le x y ≡ true
 le_to x y h = grind (arith, ints)
 
--- if every two intervals meet, every low end is at most every high end
+-- if no interval is empty and every two meet, every low end is at most every high end
 crossed : (is : List Interval) (d : Interval) → All HasPoints is → EachTwoMeet is → (i j : ℕ) → i < length is → j < length is → (get_or is i d).low ≤ℤ (get_or is j d).high
 crossed is d points meet i j li lj = elim (cases_lt i j) [
   | inl under ↦ le_from _ _ (first_true (int_le (get_or is i d).low (get_or is j d).high) (int_le (get_or is j d).low (get_or is i d).high) (meet i j d under lj))

@@ -25,8 +25,8 @@ EndsAreOne = (is : List Interval) (d e : Interval) → AreEnds d is → AreEnds 
 abbrev pub WithinEndsIsWithinEach : Type 0
 WithinEndsIsWithinEach = (is : List Interval) (e : Interval) (units : ℤ) → AreEnds e is → IsWithin units e ↔ All (IsWithin units) is
 
--- let e be a non-empty interval that contains exactly the numbers that lie in each of one or more intervals; then e ranges from
--- their greatest low end to their least high end
+-- if a non-empty interval e contains exactly the numbers that lie in each of one or more intervals, e ranges from the greatest
+-- low end of these intervals to their least high end
 abbrev pub EndsAreCommonInterval : Type 0
 EndsAreCommonInterval = (is : List Interval) (e : Interval) → 0 < length is → HasPoints e → ((units : ℤ) → IsWithin units e ↔ All (IsWithin units) is) → AreEnds e is
 

@@ -45,7 +45,7 @@ signed true n = neg_ℤ (pos n)
 signed false n = pos n
 
 -- the text denotes this number of units: units * 10^p = 10^UNIT_PLACES * n, for p digits after the point and the signed number n
--- of all digits
+-- that all digits denote
 pub record Denotes (t : List ℕ) (units : ℤ) : Type 0 where
   pub form : IsTrue (is_number t)
   pub value : units *ℤ pos (10 ^ length (fraction_part t)) ≡ signed (is_negative t) (10 ^ UNIT_PLACES * digits_value 10 (both_parts t))

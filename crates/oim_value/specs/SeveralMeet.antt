@@ -50,11 +50,11 @@ abbrev pub has_high : ℤ → Value → Bool
 has_high z (Number units decimals) = int_eq (interval units decimals).high z
 has_high z other = false
 
--- the index of the first value whose interval has the low end of e, or the length if there is none
+-- the index of the first value whose interval has the same low end as e, or the length if there is none
 abbrev pub place_of_greatest_low : Interval → List Value → ℕ
 place_of_greatest_low e = position_or_len (has_low e.low)
 
--- the index of the first value whose interval has the high end of e, or the length if there is none
+-- the index of the first value whose interval has the same high end as e, or the length if there is none
 abbrev pub place_of_least_high : Interval → List Value → ℕ
 place_of_least_high e = position_or_len (has_high e.high)
 

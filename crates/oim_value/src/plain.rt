@@ -6,9 +6,10 @@ use crate::limits::UNIT_PLACES;
 use oim_names::Text;
 use std::alloc::{AllocError, Global};
 
-/// Returns the only plain text of a number in units of 10^-`UNIT_PLACES`. The text contains `-` for
-/// a negative number, then the integer digits without leading zeros (`0` if there are none). If the
-/// number is not whole, a point and the fraction digits without trailing zeros follow.
+/// Returns the only plain text of a number in units of 10^-`UNIT_PLACES`. The text has `-` for a
+/// negative number, then the integer digits without leading zeros (`0` if the integer part is
+/// zero). If the number is not whole, a point and the fraction digits without trailing zeros
+/// follow.
 ///
 /// Errors: out of memory.
 pub fn write_units(alloc: Global, units: i128) -> Result<Text, AllocError>

@@ -31,7 +31,7 @@ module _ (facts : List Fact) (rises : IsSet fact_cmp facts) where
   identifier_at i f within is = ap (λ n. 102 ∷ padded (width (length facts)) n) (ap (λ g. rank fact_cmp g facts) (sym is) ∙ rank_at fact_cmp_total facts i f rises within)
 
   module _ (sets : (f : Fact) → Contains facts f → IsDimensionSet f.dimensions) where
-    -- the identifiers of the facts after `done` begin at the length of `done` plus one, and the members of each fact are in byte order
+    -- the facts after `done` are numbered from the length of `done` plus one, and the members of each fact are in byte order
     numbered_behind : (done left : List Fact) → done ++ left ≡ facts
         → members_by (identifier facts) (fact_object (name_text (uris facts))) left ≡ numbered_members (uris facts) (width (length facts)) (length done) left
     numbered_behind done [] all = refl

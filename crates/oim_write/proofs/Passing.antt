@@ -84,7 +84,7 @@ Breaks-first a b p n put = record {
   count = ap (λ k. saturated (p.written + k)) (sym (length-take-le n p.bytes put.1));
 }
 
--- if a text was appended to the waiting bytes and flushing fails, the fault is a fault of pushing the text
+-- if flushing fails after a text was appended to the waiting bytes, the fault satisfies the condition for pushing the text
 pub Breaks-pushed : (a b : Option (List ℕ)) (p : Pending) (text : List ℕ) (r : Result (Unit {0}) WriteFault)
     → IfErr r (λ fault. Breaks a b (record { written = p.written; bytes = p.bytes ++ text }) [] (written_of fault))
     → IfErr r (λ fault. Breaks a b p text (written_of fault))

@@ -26,7 +26,7 @@ module _ {A : Type 0} where
   by_part : {B : Type 0} (xs ys : List A) (x : A) → (Contains xs x → B) → (Contains ys x → B) → Contains (xs ++ ys) x → B
   by_part xs ys x f g h = ⊎_elim f g ((in_one_of_both xs ys x).0 h)
 
-  -- repeating `d` between `v` and `w` does not change the members of the list
+  -- repeating `d` before `w` does not change the members of the list
   said_once : (d v w rest : List A) → SameMembers ((d ++ (v ++ w)) ++ rest) ((d ++ v) ++ ((d ++ w) ++ rest))
   said_once d v w rest x = (
     by_part (d ++ (v ++ w)) rest x

@@ -1,4 +1,4 @@
--- Sets of URIs to which the URIs of more names are added.
+-- Adding the URIs of names to a set of URIs.
 use Rattle.std.proofs.Common.{◌≡◌, ℕ, ◌+◌, ◌<◌, Bool, true, false, List, [], ◌∷◌, ◌++◌, length, get_or, take, append-nil, inl, inr, ⊎_elim, refl, sym, ap, subst, ◌∙◌}
 use Rattle.std.specs.Prelude.{Contains, flat_map}
 use Rattle.std.specs.Bool.{OnTrue}

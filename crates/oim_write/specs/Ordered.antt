@@ -49,6 +49,6 @@ module _ (spelled : QName → List ℕ) where
       (member (codes "dimensions") (object (ordered_dimensions f.dimensions))
       (member (codes "value") (value_data spelled f.value) no_members)))
 
--- if names have the prefixes of a text, the object of each fact in that text has its members in the order of `ordered_fact`
+-- if names have a text's prefixes, the object of a fact with a valid dimension set has its members in the order of `ordered_fact`
 abbrev pub FactsAreWrittenInOrder : Type 0
 FactsAreWrittenInOrder = (facts : List Fact) (f : Fact) → Contains facts f → IsDimensionSet f.dimensions → fact_object (name_text (uris facts)) f ≡ ordered_fact (name_text (uris facts)) f

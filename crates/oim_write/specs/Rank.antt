@@ -11,7 +11,7 @@ use Rattle.std.specs.Str.Parse.{AllDigits, digits_value}
 abbrev pub rank : {K : Type 0} → (K → K → Ordering) → K → List K → ℕ
 rank R x members = suc (count_by (λ y. is_lt (R y x)) members)
 
--- n as a text of this many digits: zeros are in front if n has fewer digits; only the last digits remain if n has more
+-- n written with this many digits: with zeros in front if n has fewer digits, and only its last digits if n has more
 unfoldable pub padded : ℕ → ℕ → List ℕ
 padded zero n = []
 padded (suc width) n = padded width (n / 10) ++ (48 + n % 10) ∷ []

@@ -4,7 +4,7 @@ use Rattle.std.specs.Io.KnownBytes.{Appends}
 use Rattle.oim_write.specs.declared.write_fault.WriteFault.{WriteFault}
 use Rattle.oim_write.specs.declared.write_fault.WriteFault.TheVariants.{OutOfMemory, Device}
 
--- the sink appended the first n bytes of the text to its old bytes
+-- the sink appended the first n bytes of the text, which has at least n bytes
 abbrev pub AppendsFirst : Option (List ℕ) → Option (List ℕ) → List ℕ → ℕ → Type 0
 AppendsFirst old new text n = Appends old new (take n text) × (n ≤ length text)
 

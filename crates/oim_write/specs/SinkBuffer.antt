@@ -11,7 +11,7 @@ pub record Pending : Type 0 where
 abbrev pub nothing_yet : Pending
 nothing_yet = record { written = 0; bytes = [] }
 
--- the text was appended to the waiting bytes: the sink took a first part of both together, and the rest waits
+-- the text was appended to the waiting bytes, and the sink took a first part of these bytes; the rest waits
 pub record Passes (old new : Option (List ℕ)) (before after : Pending) (text : List ℕ) : Type 0 where
   pub front : List ℕ
   pub whole : before.bytes ++ text ≡ front ++ after.bytes

@@ -41,7 +41,7 @@ text_items (t ∷ ts) = item (string t) (text_items ts)
 
 -- ---- the declared level
 
--- the member `features`, which declares a level, before other members; absent if no level is declared
+-- if a level is declared, the member `features` that declares it, then other members; otherwise only the other members
 abbrev pub features_member : Option Level → Members → Members
 features_member None others = others
 features_member (Some level) others =

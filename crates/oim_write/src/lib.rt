@@ -1,4 +1,4 @@
-//! The canonical text of a base: one xBRL-JSON report with all its facts, written fact by fact.
+//! Writes the canonical text of a base: one xBRL-JSON report with all facts of the base.
 #![tactic(auto)]
 
 mod bindings;

@@ -18,7 +18,7 @@ use oim_value::{Level, Value};
 use std::alloc::{AllocError, Global};
 use std::mem;
 
-// The parts of the canonical text. If memory is refused, the text so far may be lost.
+// These functions write parts of the canonical text. If memory is refused, `text` may lose bytes.
 
 /// The text before the declared level.
 const TYPE_AND_FEATURE: &[u8] =

@@ -8,8 +8,8 @@ use oim_names::Text;
 use std::alloc::{AllocError, Global};
 use std::marker::Model;
 
-/// The number of hash classes of periods. The number is prime, so that days spread over all
-/// classes.
+/// The number of hash classes of periods. The number is prime, so that days, which are multiples of
+/// 86,400 seconds, spread over all classes.
 const CLASSES: u64 = 251;
 
 /// A period with its text; `Period::Forever` has no text.

@@ -55,7 +55,7 @@ fn push_unit<S: Spelling>(text: &mut String, spelling: &S, unit: &Unit) -> Resul
     push_side(text, spelling, unit.denominators())
 }
 
-// If a unit has two sides, each side with several measures is in parentheses.
+// Appends one side of a unit that has two. A side with several measures is in parentheses.
 fn push_side<S: Spelling>(text: &mut String, spelling: &S, names: &[Name]) -> Result<(), AllocError>
     ensures { OnOk result (string_bytes text.new ≡ string_bytes text.old ++ side_text (S.spelled spelling.now) names.now) }
 {

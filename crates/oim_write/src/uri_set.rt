@@ -14,7 +14,7 @@ use oim_value::Value;
 use std::alloc::{AllocError, Global};
 use std::marker::Model;
 
-/// The URIs of names. Contracts see the URIs distinct and in byte order. In memory, the list begins
+/// The URIs of names. Contracts see the distinct URIs in byte order. In memory, the list begins
 /// with a sorted part. Later URIs follow in order of arrival and may be repeated. A URI is appended
 /// unless the cache or a search of the sorted part finds it. Once the list is slightly more than
 /// twice as long as its sorted part, the list is sorted and its repeats are removed.
@@ -162,8 +162,8 @@ impl UriSet {
         }
     }
 
-    // Adds the URI unless the sorted part contains it, and returns its index. If the list is then
-    // sorted, the index may be wrong.
+    // Adds the URI unless the sorted part contains it, and returns its index. The index may be
+    // wrong if the list is sorted afterwards, so `is_at` checks each cached index.
     fn put(&mut self, alloc: Global, name: &Name) -> Result<usize, AllocError>
         ensures { OnOk result (Gains self.old (name.now ∷ []) self.new) }
     {

@@ -50,7 +50,7 @@ abbrev pub begins_formula : List ℕ → Bool
 begins_formula [] = false
 begins_formula (b ∷ t) = if is_skipped b then begins_formula t else is_sign b
 
--- the text; in CSV for a spreadsheet, a `'` precedes a text that may be read as a formula
+-- the text, after a `'` if the CSV is for a spreadsheet and the text may be read as a formula
 abbrev pub guarded : Bool → List ℕ → List ℕ
 guarded spreadsheet t = if spreadsheet && begins_formula t then 39 ∷ t else t
 

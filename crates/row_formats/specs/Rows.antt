@@ -12,7 +12,7 @@ use Rattle.row_formats.specs.JsonRows.{json_row}
 use Rattle.row_formats.specs.declared.row_format.RowFormat.{RowFormat}
 use Rattle.row_formats.specs.declared.row_format.RowFormat.TheVariants.{Json, Csv, SpreadsheetCsv}
 
--- the text of a row, given the identifiers of its facts, its number and its evidence
+-- how to write a row in this format
 abbrev pub row_text : RowFormat → RowText
 row_text Json = json_row
 row_text Csv = csv_row false

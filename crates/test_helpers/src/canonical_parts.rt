@@ -27,11 +27,11 @@ pub const END: &str = "}}";
 /// The binding of `n1`, the prefix of the concept.
 pub const ONE_URI: &str = r#""n1":"http://example.org/t""#;
 
-/// The fact 100 with `decimals` 0.
+/// A fact with the value 100 and `decimals` 0.
 pub const WRITTEN_HUNDRED: &str =
     r#""f1":{"decimals":0,"dimensions":{"concept":"n1:A"},"value":"100"}"#;
 
-/// The facts 100 and 101 with `decimals` 0.
+/// Two facts with the values 100 and 101 and `decimals` 0.
 pub const WRITTEN_BOTH: &str =
     r#""f1":{"decimals":0,"dimensions":{"concept":"n1:A"},"value":"100"},"f2":{"decimals":0,"dimensions":{"concept":"n1:A"},"value":"101"}"#;
 

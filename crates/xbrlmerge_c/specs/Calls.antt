@@ -21,7 +21,7 @@ use Rattle.xbrlmerge_c.specs.declared.listing.Listing.TheVariants.{Sources, Sour
 abbrev pub IsSheetRefused : List ℕ → Reason → Type 0
 IsSheetRefused sheet reason = sheet_outcome sheet ≡ Err reason
 
--- no row is above the level; `text` is the canonical text of the accepted reports, and `told` lists the refusals of the other reports
+-- the sheet is accepted, no row is above the level, `text` is the accepted reports' canonical text, and `told` lists the refusals
 pub record Merges (sheet : List ℕ) (reports : List (List ℕ)) (level : Level) (text : List ℕ) (told : List (ℕ × Refusal)) : Type 0 where
   pub listed : Sheet
   pub read : sheet_outcome sheet ≡ Ok listed
@@ -29,7 +29,7 @@ pub record Merges (sheet : List ℕ) (reports : List (List ℕ)) (level : Level)
   pub text_is : text ≡ canonical (merged listed reports)
   pub refusals_are : told ≡ refused listed reports
 
--- the row with this number, counted from 1, is the first above the level; `told` lists the refusals of the refused reports
+-- the sheet is accepted; the row with this number, counted from 1, is the first above the level; `told` lists the refusals
 pub record IsLoose (sheet : List ℕ) (reports : List (List ℕ)) (level : Level) (number : ℕ) (told : List (ℕ × Refusal)) : Type 0 where
   pub listed : Sheet
   pub read : sheet_outcome sheet ≡ Ok listed
@@ -42,7 +42,7 @@ IsListing Sources sheet reports text = text ≡ sources sheet reports
 IsListing VerdictsJson sheet reports text = AreRows Json (merged sheet reports) text
 IsListing SourcesJson sheet reports text = text ≡ sources_in Json sheet reports
 
--- `text` lists the rows or sources of the accepted reports, and `told` lists the refusals of the other reports
+-- the sheet is accepted; `text` lists the rows or sources of the accepted reports; `told` lists the refusals of the other reports
 pub record Lists (listing : Listing) (sheet : List ℕ) (reports : List (List ℕ)) (text : List ℕ) (told : List (ℕ × Refusal)) : Type 0 where
   pub listed : Sheet
   pub read : sheet_outcome sheet ≡ Ok listed

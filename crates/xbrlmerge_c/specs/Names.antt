@@ -7,6 +7,6 @@ abbrev pub name_of : Option Reason → List ℕ
 name_of (Some reason) = (entry_of reason).name
 name_of None = []
 
--- the name of the refusal with this number; empty if there is none
+-- the name of the refusal with this number; empty if no refusal has the number
 abbrev pub name_numbered : ℕ → List ℕ
 name_numbered number = name_of (slice_get reasons number)

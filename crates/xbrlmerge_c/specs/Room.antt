@@ -31,14 +31,14 @@ pub record IsTooShort (text : List ℕ) (told : List (ℕ × Refusal)) (old new 
   pub rows : new.rows ≡ old.rows
   pub refused : new.refused ≡ length told
 
--- the number of a row and the refused reports are returned, without a text
+-- the number of a row and the refused reports are returned; `out` is unchanged
 pub record TellsRow (number : ℕ) (told : List (ℕ × Refusal)) (old new : Room) : Type 0 where
   pub out : new.out ≡ old.out
   pub needed : new.needed ≡ number
   pub rows : new.rows ≡ rows_of told ++ drop (length told) old.rows
   pub refused : new.refused ≡ length told
 
--- the number of the sheet's refusal is returned, and 0 as the count of refused reports
+-- the number of the sheet's refusal is returned; the count of refused reports is 0, and the buffers are unchanged
 pub record TellsReason (reason : Reason) (old new : Room) : Type 0 where
   pub out : new.out ≡ old.out
   pub needed : new.needed ≡ (entry_of reason).number

@@ -23,8 +23,8 @@ pub(crate) enum Listing {
 }
 
 impl Listing {
-    /// The code of each exported call that lists verdicts or sources. This method has the same
-    /// contract as the call, and the receiver in addition.
+    /// Implements the exported calls that list verdicts or sources. Its contract is the contract of
+    /// the call for this listing.
     pub(crate) fn list(
         self,
         alloc: Global,

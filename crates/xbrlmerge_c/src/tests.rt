@@ -11,8 +11,8 @@ use crate::refusal_name::xbrlmerge_refusal_name;
 use std::alloc::Global;
 use std::test::Fail;
 
-// The tests make each call, and cause each status except `NO_MEMORY`. After a refused request for
-// memory, the call is repeated.
+// The tests make each call, and cause each status except `NO_MEMORY`. If memory is refused, the
+// call is repeated.
 
 const SHEET: &str = r#"{"namespaces":{"eg":"http://example.org/t"},"concepts":{"eg:A":"numeric"}}"#;
 

@@ -181,7 +181,7 @@ fn put_explained<'n, S: Sink>(
     Ok(explained.faults)
 }
 
-/// `faults` is the number of lines about the sheet, which were written before.
+/// Explains each report. `faults` is the number of lines already written about the sheet.
 fn put_each<'n, F: Files, E: Write, S: Sink>(
     sheet: &Sheet,
     format: Format,

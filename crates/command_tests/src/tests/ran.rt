@@ -39,7 +39,7 @@ pub(crate) fn words_of<'t>(rt: &HostRuntime, line: &'t str) -> Result<Vec<&'t st
 }
 
 /// Returns whether the program, with a standard input that fails, ends with this status and prints
-/// these texts. If not, the status and the numbers of missing bytes are printed.
+/// these texts. If not, prints the status and the numbers of missing bytes.
 pub(crate) fn ends(
     rt: &HostRuntime,
     words: &[&str],
@@ -114,8 +114,8 @@ fn stops_once<O: Write + Drop>(
     Some(same)
 }
 
-/// Runs the program with a standard input that fails. Returns the status and standard error, which
-/// is compared with the expected text and with the line for refused memory.
+/// Runs the program with a standard input that fails. Returns the status, and standard error as
+/// compared with the expected text and with the line for refused memory.
 fn heard<'a, O: Write + Drop>(
     rt: &HostRuntime,
     words: &[&str],

@@ -48,8 +48,7 @@ fn run_in(rt: &HostRuntime, input: TestReader<'_>, room: usize) -> Result<Ran, A
     Ok(ran)
 }
 
-/// Returns whether the program gives these results for a bundle. If not, the actual status is
-/// printed.
+/// Returns whether the program gives these results for a bundle. If not, prints the actual status.
 fn gives(
     rt: &HostRuntime,
     parts: &[&str],
@@ -179,8 +178,8 @@ fn is_unread(rt: &HostRuntime, input: TestReader<'_>) -> Option<bool> {
     Some(status == 3 && out.is_met() && err.0.is_met())
 }
 
-/// Returns whether inputs that fail or are interrupted after these bytes are reported as unread,
-/// with each step.
+/// Returns whether the program reports an input that fails or is interrupted after these bytes, for
+/// each of `STEPS`.
 fn are_unread(rt: &HostRuntime, front: &[u8]) -> bool {
     for step in STEPS {
         for then in [Then::Fails, Then::IsInterrupted] {

@@ -20,7 +20,7 @@ fn shows_once(rt: &HostRuntime, words: &[&str], input: &str, lines: &str) -> boo
     status == 3 && err.is_met()
 }
 
-// The program is run again if the status or the lines differ: memory may have been refused.
+// Runs the program again if the status or the lines differ: memory may have been refused.
 fn shows(rt: &HostRuntime, words: &[&str], input: &str, lines: &str) -> bool {
     if shows_once(rt, words, input, lines) {
         return true;

@@ -197,7 +197,7 @@ fn help_is_answered(rt: HostRuntime) -> Result<(), Fail> {
     Ok(())
 }
 
-/// Valid spellings of the number of replicas.
+/// Arguments with valid spellings of the number of replicas.
 const COUNTS: [&str; 5] = [
     "replay --sheet none --replicas 1 --events e",
     "replay --sheet none --replicas 64 --events e",

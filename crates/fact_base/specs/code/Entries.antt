@@ -45,7 +45,7 @@ pub record EntryFits (sheet : Sheet) (s : DimensionSet) (kept : Summed) : Type 0
   pub summary : kept.1 ≡ summary_of_all kept.0
   pub facts : All (FactFits sheet) (facts_with s kept.0)
 
--- the entries and references that a base with this sheet can store
+-- the invariant of a base: entries and references ascend strictly, entries fit the sheet, and references are kept texts
 pub record AreStored (sheet : Sheet) (es : List Entry) (texts : List (List ℕ)) : Type 0 where
   pub rise : IsRising dimensions_cmp entry_key es
   pub entries : All (λ e. EntryFits sheet e.0 e.1) es

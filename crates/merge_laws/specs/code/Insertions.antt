@@ -1,4 +1,4 @@
--- The changes to a list if another list is merged into it (own): new items and merged values, each with its index.
+-- The changes to a list when another list is merged into it (own): new items and merged values, each with its index.
 use Rattle.std.specs.Prelude.{ℕ, zero, suc, ◌≤◌, if◌then◌else◌, List, [], ◌∷◌, ◌++◌, take, drop, Option, Some, None, Result, Ok, Err, not}
 use Rattle.std.specs.List.{AllByRecursion, flat_map, position_or_len}
 use Rattle.std.specs.declared.cmp.Ordering.{Ordering}

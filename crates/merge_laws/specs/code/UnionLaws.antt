@@ -1,4 +1,4 @@
--- The laws of unions (own): each follows from the same law for joining items.
+-- The laws of unions (own): each law of a union follows from the law of the same name for joining two items.
 use Rattle.std.specs.Prelude.{◌≡◌, true, false, cond, List, [], ◌∷◌, Option, Some, None, IfSome, refl}
 use Rattle.std.proofs.Common.{sym, ap, ◌∙◌}
 use Rattle.std.specs.declared.cmp.Ordering.{Ordering}
@@ -22,7 +22,7 @@ module _ {K E : Type 0} {R : K → K → Ordering} (key : E → K) (o : IsTotalO
     | false ↦ λ t. found q es a.1
   ] refl
 
-  -- if joining two items keeps the property P, inserting an item with P keeps P for all items; the next law is about unions
+  -- if joining two items keeps the property P, inserting an item with P keeps P for all items; likewise for unions
   pub all_with : (closed : (x y : E) → P x → P y → P (join x y)) → (x : E) (es : List E) → P x → AllByRecursion P es → AllByRecursion P (with_item R key join x es)
   all_with closed x [] p a = (p, tt)
   all_with closed x (e ∷ es) p a =
@@ -88,7 +88,7 @@ module _ {K : Type 0} {R : K → K → Ordering} (o : IsTotalOrder R) where
   pub set_commutes : ((x y : K) → R x y ≡ Equal → x ≡ y) → (xs ys : List K) → IsSet R xs → IsSet R ys → set_union R xs ys ≡ set_union R ys xs
   set_commutes exact xs ys g h = union_commutes itself o older (λ _ _. refl) (λ _. Unit {0}) (λ x y _ _ e. exact x y e) xs ys g h (any xs) (any ys)
 
--- the laws of maps, if merging their values has the same laws
+-- the laws of maps, if merging values obeys the same laws
 module _ {K V : Type 0} {R : K → K → Ordering} (o : IsTotalOrder R) (P : V → Type 0) (merged : V → V → V) where
   abbrev Has : K × V → Type 0
   Has e = P e.1

@@ -58,7 +58,7 @@ fn tells_second(refused: &Refusals) -> bool {
     told && refused.next().is_none()
 }
 
-/// True if row 1 is above the level, nothing is written, and only the second report is refused.
+/// True if row 1 is too loose, nothing is written, and only the second report is refused.
 fn are_too_loose(alloc: Global, sheet: &Sheet, reports: &[Encoded]) -> Result<bool, AllocError> {
     let mut sink = StdSink::new(Expecting::just(b""));
     match consolidate(alloc, sheet, reports, Level::Consistent, &mut sink) {

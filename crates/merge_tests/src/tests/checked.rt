@@ -65,7 +65,7 @@ const ROWS: [Row; 9] = [
     ),
 ];
 
-/// Reports of one fact, with the value 100. Each has a different reason not to be canonical.
+/// Reports of one fact, with the value 100. Each is not canonical for a different reason.
 const SPELLED: [&[&str]; 9] = [
     // members in another order
     &[
@@ -125,7 +125,8 @@ const SPELLED: [&[&str]; 9] = [
     ],
 ];
 
-/// A sheet with another prefix. It lists the concept of `WRITTEN_HUNDRED` and three other concepts.
+/// A sheet with other prefixes than `SHEET` and the report. It lists the concept of
+/// `WRITTEN_HUNDRED` and three other concepts.
 const MORE: &str =
     r#"{"namespaces":{"q":"http://example.org/t","z":"http://example.org/z"},"concepts":{"q:A":"numeric","q:B":"numeric","z:C":"text","q:Q":"name"}}"#;
 

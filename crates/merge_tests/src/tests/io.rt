@@ -11,7 +11,7 @@ use test_helpers::expecting::Expecting;
 // After a refused request for memory, the call is repeated on a new device. A line on standard
 // error reports the refused request.
 
-/// The result of `read_all`, the number of its reads, and the number of the source's failures.
+/// Returns the result of `read_all`, the number of reads, and the number of the source's failures.
 fn read(
     rt: &HostRuntime,
     reader: TestReader<'_>,
@@ -46,8 +46,9 @@ fn answers(
     same && calls <= u64::from(limit) + 2 && failures == u64::from(is_device)
 }
 
-/// Tests sources that stop after these bytes, with each step. If the source fails, the fault must
-/// contain the number of bytes. If the source ends, `read_all` must return the bytes.
+/// Tests sources that return these bytes and then end, fail or are interrupted. Each case is run
+/// with each of `STEPS`. If the source fails or is interrupted, the fault must contain the number
+/// of bytes. If the source ends, `read_all` must return the bytes.
 fn stops_behind(rt: &HostRuntime, front: &[u8], limit: u32) -> bool {
     let fault = ReadFault::Device(front.len() as u64);
     for step in STEPS {
@@ -148,7 +149,7 @@ fn sources_are_read_to_their_end(rt: HostRuntime) -> Result<(), Fail> {
     Ok(())
 }
 
-// The program prints this text after the name of the file.
+// The program prints `too long` after the name of the file.
 #[test]
 fn a_source_that_is_too_long_is_called_so(rt: HostRuntime) {
     let mut out = Expecting::just(b"too long");

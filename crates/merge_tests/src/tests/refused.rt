@@ -43,8 +43,8 @@ fn base_of<'s>(rt: &HostRuntime, sheet: &'s Sheet, report: &[u8]) -> Option<Base
     take_first(rt, &report)
 }
 
-/// True if the sink took exactly `written` bytes without a failure, and the text has at least as
-/// many bytes.
+/// True if the sink took exactly `written` bytes without a failure, and the text is at least that
+/// long.
 fn holds(sink: &StdSink<Expecting<'_>>, text: &[u8], written: u64) -> bool {
     sink.taken() == written && sink.failures() == 0 && written <= text.len() as u64
 }

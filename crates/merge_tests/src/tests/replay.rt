@@ -16,7 +16,7 @@ const HUNDRED_ONE: &str = r#""a":{"value":"101","decimals":0,"dimensions":{"conc
 const NINE_EVENTS: &str =
     "take 1 1\nsend 1\ntake 2 2\nreceive 2 1\nsend 2\ntake 3 3\nreceive 3 2\nreceive 3 1\njoin 1 2\n";
 
-/// `each` contains one text per report: the facts of the report.
+/// `each` contains the facts of each report as one text.
 fn played<'s>(
     alloc: Global,
     sheet: &'s Sheet,

@@ -48,7 +48,7 @@ pub record AreHeld (sheet : Sheet) (messages : Messages) : Type 0 where
 abbrev pub world_in : Replicas → World Contents (List ℕ)
 world_in replicas = world_of replicas.bases.items (sent_texts replicas.messages)
 
--- each cached reading is the result of reading its report or text, and each current text is the text of its replica's base
+-- each cached reading is the result of reading its report; `AreHeld` holds; each current text is the text of its replica's base
 pub record KeepReadings (sheet : Sheet) (reports : List (List ℕ)) (replicas : Replicas) : Type 0 where
   pub taken : AreReadings sheet reports replicas.reports.items
   pub held : AreHeld sheet replicas.messages

@@ -14,8 +14,8 @@ use std::alloc::{AllocError, Global};
 use std::cmp::Ordering;
 
 /// The sent texts in order. Equal texts are stored and read once. Contracts guarantee that a text
-/// found by `find` is equal, but not that `find` finds each equal text. A missed text would cost
-/// only memory and time.
+/// found by `find` is equal, but not that `find` finds each equal text. If `find` misses a text,
+/// this costs only memory and time.
 #[derive(Drop)]
 pub(crate) struct Messages<'s> {
     /// The distinct texts, in the order of first sending.

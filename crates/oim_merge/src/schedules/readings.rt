@@ -12,8 +12,8 @@ use oim_write::Encoded;
 use std::alloc::{AllocError, Global};
 
 /// The cached result of reading a text under a sheet: none yet, a base, or a refusal. A base is
-/// cached instead of a report: taking a report copies all its facts, and joining a base can copy
-/// fewer.
+/// cached instead of a report, because joining a base can copy fewer facts than taking a report,
+/// which copies all.
 pub(crate) type Reading<'s> = Option<Result<Base<'s>, Refusal>>;
 
 pub(crate) fn none_read<'s>(alloc: Global, texts: usize) -> Result<Vec<Reading<'s>>, AllocError>

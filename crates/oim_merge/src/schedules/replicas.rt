@@ -172,7 +172,7 @@ fn join_at<'s>(
         (slice_index_or bases.old.items other (base_of sheet.now [])))) }
 {
     if place == other {
-        // a base that joins itself does not change
+        // a base that joins itself does not change; the proof needs the contract of `sheet`
         let _sheet = bases[place].sheet();
         return Ok(());
     }

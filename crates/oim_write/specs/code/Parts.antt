@@ -43,7 +43,7 @@ head_text level us =
     ++ (comma_if (has_some us)
     ++ codes "\"xbrl\":\"https://xbrl.org/2021\"},\"taxonomy\":["))))
 
--- facts as members. Their identifiers have `digits` digits, and their numbers begin at `before` + 1
+-- facts as members; their identifiers have `digits` digits and are numbered from `before` + 1
 abbrev pub numbered_members : List (List ℕ) → ℕ → ℕ → List Fact → Members
 numbered_members us digits before [] = no_members
 numbered_members us digits before (f ∷ fs) = member (102 ∷ padded digits (before + 1)) (ordered_fact (name_text us) f) (numbered_members us digits (before + 1) fs)

@@ -22,7 +22,7 @@ struct Table<'t> {
     end: &'t str,
 }
 
-// refusals 1 to 8, and the kind of a file
+// refusals 1 to 8, and hints at the kind of a file
 const DOCUMENTS: [Table<'static>; 2] = [
     Table {
         start: "",

@@ -67,7 +67,7 @@ enum Answer<'t> {
     Declares(Level),
     /// The report has these references.
     Keeps(&'t [&'t str]),
-    /// The local names of the facts' concepts, and the order of the facts.
+    /// The local parts of the facts' concepts, and the order of the facts.
     Sorts(&'t [&'t str], &'t [usize]),
 }
 

@@ -297,7 +297,7 @@ pub(super) const UNHEARD: [Row; 4] = [
     ("verdicts --sheet sheet unbound 100", 1, ALIKE, ""),
 ];
 
-/// Standard output takes this many bytes, and the line reports their number.
+/// Standard output fills up, and the line reports how many bytes it took.
 pub(super) const FULL: [Full; 4] = [
     ("merge --sheet sheet 100", 0, "device: 0 bytes written\n"),
     (

@@ -38,7 +38,7 @@ fn room_for_reports(rt: &HostRuntime) -> Result<Vec<Encoded>, AllocError> {
     }
 }
 
-/// An empty file, which is refused, and one report twice.
+/// Returns an empty file, which is refused, and the report twice.
 fn reports(rt: &HostRuntime, report: &str) -> Result<Vec<Encoded>, AllocError> {
     let mut reports = room_for_reports(rt)?;
     for report in ["", report, report] {

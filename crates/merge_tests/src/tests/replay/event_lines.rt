@@ -20,7 +20,7 @@ const BAD: &[(&[u8], u64)] = &[
     (b"send 0x1\n", 1),
     (b"send one\n", 1),
     (b"send \xd9\xa1\n", 1),
-    // spaces and other separators
+    // superfluous spaces, and separators other than a space
     (b"take 1  1\n", 1),
     (b"take  1 1\n", 1),
     (b" take 1 1\n", 1),
@@ -50,13 +50,13 @@ const BAD: &[(&[u8], u64)] = &[
     (b"send 1 1\n", 1),
     (b"restart 1 1\n", 1),
     (b"receive 1 1 1\n", 1),
-    // empty lines, and a single line end
+    // empty lines, also as the only line
     (b"\n", 1),
     (b"\n\n", 1),
     (b"\nsend 1\n", 1),
     (b"send 1\n\n", 2),
     (b"send 1\n\nsend 1\n", 2),
-    // other bytes
+    // a byte order mark, a byte that is not UTF-8, and zeros
     (b"\xef\xbb\xbfsend 1\n", 1),
     (b"\xff\n", 1),
     (b"send 1\0\n", 1),

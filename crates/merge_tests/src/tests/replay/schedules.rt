@@ -120,7 +120,7 @@ const SCHEDULES: &[Schedule] = &[
         sent: &[ONE, NOTHING],
         refused: &[],
     },
-    // a replica keeps the facts of another that restarts later
+    // a replica keeps the facts of another replica that restarts later
     Schedule {
         reports: THREE,
         lines: "take 1 1\ntake 2 2\njoin 2 1\nrestart 1\njoin 1 2\nrestart 2",

@@ -101,7 +101,7 @@ const ROWS: &[Row] = &[
         ],
         &[CONTRADICTING_HEAD, ONE_URI, MIDDLE, WITH_NIL, END],
     ),
-    // a level that is too loose is replaced by the strictest that the facts satisfy
+    // a level that is too loose is replaced by the strictest level that the facts satisfy
     (
         &[
             SHEET,

@@ -5,8 +5,8 @@ use test_helpers::canonical_parts::{END, HEAD, MIDDLE};
 
 // Prefixes are numbered in the byte order of their URIs, not in the order of first use.
 
-// Parts of reports and of their merged texts. A report has one fact, whose concept and measures use
-// all its URIs.
+// Parts of reports with one fact, and of their merged texts. The fact's concept and measures use
+// all URIs that the report binds.
 
 const BOUND: &str = r#","namespaces":{"eg":"http://example.org/t","#;
 
@@ -15,8 +15,8 @@ const FACT: &str = r#"}},"facts":{"a":{"value":"1","dimensions":{"concept":"eg:A
 const WRITTEN: &str =
     r#","xbrl":"https://xbrl.org/2021"},"taxonomy":[]},"facts":{"f1":{"dimensions":{"concept":""#;
 
-/// A bundle with one fact. Its unit has one name in each of 99 namespaces, and its concept is in
-/// another namespace.
+/// A bundle with one fact. The fact's unit has one name in each of 99 namespaces, and its concept
+/// is in another namespace.
 const NINETY_NINE: &[&str] = &[
     SHEET,
     LINE,

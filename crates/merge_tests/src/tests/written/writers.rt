@@ -107,13 +107,15 @@ fn stops_anywhere(alloc: Global) -> Result<bool, AllocError> {
     Ok(true)
 }
 
-/// Sizes around the end of a chunk, the end of a piece, and both ends of the text.
+/// How many bytes a writer takes before it stops: near the end of the first chunk (65,536 bytes),
+/// near the end of a piece (65,990 bytes), and near both ends of the text.
 const LONG_ROOMS: [usize; 9] = [0, 1, 65_535, 65_536, 65_537, 65_989, 65_990, 65_999, 66_000];
 
 fn stops_about_a_chunk(alloc: Global) -> Result<bool, AllocError> {
     let text = LINE.repeat(alloc, 2000)?;
     for room in LONG_ROOMS {
-        // the second piece ends a chunk exactly, or exceeds it
+        // the first two pieces together have exactly the 65,536 bytes of a chunk, or 65,990 bytes,
+        // which is more than a chunk
         if !stops(alloc, text.as_bytes(), (60_000, 65_536), room)?
             || !stops(alloc, text.as_bytes(), (65_535, 65_990), room)?
         {

@@ -2,7 +2,7 @@ use Rattle.std.proofs.Common.{◌≡◌, ◌-◌, ◌≤◌, take, vec_len}
 use Rattle.std.specs.Io.KnownBytes.{Consumes}
 use Rattle.oim_merge.proofs.source_reader.read_all.Given as goal
 
--- the filled bytes are the bytes that the source gave, and the source has not failed
+-- the filled bytes are the bytes that the source gave, and the source has not failed since the call began
 abbrev pub invariant-loop-filled : goal.invariant-loop-filled
 invariant-loop-filled g l = record {
   given : Consumes (g.S.Source.told l.initial.source) (g.S.Source.told l.source) (take l.filled l.bytes.items);

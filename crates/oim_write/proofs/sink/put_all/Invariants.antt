@@ -2,7 +2,7 @@ use Rattle.std.proofs.Common.{◌≡◌, ◌-◌, ◌≤◌, length, take}
 use Rattle.std.specs.Io.KnownBytes.{Appends}
 use Rattle.oim_write.proofs.sink.put_all.Given as goal
 
--- the bytes so far are appended, and the sink has not failed
+-- the bytes so far are appended, and the sink has not failed since the call began
 abbrev pub invariant-loop-taken : goal.invariant-loop-taken
 invariant-loop-taken g l = record {
   appended : Appends (g.S.Sink.told l.initial.sink) (g.S.Sink.told l.sink) (take l.taken l.bytes);

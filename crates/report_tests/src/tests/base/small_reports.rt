@@ -1,6 +1,6 @@
 // Adds small reports after a large one. The facts and references of the small reports are collected
-// in two lists. A list is sorted when half its length, rounded down, exceeds its length after the
-// last sort.
+// in two lists. Before a report is added, a list is sorted if half its length, rounded down,
+// exceeds its length after the last sort.
 
 use fact_base::{Base, Gathering};
 use oim_names::Reason;

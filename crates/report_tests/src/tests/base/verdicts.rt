@@ -31,8 +31,8 @@ fn first_other_under(
     None
 }
 
-// Returns the index of the first row whose verdict or evidence is not the expected one, or None if
-// there is no such row. Returns `Some(0)` if the sheet cannot be read.
+// Returns the index of the first row with an unexpected verdict or evidence, or None if there is no
+// such row. Returns `Some(0)` if the sheet cannot be read.
 fn first_other(rt: &HostRuntime, end: &str, rows: &[Row<'_>]) -> Option<usize> {
     match read_sheet(rt, SHEET) {
         Ok(sheet) => first_other_under(rt, &sheet, end, rows),

@@ -115,7 +115,7 @@ const LEVELS: &[Table] = &[
 ];
 
 const KEPT: &[Table] = &[
-    // the declared level may differ from the level of the facts
+    // the declared level may be looser than the level of the facts
     Table {
         start: r#"{"documentInfo":{"documentType":"https://xbrl.org/2021/xbrl-json","namespaces":{"y":"https://xbrl.org/2021"},"features":{"y:allowedDuplicates":""#,
         rows: &[
@@ -147,7 +147,7 @@ const KEPT: &[Table] = &[
         ],
         end: NO_FACTS,
     },
-    // facts are listed by identifier; their order sorts them by dimensions, then by value
+    // facts are listed by identifier; `order` sorts them by dimensions, then by value
     Table {
         start: FACTS,
         rows: &[(

@@ -68,7 +68,8 @@ const FACTS: Rows<'static> = &[
         r#""a":{"value":"1","dimensions":{"concept":"eg:A","unit":"xbrl:a*a/q:a"}}"#,
         &[(12, 1), (13, 1), (14, 1)],
     ),
-    // a name with an unbound prefix is not reported as unknown, and an unknown concept has no kind
+    // a name with an unbound prefix is not reported as unknown; an unknown concept has no kind, so
+    // no condition on kinds is tested
     (
         r#""a":{"value":"x","decimals":1,"dimensions":{"concept":"eg:Z","eg:Z":1,"q:Z":1,"unit":"x:a","language":"en"}}"#,
         &[(13, 1), (16, 1), (17, 1)],

@@ -3,7 +3,7 @@ use oim_report::Sheet;
 use std::alloc::AllocError;
 use std::test::Fail;
 
-// The parts of a report: between `start` and `end`, `piece` is repeated, and `closing` follows as
+// The parts of a report. Between `start` and `end`, `piece` is repeated, and then `closing` equally
 // often. `counts` lists numbers of repeats with their outcomes.
 struct Long<'t> {
     start: &'t str,

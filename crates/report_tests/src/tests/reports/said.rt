@@ -107,7 +107,7 @@ const READ: [(&str, Said); 7] = [
         r#"{"value":"1.","decimals":0,"dimensions":{"concept":"eg:A"},"links":{}}"#,
         Said::Number(10_000_000_000_000_000_000, Some(0)),
     ),
-    // the value of a name concept is read as a URI and a local name
+    // the value of a name concept is read as a URI and a local part
     (
         r#"{"value":"eg:North","dimensions":{"concept":"eg:Q"}}"#,
         Said::North,

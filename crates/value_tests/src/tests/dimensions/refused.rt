@@ -1,4 +1,4 @@
-// Makes and copies dimension sets with every part, for `tests/refused_memory`. A call that fails
+// Makes and copies members, dimension sets and facts, for `tests/refused_memory`. A call that fails
 // for lack of memory must not change anything.
 
 use super::sets::{Kind, Part, equals_its_copy, fact, is_copied, member, with};

@@ -38,7 +38,7 @@ fn has_items(map: &ItemsAt, key: &Text, items: &[&str]) -> bool {
     }
 }
 
-// Returns whether a map has exactly these items at a key. If `items` is empty, the key must be
+// Returns whether a map has exactly these items at a key. If `items` is empty, the key may be
 // missing.
 fn has_at(rt: &HostRuntime, map: &ItemsAt, key: &str, items: &[&str]) -> Result<bool, AllocError> {
     let key = text(rt, key)?;

@@ -6,7 +6,7 @@ use Rattle.xbrlmerge_c.specs.Rows.{row_of, rows_of}
 use Rattle.xbrlmerge_c.specs.declared.output.RefusedReport.{RefusedReport}
 use Rattle.xbrlmerge_c.proofs.output.put_rows.Goals as goal
 
--- after one loop step, the buffer begins with the records of one more refusal
+-- one loop step adds the record of the next refusal to the records at the start of the buffer
 rows_more : (told : List (ℕ × Refusal)) (old rows : List RefusedReport) (i : ℕ) (d : ℕ × Refusal) (made : RefusedReport) →
     length told ≤ length old → i < length told → made ≡ row_of (get_or told i d) → rows ≡ rows_of (take i told) ++ drop i old →
     set rows i made ≡ rows_of (take (i + 1) told) ++ drop (i + 1) old
