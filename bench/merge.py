@@ -1,13 +1,13 @@
 #!/usr/bin/env python3
 """Measures xbrlmerge on generated reports: bench/merge [FOLDER]
 
-There are three workloads: one report, reports of 50 facts, and eight providers of the same facts, some values rounded. Each
-workload is measured in two sizes, as a bundle: a line with the sheet, then a line per report. For comparison, a peer runs on
-the same bundle. The peer is a short program that reads each line with serde_json and writes it back. A ratio is the cost of
-xbrlmerge divided by the peer's. Growth is an exponent: it is 1 if ten times the facts cost ten times as much. Growth is
-computed from instructions if valgrind is installed, otherwise from processor time. Each merged text must contain every fact of
-the bundle once, and no other facts. If FOLDER is given, it receives the peer, the bundles and the texts that both programs
-wrote.
+There are three workloads: one report, reports of 50 facts, and eight providers that report the same facts with some values
+rounded. Each workload is measured in two sizes. Its input is a bundle: a line with the sheet, then a line per report. For
+comparison, a peer runs on the same bundle. The peer is a short program that reads each line with serde_json and writes it
+back. A ratio is the cost of xbrlmerge divided by the peer's. Growth is an exponent: it is 1 if ten times the facts cost ten
+times as much. Growth is computed from instructions if valgrind is installed, otherwise from processor time. Each merged text
+must contain every fact of the bundle once, and no other facts. If FOLDER is given, the script leaves the peer, the bundles and
+the texts of both programs there.
 
 The status is 2 if a build or a measurement fails, a merged text is wrong, or more than one argument is given.
 """
@@ -120,7 +120,7 @@ def report(number, facts, rng):
 def reports_of(workload, size, rng):
     """Returns the facts of each report in a workload."""
     def drawn(count, entity):
-        # one fact in twenty has decimals from -18 to 18 in turn (in a report of 50 facts, only -18 to -16); the others have 0
+        # one fact in twenty has decimals from -18 to 18 in turn (in a report of 50 facts, only -18 to -16); other numbers have 0
         return [(n, entity, rng.randrange(10**9), n // 20 % 37 - 18 if n % 20 == 7 else 0) for n in range(count)]
 
     if workload == "one report":

@@ -399,7 +399,7 @@ SHAPES = {
     sources_of_small_reports: 500,
     sources_of_one_file_named_often: 2_000,
     faults_of_facts: 5_000,
-    faults_of_one_fact: 10_000,  # both sizes have 128 KiB or more, so explain reads both in pieces first
+    faults_of_one_fact: 10_000,
     duplicates_that_are_denied: 5_000,
     repeated_members: 5_000,
     repeated_members_of_one_fact: 50_000,

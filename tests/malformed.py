@@ -3,15 +3,15 @@
 
     [CASES=5000] [SEED=1] [CASE=N] [JOBS=N] tests/malformed [PROGRAM]
 
-By default, PROGRAM is $XBRLMERGE or the built program. Each run must end within 10 seconds, not by a signal, with a status and
-lines that its input allows. A broken report is read as it is and, with spaces after it, in pieces; both results must be equal.
-A refused report must not change the merged text of two good ones. If the broken report is accepted, the merged text must be
-accepted too, and must merge to the same bytes. JOBS processes run in parallel, as many as there are processors by default. CASE
-runs only the case with this number.
+By default, PROGRAM is $XBRLMERGE or the built program. Each run must end within 10 seconds, and not by a signal. Its status
+and lines must be possible for its input. A broken report is read in pieces. A copy with an extension before its first member is
+read whole; both results must be equal. A refused report must not change the merged text of two good ones. If the broken report
+is accepted, the merged text must be accepted too, and must merge to the same bytes. JOBS processes run in parallel, as many as
+there are processors by default. CASE runs only the case with this number.
 
 Status 0: all is as expected. 1: something is not, or a usual result, such as a refused sheet, is missing in a run of 5,000
-cases or more. 2: there is no program. The first 20 faults are printed with the seed and the case. The broken bytes of all
-faults are written to files.
+cases or more. 2: there is no program. The first 20 faults are printed with the seed and the case. The broken bytes of each
+fault are written to a file.
 """
 import argparse
 import collections
@@ -32,9 +32,9 @@ CASES, SEED, CASE = (int(os.environ.get(name, usual)) for name, usual in (("CASE
 JOBS = int(os.environ.get("JOBS", len(os.sched_getaffinity(0))))
 # the number of cases that share a sheet and good reports, and the most seconds of a run
 BATCH, LIMIT = 25, 10
-# reports of at least this many bytes are read in pieces
-IN_PIECES = 131_072
-# the number of facts, or of spaces after each comma, in a report that is read in pieces
+# a report with this extension at its start is read whole, not in pieces
+WHOLE = b'"x:whole":{"facts":0},'
+# the number of facts, or of spaces after each comma, in a report of more than one piece
 MANY, SPREAD = 1_300, 3_000
 
 REASONS = """NotJson MemberForm UnknownMember DocumentType Namespace BaseUrl TaxonomyUrl Feature Links Notes DimensionsMissing
@@ -52,7 +52,7 @@ VALUES = {"numeric": ("0", "-12.5", "1000000", "+0.0570", ".5", "999999999999999
           "text": ("", "Blue", "a\"b\\", "\u0001 \u00e9\n", "\U0001f40b")}
 UNITS = ("x:b*x:a", "(x:a*x:b)/x:c", "xbrli:pure", "xbrli:pure/x:c")
 PERIODS = ("2020-12-31T24:00:00", "2020-01-01T00:00:00/2020-12-31T24:00:00", "0001-01-01T00:00:00/9999-12-31T23:59:59")
-# replacements for values and numbers, escapes to insert, texts to repeat, and replacements for keys
+# in order: replacements for values, replacements for numbers, escapes to insert, texts to repeat, replacements for keys
 OTHER_VALUES = (b"null", b"true", b"[]", b"{}", b"7", b'""', b'" "', b'":"', b'"m:"', b'"q:A"', b'"m:A"', b'"m:T"',
                 b'"xbrl:note"', b'"none"', b'"complete"', b'"numeric"', b'"text"', b'"1e2"', b'"1234567890123456789"',
                 b'"https://xbrl.org/2021"', b'"2020-12-31"', b'"2021-01-01T00:00:00/2020-01-01T00:00:00"', b'"x:a/"',
@@ -111,8 +111,14 @@ def drawn_report(chance, count=None, spread=0):
 
 
 def drawn_long(chance):
-    """Draws a report that is read in pieces: it has many facts, or many spaces after each comma."""
+    """Draws a report of more than one piece: it has many facts, or many spaces after each comma."""
     return drawn_report(chance, MANY) if chance.random() < 0.1 else drawn_report(chance, 12, SPREAD)
+
+
+def read_whole(text):
+    """Returns the report with `WHOLE` before its first member. A text that does not begin with a member is returned
+    unchanged."""
+    return b"{" + WHOLE + text[1:] if text.startswith(b'{"') else text
 
 
 def drawn_sheet(chance):
@@ -257,14 +263,14 @@ class Batch:
         write("broken", self.content)
 
     def of_report(self, chance, drawn=drawn_report):
-        """Tests a broken report between two good ones. Reading the broken report in pieces must have the same result. `check`
-        must accept the report if `merge` does, and otherwise print the same refusal for report 1."""
+        """Tests a broken report between two good ones. Reading the broken report whole must give the same result. `check` must
+        accept the report if `merge` does, and otherwise print the same refusal with report number 1."""
         self.write_broken(chance, drawn(chance), self.one)
         status, text, lines, told = self.run("merge", "--sheet", "sheet", "one", "broken", "two")
         self.expect_reports(status, lines, told, 3)
-        write("longer", self.content + b" " * IN_PIECES)
-        *longer, longer_told = self.run("merge", "--sheet", "sheet", "one", "longer", "two")
-        expect(longer == [status, text, lines], f"{told}, but with spaces after it {longer_told}")
+        write("whole", read_whole(self.content))
+        *whole, whole_told = self.run("merge", "--sheet", "sheet", "one", "whole", "two")
+        expect(whole == [status, text, lines], f"{told}, but read whole {whole_told}")
         checked, line, check_lines, check_told = self.run("check", "--sheet", "sheet", "broken")
         expect((checked, check_lines) == (status, lines.replace("report 2", "report 1")), f"{told}, but {check_told}")
         expect(bool(CHECKED.fullmatch(line)) if status == 0 else line == b"", f"{check_told}, {line}")
@@ -275,7 +281,7 @@ class Batch:
         return status
 
     def of_long(self, chance):
-        """Does the same as `of_report`, but breaks a report that is long enough to be read in pieces."""
+        """Does the same as `of_report`, but breaks a report of more than one piece."""
         return self.of_report(chance, drawn_long)
 
     def of_sheet(self, chance):

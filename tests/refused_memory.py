@@ -7,14 +7,14 @@ The tests of a crate are crates/NAME/out/NAME_tests, which `rt test` makes. The 
 crates/xbrlmerge/out/xbrlmerge if that does not exist. Without arguments, the script tests all crates with tests, and the
 program. A first run of each test counts the requests. A second run, set to refuse the request after the last one, must refuse
 none. Each later run refuses one request. A test must pass and print that a call got no memory (`refused`) or that its own
-setup got none (`refused here`). If the test prints neither, the request counts as passed over. The program runs with arguments
-for every command. The program must print the line `out of memory` and end with status 3, or end as if nothing was refused.
-Before `out of memory`, the program may write a first part of its text. Two kinds of requests can be refused without harm: those
-for the key of a cache while a report is read, and those for clap's search for similar words. So in the tests of crates that
-read reports or command lines, no request counts as passed over. The same holds for the tests in DEVICE_FAILS_TOO. JOBS
-processes run in parallel, as many as there are processors by default. If a test makes more than 5,000 requests, only each 7th
-is refused from request 2,001 on. Fewer are refused if a test makes more than 50,000 requests, or if its runs are long. If some
-requests are left out, a line reports which were refused.
+setup got none (`refused here`). If the test prints neither, the request counts as passed over. The program runs on each
+command line in LINES. The program must print the line `out of memory` and end with status 3, or end as if nothing was refused.
+Before `out of memory`, the program may write a first part of its text. Some requests may be refused without harm: those for
+reading a report in pieces, since the report is then read whole, and for clap's search for similar words. So in the tests of
+crates that read reports or command lines, no request counts as passed over. The same holds for the tests in DEVICE_FAILS_TOO. JOBS processes run in
+parallel, as many as there are processors by default. If a test makes more than 5,000 requests, only each 7th is refused from
+request 2,001 on. Fewer are refused if a test makes more than 50,000 requests, or if its runs are long. If some requests are
+left out, a line reports which were refused.
 
 Status 0: nothing failed and nothing was passed over. 1: something failed or was passed over. 2: a name is unknown, there is no
 cc, or tests or the program are not built or are older than the sources.
@@ -38,8 +38,9 @@ PROGRAM = "program"
 JOBS = int(os.environ.get("JOBS", len(os.sched_getaffinity(0))))
 # if a test makes more than MANY requests, the first ALL are refused, and then each EVERY-th
 MANY, ALL, EVERY = 5000, 2000, 7
-# if a test makes more than MOST requests, at most FEW are refused, spread evenly; such tests let a device fail at each byte. If
-# the runs would take more than SECONDS in sequence, only as many requests are refused as fit into SECONDS, but at least 50
+# if a test makes more than MOST requests, at most FEW are refused, spread evenly; such tests let a device fail at each byte.
+# Otherwise, if the runs would take more than SECONDS one after another, fewer requests are refused, so that the runs fit into
+# SECONDS; at least 50 are refused
 MOST, FEW, SECONDS = 50_000, 1000, 240
 # how many requests a task refuses at most, and the time limit of a run in seconds
 SHARE, LIMIT = 40, 60
@@ -49,8 +50,8 @@ SHOWN = 20
 CALL, HERE, WHOLE, DEVICE, PASSED, FAILED = "refused calls", "refused here", "whole answers", "device first", "passed over", "failed"
 CLOCK, PROCESSOR = "seconds", "of a processor"
 COLUMNS = ("tests", "requests", "refused in turn", CALL, HERE, WHOLE, DEVICE, PASSED, FAILED, CLOCK, PROCESSOR)
-# in these tests a device fails too, and the run may end with that fault. Either a buffer without memory first writes its
-# waiting bytes to the device, or standard error is full and the line about memory is lost
+# in these tests a device fails too, and the run may end with that fault: either a buffer that gets no memory writes its waiting
+# bytes to the failing device, or standard error is full and the line about memory is lost
 DEVICE_FAILS_TOO = {
     "merge_tests tests::written::writers::a_writer_may_stop_about_a_chunk",
     "merge_tests tests::sources::sources_are_written_up_to_a_place",
@@ -64,7 +65,7 @@ DEVICE_FAILS_TOO = {
     "command_tests tests::run::a_full_device_ends_the_run",
     "command_tests tests::run::an_output_that_failed_is_not_flushed",
 }
-# the tests of these crates read reports or command lines, so a cache or clap's search for similar words may do without memory
+# the tests of these crates read reports or command lines, and reading succeeds if only a cache or clap's search gets no memory
 READ_REPORTS = {"report_tests", "merge_tests", "command_tests"}
 
 # a test, or the program on a command line; `whole` is the program's result when nothing is refused, and None for a test
@@ -75,7 +76,7 @@ Counted = collections.namedtuple("Counted", "requests seconds wrong")
 
 
 class NotBuilt(Exception):
-    """Something is missing or too old."""
+    """The program, a crate's tests or cc are missing, or a built file is older than its sources."""
 
 
 def crate_names():
@@ -118,8 +119,8 @@ def build_library(room):
 
 
 def run(library, subject, number):
-    """Runs a subject in a new folder with this request refused; 0 refuses none. In the result, `requests` is None if the
-    subject did not exit normally."""
+    """Runs a subject in a new folder, and refuses the request with this number; 0 refuses none. In the result, `requests` is
+    None if the subject did not exit normally."""
     with tempfile.TemporaryDirectory(prefix="refused-") as room:
         os.makedirs(f"{room}/here/out")
         around = {**os.environ, "LD_PRELOAD": library, "REFUSE": str(number), "REFUSE_TOLD": f"{room}/told"}
@@ -216,7 +217,7 @@ def count_requests(task):
 
 
 def numbers_of(counted):
-    """Returns the requests to refuse in turn, and a line that describes them if they are not all."""
+    """Returns the numbers of the requests to refuse in turn, and a line that describes them if some requests are left out."""
     requests = counted.requests
     if requests > MOST:
         return spread(requests, FEW)
@@ -241,8 +242,8 @@ def shared_out(library, subject, numbers):
 
 
 def sweep(pool, library, subjects):
-    """Refuses the requests of each subject. Returns the row of the table, the faults, and a line for each subject if not all
-    of its requests were refused."""
+    """Refuses the requests of each subject. Returns the row of the table, the faults, and a line for each subject whose
+    requests were not all refused."""
     started = time.monotonic()
     all_counted = pool.map(count_requests, [(library, subject) for subject in subjects], 1)
     wrong = [line for counted in all_counted for line in counted.wrong]
@@ -298,7 +299,7 @@ def write_inputs(room):
     long_report(room)
 
 
-# command lines: @ marks a file in examples/, % a file that the script writes, and < the standard input
+# command lines: @ marks a file in examples/, % a file that the script writes, and < the standard input; %none is a missing file
 LINES = """
  < %bundle
  < %bad_sheet

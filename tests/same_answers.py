@@ -3,9 +3,9 @@
 
     [CASES=20000] [SEED=1] [JOBS=N] tests/same_answers PROGRAM OTHER
 
-The reports are drawn and broken as in tests/malformed; about one in four is long enough to be read in pieces. Each run of
-`merge` reads a sheet and at most a hundred reports. Both programs must end with the same status, 0 or 1, and print the same
-bytes and lines. So each refusal has the same reason and place.
+The reports are drawn and broken as in tests/malformed; one in twenty has more than one piece, and one in five is read whole.
+Each run of `merge` reads a sheet and at most a hundred reports. Both programs must end with the same status, 0 or 1, and print
+the same bytes and lines. So each refusal has the same reason and place.
 
 Status 0: all is as expected. 1: something is not; the files of each batch with a fault are kept, and the first 20 faults are
 printed with the seed. 2: a program cannot be executed.
@@ -24,17 +24,17 @@ import time
 os.environ.setdefault("CASES", "20000")
 import malformed  # noqa: E402  it reads CASES
 
-# reports in one merge, and the most seconds it may take
+# the number of reports in one merge, and the most seconds that a merge may take
 BATCH, LIMIT = 100, 120
 
 
 def drawn(chance):
-    """Draws a report. Nine in ten reports are broken, and one in five ends with so many spaces that it is read in pieces."""
+    """Draws a report. Nine in ten reports are broken, and one in five gets the extension of `malformed.read_whole`."""
     short = malformed.drawn_report(chance)
     text = malformed.drawn_long(chance) if chance.random() < 0.05 else short
     if chance.random() < 0.9:
         text = malformed.broken(chance, text, short)
-    return text + b" " * malformed.IN_PIECES * (chance.random() < 0.2)
+    return malformed.read_whole(text) if chance.random() < 0.2 else text
 
 
 def answer(program, names):
@@ -43,7 +43,7 @@ def answer(program, names):
 
 
 def play(task):
-    """Runs a batch. Returns the counts of refused, accepted and long reports, and a line if the programs differ or fail."""
+    """Runs a batch. Returns the counts of refused and accepted reports, and a line if the programs differ or fail."""
     programs, number, count = task
     chance = random.Random(f"{malformed.SEED} of {number}")
     room = tempfile.mkdtemp(prefix="same-answers-")
@@ -54,7 +54,7 @@ def play(task):
         malformed.write(name, drawn(chance))
     one, other = (answer(program, names) for program in programs)
     refused = one[2].count(b"\n")
-    counts = collections.Counter(refused=refused, accepted=count - refused, long=sum(os.path.getsize(it) >= malformed.IN_PIECES for it in names))
+    counts = collections.Counter(refused=refused, accepted=count - refused)
     os.chdir("/")
     if one == other and one[0] in (0, 1):
         shutil.rmtree(room)
@@ -79,7 +79,7 @@ def main():
             wrong += told
     print(*wrong[:20], sep="\n", end="\n" * bool(wrong))
     print(f"tests/same_answers: {malformed.CASES} reports with SEED={malformed.SEED}, {len(wrong)} batches with different results, in "
-          f"{time.monotonic() - started:.0f} seconds: {counts['accepted']} accepted, {counts['refused']} refused, {counts['long']} long")
+          f"{time.monotonic() - started:.0f} seconds: {counts['accepted']} accepted, {counts['refused']} refused")
     return 1 if wrong else 0
 
 
