@@ -54,7 +54,7 @@ class Hostile(ToolTest):
         self.sheet, self.near = self.write("sheet.json", json.dumps(SHEET)), self.place("near.csv")
 
     def words(self, facts, is_near=False, providers="ab"):
-        """Writes a merged text of the facts, its verdicts and its sources. The providers take turns row by row. Returns the
+        """Writes a merged text of the facts, its verdicts and its sources. The providers report the rows in turn. Returns the
         arguments of a run."""
         names = [f"f{rank:0{len(str(len(facts)))}}" for rank in range(1, len(facts) + 1)]
         tree = {"documentInfo": {"namespaces": URIS}, "facts": dict(zip(names, facts))}
@@ -84,10 +84,11 @@ class Hostile(ToolTest):
                 self.assertLess(in_process.growth(run, size), 9)
 
     def kept_words(self, facts, is_near):
-        """Returns the arguments of a run on copies of the inputs, which the next call does not overwrite."""
+        """Returns the arguments of a run on copies of the inputs. Calls with inputs of other sizes do not overwrite them."""
         words = self.words(facts, is_near)
+        size = len(content(self.place("merged.json")))
         for name in ("merged.json", "lines", "sources"):
-            kept = self.write(f"{len(facts)}.{len(content(words[1]))}.{name}", content(self.place(name)))
+            kept = self.write(f"{len(facts)}.{size}.{name}", content(self.place(name)))
             words = [kept if word == self.place(name) else word for word in words]
         return words
 
@@ -107,9 +108,9 @@ class Hostile(ToolTest):
         status, told = in_process.run(contradictions, *self.words(facts, is_near=True))
         pairs = {tuple(row["fact"] for row in pair) for pair in zip(*[iter(self.rows_near())] * 2)}
         self.assertEqual(status, 1)
-        self.assertIn("contradictions: --near: 3950 pairs of rows were not compared", told)  # of 100 * 99 / 2 pairs
+        self.assertIn("contradictions: --near: 3950 pairs of rows were not compared", told)  # of 4950; 1000 are compared
         distances = {int(two[1:]) - int(one[1:]) for one, two in pairs}
-        self.assertEqual(distances, {1, 3, 5, 7, 9, 11})  # the nearest rows; at an even distance, the provider is the same
+        self.assertEqual(distances, {1, 3, 5, 7, 9, 11})  # only near rows; rows at an even distance share a provider
         self.assertLess(len(pairs), 1_001)
 
     def test_as_many_pairs_as_are_compared_are_all_listed(self):
