@@ -43,7 +43,7 @@ enum {
                                     the duplicates exceed `allow`, `needed` is 0, and only `refusals` is too short */
     XBRLMERGE_SHEET_REFUSED = 4, /* the sheet is refused: `needed` is the number of its refusal (xbrlmerge_check sets
                                     `refusal` instead) */
-    XBRLMERGE_NO_MEMORY = 5,     /* memory was refused: nothing has changed */
+    XBRLMERGE_NO_MEMORY = 5,     /* out of memory: nothing has changed */
     XBRLMERGE_BAD_ENDS = 6,      /* an end is less than the end before it, or beyond the reports: nothing has changed */
     XBRLMERGE_BAD_LEVEL = 7      /* `allow` is not a level: nothing has changed */
 };
@@ -67,7 +67,7 @@ typedef struct {
 typedef struct {
     uint64_t facts;     /* the number of the report's facts, repeats included */
     uint32_t level;     /* the strictest level that the facts satisfy: XBRLMERGE_ALLOW_NONE to _ALL */
-    uint32_t canonical; /* 1 if the report's bytes are the canonical text of its facts and references, otherwise 0 */
+    uint32_t canonical; /* 1 if the report's bytes are the canonical text of its facts and taxonomy references, else 0 */
 } xbrlmerge_checked;
 
 /* Merges reports, as `merge --allow` does. The canonical text is written to the start of `out`, without a NUL or a line
@@ -91,7 +91,7 @@ uint32_t xbrlmerge_sources(const uint8_t *sheet, size_t sheet_length, const uint
                            const size_t *ends, size_t ends_length, uint8_t *out, size_t out_length, size_t *needed,
                            xbrlmerge_refusal *refusals, size_t refusals_length, size_t *refused);
 
-/* Two calls that do the same as xbrlmerge_verdicts and xbrlmerge_sources, but `out` gets what `--format json` prints: one
+/* Two calls that do the same as xbrlmerge_verdicts and xbrlmerge_sources, but `out` gets the output of `--format json`: one
    JSON object per line. */
 uint32_t xbrlmerge_verdicts_json(const uint8_t *sheet, size_t sheet_length, const uint8_t *reports, size_t reports_length,
                                  const size_t *ends, size_t ends_length, uint8_t *out, size_t out_length, size_t *needed,
@@ -102,8 +102,8 @@ uint32_t xbrlmerge_sources_json(const uint8_t *sheet, size_t sheet_length, const
 
 /* Checks one report, as `check` does. If the report is accepted (XBRLMERGE_DONE), only `checked` is set. If the report is
    refused (XBRLMERGE_REFUSED), only `refusal` is set, with the report number 1. If the sheet is refused
-   (XBRLMERGE_SHEET_REFUSED), only `refusal` is set, with the report number 0. If memory was refused, neither `checked` nor
-   `refusal` is set. */
+   (XBRLMERGE_SHEET_REFUSED), only `refusal` is set, with the report number 0. If memory runs out (XBRLMERGE_NO_MEMORY),
+   neither `checked` nor `refusal` is set. */
 uint32_t xbrlmerge_check(const uint8_t *sheet, size_t sheet_length, const uint8_t *report, size_t report_length,
                          xbrlmerge_checked *checked, xbrlmerge_refusal *refusal);
 

@@ -1,4 +1,4 @@
-"""Builds the wheel from the module and the shared library that ./build --library makes. The backend needs no Python package."""
+"""Builds the wheel from the module and the shared library that ./build --library makes. Building needs no Python package."""
 import base64
 import glob
 import hashlib
@@ -9,7 +9,7 @@ from typing import Dict, Tuple
 
 HERE = os.path.dirname(os.path.abspath(__file__))
 LIBRARY = os.path.join(HERE, "..", "lib", "libxbrlmerge.so")
-# the C library and the dynamic linker; the tag is linux if the shared library needs another library
+# the C library and the dynamic linker
 SYSTEM = {b"libc.so.6", b"ld-linux-x86-64.so.2"}
 # the oldest minor version of the C library that a manylinux tag can name
 OLDEST = 5
@@ -25,8 +25,8 @@ def _project(key: str) -> str:
 
 
 def _platform(library: bytes) -> str:
-    """Returns the platform tag: manylinux with the newest version of the C library that the shared library needs. The tag is
-    linux if the shared library needs another library, or if no version is found."""
+    """Returns the platform tag: manylinux with the newest version of the C library that the shared library needs, but at least
+    2.5. The tag is linux if the shared library needs a library that SYSTEM lacks, or if no version is found."""
     minors = [int(it) for it in re.findall(rb"GLIBC_2\.(\d+)", library)]
     is_plain = set(re.findall(rb"\x00([\w+.-]*\.so[.\d]*)(?=\x00)", library)) - {b"libxbrlmerge.so"} <= SYSTEM
     return f"manylinux_2_{max([OLDEST, *minors])}_x86_64" if is_plain and minors else "linux_x86_64"

@@ -124,7 +124,7 @@ static void tell_refusal(const xbrlmerge_refusal *row) {
 }
 
 /* Makes the call with empty buffers. If these are too short, makes the call again with one byte too few, with one row too few,
-   and with enough bytes and rows. Returns buffers that are long enough. */
+   with more bytes and rows than needed, and with just enough. Returns buffers that are long enough. */
 static struct room short_rooms(const struct asked *asked) {
     struct room none = make_room(0, 0);
     uint32_t status = call(asked, &none);

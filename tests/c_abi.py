@@ -7,8 +7,8 @@ The script checks libxbrlmerge.so and libxbrlmerge.a, which ./build --library wr
 include/xbrlmerge.h and no other names. The types in the header must agree with crates/xbrlmerge_c. Then the script builds
 tests/c_abi.c with each library and makes each call on the examples. The texts, lines and statuses must equal xbrlmerge's.
 For a refused sheet, only the number of the refusal is compared. With the static library, each request for memory in these
-calls is also refused in turn. Other calls have buffers that are too short, wrong ends of reports, an unknown level or lengths
-of 0. The header is compiled as C and, if g++ is installed, as C++.
+calls is also refused in turn. Other calls pass buffers that are too short, ends of reports that are out of range or out
+of order, an unknown level, or lengths of 0. The header is compiled as C and, if g++ is installed, as C++.
 
 Status 0: all is as expected. 1: something differs; each difference is printed. 2: a library or the program is not built, or gcc
 is not installed.
@@ -118,7 +118,7 @@ def lines(text):
 
 
 def compare(program, callers, words, files):
-    """Makes a call with each C program, and compares its result with xbrlmerge's. The C program's NAME-json is xbrlmerge's
+    """Makes a call with each C program, and compares its result with xbrlmerge's. In the C program, NAME-json means
     `NAME --format json`."""
     name, *rest = words
     command, _, in_json = name.partition("-")

@@ -4,9 +4,9 @@
     tests/devices [PROGRAM]
 
 By default, PROGRAM is $XBRLMERGE or, if that is not set, the built program. The tables below list the expected status and line
-for most cases; the functions contain those for the other cases. If the line contains a number of bytes, standard output must
-have accepted exactly that many bytes from the start of the text. Otherwise standard output must contain all of the text or
-nothing. No input file may change.
+for most cases; the functions contain the rest. If the line contains a number of bytes, standard output must have accepted
+exactly that many bytes from the start of the text. Otherwise standard output must contain all of the text or nothing. No input
+file may change.
 
 Status 0: all cases are as expected. 1: some are not; each is printed. 2: there is no program.
 """
@@ -28,8 +28,8 @@ from support import built_program, bytes_of
 NOBODY, LIMIT, ENDLESS_LIMIT = 65534, 20, 180
 # the fcntl command that returns the size of a pipe; Python has a name for it since 3.10
 PIPE_SIZE = 1032
-# in kilobytes. With LITTLE address space, an endless file exhausts memory, but the other files do not. If less than MUCH memory
-# is free, the cases of kind `endless` are skipped
+# both in kilobytes. With LITTLE address space, an endless file exhausts memory, but the other files do not. If less than MUCH
+# memory is free, the cases of kind `endless` are skipped
 LITTLE, MUCH = 150_000, 6_000_000
 
 GOOD, REFUSED, NOTHING_TAKEN = (0, ""), (1, "report 2: 1 NotJson at document\n"), (3, "device: 0 bytes written\n")
@@ -69,7 +69,7 @@ FILES = {
     "endless": (LENGTH, LENGTH, LENGTH),
 }
 # command lines in which `strange` is the sheet, the events or a report. Reading an `endless` file is slow, so only the first
-# command line in each list is run with one
+# command line in each list reads one
 PLACES = {
     "sheet": ("check --sheet strange report", "merge --sheet strange report", "verdicts --sheet strange report",
               "replay --sheet strange --replicas 2 --events events report"),
@@ -106,7 +106,7 @@ def contents():
 
 
 class Room:
-    """A folder with the program and the files that it reads, which must not change."""
+    """A folder with the program and its input files. No input file may change."""
 
     def __init__(self, program, folder):
         self.folder, self.contents, self.count, self.wrong, self.left_out = folder, contents(), 0, [], []
@@ -175,8 +175,8 @@ def waiting(pipe):
 
 
 def take_five(child, reader):
-    """Reads 5 bytes, waits until the pipe is full or the program has ended, and closes the pipe. Returns these bytes, and how
-    many bytes the program had written to the pipe.
+    """Reads 5 bytes, waits until the pipe is full, the program has ended or LIMIT seconds have passed, and closes the pipe.
+    Returns the 5 bytes, and the number of bytes that the program had written to the pipe.
     """
     front, end = b"", time.monotonic() + LIMIT
     while len(front) < 5 and (more := os.read(reader, 5 - len(front))):
@@ -198,8 +198,8 @@ def take_late(child, reader):
 
 
 def run_with_pipe(room, words, take, waits):
-    """Runs the program with a pipe as standard output. Without `take`, the reading end is closed first. Returns the result with
-    the bytes that were read, and the number of bytes that the pipe took.
+    """Runs the program with a pipe as standard output. Without `take`, the reading end is closed first. Without `waits`, the
+    pipe does not block. Returns the result with the bytes that were read, and the number of bytes that the pipe accepted.
     """
     reader, writer = os.pipe()
     os.set_blocking(writer, waits)
@@ -219,7 +219,8 @@ def run_with_pipe(room, words, take, waits):
 
 
 def compare_pipes(room):
-    """Tests three pipes: one is closed before it is read, one is closed after 5 bytes, and one is full and does not block."""
+    """Tests three pipes: one is closed at the start, one is closed after 5 bytes, and one that does not block is read only after
+    the program ends."""
     for words, (ends, stopped) in WORDS.items():
         whole = room.whole[words].out
         ran, _ = run_with_pipe(room, words, None, True)
@@ -262,7 +263,7 @@ def remove(room, writer):
 
 
 def run_strange(room, kind, words):
-    """Runs the program on the file, or, without arguments, on an endless standard input."""
+    """Runs the program on the file `strange`. Without arguments, the program reads an endless standard input instead."""
     given = "" if words else "</dev/zero"
     if kind == "endless, little memory":
         return room.run(words, given, ("sh", "-c", f'ulimit -v {LITTLE}; exec "$@"', "sh"), ENDLESS_LIMIT)
@@ -275,7 +276,8 @@ def run_strange(room, kind, words):
 
 def compare_file(room, kind, name, words, ends):
     """Runs the program on a file of this kind. If status 3 is expected, the output must be empty. Otherwise it must equal
-    the output for a regular file of the same content. Half a report is compared with an empty one, since both are refused."""
+    the output for a regular file of the same content. Half a report is compared with an empty report, since the program
+    refuses both."""
     writer = make(room, kind, name)
     try:
         ran = run_strange(room, kind, words)

@@ -42,7 +42,7 @@ FIELD_TOKEN = re.compile(rf"\n\s+(?:pub )?\w+ :|{TOKEN.pattern}")
 
 
 def imports_of(text):
-    """Returns the module and the original name for each imported name."""
+    """Returns the module and the original name of each imported name. The original name of a module is None."""
     found = {}
     for module, names, alias in USE.findall(text):
         for name in filter(None, (it.strip() for it in names.split(","))):
@@ -54,7 +54,7 @@ def imports_of(text):
 
 
 def pieces(text):
-    """Yields, for each definition of a file in order, its name, the other names that it owns, and its text.
+    """Yields each definition of a file in order: its name, the other names that it owns, and its text.
 
     A `data` definition owns its constructors. A mutual definition is listed under its first name, and owns its other names.
     A record does not own its fields.
@@ -94,8 +94,8 @@ class Specs:
                 self.types.setdefault((crate, name), path)
 
     def owner(self, path, word):
-        """Returns the definition, type or limit that a word in a file means. Returns the full name of a word of the kit, and None
-        for other words."""
+        """Returns the definition, type or limit that a word in a file means. For a word of the kit, returns its full name; for
+        other words, returns None."""
         word, *rest = word.split(".")
         if (path, word) in self.owners:
             return self.owners[path, word]
@@ -137,9 +137,9 @@ def of_code(path, name):
 
 
 def free_words(code, bound, is_record=False):
-    """Returns the free words of a clause or a record.
+    """Yields the free words of a clause or a record.
 
-    λ, let, and (x : T) bind up to the end of the brackets around them; a field of a record binds in the fields after it.
+    λ, let and (x : T) bind a name up to the end of the surrounding brackets. A record field binds its name in the later fields.
     """
     scopes, opened, lets, field = [set(bound)], [], [], None
     for token in (FIELD_TOKEN if is_record else TOKEN).findall(re.sub(r"([{;]\s*)\w+ = ", r"\1", code)):
@@ -168,7 +168,7 @@ def without_comments(text):
 
 
 def defined_words(specs, path, name):
-    """Returns the free words of a definition. In a pattern only constructors are free; all other words are bound."""
+    """Yields the free words of a definition. In a pattern only constructors are free; all other words are bound."""
     code = without_comments(specs.texts[path, name])
     heads = "|".join(map(re.escape, specs.names[path, name]))
     indent = re.search(r"^( *)(?!abbrev mutual)\S", code, re.MULTILINE)[1]
@@ -197,8 +197,8 @@ def needs(specs, path, name):
 
 
 def closure(specs, root, stops=()):
-    """Returns the names that a contract or a definition depends on, except the kit's. Each name follows the names that it
-    depends on. Names in `stops` are returned, but not followed."""
+    """Returns the names that a contract or a definition depends on, except the kit's. Each name is listed after the names that
+    it depends on. Names that only names in `stops` depend on are left out."""
     order, seen = [], {root}
 
     def follow(item):
@@ -238,8 +238,8 @@ class Page:
         self.stops = {*self.words, *self.tabled, *({*before.there, *before.words}.difference(self.there) if before else ())}
 
     def needed(self):
-        """Returns the names that the page's contracts need, each after the names that it depends on. Names in `stops` are
-        returned, but not followed."""
+        """Returns the names that the page's contracts need, each after the names that it depends on. Names that only names in
+        `stops` depend on are left out."""
         found = (it for root in self.contracts for it in closure(self.specs, root, self.stops))
         return [it for it in dict.fromkeys(found) if it not in self.contracts]
 
@@ -303,8 +303,7 @@ def word_problems(page, entries):
 
 
 def tested_on(page):
-    """Returns, for each reason that a listed definition tests, what it is tested on: the sheet, the document, a fact or
-    several of these."""
+    """Returns what each reason is tested on in the listed definitions: the sheet, the document, a fact or several of these."""
     found = {}
     for path, name in (it for it in page.there if "holds" in it[1] and it[0].endswith(".antt")):
         thing = next((it for it in ("sheet", "document") if it in name), "fact")

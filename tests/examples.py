@@ -11,13 +11,14 @@ named, examples/embed/main.txt is skipped. The script compares
 - each page in PAGES with the results of its commands. The blocks of a page run in order, by `sh` and then by `bash`, in a
   folder with the repository's files except crates/. The commands must not add or remove a file there. The last command of a
   block must return the status that the paragraph before the block names, or 0; all other commands must return 0. If a block of
-  output follows, it must equal standard output and then standard error; ` ..` at the end of a line matches the rest. If no
-  output follows, standard error may contain only lines about refused reports, too loose rows and refused events. `./build && `
-  at the start of a block is removed. A block with another command that proves (`rt`, ./build, the gate) is skipped;
+  output follows, it must equal the standard output of all commands, and then their standard error. If a shown line ends with
+  ` ..`, the rest of the printed line may be anything. If no output follows, standard error may contain only lines about refused
+  reports, too loose rows and refused events. `./build && ` at the start of a block is removed. A block with another command
+  that proves (`rt`, ./build, the gate) is skipped;
 - each fact that docs/GUIDE.md shows in JSON with the facts in examples/. Sheets that the guide shows must be accepted;
-- the sheet that tools/contradictions makes from a taxonomy package with tests/normalise/vendors/sheet.json. The tool also
-  normalises three reports in that folder; one stays refused. The merged text must equal a merge of the expected results for
-  the other two;
+- tests/normalise/vendors/sheet.json with the sheet that tools/contradictions makes from a taxonomy package. The tool also
+  normalises three reports in that file's folder; one stays refused. The merged text must equal a merge of the expected results
+  for the other two;
 - the commands in the man pages and in the program's help, like those of a page that shows no output;
 - each example in docs/REFUSALS.md with the line that the program prints for it.
 
@@ -85,7 +86,7 @@ def build(crate):
 
 
 def copied_libraries(room):
-    """Copies the libraries with their proofs to a folder, and returns their lines of crates.txt."""
+    """Copies the libraries and their proofs to a folder, and returns the lines of crates.txt for them."""
     lines = [it for it in content("crates.txt").splitlines() if it[:1] not in ("", "#")]
     # no crate depends on a program, on a static library or on tests
     lines = [it for it in lines if it.partition(":")[0] != os.path.basename(CRATE) and not re.match(r"\w+?( staticlib|_tests):", it)]
@@ -99,7 +100,7 @@ def copied_libraries(room):
 
 
 def pieces():
-    """Returns the files of a crate in which each piece of code of docs/LIBRARY.md is a module."""
+    """Returns the files of a crate that has a module for each block of Rattle code in docs/LIBRARY.md."""
     found = re.findall(r"^```rust\n(.*?)^```$", content("docs/LIBRARY.md"), re.MULTILINE | re.DOTALL)
     files = {f"piece{place}.rt": piece for place, piece in enumerate(found, 1)}
     modules = "".join(f"pub mod piece{place};\n" for place in range(1, len(found) + 1))
@@ -128,8 +129,8 @@ def build_embedded(room):
 
 
 def whole_lines(text):
-    """Returns the lines of a text that are not empty, without spaces around them. A backslash at the end of a line
-    joins the line to the next one."""
+    """Returns the lines of a text that are not empty, without spaces around them. A line that ends with a backslash continues
+    on the next line."""
     return [it.strip() for it in re.sub(r"\\\n *", "", text).splitlines() if it.strip()]
 
 
@@ -154,7 +155,7 @@ def of_page(name):
         shown = None
         if place + 1 < len(fences) and fences[place + 1].group(1) == "":
             between = text[fence.end() : fences[place + 1].start()].strip()
-            # at most one paragraph may separate commands from their output
+            # at most one paragraph, and no heading or table, may separate commands from their output
             shown = fences[place + 1].group(2).splitlines() if not re.search(r"\n\n|^[#|]", between) else None
         yield whole_lines(fence.group(2).removeprefix(BUILDS)), status_before(text[: fence.start()], "\n\n"), shown
 
@@ -191,7 +192,8 @@ def run_lines(shell, lines, room):
 
 
 def is_as_shown(shown, printed):
-    """Returns whether the printed lines match the shown ones. ` ..` at the end of a shown line matches any rest."""
+    """Returns whether the printed lines match the shown ones. If a shown line ends with ` ..`, the rest of the
+    printed line may be anything."""
     return len(shown) == len(printed) and all(
         there.startswith(line[: -len(CUT)]) if line.endswith(CUT) else there == line for line, there in zip(shown, printed)
     )
@@ -281,7 +283,7 @@ def compared(program):
 
 
 def declares(program, merged):
-    """Returns the faults of the merged text: it must declare the strictest level, and otherwise equal the earlier text.
+    """Returns the faults of the merged text: it must declare the level `all`, and otherwise equal the earlier text.
     A text that declares a stricter level must be refused."""
     rest = merged
     for part in DECLARED:
@@ -293,7 +295,7 @@ def declares(program, merged):
 
 
 def embedded(program):
-    """Compares the output of the example of embedding with the files beside the examples."""
+    """Compares the output of the example in examples/embed with the files beside the reports in examples/."""
     merged, refused = content(f"examples/{MERGED}"), content("examples/refused.txt")
     checked = [it.split()[1:3] for it in content("examples/checked.txt").splitlines()[: len(GOOD)]]
     lines = "".join(f"{facts} facts, {level}\n" for facts, level in checked)
@@ -322,7 +324,7 @@ def page_of_vendors(program):
 
 
 def by_hand(program, merged):
-    """Lets two offices exchange files. Returns a line unless both offices then have the merged text and nothing was printed."""
+    """Lets two offices exchange files. Returns a line if an office then lacks the merged text, or if anything was printed."""
     with tempfile.TemporaryDirectory() as room:
         ran = subprocess.run([os.path.join(TOP, "examples", "offices", "by_hand"), room], capture_output=True, text=True,
                              env={**os.environ, "XBRLMERGE": program})
@@ -347,7 +349,7 @@ def make_top(program, room):
 
 
 def told(program, embed):
-    """Makes all comparisons. Returns the differences, and a text with the numbers of commands and of examples of refusals."""
+    """Makes all comparisons. Returns the differences, and a text that counts the commands and the examples of refusals."""
     wrong, ran = compared(program) + (embedded(embed) if embed else []) + fragments(program) + page_of_vendors(program), 0
     places = {**{it: list(of_page(it)) for it in PAGES}, "the man pages": list(of_man_pages()), "the help": of_help(program)}
     with tempfile.TemporaryDirectory() as room:

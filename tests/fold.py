@@ -57,7 +57,7 @@ def fact(chance, prefix):
         return {"dimensions": dimensions, "value": f"{prefix}:B" if concept[0] == "N" else text}
     dimensions["unit"] = chance.choice(["c:EUR", "c:EUR/x:shares"])
     made = {"dimensions": dimensions, "value": f"{chance.randint(980, 1020)}.{chance.randint(0, 9)}0"}
-    # decimals: mostly near the digits in which values differ, so that some facts agree and others do not; otherwise from -18 to 18
+    # four in five decimals are -2 to 1, near the digits in which values differ, so only some facts agree; the rest are -18 to 18
     places = chance.randint(-2, 1) if chance.random() < 0.8 else chance.randint(-18, 18)
     return {**made, "decimals": places} if chance.random() < 0.8 else made
 
@@ -116,7 +116,7 @@ def compare(told, done, out, wanted):
 
 
 def made_again(width, told, branches):
-    """Runs make again, and checks that exactly this many branches are rebuilt and that the text equals the text of one run."""
+    """Runs make again. It must rebuild exactly this many branches, and its text must equal the text of one run."""
     done = make(width)
     compare(told, done, f"out{width}.json", one_run())
     check(done.stdout.count("merging branch") == branches, f"{told}: made {done.stdout.split()}")
@@ -129,7 +129,7 @@ def late_reports(width):
     changes = sum(one != other for one, other in zip(names, names[1:]))
     check(len(names) == COUNT and changes == len(set(names)) - 1, "reports with similar names are in several branches")
     write("in/late one.json", report(random.Random("late"), 0))
-    os.utime("in/late one.json", (1, 1))  # its modification time is long ago
+    os.utime("in/late one.json", (1, 1))  # an old time, so that make cannot find the new report by its time
     made_again(width, "a late report", 1)
     write("in/late one.json", report(random.Random("later"), 1))
     made_again(width, "a changed report", 1)
@@ -139,7 +139,7 @@ def late_reports(width):
 
 
 def nodes():
-    """Checks nodes that succeed and nodes that fail, and that no fold uses a broken text of a branch."""
+    """Checks nodes that succeed and nodes that fail. A fold must fail if the text of a branch is broken."""
     node, out = os.path.join(FOLD, "merge_files"), "node.json"
     check(run(node, "sheet.json", out, *paths()[:9]).returncode in (0, 1) and os.path.exists(out), "a node does not make its text")
     wrong = {"sheet": (paths()[0], out, paths()[0]), "file": ("sheet.json", out, "in/none.json"), "usage": ("sheet.json",)}

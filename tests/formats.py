@@ -9,7 +9,7 @@ output must be the same, byte for byte. `--format lines` must print the same as 
 at the start of a value or an identifier. It must add a ' there if tools/contradictions does, unless the text is a number or
 begins with a '.
 
-Status 0: all is as expected. 1: something is not. 2: the program is not built.
+Status 0: all is as expected. 1: something is not. 2: there is no program.
 """
 import csv
 import io
@@ -135,8 +135,8 @@ def sources_of(lines):
 
 
 def is_guarded(plain, guarded):
-    """Returns whether the cells differ only by a ' at the start of values and identifiers. There must be a ' if a spreadsheet
-    would read the cell as a formula, unless the cell is a number or begins with a ' already."""
+    """Returns whether the cells differ only by a ' at the start of values and identifiers. There must be a ' if
+    tools/contradictions adds one, unless the cell is a number or begins with a '."""
     one, two = (list(csv.reader(io.StringIO(text, newline=""))) for text in (plain, guarded))
     numeric = {"decimals", "common_low", "common_high"}
     for cells, others in zip(one, two):

@@ -4,9 +4,9 @@
     bash .ci/run 2>&1 | tests/gate_times | tee FILE     prints each line with the seconds since the start, then the table
     tests/gate_times FILE                               prints the table in FILE again
 
-A part is the proof of a crate, the proof of its tests, its must-fail edits or its runs. The processes are sampled twice a
-second to find when a part begins and ends; 'processor' is the sum of the part's seconds on all processors. Runs are
-not sampled: their times are taken from the lines of the gate, and 'processor' is 0. In the first form, the status is 0 if M
+A part is the proof of a crate, the proof of its tests, the checks of its must-fail edits, or its runs. The script samples the
+processes twice a second to find when a part begins and ends. 'processor' is the sum of the part's seconds on all processors.
+Runs are not sampled: the script times them by the gate's lines, and 'processor' is 0. In the first form, the status is 0 if M
 is 0 in the gate's last line `N passed, M failed`, otherwise 1. In the second form, the status is 0, or 2 if FILE has no table.
 """
 import os
@@ -18,7 +18,7 @@ import time
 PARTS = ("proof", "tests", "edits", "runs")
 HEAD = f"{'crate':<14}{'part':<7}{'from':>8}{'to':>8}{'seconds':>9}{'processor':>11}"
 TICKS = os.sysconf("SC_CLK_TCK")
-# lines that the gate prints when a program or the tests of a crate have run; these runs come last, one after another
+# lines that the gate prints after each run of a program or of a crate's tests; the gate makes these runs last, one at a time
 RUN = re.compile(r"(?:rt: )?(\w+) ran[ ,(]|(?:rt: )?(\w+): its tests (?:passed|FAILED)")
 ENDED = re.compile(r"\d+ passed, (\d+) failed")
 
@@ -83,7 +83,7 @@ class Watch(threading.Thread):
     def look(self, there, now):
         roots, under = writers(self.pipe), {}
         for pid in there:
-            # the topmost check among this process and those above it, if the process belongs to the run
+            # count a process of the run for the first check on the way down from the root to the process
             line, at = [], pid
             while at in there and at not in roots and len(line) < 64:
                 line.append(at)
@@ -107,8 +107,8 @@ class Watch(threading.Thread):
 
 
 def table(watch, runs, whole):
-    """Returns the lines of the table: for each part and for the whole run its start, end, elapsed time and processor time, in
-    seconds. Crates are in the order in which they began."""
+    """Returns the lines of the table: the start, end, elapsed time and processor time of each part and of the whole run, in
+    seconds. The last line has the totals in minutes. Crates are in the order in which they began."""
     rows = {key: (*span, sum(watch.spent[key].values())) for key, span in watch.spans.items()}
     rows.update({(crate, "runs"): (*span, 0) for crate, span in runs.items()})
     crates = sorted({key[0] for key in rows}, key=lambda it: min(rows[key][0] for key in rows if key[0] == it))

@@ -47,7 +47,7 @@ def expect(holds, told):
 
 
 def number(chance):
-    """Draws a value and its decimals: mostly a value near one hundred, otherwise any decimals from -18 to 18."""
+    """Draws a value and its decimals. Most values are near one hundred; the others have decimals from -18 to 18."""
     if chance.random() < 0.7:
         return {"value": str(chance.randint(98, 102)), "decimals": chance.randint(-1, 0)}
     places, times = chance.randint(-18, 18), chance.randint(1, 3)
@@ -134,7 +134,7 @@ class Schedule:
         return run(self.program, "merge", "--sheet", "sheet.json", "--", *files)
 
     def present(self, office):
-        """Returns the text of an office. If the office has none, a text without facts is written for it first."""
+        """Returns the text of an office. If the office has none, writes a text without facts for it first."""
         if not os.path.exists(f"{office}/merged.json"):
             status, text, lines = self.merge()
             expect((status, lines) == (0, ""), f"a merge of no report ends with {status}: {lines}")
@@ -142,8 +142,8 @@ class Schedule:
         return bytes_of(f"{office}/merged.json")
 
     def merged_with(self, office, file, is_refused):
-        """Merges a file into the text of an office. `is_refused` is whether the file must be refused. A refused file must not
-        change the text."""
+        """Merges a file into the text of an office. If `is_refused` is true, the file must be refused, and the text must not
+        change."""
         before = self.present(office)
         status, text, lines = self.merge(f"{office}/merged.json", file)
         found = REFUSED.fullmatch(lines)

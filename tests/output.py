@@ -1,5 +1,5 @@
 #!/usr/bin/env python3
-"""Checks `--output` if a call that writes the file fails, and if the run is killed at that call. Not part of the gate.
+"""Checks `--output` when a call that writes the file fails, and when the run is killed at that call. Not part of the gate.
 
     tests/output [PROGRAM]
 

@@ -4,13 +4,14 @@
     [XBRLMERGE=PROGRAM] tests/page [PICTURE.png]
 
 The script runs the tool on examples/ with the built program. The page that the browser shows must contain each contradiction.
-In the light and the dark theme, the background, the values and the gaps of the number lines must have their colours. If this
-page is as expected, a picture of it in the light theme is written to PICTURE.png; docs/contradictions.png is made this way.
+In the light and the dark theme, the background, the values and the gaps of the number lines must have the theme's colours. If
+this page is as expected, the script writes a picture of it in the light theme to PICTURE.png. docs/contradictions.png is made
+this way.
 
 On 11,000 contradictions that the script generates, the tool may take at most 10 seconds of a processor and 300 MB of memory.
 The browser must show something within 2 seconds, draw the page within 30 and return its whole text within 60. An entry of the
 index must open the rows of its concept. The filter must count the rows that contain its words, and show at most 100 of them.
-Nothing may be wider than the window, at any of three widths.
+Neither the page nor a row may need scrolling sideways, at any of three window widths.
 
 Status 0: all is as expected, or Chromium is not installed (a line reports this). 1: something is not; each fault is printed.
 2: the program is not built, or a process failed or took too long.
@@ -75,8 +76,8 @@ def run(words, seconds=120, wanted=0):
 
 
 def build(room):
-    """Makes the page of examples/. Returns its path and, for each contradiction, the row number and the identifiers of the
-    pair."""
+    """Makes the page of examples/. Returns its path and, by row number, the identifiers of the two facts that show each
+    contradiction."""
     page, lines, program = os.path.join(room, "example", "page.html"), os.path.join(room, "lines"), built_program()
     run([sys.executable, TOOL, "--program", program, "--sheet", SHEET, "-o", os.path.dirname(page), *REPORTS], wanted=1)
     with open(lines, "wb") as file:

@@ -4,10 +4,10 @@
     [XBRLMERGE=PROGRAM] [XBRLMERGE_LIBRARY=LIBRARY] [SETS=300] [SEED=1] tests/python [unittest's arguments]
 
 The script makes each call on the examples, and each call except `check` on SETS sets of drawn reports. A call must return the
-bytes and lines of the program's command, or raise the exception for the command's status. Four threads merge at once. A wheel
-is built. If pip is available, it installs the wheel, and the installed module merges the examples. If pandas is installed, it
-reads the records that the module returns. If pandas or pyarrow is installed, it reads the module's columns. If mypy is
-installed, it checks the module's types. The test needs ./build and ./build --library.
+bytes and lines of the program's command, or raise the exception for the command's status. Four threads merge at once. The
+script builds a wheel. If pip is available, it installs the wheel, and the installed module merges the examples. If pandas is
+installed, it must make data frames of the module's records and columns. If pyarrow is installed, it must make a table of the
+columns. If mypy is installed, it checks the module's types. Run ./build and ./build --library first.
 
 Status 0: all is as expected. 1: something is not. 2: the program or the library is not built.
 """
@@ -39,7 +39,7 @@ THREADS, MOST = 4, 6
 
 
 def ran(command, sheet, reports, *words):
-    """Runs the program's command on bytes, and returns its status, text and lines."""
+    """Runs a command of the program on bytes. Returns its status, its standard output, and its lines on standard error."""
     with tempfile.TemporaryDirectory(prefix="python-") as room:
         paths = [f"{room}/{place}.json" for place in range(len(reports) + 1)]
         for path, given in zip(paths, (sheet, *reports)):

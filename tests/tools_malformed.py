@@ -5,10 +5,10 @@
 
 make_sheet reads taxonomies and sheets; contradictions reads taxonomies with labels, merged texts, sheets and the lines of
 `verdicts` and `sources`; normalise reads reports and sheets. In most cases one file is broken, or the package that contains
-the file, or both. Each run must end within 10 seconds of processor time and 1 GiB of memory, with status 0, 1 or 3. Its lines on
-standard error must be printable, and it must not raise an exception that the tool does not expect. With status 0 or 1 all
+the file, or both. Each run must end within 10 seconds of processor time and 1 GiB of memory, with status 0, 1 or 3. Its lines
+on standard error must be printable, and the tool must raise no exception that it does not expect. With status 0 or 1 all
 outputs must be complete, and a second run of normalise on its output must change nothing. With status 3 no output may change.
-The tools run inside this script. About one case in 20 also runs a tool as a process, which must have the same result. JOBS
+The tools run inside this script. In about one case in 20, a tool also runs as a process; its result must be the same. JOBS
 processes run in parallel, as many as there are processors by default. CASE runs only the case with this number.
 
 Status 0: all is as expected. 1: something is not, or one of the statuses 0, 1 and 3 of a tool is missing in a run of 5,000
@@ -183,7 +183,7 @@ class Room:
         return name
 
     def run(self, tool, words, outputs):
-        """Runs a tool, and checks the conditions of every run. Returns its status and its standard output."""
+        """Runs a tool, and checks the conditions that every run must satisfy. Returns its status and its standard output."""
         for name in outputs[self.case % 3 :]:
             self.write(name, BEFORE)
         before = self.files()
@@ -218,8 +218,8 @@ class Room:
 
 
 def expecting(tool):
-    """Returns the tool, changed so that an unexpected exception fails the case. Without this change, the tool prints a line and
-    ends with status 3."""
+    """Returns the tool, changed so that an unexpected exception fails the case. The unchanged tool prints a line and ends with
+    status 3."""
     def main():
         try:
             return tool.main()
@@ -277,7 +277,7 @@ def of_taxonomy(room, chance):
 
 
 def of_union(room, chance):
-    """Runs make_sheet --union on a broken sheet and a good one."""
+    """Runs make_sheet --union on two sheets. One of them may be broken."""
     sheet = json.dumps({**SHEET, "xbrlmerge:sets": ["n1:T"]}).encode()
     words = [room.write("broken", broken(chance, sheet, sheet, JSON_BREAKS)), room.write("good", sheet)]
     status, out = room.run("make_sheet", ["--union", *chance.sample(words, 2)], [])
@@ -290,7 +290,8 @@ def expect_sheet(status, out):
 
 
 def of_report(room, chance):
-    """Runs normalise on a broken report, or with a broken sheet. If it does not fail, runs it again on its output."""
+    """Runs normalise on a report with a sheet. One of the two may be broken. Unless the run ends with status 3, normalises its
+    output too."""
     drawn = drawn_reports.untidy(chance).encode() if chance.random() < 0.7 else malformed.drawn_report(chance)
     sheet = json.dumps(drawn_reports.SHEET).encode()
     if chance.random() < 0.8:

@@ -40,7 +40,7 @@ def part(text, title):
 
 
 def told_by_help(program):
-    """Returns the words in the help, by command. The key of the program's own help is empty."""
+    """Returns the words in the help, by command. The program's own help has an empty key."""
     helps = {"": said(program, "--help")}
     for command in re.findall(r"^  (\w+)", part(helps[""], "Commands"), re.MULTILINE):
         helps[command] = said(program, *([command, "--help"] if command != NO_OPTIONS else [command, command]))

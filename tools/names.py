@@ -26,7 +26,7 @@ class Name(NamedTuple):
 
 
 def expanded(text: Any, uris: Uris) -> Optional[Name]:
-    """Returns an expanded name, or None if the text is not a name, or its prefix is not bound or is bound to an empty URI."""
+    """Returns an expanded name, or None if the text is not PREFIX:LOCAL, or the prefix has no URI or an empty one."""
     parts = NAME.fullmatch(text) if isinstance(text, str) else None
     uri = parts and uris.get(parts[1])
     return Name(uri, parts[2]) if parts and uri else None

@@ -53,7 +53,7 @@ def run(main: Callable[[], Status]) -> NoReturn:
     except Stopped as stopped:
         signal.signal(stopped.number, signal.SIG_DFL)
         signal.raise_signal(stopped.number)
-        status = Status.NOT_DONE  # the first process of a container ignores the signal
+        status = Status.NOT_DONE  # reached only in the first process of a container, which ignores the signal
     sys.exit(status)
 
 
@@ -118,7 +118,7 @@ def signals_held() -> Iterator[None]:
 def fill_standard_files() -> None:
     """Opens the null device in place of each closed standard stream: standard input for writing, the others for reading.
 
-    So each use of a closed stream fails. Otherwise the next opened file would get the file descriptor of a closed stream, and
+    Each use of a closed stream then fails. Otherwise the next opened file would get the file descriptor of a closed stream, and
     lines for that stream would be written to the file. Standard output and standard error are buffered, even if
     PYTHONUNBUFFERED is set: an unbuffered stream may take a part of the bytes and raise no exception.
     """
@@ -126,7 +126,7 @@ def fill_standard_files() -> None:
         try:
             os.fstat(number)
         except OSError:
-            os.open(os.devnull, mode)  # takes the lowest free file descriptor, which is this one
+            os.open(os.devnull, mode)  # gets the lowest free file descriptor, which is `number`
     sys.stdout = open(1, "w", closefd=False)
     sys.stderr = open(2, "w", closefd=False, errors="backslashreplace")
 

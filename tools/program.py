@@ -22,7 +22,7 @@ def add_program(parser: argparse.ArgumentParser) -> None:
 
 
 def program_at(given: Optional[str]) -> str:
-    """Returns the path of the program. Without `given`, it is looked for beside tools/, then in tools/, then on the PATH.
+    """Returns the path of the program. Without `given`, looks beside tools/, then in tools/, then on the PATH.
 
     Errors: NotDone if there is none.
     """
@@ -62,7 +62,7 @@ class Program:
         return refusals
 
     def reasons(self, command: str, status: int, lines: list[str]) -> list[str]:
-        """Returns lines that show why a command failed. If the sheet is refused, they are the lines that `explain` prints."""
+        """Returns lines that show why a command failed. If the sheet is refused, the lines come from `explain`."""
         if any(line.startswith("sheet: ") for line in lines):
             lines = [line for line in self.run("explain", [])[1] if not line.startswith("sheet: ")] or lines
         if any(line.startswith("device: ") for line in lines):

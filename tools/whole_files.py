@@ -1,4 +1,4 @@
-"""Writes several files, all completely or none at all."""
+"""Writes several files: either all of them or none."""
 from __future__ import annotations
 
 import contextlib
@@ -47,9 +47,9 @@ def write_files(texts: Iterable[tuple[str, Iterable[str]]]) -> None:
     """Writes all files or none. `texts` contains the path and the pieces of each file.
 
     Each file is written in a new folder beside its place, then moved to its place. A new file gets the owner, the group and
-    the permissions of the file that it replaces, each if permitted. The setuid, setgid and sticky bits are not copied. A signal
-    that `process.run` handles stops the writing, and the new files are removed; the moves are not interrupted. Errors: OSError,
-    and exceptions of the pieces. After an error, no file has changed, unless a move cannot be undone.
+    the permissions of the file that it replaces, where the system permits this. The setuid, setgid and sticky bits are not
+    copied. A signal that `process.run` handles stops the writing, and the new files are removed; the moves are not interrupted.
+    Errors: OSError, and exceptions of the pieces. After an error, no file has changed, unless a move cannot be undone.
     """
     with files_written(texts):
         pass
@@ -77,13 +77,13 @@ def write_beside(path: str, pieces: Iterable[str], folders: contextlib.ExitStack
         with open(output.new, "x", encoding="utf-8", newline="") as file:
             file.writelines(pieces)
             copy_permissions(place, file.fileno())
-    except OSError as fault:  # its own message names the new folder, or no file
+    except OSError as fault:  # the exception names the temporary folder, or no file
         raise OSError(f"{path}: {fault.strerror or fault}") from None
     return output
 
 
 def copy_permissions(place: str, file: int) -> None:
-    """Copies the owner, group and permissions of the file at a path, if there is one, to an open file, each if permitted."""
+    """Copies the owner, group and permissions of the file at `place`, if it exists, to an open file, where permitted."""
     if os.path.exists(place):
         old = os.stat(place)
         for owner, group in ((old.st_uid, -1), (-1, old.st_gid)):

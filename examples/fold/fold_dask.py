@@ -7,7 +7,7 @@ step as bytes. On a cluster, make a Client first, and let all machines share SHE
 share OUT and examples/fold, set TMPDIR to a folder that all machines share, and install the program on each machine. With
 --calls, install the module on each machine.
 Status 0: OUT contains every report. 1: reports were refused (standard error shows them) and OUT contains the others, or a step
-failed. If a step failed, do not use OUT: it may be missing, old or incomplete. With --calls, it is unchanged. 2: an argument
+failed. If a step failed, do not use OUT: it may be missing, old or incomplete. With --calls, OUT is unchanged. 2: an argument
 is missing, or WIDTH is not a whole number of at least 1.
 """
 import os

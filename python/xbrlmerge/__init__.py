@@ -61,7 +61,7 @@ class SheetRefused(ValueError):
 
 
 class TooLoose(ValueError):
-    """A row exceeds the allowed level; `row` is the number of the first such row, from 1, and `refusals` lists the refused
+    """The duplicates of a row exceed `allow`. `row` is the number of the first such row, from 1. `refusals` lists the refused
     reports."""
 
     def __init__(self, row: int, refusals: List[Refusal]) -> None:
@@ -80,7 +80,7 @@ class Merged:
     refusals: List[Refusal]
 
     def rows(self) -> List[Dict[str, Any]]:
-        """Returns a record for each fact, for example for pandas.DataFrame.
+        """Returns a list with a record for each fact. pandas.DataFrame accepts this list.
 
         A record has the identifier as `fact`, the value, the decimals, and each core or other dimension under its name.
         Decimals and core dimensions that the fact lacks are None. A value is the text in the report, or None for a nil fact.
@@ -129,8 +129,8 @@ class Sources(List[Source]):
 
 
 class Columns(Dict[str, List[Any]]):
-    """Columns by their names, for pandas.DataFrame; `text` contains the JSON objects that the program prints with
-    --format json, one per line, and `refusals` the refused reports."""
+    """Columns by name, for pandas.DataFrame. `text` contains the program's output with --format json, one JSON object per
+    line, and `refusals` the refused reports."""
 
     def __init__(self, names: Iterable[str], rows: Iterable[Tuple[Any, ...]], text: bytes, refusals: List[Refusal]) -> None:
         found = [*rows]
@@ -144,7 +144,7 @@ class Checked:
 
     facts: int  #: the number of its facts, repeats included
     level: str  #: the strictest level that its facts satisfy
-    canonical: bool  #: whether its bytes are the canonical text of its facts and references
+    canonical: bool  #: whether its bytes are the canonical text of its facts and taxonomy references
 
     def __str__(self) -> str:
         return f"accepted {self.facts} {self.level} {'canonical' if self.canonical else 'other'}"
@@ -185,7 +185,7 @@ def verdict_columns(sheet: Given, reports: Iterable[Given]) -> Columns:
 
     The columns are: the number and the verdict of the row, the canonical identifier of the fact, its dimensions, value and
     decimals, and the evidence of the row. Each core dimension has a column; `dimensions` is a JSON object of the other
-    dimensions. Names are spelled {URI}local. Absent items, and the value of a nil fact, are None. Other values of facts,
+    dimensions. Names are spelled {URI}local. Absent items, and the value of a nil fact, are None. Values of other facts,
     `common_low` and `common_high` are texts, so that no digit is lost. Raises SheetRefused, MemoryError, OSError and TypeError.
     """
     answer = _library.verdicts_json(_bytes(sheet), _each(reports))
@@ -194,8 +194,8 @@ def verdict_columns(sheet: Given, reports: Iterable[Given]) -> Columns:
 
 
 def source_columns(sheet: Given, reports: Iterable[Given]) -> Columns:
-    """Returns the sources as columns with an item for each fact object in an accepted report: the canonical identifier of the
-    fact, the number of the report, and the identifier in that report. Raises SheetRefused, MemoryError, OSError and
+    """Returns the sources as three columns: the canonical identifier of the fact, the number of the report, and the identifier
+    in that report. Each fact object in an accepted report has an item. Raises SheetRefused, MemoryError, OSError and
     TypeError.
     """
     answer = _library.sources_json(_bytes(sheet), _each(reports))
@@ -221,7 +221,7 @@ def _bytes(given: Given) -> bytes:
         return given
     if isinstance(given, (bytearray, memoryview)):
         return bytes(given)
-    # `open` alone would also accept a file descriptor
+    # os.fspath rejects a file descriptor, which `open` would accept
     with open(os.fspath(given), "rb") as file:
         return file.read()
 
@@ -249,7 +249,7 @@ def _text(answer: _library.Answer) -> bytes:
 
 
 def _lines(text: bytes) -> List[str]:
-    """Returns the lines. str.splitlines would also split at other characters."""
+    """Returns the lines of a text. str.splitlines would split at other characters too, such as U+2028."""
     return text.decode("utf-8").split(_LINE_END)[:-1]
 
 

@@ -1,4 +1,4 @@
-"""The shared library, and its calls on bytes."""
+"""Loads the shared library, and calls it with bytes."""
 import array
 import ctypes
 import os
@@ -10,15 +10,15 @@ DONE, REFUSED, TOO_LOOSE, TOO_SHORT, SHEET_REFUSED, NO_MEMORY, BAD_ENDS, BAD_LEV
 NAME = "libxbrlmerge.so"
 # the records for a refusal and for an accepted report in include/xbrlmerge.h
 ROW, CHECKED = struct.Struct("=QQI4x"), struct.Struct("=QII")
-# the first buffer is this many bytes longer than the reports, since a text made from short reports can be longer than they are
+# the first buffer is this many bytes longer than the reports: a text made from short reports can be longer than the reports
 MORE = 4096
 LONGEST_NAME = 64
 
 
 def _load() -> ctypes.CDLL:
-    """Loads the first library that exists: the file that XBRLMERGE_LIBRARY names, the library in the wheel, the one in lib/.
+    """Loads the first library that exists: the one that XBRLMERGE_LIBRARY names, the one beside this module, or the one in lib/.
 
-    Raises ImportError if none exists, or if Python does not run with 64 bits on a little-endian processor. Raises OSError if
+    Raises ImportError if none exists, or if Python is not 64-bit or the processor is not little-endian. Raises OSError if
     the library cannot be loaded.
     """
     here = os.path.dirname(os.path.abspath(__file__))
@@ -72,8 +72,8 @@ def _row(fields: Tuple[Any, ...]) -> Row:
 
 
 def _room(size: int) -> Tuple[bytearray, ctypes.c_char]:
-    """Returns a buffer and its first byte, which keeps the buffer in place. The buffer has at least one byte, since no pointer
-    may be null."""
+    """Returns a buffer and its first byte. While the byte is referenced, the buffer does not move. The buffer has at least one
+    byte, because no pointer may be null."""
     held = bytearray(max(size, 1))
     return held, ctypes.c_char.from_buffer(held)
 

@@ -1,5 +1,5 @@
 #!/usr/bin/env python3
-"""Checks the results of tools/normalise for reports, with the built program. Not part of the gate.
+"""Checks the results of tools/normalise with the program. Not part of the gate.
 
     tests/normalise/run [PROGRAM [DRAWN]]
 
@@ -9,8 +9,8 @@ the output files must equal the files beside the report. If nothing is lost and 
 the output of `check` must be the same.
 
 The script also draws a tidy and an untidy report from each of DRAWN seeds, 200 by default. The tidy report must be accepted.
-The script also respells it as another tool might. After normalising, the program must print the same for both spellings as for
-the tidy report. The untidy report must be accepted once it is normalised with all lossy options.
+The script then respells the tidy report as another tool might. Once both are normalised, the program must print the same for
+each as it printed for the tidy report. The untidy report must be accepted once it is normalised with all lossy options.
 
 Status 0: all is as expected. 1: something is not; each difference is printed. 2: the arguments are invalid, there is no
 program, or a run cannot start or takes more than a minute.

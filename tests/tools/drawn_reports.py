@@ -1,4 +1,5 @@
-"""Draws tidy reports, which xbrlmerge accepts, and untidy reports, like those of other tools or worse."""
+"""Draws tidy reports, which xbrlmerge accepts, and untidy reports. xbrlmerge must accept an untidy report once it is
+normalised with all lossy options."""
 import json
 
 SHEET = {

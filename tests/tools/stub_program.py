@@ -1,9 +1,10 @@
 """A program in place of `xbrlmerge`. Each command prints the output prepared in the program's folder. The program also
 records each command with the names of its reports in the file `log`, and copies the sheet to the file `sheet`.
 
-COMMAND.out and COMMAND.err are printed if they exist. The status is the number in COMMAND.status, or 0 without this file. If
-COMMAND.waits exists, the command first prints `waiting` on standard error, and waits for a minute. For a report named
-`normalised`, `explain` prints only the faults of the document and of facts in the report.
+If they exist, COMMAND.out goes to standard output, and COMMAND.err to standard error. The status is the number in
+COMMAND.status, or 0 without this file. If COMMAND.waits exists, the command first prints `waiting` on standard error, and
+waits for a minute. For a report named `normalised`, `explain` prints only the faults of the document and of facts in the
+report.
 """
 import json
 import os

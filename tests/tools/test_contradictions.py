@@ -21,7 +21,7 @@ VOID = ("meta", "line", "rect", "circle")
 
 
 class Seen(html.parser.HTMLParser):
-    """The tags, the texts and the titles of a page. An event handler or an outside reference fails the test."""
+    """The tags, the texts and the titles of a page. An event handler, a `src` or a link out of the page fails the test."""
 
     def __init__(self, page):
         super().__init__()

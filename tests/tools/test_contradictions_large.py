@@ -91,7 +91,7 @@ class Nearby(test_contradictions.ToolTest):
         return self.write(name, json.dumps({"documentInfo": {"namespaces": self.URIS}, "facts": named}))
 
     def near(self, one, other, others=()):
-        """Returns the records that --near writes if A reports the row `one`, B the row `other`, and both report `others`."""
+        """Returns the records that --near writes. A reports the row `one`, B reports `other`, and both report `others`."""
         rows = sorted([(one, "A"), (other, "B"), *((each, "AB") for each in others)], key=lambda row: self.order(row[0]))
         facts = [({"dimensions": dimensions, "value": "1"}, who) for dimensions, who in rows]
         merged = self.text("merged.json", [fact for fact, _ in facts])
@@ -160,8 +160,8 @@ class Large(test_contradictions.ToolTest):
         self.check_order(page, cells)
 
     def check_order(self, page, cells):
-        """Checks the order of the page. Its first 100 rows are those with a text or nil, then those with the largest relative
-        differences. The index follows, and then each other row once, as the text of a data block."""
+        """Checks the order of the page. The 100 rows with the largest relative differences come first; a row with a text or nil
+        ranks highest. The index follows, and then each other row once, as the text of a data block."""
         first, index, rest = re.split(r'<h2>By concept</h2>|<h2>The other rows</h2>', page)
         rows = [re.findall(r'<section class="row \w+" id="row(\d+)">', each) for each in (first, index, rest)]
         self.assertEqual([len(each) for each in rows], [100, 0, self.COUNT - 100])

@@ -51,7 +51,7 @@ class Stubbed(ToolTest):
 
     def refuses(self, refusals, *faults):
         """Makes `merge`, `verdicts` and `sources` print refusals, and `explain` print faults. Each fault is a pair of its
-        sentence and its other members; members with usual values may be left out."""
+        sentence and the members that differ from those of `1 NotJson` at the document."""
         for command in ("merge", "verdicts", "sources"):
             self.prints(command, err=refusals, status=1)
         usual = {"number": 1, "name": "NotJson", "identifier": None, "part": None}
@@ -63,7 +63,7 @@ class Stubbed(ToolTest):
         return subprocess.run(run, capture_output=True, text=True, **options)
 
     def refused_run(self, told, *words, status=3, **options):
-        """Runs the tool, which must give the reason in its last line, and must neither make nor remove a file."""
+        """Runs the tool, which must end with this status, print the reason in its last line, and make or remove no file."""
         before = sorted(os.walk(self.room))
         done = self.run_on(*words, **options)
         self.assertEqual((done.returncode, done.stdout), (status, ""), done.stderr)
@@ -162,7 +162,7 @@ class Files(Stubbed):
             try:
                 while piece := os.read(main, 1000):
                     seen += piece
-            except OSError:  # the terminal is closed
+            except OSError:  # the tool has closed the terminal
                 pass
             child.communicate()
         os.close(main)

@@ -125,7 +125,8 @@ class Doubt(unittest.TestCase):
         self.tree.put("crates/oim_names/specs/Reasons.antt", REASONS)
 
     def problems(self, names, lines, words="", form=NO_FORMAT):
-        """Runs tests/doubt on a page with these definitions and words. Returns the status and the lines."""
+        """Runs tests/doubt. DOUBT.md has these names, line count and words; FORMAT.md has the text `form`. Returns the status
+        and the lines on standard error."""
         self.tree.put("docs/DOUBT.md", PAGE.format(lines=lines, words=words, names=listed(names)))
         self.tree.put("docs/FORMAT.md", form)
         status, _, found = self.tree.run("--quiet")
@@ -156,7 +157,7 @@ class Doubt(unittest.TestCase):
         self.assertEqual(self.problems(["Order", "added", "total", "paid", "IsPaid", "AllArePaid"], 23), (1, found))
 
     def laws(self, *names):
-        """Returns the text of docs/FORMAT.md with these laws, and with `SumsArePaid` if `sums_are_paid` is a law."""
+        """Returns the text of docs/FORMAT.md with these laws, and with `SumsArePaid` if they include `sums_are_paid`."""
         entries = f"- [shop/laws.rt](../{LAWS_PATH}): {listed(names)}"
         if "sums_are_paid" in names:
             entries += f"\n- [shop/Order.antt](../{SPECS_PATH}): `SumsArePaid`"

@@ -34,8 +34,8 @@ ARC = '<link:labelArc xlink:from="{}" xlink:to="{}"/>'
 
 
 def each(form, size, *more):
-    """Returns the form once for each number below the size, filled with the texts of `more`. In these texts, {0} means the
-    number and {1} the next number."""
+    """Returns `size` copies of the form, filled with the texts of `more`. In these texts, {0} is the number of the copy,
+    from 0, and {1} is the next number."""
     return "".join(form.format(*(spelled.format(number, number + 1) for spelled in more)) for number in range(size))
 
 
@@ -101,7 +101,7 @@ class HostileTest(ToolTest):
         return place
 
     def refused(self, told, *words):
-        """Runs the tool in this process, and checks that it ends with status 3 and one line."""
+        """Runs the tool in this process. It must end with status 3 and print one line with the reason."""
         status, lines = in_process.run(make_sheet, *words)
         self.assertEqual((status, len(lines.splitlines())), (3, 1), lines)
         self.assertIn(told, lines)
@@ -132,7 +132,7 @@ class Long(HostileTest):
     def test_labels_and_arcs(self):
         def packed(size):
             """Returns a package with `size` concepts and `size` labels. An arc leads from each concept to all labels, and
-            `size` more such arcs lead from the first concept."""
+            `size` more arcs lead from the first concept to all labels."""
             items = each(HEAD.replace("<xs:element", '<xs:element id="made_{}"'), size, "{0}", "C{0}", "xbrli:item")
             labels = each(LABEL, size, "labels", "x" * 50 + "{0}")
             arcs = each(ARC, size, "0", "labels") + each(ARC, size, "{0}", "labels")
@@ -172,7 +172,7 @@ class Long(HostileTest):
                 self.refused("it has more than 1000 levels", package)
             _, peak = tracemalloc.get_traced_memory()
             tracemalloc.stop()
-            self.assertLess(peak, 80_000_000)  # expat reads to the end of its input, which is 2 MB
+            self.assertLess(peak, 80_000_000)  # expat reads its input to the end; the longest is 2 MB
 
     def test_files_of_a_package(self):
         package = self.pack({f"{number}.xsd": SCHEMA % "" for number in range(5)})
@@ -228,7 +228,7 @@ class Packages(HostileTest):
 
 class Folders(HostileTest):
     def folder(self, **texts):
-        """Makes a folder with files and returns its path."""
+        """Writes files to the folder `folder`, and returns its path. Each `_` in the name of an argument means a dot."""
         folder = self.place("folder")
         os.makedirs(folder, exist_ok=True)
         for name, text in texts.items():
@@ -263,7 +263,7 @@ class Folders(HostileTest):
                 self.folder(**{"META-INF/catalog_xml": CATALOG % REWRITE.format("http://c.example/", "../../")})
             for named in (folder, os.path.join(folder, "a.xsd")):
                 if location.startswith("http") and named != folder:
-                    continue  # without the folder, its catalog is not read
+                    continue  # the catalog is read only if its folder is named
                 self.refused(": it is outside the named folders (make_sheet --outside)", named)
                 done = run("--outside", named)
                 self.assertEqual(list(json.loads(done.stdout)["concepts"]), ["n1:Secret"], done.stderr)

@@ -34,7 +34,7 @@ class Mutants(unittest.TestCase):
         subprocess.run(["git", "-C", self.tree.folder, *words], check=True)
 
     def tried(self, *words):
-        """Returns the status of tests/mutants, and its lines without the prover's."""
+        """Runs tests/mutants. Returns its status, and its lines except those of the prover."""
         status, lines, _ = self.tree.run(*words, env={**os.environ, "PATH": self.path})
         return status, [it for it in lines if not it.startswith("must-fail ")]
 

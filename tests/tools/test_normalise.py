@@ -43,7 +43,7 @@ class ToolTest(in_process.RoomTest):
         self.out, self.changes = self.place("out.json"), self.place("changes.jsonl")
 
     def run_tool(self, *words):
-        """Runs the command in this process, and returns its status and its standard error."""
+        """Runs the tool in this process, and returns its status and its standard error."""
         return in_process.run(normalise, *words)
 
     def refusing(self, faults, **also):
@@ -56,8 +56,8 @@ class ToolTest(in_process.RoomTest):
         return ["--drop-unreadable", "--program", in_process.stub_program(self.place("bin"))]
 
     def normalised(self, report, *options):
-        """Runs the tool, which must not fail, and makes the checks that apply to all reports. Returns the status, standard
-        error, the output and the changes."""
+        """Runs the tool. Its status must be 1 if a change loses something, and 0 otherwise. Undoing the changes must give the
+        report, and a second run must change nothing. Returns the status, standard error, the output and the changes."""
         with mock.patch.object(process, "MOST_CHARACTERS", sys.maxsize):
             self.run_tool(report, self.out, self.changes, *options)
         tree = read_json(self.out)
@@ -79,7 +79,7 @@ class ToolTest(in_process.RoomTest):
 
 
 class Reports(ToolTest):
-    """The reports of tests/normalise, compared with the expected outputs beside them."""
+    """Normalises the reports of tests/normalise, and compares the outputs with the files beside them."""
 
     def test_each_report_comes_out_as_it_stands_beside_it(self):
         for case in map(json.loads, content(os.path.join(REPORTS, "cases.jsonl")).splitlines()):
@@ -87,7 +87,7 @@ class Reports(ToolTest):
                 stem = os.path.join(REPORTS, case["report"])
                 sheet = os.path.join(os.path.dirname(stem), "sheet.json")
                 wanted = content(f"{stem}.changes.jsonl")
-                # a stub runs here; the script tests/normalise/run checks the option --drop-unreadable with the real program
+                # for --drop-unreadable, a stub replaces the program; the script tests/normalise/run runs the built program
                 dropped = [change for change in map(json.loads, wanted.splitlines()) if change["rule"] == "drop-unreadable"]
                 options = [word for word in case["options"] if word != "--drop-unreadable"]
                 if options != case["options"]:
@@ -135,8 +135,7 @@ drop-links drop-notes drop-unknown dates zones drop-null drop-unreadable""".spli
 
 
 class Drawn(ToolTest):
-    """Tests on drawn reports. `normalised` checks that a second run changes nothing, and that undoing the changes gives the
-    report."""
+    """Tests on drawn reports, which must also pass the checks of `normalised`."""
 
     def setUp(self):
         super().setUp()
@@ -228,7 +227,7 @@ class Numbers(ToolTest):
 
 class Periods(ToolTest):
     def period_of(self, period, *options):
-        """Returns the period after normalising, and the number of lines that the tool prints."""
+        """Normalises a report with this period. Returns the new period, and the number of lines on standard error."""
         fact = '{"value":null,"dimensions":{"period":%s}}' % json.dumps(period)
         _, told, out, _ = self.normalised(self.write("report.json", '{"facts":{"f":%s}}' % fact), *options)
         return self.tree_of(out)["facts"]["f"]["dimensions"]["period"], len(told.splitlines())
@@ -272,7 +271,7 @@ class Periods(ToolTest):
 
 
 class Unreadable(ToolTest):
-    """Facts that the program refuses. The stub program prints the faults."""
+    """Tests of --drop-unreadable, with a stub program that prints the faults."""
 
     def setUp(self):
         super().setUp()

@@ -177,7 +177,7 @@ class Exact(ToolTest):
 
 
 class Numbers(unittest.TestCase):
-    """Numbers with exponents, compared with the decimal module at sufficient precision."""
+    """Compares `plain_number` with the decimal module, on drawn numbers with exponents."""
 
     def test_drawn_exponents(self):
         from decimal import Context, Decimal

@@ -20,7 +20,7 @@ def main():
 
 class ProcessTest(RoomTest):
     def shell(self, body, redirected="", **options):
-        """Runs a tool whose `main` has this body, from a shell that may redirect its output and standard error."""
+        """Runs a tool whose `main` has this body, from a shell with the redirections `redirected`."""
         place = self.write("tool", HEAD + textwrap.indent(body, "    ") + "\nrun(main)\n")
         command = f"exec {sys.executable} {place} {redirected}"
         return subprocess.run(["bash", "-c", command], capture_output=True, **options)

@@ -1,4 +1,5 @@
-"""Tests of tests/promises on a small library: the page must have the tables of the code, and name only functions that exist."""
+"""Tests of tests/promises on a small library: the page must have the tables made from the code, and name only functions that
+exist."""
 import unittest
 
 from small_tree import SmallTree
@@ -80,7 +81,7 @@ class Promises(unittest.TestCase):
         self.tree.put("crates/shop/src/laws.rt", LAWS)
 
     def problems(self, page, *words):
-        """Returns the status of tests/promises, its lines without their common beginning, and the page afterwards."""
+        """Runs tests/promises on a page. Returns its status, its lines without `promises: `, and the page afterwards."""
         path = self.tree.put("docs/PROVED.md", page)
         status, _, lines = self.tree.run(*words)
         with open(path, encoding="utf-8") as file:

@@ -1,4 +1,5 @@
-"""Tests that the program, the Python module and the man page have the same version, which fits the changelog."""
+"""Tests that the program, the Python module and the man page have the same version. This is the newest in the changelog, or
+a later `-dev` version if the changelog lists unreleased changes."""
 import re
 import unittest
 

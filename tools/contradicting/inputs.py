@@ -117,7 +117,7 @@ def counted(count: int, word: str, words: Optional[str] = None) -> str:
 
 @contextlib.contextmanager
 def output_folder(path: str) -> Iterator[None]:
-    """Makes the output folder unless it exists. If the `with` block fails, a folder made here is removed if it is empty.
+    """Makes the output folder unless it exists. If the `with` block fails, a new folder is removed unless it contains files.
 
     Errors: NotDone if the path is not a folder; OSError; exceptions of the block.
     """

@@ -43,7 +43,7 @@ class Labelled(Taxonomy):
             self.identified[place, part.identifier] = part.name
 
     def name_at(self, href: str, base: str) -> Optional[Name]:
-        """Returns the name of the element or type that `href` refers to, or None. `base` is the document that refers."""
+        """Returns the name of the element or type that `href` refers to, or None. `base` is the document that contains `href`."""
         location, _, identifier = href.partition("#")
         return self.identified.get((self.rewrites.place_of(location, base)[0], identifier))
 
@@ -53,7 +53,7 @@ class Labelled(Taxonomy):
 
 
 class Link:
-    """The locators, labels and arcs of an extended link. Of several labels with one xlink:label, the preferred one is kept."""
+    """The locators, labels and arcs of an extended link. If labels share an xlink:label, `counts_before` selects one."""
 
     def __init__(self, level: int) -> None:
         self.level = level

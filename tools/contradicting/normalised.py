@@ -31,7 +31,7 @@ class Normalised:
         self.notes: list[str] = []  # messages about reports that are left as they are
 
     def add(self, report: Report) -> None:
-        """Normalises the next report. If that fails, the original file is used, with a note."""
+        """Normalises the next report. If that fails, keeps the original file and adds a note."""
         try:
             tree, length = read_json_of_length(report.path)
             log = self.normaliser.normalise(tree, length)

@@ -21,7 +21,7 @@ from process import MOST_CHARACTERS, printable, shortened
 
 Labels = Mapping[Name, str]
 
-FIRST = 100  # rows before the index, which the browser paints at once; the other rows are loaded on request
+FIRST = 100  # rows before the index; the browser paints these rows at once, and loads the others on request
 CHUNK = 100  # the most rows of one concept that are loaded together
 HERE = os.path.dirname(os.path.abspath(__file__))
 WORDS = {"inconsistent": "contradictions", "consistent": "consistent within rounding", "complete": "reported once"}
@@ -59,8 +59,8 @@ characters near the first difference; contradictions.csv has them whole.</p>
 
 
 def counts(reader: Reader, refusals: Refusals) -> Iterator[tuple[int, str]]:
-    """Yields each count with its words: the rows of each verdict; if providers are known, the rows with one fact from one
-    provider; the refused reports, if there are any."""
+    """Yields counts with their words: the rows of each verdict, the rows with one fact from one provider (if providers are
+    known), and the refused reports (if there are any)."""
     yield from ((reader.counts[verdict], word) for verdict, word in WORDS.items())
     if reader.providers:
         yield reader.counts["alone"], f"of these reported by {reader.said_by(1)}"
@@ -80,7 +80,7 @@ def refused(refusals: Refusals) -> Iterator[str]:
 
 
 def order(row: Row) -> tuple[int, Decimal, int]:
-    """Returns the sort key of a row. Rows whose pair is not two numbers come first, then the rows with the largest shares."""
+    """Returns the sort key of a row. Rows whose pair is not two numbers come first, then the rows with the largest `share`."""
     share = row.share()
     return (0, Decimal(0), row.number) if share is None else (1, -share, row.number)
 
@@ -109,7 +109,8 @@ def by_concept(rows: Iterable[Row], reader: Reader, labels: Labels) -> Iterator[
 
 
 def group(rows: list[Row], start: int, anchor: str, reader: Reader, labels: Labels) -> Iterator[str]:
-    """Yields the pieces for some rows of one concept. The rows are the text of a data block until the group is opened."""
+    """Yields the pieces for at most CHUNK rows of one concept, from `start` on. The rows are the text of a data block until the
+    group is opened."""
     concept, last = concept_of(rows[0]), min(start + CHUNK, len(rows))
     name = f"<bdi>{escaped(labels[concept])}</bdi>" if concept in labels else shown_name(concept)
     told = f"{start + 1} to {last} of {len(rows)} rows" if len(rows) > CHUNK else f"{last} row{'s' * (last > 1)}"
@@ -131,7 +132,7 @@ def concept_of(row: Row) -> Name:
 
 
 def heading(concept: Name, labels: Labels, tag: str) -> str:
-    """Returns an element with the label or name of a concept. It shows the namespace when it is opened, also by keyboard."""
+    """Returns an element with the label or name of a concept. Opening the element, also by keyboard, shows the namespace."""
     label, local = labels.get(concept), escaped(concept.local)
     first = f"<bdi>{escaped(label)}</bdi>" if label else f"<bdi>{local}</bdi>"
     rest = f"<p>{escaped(concept.uri)}" + f" {local}" * bool(label)
@@ -189,14 +190,14 @@ def below(line: NumberLine, unit: str) -> str:
 
 
 def start_of_cut(values: Iterable[Value]) -> int:
-    """Returns where the shown parts of a row's long texts begin: a little before the first difference."""
+    """Returns where the shown parts of a row's long texts begin: at most MOST_CHARACTERS / 2 characters before they differ."""
     texts = [value for value in values if isinstance(value, str)]
     return max(len(os.path.commonprefix(texts)) - MOST_CHARACTERS // 2, 0) if len(texts) > 1 else 0
 
 
 def details(row: Row) -> Iterator[tuple[str, str]]:
-    """Yields a heading and a text for each dimension of a row except the concept. An absent period and the absent unit of
-    numbers are included."""
+    """Yields a heading and a text for each dimension of a row except the concept. An absent period, and the absent
+    unit of a number, have a text too."""
     of, last = dimensions_of(row), [*row.facts.values()][-1]  # nil is sorted first, so the last fact is not nil
     start, _, end = of.period.rpartition("/")
     since = f"{day(start, False)} to " if start else "at the end of " * end.endswith("T00:00:00")

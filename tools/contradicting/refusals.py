@@ -33,7 +33,7 @@ class Refusals:
         self.lacking: dict[str, dict[str, None]] = {"concept": {}, "dimension": {}}
 
     def add(self, path: str, refusal: str, faults: Iterable[Mapping[str, Any]]) -> None:
-        """Adds a report with its faults. If there are none, the refusal is used instead."""
+        """Adds a report with its faults. If it has no faults, the refusal is shown instead."""
         first, count = [], 0
         for count, fault in enumerate(faults, 1):
             if count <= MOST_LINES:
@@ -46,7 +46,7 @@ class Refusals:
     def lacking_lines(self, most: int = MOST_NAMES) -> Iterator[str]:
         """Yields a line with the concepts that the sheet lacks, and one with the dimensions. Each shows up to `most` names.
 
-        If the sheet lacks any, the advice follows, unless the advice is empty.
+        If the sheet lacks a name, `advice` follows, unless it is empty.
         """
         for kind, names in self.lacking.items():
             if names:

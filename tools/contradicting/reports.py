@@ -18,7 +18,7 @@ class Report(NamedTuple):
 def reports_of(words: Iterable[str]) -> list[Report]:
     """Returns the reports that are named as FILE or NAME=FILE. A file that is repeated under one name is returned once.
 
-    Without NAME the provider is named after the file. Errors: ValueError if a part of NAME=FILE is empty, if a file gets two
+    Without NAME, the provider is named after the file. Errors: ValueError if a part of NAME=FILE is empty, if a file gets two
     names, or if two files get the same name and NAME= does not precede both.
     """
     reports: dict[str, Report] = {}

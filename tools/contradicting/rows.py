@@ -19,7 +19,7 @@ getcontext().prec = 100  # more digits than the end of an interval has, so sums 
 NUMBER = re.compile(r"-?(?:0|[1-9]\d{0,39})(?:\.\d{1,39})?", re.ASCII)
 MOMENT = re.compile(r"\d{4}-\d\d-\d\dT\d\d:\d\d:\d\d", re.ASCII)
 EVIDENCE = re.compile(r"complete|consistent common (?P<low>\S+) (?P<high>\S+)|inconsistent apart (?P<one>\S+) (?P<two>\S+)")
-LONGEST_LINE = 1_000  # characters; two numbers and four identifiers of facts have fewer
+LONGEST_LINE = 1_000  # characters; each line of `verdicts` has fewer
 
 Interval = tuple[Decimal, Decimal]
 Value = Union[Decimal, Name, str, None]
@@ -76,7 +76,7 @@ class Row(NamedTuple):
         return self.said["one"], self.said["two"]
 
     def share(self) -> Optional[Decimal]:
-        """Returns the difference of the pair as a share of the larger absolute value, or None if either is not a number."""
+        """Returns the difference of the pair as a share of the larger absolute value, or None if either value is not a number."""
         one, two = (self.facts[name].value for name in self.pair)
         if not isinstance(one, Decimal) or not isinstance(two, Decimal):
             return None
@@ -154,7 +154,7 @@ class Reader:
         self.listed.append((row.number, verdict, names[0], names[-1], self.said_by(len(who)), ", ".join(sorted(who))))
 
     def said_by(self, count: int) -> str:
-        """Returns a text such as "2 of 3" if 2 of 3 providers report a row or a fact. It is empty if there are no providers."""
+        """Returns a text such as "2 of 3" if 2 of 3 providers report a row or a fact; an empty text if no provider is known."""
         return f"{count} of {self.providers}" if self.providers else ""
 
     def row(self, number: int, facts: dict[str, Tree], line: str) -> Optional[Row]:
@@ -176,7 +176,7 @@ class Reader:
         return Row(number, None, {}, said, holders, None) if is_shown else None
 
     def kind(self, tree: Tree) -> str:
-        """Returns the kind of a fact, after checking its value."""
+        """Returns the kind of a fact, after checking its value and decimals."""
         concept = tree["dimensions"]["concept"]
         if concept not in self.kinds:
             self.kinds[concept] = self.sheet.concepts[self.text.name(concept)]
@@ -247,7 +247,7 @@ def interval_of(value: Decimal, decimals: Optional[int]) -> Interval:
 
 
 def is_common(said: re.Match[str], facts: Mapping[str, Tree]) -> bool:
-    """Returns whether a line shows the common interval of the facts of its row. It does not if a fact is nil."""
+    """Returns whether a line shows the common interval of the facts of its row. A row with a nil fact has none."""
     if any(fact["value"] is None for fact in facts.values()):
         return False
     lows, highs = zip(*(interval_of(Decimal(fact["value"]), fact.get("decimals")) for fact in facts.values()))
@@ -255,7 +255,7 @@ def is_common(said: re.Match[str], facts: Mapping[str, Tree]) -> bool:
 
 
 def day(moment: str, is_end: bool) -> str:
-    """Returns a moment as people write it. Midnight is shown as the day that begins or, if `is_end`, as the day that ends."""
+    """Returns a moment with a space instead of T. Midnight is shown as the day that begins or, if `is_end`, the day that ends."""
     read = datetime.datetime.fromisoformat(moment)
     is_midnight = read.time() == datetime.time() and (not is_end or read > datetime.datetime.min)
     return str(read.date() - datetime.timedelta(days=is_end)) if is_midnight else moment.replace("T", " ")

@@ -68,8 +68,8 @@ class Sources:
 
 
 class OwnTexts:
-    """The merged report of each provider's own reports. It does not contain the identifiers that facts have in the original
-    reports, so these identifiers are not known."""
+    """The merged report of each provider's own reports. The identifiers that facts have in the original reports are not known,
+    because a merged report does not contain them."""
 
     def __init__(self, providers: list[Provider]) -> None:
         self.providers, self.names = providers, [provider.name for provider in providers]
@@ -93,11 +93,11 @@ def providers(holders: Holders) -> str:
 
 
 def identifiers(holders: Holders) -> str:
-    """Returns a text with each provider and its identifiers of the fact. Providers without known identifiers are left out."""
+    """Returns a text: each provider of a fact, with the fact's known identifiers. Providers without any are left out."""
     return "; ".join(f"{holder.name}: {', '.join(holder.identifiers)}" for holder in holders if holder.identifiers)
 
 
 def told(holders: Holders) -> str:
-    """Returns a text with each provider of a fact and its identifiers of the fact. Each name and identifier is shortened."""
+    """Returns a text: each provider of a fact, with the fact's known identifiers. Each name and identifier is shortened."""
     brief = ((shortened(holder.name), ", ".join(map(shortened, holder.identifiers))) for holder in holders)
     return "; ".join(" ".join(each).strip() for each in brief)

@@ -1,5 +1,5 @@
-"""The tables of contradictions and of all rows. Names are written as {URI}local. A ' precedes what a spreadsheet
-might read as a formula.
+"""The tables of contradictions and of all rows. Names are written as {URI}local. A ' precedes anything that a
+spreadsheet might read as a formula.
 """
 from __future__ import annotations
 

@@ -67,7 +67,7 @@ class Text:
         return self.known[text]
 
     def facts(self) -> Iterator[tuple[str, Tree]]:
-        """Yields the identifier and the tree of each fact. Identifiers must be numbered as `merge` does, such as f01 to f11."""
+        """Yields the identifier and the tree of each fact. Identifiers must be those that `merge` writes, such as f01 to f11."""
         with using(self.path), self.file:
             self.expect("{")
             rank = width = 0
@@ -88,7 +88,7 @@ class Text:
                 raise ValueError("there is more after its end")
 
     def fact(self, is_behind: bool) -> tuple[str, Tree]:
-        """Returns the identifier and the tree of the next fact. Usually one pattern matches everything before its object."""
+        """Returns the identifier and the tree of the next fact. Usually one pattern matches everything before the tree."""
         found = FACT.match(self.piece, self.at)
         if found and bool(found[1]) == is_behind:
             self.at = found.end()
@@ -139,7 +139,7 @@ class Text:
         return self.piece[self.at : self.at + 1]
 
     def fill(self) -> bool:
-        """Reads up to PIECE characters, or up to the length of the unread piece if that is more. Returns whether any were read."""
+        """Reads up to PIECE characters, or up to the length of the rest of the piece if longer. Returns whether it read any."""
         self.piece = self.piece[self.at :]
         self.at = 0
         more = self.file.read(max(PIECE, len(self.piece)))
@@ -149,7 +149,7 @@ class Text:
 
 
 class Provider:
-    """A merged report of one provider's reports. The full merged report must contain all its facts, in the same order."""
+    """A merged report of one provider's reports. The full merged report must contain the provider's facts, in the same order."""
 
     def __init__(self, name: str, path: str, merged: Text, sheet: Sheet) -> None:
         self.name, self.text, self.sheet, self.merged = name, Text(path), sheet, merged.path

@@ -18,7 +18,7 @@ class Reason(NamedTuple):
 
 
 class Log:
-    """Collects the lines for one fact, or for the document: `lines` for changes, and `left` for parts that a rule had to leave.
+    """Collects the lines for one fact, or for the document: `lines` for changes, and `left` for parts that a rule left unchanged.
 
     Identifiers, URIs and texts may be long, and lines repeat them, so all three are shortened. A line with a shortened
     fact identifier also has the number of the fact.

@@ -36,7 +36,7 @@ def read_json(path: str) -> Tree:
 
 
 def read_json_of_length(path: str) -> tuple[Tree, int]:
-    """Returns the tree of a file, and the number of its characters.
+    """Returns the tree of a file, and the length of the file in characters.
 
     Raises NotDone if the file cannot be read, is too long, is not JSON, is nested too deeply or has half a surrogate pair, or
     if two members of one object share a name.

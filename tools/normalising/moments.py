@@ -42,7 +42,7 @@ def with_time(moment: re.Match[str], is_start: bool) -> Optional[str]:
 def in_utc(moment: re.Match[str], _: bool) -> Optional[str]:
     """Returns a moment in UTC without its zone. The time 24:00:00 stays if the zone is UTC already.
 
-    None if the moment has no zone or no time, has a fraction, or is invalid, or if the year would not be from 1 to 9999.
+    Returns None if the moment has no zone or no time, has a fraction, or is invalid, or if the year would not be from 1 to 9999.
     """
     day, time, part, zone = moment.groups(default="")
     if not zone or not time or part:
@@ -57,7 +57,7 @@ def in_utc(moment: re.Match[str], _: bool) -> Optional[str]:
 
 
 def ahead(zone: str) -> datetime.timedelta:
-    """Returns how far a zone is ahead of UTC. Raises ValueError if it is not a zone."""
+    """Returns how far a zone is ahead of UTC. Raises ValueError beyond 14:00, or if the minutes exceed 59."""
     hours, minutes = int(zone[1:3]), int(zone[4:])
     if hours * 60 + minutes > 14 * 60 or minutes > 59:
         raise ValueError(f"{zone} is not a zone")

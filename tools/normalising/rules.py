@@ -30,14 +30,14 @@ GROWTH, SMALL = 16, 1_000_000  # the names of sets add at most GROWTH times the 
 
 
 class Normaliser:
-    """Applies the rules to reports, with a sheet and options. --drop-unreadable drops the facts that the program refuses."""
+    """Applies the rules to reports, with a sheet and options. --drop-unreadable drops the facts that `program` refuses."""
 
     def __init__(self, sheet: Sheet, options: argparse.Namespace, program: Optional[Program] = None) -> None:
         self.sheet, self.options, self.program = sheet, options, program
 
     def normalise(self, tree: Tree, length: int = 0) -> Log:
-        """Changes the tree of a report. Returns a log of the changes and of the parts that a rule had to leave: first the
-        document's, then each fact's, in order.
+        """Changes the tree of a report. Returns a log of the changes, and of the parts that a rule left unchanged: first
+        the document's, then each fact's, in order.
 
         Errors: NotDone, OSError.
         """
@@ -200,7 +200,7 @@ def kind_of(name: Optional[Name], kinds: Kinds) -> Optional[str]:
 
 
 def trimmed(key: str, text: str) -> str:
-    """Returns a text without white space around its tokens, except space at the end of an entity, which belongs to its
+    """Returns a text without white space around its tokens. White space at the end of an entity stays: it belongs to the
     identifier."""
     if key == "entity":
         return text.lstrip(SPACE)
@@ -209,10 +209,11 @@ def trimmed(key: str, text: str) -> str:
 
 
 def whole_number(text: str) -> Optional[str]:
-    """Returns the plain spelling of a whole number, otherwise None.
+    """Returns the plain spelling of a whole number, or None for any other text.
 
     The number is a JSON number, such as 2.0 or 2e3, or a text of digits with or without a sign. A text may have at most 18
-    digits, and white space around them. A JSON number may have at most 18 characters, and 18 digits without its exponent.
+    digits, and white space around them. A JSON number may have at most 18 characters, and at most 18 digits when written
+    without its exponent.
     """
     if isinstance(text, Number):
         number = Decimal(text) if len(text) <= 18 and abs(Decimal(text).adjusted()) < 18 else None

@@ -8,10 +8,10 @@ from program import Program
 
 
 class Refused(NamedTuple):
-    """The reasons for which the program refuses a report."""
+    """The reasons why the program refuses a report."""
 
     facts: dict[str, str]  # by identifier: the number and the name of the fact's first refusal
-    lines: list[str]  # the reasons for which it refuses the document
+    lines: list[str]  # messages about the refusal of the document
 
 
 def refused_in(tree: Tree, program: Program) -> Refused:

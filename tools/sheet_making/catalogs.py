@@ -11,12 +11,12 @@ from names import Name
 from sheet_making.xml_reading import Element, Visitor
 
 REWRITE = Name("urn:oasis:names:tc:entity:xmlns:xml:catalog", "rewriteURI")
-MOST_LENGTHS = 1_000  # different lengths of uriStartString; a lookup tries each
+MOST_LENGTHS = 1_000  # different lengths of uriStartString; a lookup may try each
 
 
 @dataclass(frozen=True)
 class Rewrite:
-    """A rule: in a URL that begins with `start`, `prefix` replaces `start`. The result is a path relative to the catalog."""
+    """A rule: in a URL that begins with `start`, `prefix` replaces `start`. The result is resolved against `catalog`."""
 
     start: str
     prefix: str

@@ -1,4 +1,4 @@
-"""The named files, folders and packages, and the files that may be read."""
+"""Finds and reads files on disk and in packages, if they may be read."""
 from __future__ import annotations
 
 import os

@@ -15,13 +15,13 @@ XBRLI = "http://www.xbrl.org/2003/instance"
 ENUMERATIONS_1, ENUMERATIONS_2 = "http://xbrl.org/2014/extensible-enumerations", "http://xbrl.org/2020/extensible-enumerations-2.0"
 REGISTRY = "registry"  # replaces each namespace of the data type registry
 HEADS = {Name(XBRLI, "item"): "concepts", Name(XBRLDT, "dimensionItem"): "dimensions"}
-# Elements of the specifications that are not in HEADS are not heads of concepts or dimensions. Namespaces at xbrl.org that do
-# not match SPECIFICATION belong to taxonomies.
+# Of the elements in the specifications, only those in HEADS can be heads of concepts or dimensions. Namespaces at xbrl.org that
+# do not match SPECIFICATION belong to taxonomies.
 SPECIFICATION = re.compile(r"https?://(www\.w3\.org/|(www\.)?xbrl\.org/(\d{4}|dtr|lrr)/)")
 REGISTERED = re.compile(r"http://www\.xbrl\.org/dtr/type/(numeric|non-numeric|\d{4}-\d\d-\d\d)")
 # The item types of XBRL 2.1 (section 5.1.1.3) except fractions, of extensible enumerations 1.0 and 2.0, and some of the data type
 # registry (http://www.xbrl.org/dtr/dtr.xml). They were written down from memory, not read from schemas. Other types of the
-# registry are resolved if its schema is read.
+# registry are resolved if the registry's schema is read.
 ITEM_TYPES = (
     ("numeric", XBRLI, "decimal float double integer nonPositiveInteger negativeInteger long int short byte monetary"),
     ("numeric", XBRLI, "nonNegativeInteger unsignedLong unsignedInt unsignedShort unsignedByte positiveInteger shares"),
@@ -57,7 +57,7 @@ def listed(name: Name) -> Name:
 
 
 def kinds_of(elements: Mapping[Name, Declaration], types: Mapping[Name, Optional[Name]]) -> tuple[Kinds, list[str]]:
-    """Returns the kinds of concepts and dimensions, and a line for each element that is left out but that reports might use."""
+    """Returns the kinds of concepts and dimensions, and a line for each omitted element that reports might use."""
     judge = Judge({name: each for name, each in elements.items() if not is_specification(name.uri)}, types)
     kinds: Kinds = {table: {} for table in TABLES}
     lines = []
@@ -71,7 +71,7 @@ def kinds_of(elements: Mapping[Name, Declaration], types: Mapping[Name, Optional
 
 
 class Judge:
-    """Judges an element by the last type and the last head in its chains. A head is the name of a substitution group."""
+    """Judges an element by the ends of two chains: its base types, and its heads. A head is the name of a substitution group."""
 
     def __init__(self, elements: Mapping[Name, Declaration], types: Mapping[Name, Optional[Name]]) -> None:
         self.elements = elements
@@ -111,7 +111,7 @@ def is_followed(name: Name) -> bool:
 def ends_of(following: Mapping[Name, Optional[Name]]) -> dict[Name, Optional[Name]]:
     """Returns the end of the chain from each name: None, a name that the mapping lacks, or a name that the chain repeats.
 
-    Each name is visited once, because the ends of visited names are known.
+    The ends of visited names are reused, so each name is visited once.
     """
     ends: dict[Name, Optional[Name]] = {}
     for start in following:

@@ -117,8 +117,8 @@ class SchemaVisitor(Visitor):
                 part.type, part.base_level = base, level
 
     def expanded(self, element: Element, key: str) -> Optional[Name]:
-        """Returns the name in an attribute, or None without the attribute. If neither the name nor the schema has a namespace,
-        the name is in the wanted namespace."""
+        """Returns the expanded name in an attribute, or None if the attribute is missing. If neither the name nor the schema has
+        a namespace, the name is in the wanted namespace."""
         text = element.get(key)
         if text is None:
             return None

@@ -39,7 +39,8 @@ class Taxonomy:
             raise NotDone(*shown_lines(self.missing or ["none of the named files is a schema"]))
 
     def read_schema(self, place: str, wanted: Optional[str]) -> None:
-        """Keeps the declarations of a schema. A schema that names no namespace gets the wanted namespace, if there is one."""
+        """Keeps the declarations of a schema, unless it was read before. A schema that names no namespace gets the namespace
+        `wanted`, unless this is None, and is read again for each further namespace."""
         namespaces = self.read.setdefault(place, set())
         target = self.targets.get(place)
         if target is not None and wanted not in (None, target):
@@ -76,7 +77,7 @@ class Taxonomy:
             raise ValueError(f"{part.name.shown()} is declared in two ways")
 
     def without_namespace(self) -> list[str]:
-        """Returns the schemas that do not name a namespace and were not read for the namespace of another schema."""
+        """Returns the schemas that have no target namespace, and to which no schema with a namespace refers, even indirectly."""
         return sorted(place for place, namespaces in self.read.items() if namespaces == {None})
 
 

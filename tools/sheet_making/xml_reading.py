@@ -48,7 +48,7 @@ class Bindings:
 
 
 class Element:
-    """A start tag, with its expanded name and the prefixes that are bound there."""
+    """A start tag, with its expanded name and the prefixes that are bound at the tag."""
 
     def __init__(self, tag: str, attributes: dict[str, str], bindings: Bindings) -> None:
         self.name, self.attributes, self.bindings = bindings.expanded(tag), attributes, bindings
