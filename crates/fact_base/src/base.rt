@@ -10,13 +10,13 @@ ghost use Rattle.oim_report.specs.Duplicates.{level_of};
 
 use crate::entries::{Entries, count_of, entries_from, level_of, same_rows};
 use crate::evidence::Evidence;
-use crate::references::{copies_of, replace, with_all};
+use crate::references::{replace, with_all};
 use crate::row::Row;
 use crate::rows::Rows;
 use crate::verdict::Verdict;
 use merge_laws::{Merge, SortedMap, SortedSet, Summary};
 use oim_dims::Dimensions;
-use oim_names::Text;
+use oim_names::{Text, copies_of};
 use oim_report::{Report, Sheet};
 use oim_value::{Level, Value};
 use std::alloc::{AllocError, Global};
@@ -107,7 +107,7 @@ impl<'s> Base<'s> {
     {
         report.known();
         let references = with_all(self.alloc, &self.references, report.taxonomy())?;
-        let facts = copies_of(self.alloc, report.facts())?;
+        let facts = copies_of(self.alloc, report.facts(), 0)?;
         let order = Vec::from_slice(self.alloc, report.order())?;
         let entries = entries_from(self.alloc, facts, order)?;
         self.entries.absorb(entries)?;

@@ -6,10 +6,9 @@ ghost use Rattle.fact_base.specs.Gathered.{gathered};
 use crate::base::Base;
 use crate::entries::entries_in_order;
 use crate::ordering::{in_order, put_in_order, settle};
-use crate::references::copies_of;
 use merge_laws::SortedSet;
 use oim_dims::Fact;
-use oim_names::Text;
+use oim_names::{Text, copies_of};
 use oim_report::{Report, Sheet};
 use std::alloc::{AllocError, Global};
 use std::marker::Model;
@@ -113,7 +112,7 @@ impl<'s> Gathering<'s> {
     {
         report.known();
         self.settle()?;
-        let references = copies_of(self.alloc, report.taxonomy())?;
+        let references = copies_of(self.alloc, report.taxonomy(), 0)?;
         let (facts, order) = report.into_facts();
         let facts = in_order(facts, order)?;
         self.append(facts, references)

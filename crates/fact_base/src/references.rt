@@ -5,7 +5,7 @@ ghost use Rattle.fact_base.specs.Sets.{set_of};
 
 use crate::ordering::put_in_order;
 use merge_laws::{Merge, SortedSet};
-use oim_names::{Copied, Text};
+use oim_names::{Copied, Text, copies_of};
 use std::alloc::{AllocError, Global};
 
 /// Returns None if `references` include all of `others`, which saves a copy. Otherwise returns the
@@ -29,19 +29,9 @@ pub(crate) fn with_all(
 fn set_of(alloc: Global, texts: &[Text]) -> Result<SortedSet<Text>, AllocError>
     ensures { IfOk result (λ set. set ≡ set_of text_cmp texts.now) }
 {
-    let mut items = copies_of(alloc, texts)?;
+    let mut items = copies_of(alloc, texts, 0)?;
     put_in_order(&mut items)?;
     Ok(SortedSet::of_rising(items))
-}
-
-pub(crate) fn copies_of<T: Copied>(alloc: Global, items: &[T]) -> Result<Vec<T>, AllocError>
-    ensures { IfOk result (λ copies. copies.items ≡ items.now) }
-{
-    let mut copies = Vec::with_capacity(alloc, items.len())?;
-    for item in items {
-        copies.push_reserved(item.copied(alloc)?);
-    }
-    Ok(copies)
 }
 
 fn has_all(references: &[Text], others: &[Text]) -> bool

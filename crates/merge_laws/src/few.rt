@@ -3,7 +3,7 @@ ghost use Rattle.std.specs.List.{insert};
 ghost use Rattle.merge_laws.specs.code.Insertions.{IsFirstLeast, inserted};
 
 use crate::insertion::insert_new;
-use oim_names::{Copied, Key};
+use oim_names::{Copied, Key, copies_of};
 use std::alloc::{AllocError, Global};
 use std::marker::Model;
 
@@ -111,14 +111,4 @@ impl<T: Key> Copied for Few<T> {
             Room::Many(items) => Few::many(copies_of(alloc, items.as_slice(), 0)?),
         })
     }
-}
-
-fn copies_of<T: Copied>(alloc: Global, items: &[T], more: usize) -> Result<Vec<T>, AllocError>
-    ensures { IfOk result (λ copies. copies.items ≡ items.now) }
-{
-    let mut copies = Vec::with_capacity(alloc, items.len().saturating_add(more))?;
-    for item in items {
-        copies.push_reserved(item.copied(alloc)?);
-    }
-    Ok(copies)
 }

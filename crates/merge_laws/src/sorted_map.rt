@@ -7,7 +7,7 @@ ghost use Rattle.merge_laws.specs.Union.{map_union, map_with};
 use crate::changes::{changes_by, changes_of};
 use crate::merge::Merge;
 use crate::search::find;
-use oim_names::{Copied, Key};
+use oim_names::{Copied, Key, copies_of};
 use std::alloc::{AllocError, Global};
 use std::marker::Model;
 
@@ -116,7 +116,7 @@ impl<K: Key, V: Merge> SortedMap<K, V> {
 impl<K: Key, V: Merge> Copied for SortedMap<K, V> {
     fn copied(&self, alloc: Global) -> Result<Self, AllocError> {
         Ok(SortedMap {
-            entries: copies_of(alloc, self.entries.as_slice())?,
+            entries: copies_of(alloc, self.entries.as_slice(), 0)?,
         })
     }
 }
@@ -128,19 +128,6 @@ fn know_values<K, V: Merge>(entries: &[(K, V)])
     for entry in entries {
         entry.1.known();
     }
-}
-
-fn copies_of<K: Copied, V: Copied>(
-    alloc: Global,
-    entries: &[(K, V)],
-) -> Result<Vec<(K, V)>, AllocError>
-    ensures { IfOk result (λ copies. copies.items ≡ entries.now) }
-{
-    let mut copies = Vec::with_capacity(alloc, entries.len())?;
-    for entry in entries {
-        copies.push_reserved(entry.copied(alloc)?);
-    }
-    Ok(copies)
 }
 
 /// A merged map has the keys of both maps. Values of shared keys are merged in a copy, so that

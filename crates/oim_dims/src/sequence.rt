@@ -1,7 +1,7 @@
 ghost use Rattle.std.specs.Prelude.{◌≡◌, ◌≤◌, length, IfOk, OnOk, OnErr};
 ghost use Rattle.std.specs.List.{insert};
 
-use oim_names::{Copied, Key};
+use oim_names::{Copied, Key, copies_of};
 use std::alloc::{AllocError, Global};
 use std::cmp::Ordering;
 use std::marker::Model;
@@ -94,7 +94,7 @@ impl<T: Key> Ord for Sequence<T> {
 impl<T: Key> Copied for Sequence<T> {
     fn copied(&self, alloc: Global) -> Result<Self, AllocError> {
         Ok(Sequence {
-            items: copied_items(alloc, self.items.as_slice())?,
+            items: copies_of(alloc, self.items.as_slice(), 0)?,
         })
     }
 }
@@ -103,14 +103,4 @@ impl<T: Key> Key for Sequence<T> {
     ghost use Rattle.std.specs.FinMap.{slice_cmp-IsAntisymmetric};
 
     ghost exact = { slice_cmp-IsAntisymmetric T.exact };
-}
-
-fn copied_items<T: Copied>(alloc: Global, items: &[T]) -> Result<Vec<T>, AllocError>
-    ensures { IfOk result (λ copies. copies.items ≡ items.now) }
-{
-    let mut copies = Vec::with_capacity(alloc, items.len())?;
-    for item in items {
-        copies.push_reserved(item.copied(alloc)?);
-    }
-    Ok(copies)
 }

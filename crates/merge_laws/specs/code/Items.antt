@@ -54,7 +54,7 @@ module _ {K E : Type 0} {R : K → K → Ordering} (key : E → K) (o : IsTotalO
   same_found p q [] t = refl
   same_found p q (e ∷ es) t = λ i. cond (is_eq (o.congr p q (key e) t i)) (Some e) (same_found p q es t i)
 
-  -- if the first key of one ascending list is below that of another, the lists have different items at the lower key
+  -- if two ascending lists begin with different keys, they have different items at the lower of the two keys
   missed : (e f : E) (es fs : List E) → R (key e) (key f) ≡ Less → Below (key f) fs → item_at R key (key e) (e ∷ es) ≢ item_at R key (key e) (f ∷ fs)
   missed e f es fs p h is = not_None e (sym (at_first e es) ∙ is ∙ none_below (key e) (f ∷ fs) (p, below_less (key e) (key f) fs p h))
 

@@ -1,8 +1,0 @@
-use Rattle.std.proofs.Common.{◌≡◌, ◌≤◌, length, take, vec_capacity}
-use Rattle.fact_base.proofs.references.copies_of.Given as goal
-
-abbrev pub invariant-loop-item : goal.invariant-loop-item
-invariant-loop-item g l = record {
-  copied : l.copies.items ≡ take l.item-index l.items;
-  room : length l.items ≤ vec_capacity l.copies;
-}
