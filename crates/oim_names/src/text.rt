@@ -89,7 +89,12 @@ impl Ord for Text {
 
     ghost matches_eq = { Prim.search (comparing, rules) };
 
+    // Names are compared by URI first, and most of these URIs are equal. A test for equality is
+    // faster than a comparison.
     fn cmp(&self, other: &Text) -> Ordering {
+        if self == other {
+            return Ordering::Equal;
+        }
         self.as_str().cmp(other.as_str())
     }
 }
