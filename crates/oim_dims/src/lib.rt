@@ -10,9 +10,11 @@ mod member;
 mod moment;
 mod period;
 mod sequence;
+mod shared;
 mod unit;
 mod unit_check;
 mod unit_reader;
+mod unit_sides;
 mod unit_writer;
 
 pub use dimensions::Dimensions;

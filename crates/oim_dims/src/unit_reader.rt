@@ -52,7 +52,7 @@ fn read_sides(alloc: Global, aliases: &Aliases, text: &str) -> Result<Option<Uni
     if is_pure_alone(numerators.as_slice(), denominators.as_slice()) {
         return Ok(None);
     }
-    let unit = Unit::new(numerators, denominators);
+    let unit = Unit::new(alloc, numerators, denominators)?;
     unit.known();
     Ok(Some(unit))
 }
