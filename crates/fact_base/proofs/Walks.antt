@@ -125,9 +125,6 @@ equal_values vs ws = slice_eq-Decides (λ v w. (
   λ same. equal_values_tie v w ∙ ap is_eq (ap (value_cmp v) (sym same) ∙ value_cmp_self v),
 )) vs ws (derived_equal vs ws) refl
 
-pub equal_dimensions : (s t : DimensionSet) → dimensions_eq.it s t ≡ true → s ≡ t
-equal_dimensions s t h = dimensions_cmp_exact s t ((Equal-is (dimensions_cmp s t)).0 (sym (equal_dimensions_tie s t) ∙ h))
-
 pub dimensions_equal : (s : DimensionSet) → dimensions_eq.it s s ≡ true
 dimensions_equal s = equal_dimensions_tie s s ∙ ap is_eq (tied_itself dimensions_cmp_total s)
 

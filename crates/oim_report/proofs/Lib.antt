@@ -104,3 +104,4 @@ pub mod FoundInOrder
 pub mod SpacesAtEnds
 pub mod DocumentInPieces
 pub mod ReadBack
+pub mod DimensionRuns

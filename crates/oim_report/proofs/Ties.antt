@@ -1,5 +1,6 @@
 -- The derived comparisons of values, dimensions and levels agree with the definitions.
-use Rattle.std.proofs.Common.{◌≡◌, cond, refl, ap, ◌∙◌}
+use Rattle.std.proofs.Common.{◌≡◌, cond, true, refl, sym, ap, ◌∙◌}
+use Rattle.std.specs.Cmp.{Equal-is}
 use Rattle.std.specs.Ordering.{is_eq, is_lt, ord_max, partial_lt}
 use Rattle.oim_value.specs.Level.{level_cmp}
 use Rattle.oim_value.specs.contracts.level.LevelOrd.TheImpl.{cmp-value as derived}
@@ -11,7 +12,7 @@ use Rattle.oim_value.specs.contracts.value.ValueOrd.TheImpl.Laws.{matches_eq-law
 use Rattle.oim_value.specs.contracts.value.ValuePartialEq.TheImpl.{eq-value as value_eq}
 use Rattle.oim_value.specs.declared.value.Value.{Value}
 use Rattle.oim_value.specs.ValueOrder.{value_cmp}
-use Rattle.oim_dims.proofs.Orders.{dimensions_agree}
+use Rattle.oim_dims.proofs.Orders.{dimensions_agree, dimensions_cmp_exact}
 use Rattle.oim_dims.specs.contracts.dimensions.DimensionsOrd.TheImpl.Laws.{matches_eq-law as dimensions_match}
 use Rattle.oim_dims.specs.contracts.dimensions.DimensionsPartialEq.TheImpl.{eq-value as dimensions_eq}
 use Rattle.oim_dims.specs.DimensionSet.{DimensionSet}
@@ -22,6 +23,9 @@ equal_values_tie v w = values_match v w ∙ ap is_eq (values_agree v w)
 
 pub equal_dimensions_tie : (x y : DimensionSet) → dimensions_eq.it x y ≡ is_eq (dimensions_cmp x y)
 equal_dimensions_tie x y = dimensions_match x y ∙ ap is_eq (dimensions_agree x y)
+
+pub equal_dimensions : (x y : DimensionSet) → dimensions_eq.it x y ≡ true → x ≡ y
+equal_dimensions x y h = dimensions_cmp_exact x y ((Equal-is (dimensions_cmp x y)).0 (sym (equal_dimensions_tie x y) ∙ h))
 
 pub level_max_is : (l m : Level) → ord_max derived.it l m ≡ ord_max level_cmp l m
 level_max_is l m = ap (λ o. cond (is_lt o) l m) (levels_agree m l)

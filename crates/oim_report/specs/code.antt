@@ -1,5 +1,6 @@
 -- Definitions that no public contract uses, such as stored forms of values, tests of parts and intermediate laws.
 pub mod Beside
+pub mod DimensionRuns
 pub mod Findings
 pub mod FoundFacts
 pub mod Groups

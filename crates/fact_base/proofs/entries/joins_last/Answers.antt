@@ -2,10 +2,9 @@ use Rattle.std.proofs.Common.{◌≡◌, suc, length, sym, ap, ◌∙◌, ◌<�
 use Rattle.std.specs.Ordering.{is_eq}
 use Rattle.std.proofs.lemmas.List.{get_or_default}
 use Rattle.oim_dims.specs.FactOrder.{dimensions_cmp}
-use Rattle.oim_report.proofs.Ties.{equal_dimensions_tie}
+use Rattle.oim_report.proofs.Ties.{equal_dimensions, equal_dimensions_tie}
 use Rattle.fact_base.specs.Entries.{Entry}
 use Rattle.fact_base.proofs.Pushes.{all_below, none_below, put_behind, put_last}
-use Rattle.fact_base.proofs.Walks.{equal_dimensions}
 use Rattle.fact_base.proofs.entries.joins_last.Goals as goal
 
 pub returns-in_ok-add-in-Some : goal.returns-in_ok-add-in-Some

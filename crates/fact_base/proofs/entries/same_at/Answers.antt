@@ -3,7 +3,8 @@ use Rattle.std.specs.Option.{option_map}
 use Rattle.fact_base.proofs.entries.same_at.Goals as goal
 use Rattle.std.proofs.Common.{Some, sym, ap, ◌∙◌}
 use Rattle.fact_base.specs.Entries.{Entry}
-use Rattle.fact_base.proofs.Walks.{equal_dimensions, rows_alike, rows_unlike}
+use Rattle.oim_report.proofs.Ties.{equal_dimensions}
+use Rattle.fact_base.proofs.Walks.{rows_alike, rows_unlike}
 
 pub returns-then-eq : goal.returns-then-eq
 returns-then-eq c =

@@ -6,6 +6,8 @@ use Rattle.oim_dims.proofs.Orders.{facts_agree}
 use Rattle.oim_dims.specs.contracts.fact.FactOrd.TheImpl.{cmp-value as derived}
 use Rattle.oim_dims.specs.declared.fact.Fact.{Fact}
 use Rattle.oim_dims.specs.FactOrder.{fact_cmp}
+use Rattle.oim_value.proofs.ValueOrders.{values_agree}
+use Rattle.oim_report.proofs.DimensionRuns.{by_value}
 use Rattle.oim_report.proofs.order.compared.Goals as goal
 
 looked_up : (facts : List Fact) (i : ℕ) (r : Option (Bor Fact)) → MatchOption r (length facts ≤ i) (λ x. (i < length facts) × HoldsAt (λ y. x.now ≡ y) facts i) → option_map (λ x. x.now) r ≡ slice_get facts i
@@ -21,10 +23,20 @@ answers R (Some x) (Some y) = refl
 agree : (o p : Option Fact) → option_cmp derived.it o p ≡ option_cmp fact_cmp o p
 agree o p = λ i. option_cmp (λ x y. facts_agree x y i) o p
 
-pub returns : goal.returns
-returns c =
-    let r = c.get.result in
-    let s = c.get-2.result in
-    let first = looked_up c.args.facts.now c.args.i r c.get.ensures.lookup.3 in
-    let second = looked_up c.args.facts.now c.args.j s c.get-2.ensures.lookup.3 in
-    c.cmp.ensures ∙ answers derived.it r s ∙ agree (option_map (λ x. x.now) r) (option_map (λ x. x.now) s) ∙ (λ i. option_cmp fact_cmp (first i) (second i))
+pub returns-in-Some-Some : goal.returns-in-Some-Some
+returns-in-Some-Some c =
+    let facts = c.args.facts.now in
+    let w = c.in-Some-Some in
+    let first : slice_get facts c.args.i ≡ Some w.one.now = sym (looked_up facts c.args.i c.get.result c.get.ensures.lookup.3) ∙ ap (option_map (λ x. x.now)) w.is-0 in
+    let second : slice_get facts c.args.j ≡ Some w.other.now = sym (looked_up facts c.args.j c.get-2.result c.get-2.ensures.lookup.3) ∙ ap (option_map (λ x. x.now)) w.is-1 in
+    c.cmp.ensures ∙ values_agree w.one.now.value w.other.now.value
+    ∙ by_value facts c.args.starts.now c.args.i c.args.j w.one.now w.other.now c.requires (c.same_at.ensures c.if-same_at.true) first second
+    ∙ (λ k. option_cmp fact_cmp (sym first k) (sym second k))
+
+pub returns-in_default : goal.returns-in_default
+returns-in_default c =
+    let r = c.get-in_default.result in
+    let s = c.get-in_default-2.result in
+    let first = looked_up c.args.facts.now c.args.i r c.get-in_default.ensures.lookup.3 in
+    let second = looked_up c.args.facts.now c.args.j s c.get-in_default-2.ensures.lookup.3 in
+    c.cmp-in_default.ensures ∙ answers derived.it r s ∙ agree (option_map (λ x. x.now) r) (option_map (λ x. x.now) s) ∙ (λ i. option_cmp fact_cmp (first i) (second i))

@@ -1,0 +1,25 @@
+use Rattle.std.proofs.Common.{◌≡◌, ◌<◌, length, sym, ap, ◌∙◌, arith, rules}
+use Rattle.std.specs.Prelude.{Some}
+use Rattle.oim_dims.specs.contracts.dimensions.DimensionsPartialEq.TheImpl.{eq-value as dimensions_eq}
+use Rattle.oim_dims.specs.declared.fact.Fact.{Fact}
+use Rattle.oim_report.specs.code.DimensionRuns.{dimensions_at}
+use Rattle.oim_report.proofs.DimensionRuns.{one_more, own}
+use Rattle.oim_report.proofs.Ties.{equal_dimensions}
+use Rattle.oim_report.proofs.order.run_starts.Goals as goal
+use Rattle.oim_report.proofs.order.run_starts.Goals.{then-is_alike, else-is_alike}
+
+pub loop-i-preserved : goal.loop-i-preserved
+loop-i-preserved c =
+    let l = c.loop-i in
+    let facts = c.args.facts.now in
+    let f = c.index-facts-i.result in
+    let within : l.i < length facts = omega arith in
+    let here : dimensions_at facts c.if-is_alike.first ≡ Some f.dimensions = elim c.if-is_alike.branch [
+      | then-is_alike w ↦ ap (dimensions_at facts) w.first-is ∙ own facts l.first _ (omega (arith, l.invariant.within, within)) c.index-facts-first.is
+          ∙ ap (λ d. Some d) (equal_dimensions c.index-facts-first.result.dimensions f.dimensions (ap (λ (x : Fact). dimensions_eq.it x.dimensions f.dimensions) c.index-facts-first.is ∙ sym c.eq-is_alike.ensures ∙ w.if-is_alike.true))
+      | else-is_alike w ↦ ap (dimensions_at facts) w.first-is ∙ own facts l.i f within c.index-facts-i.is
+    ] in
+    record {
+      within = elim c.if-is_alike.branch [ then-is_alike w ↦ omega (arith, w.first-is, l.invariant.within) | else-is_alike w ↦ omega (arith, w.first-is) ];
+      alike = one_more facts l.starts.items c.push.new.self.items l.i c.if-is_alike.first f within c.index-facts-i.is here (search rules) l.invariant.alike;
+    }
