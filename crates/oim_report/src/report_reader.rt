@@ -14,6 +14,7 @@ use crate::fact::facts_reader::read_facts;
 use crate::limits::PIECE_BYTES;
 use crate::order::order_of;
 use crate::pieces::facts_in_pieces::read_facts_in_pieces;
+use crate::pieces::piece_buffers::PieceBuffers;
 use crate::place::Place;
 use crate::refusal::Refusal;
 use crate::report::Report;
@@ -43,12 +44,13 @@ pub fn read_report<'s>(alloc: Global, sheet: &'s Sheet, bytes: &[u8]) -> Result<
 /// same URIs, and then a text means the same in all these reports. So the reader caches the
 /// meanings of texts, and facts of many reports share the memory of names. Before the facts of a
 /// report are read, the caches are emptied if a cache is full, or if the report binds prefixes
-/// differently than the last report whose facts were read. Contracts represent a reader by its
-/// sheet.
+/// differently than the last report whose facts were read. The reader also keeps buffers of at most
+/// 3 MB for later reports. Contracts represent a reader by its sheet.
 #[derive(Drop)]
 pub struct ReportReader<'s> {
     alloc: Global,
     facts: FactReader<'s>,
+    buffers: PieceBuffers,
 }
 
 impl<'s> Model for ReportReader<'s> {
@@ -67,8 +69,11 @@ impl<'s> ReportReader<'s> {
     pub fn new(alloc: Global, sheet: &'s Sheet) -> ReportReader<'s>
         ensures { result ≡ sheet.now }
     {
-        let facts = FactReader::new(alloc, sheet);
-        ReportReader { alloc, facts }
+        ReportReader {
+            alloc,
+            facts: FactReader::new(alloc, sheet),
+            buffers: PieceBuffers::new(alloc),
+        }
     }
 
     /// Returns the sheet under which reports are read.
@@ -154,12 +159,15 @@ impl<'s> ReportReader<'s> {
         let outline = read_json_outline(alloc, bytes)?;
         let info = read_info(alloc, &outline.tree).ok()?;
         self.facts.turn_to(info.aliases);
-        let FoundFacts { identifiers, facts } = read_facts_in_pieces(
+        let found = read_facts_in_pieces(
             alloc,
             &mut self.facts,
+            &mut self.buffers,
             outline.facts,
             PIECE_BYTES,
-        )?;
+        );
+        self.buffers.free_if_large(alloc);
+        let FoundFacts { identifiers, facts } = found?;
         let order = order_of(alloc, facts.as_slice()).ok()?;
         if is_above(info.level, facts.as_slice(), order.as_slice()) {
             return None;

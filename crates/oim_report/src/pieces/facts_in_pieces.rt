@@ -6,8 +6,8 @@ ghost use Rattle.oim_report.specs.Pieces.{IsPiece};
 use crate::document::found_facts::FoundFacts;
 use crate::fact::fact_reader::FactReader;
 use crate::pieces::next_piece::split_piece;
+use crate::pieces::piece_buffers::PieceBuffers;
 use crate::pieces::piece_facts::read_piece_facts;
-use json::Scratch;
 use std::alloc::Global;
 
 /// Returns the facts in `text`, in byte order of their identifiers. The result is `None` if a piece
@@ -15,6 +15,7 @@ use std::alloc::Global;
 pub(crate) fn read_facts_in_pieces(
     alloc: Global,
     reader: &mut FactReader<'_>,
+    buffers: &mut PieceBuffers,
     text: &str,
     size: usize,
 ) -> Option<FoundFacts>
@@ -22,14 +23,12 @@ pub(crate) fn read_facts_in_pieces(
     ensures found { IfSome result (λ f. (objects : Members) × IsPiece text.now objects
         × AreFound reader.old.sheet reader.old.aliases objects f.identifiers.items f.facts.items) }
 {
-    let mut buffer = String::new(alloc);
-    let mut scratch = Scratch::new(alloc);
     let mut identifiers = Vec::new(alloc);
     let mut facts = Vec::new(alloc);
     let mut left = text;
     for _ in 0..text.len() {
         let (piece, rest) = split_piece(left, size);
-        let mut more = read_piece_facts(alloc, reader, &mut buffer, &mut scratch, piece)?;
+        let mut more = read_piece_facts(alloc, reader, buffers, piece)?;
         identifiers.append(&mut more.identifiers).ok()?;
         facts.append(&mut more.facts).ok()?;
         match rest {

@@ -30,13 +30,24 @@ fn cut_at_comma(text: &str, at: usize) -> Option<(&str, &str)>
 // before a fact. A wrong guess costs only time, because a report with an unreadable piece is read
 // as a whole.
 fn guess_end(text: &str, size: usize) -> Option<usize> {
-    let bytes = text.as_bytes();
-    let mut after_brace = false;
-    for i in size..bytes.len() {
-        if after_brace && bytes[i] == b',' && begins_fact(text.get(i + 1..)?) {
-            return Some(i);
+    let mut rest = text_after(text, size)?;
+    for _ in 0..text.len() {
+        let (_front, after_brace) = rest.split_once('}')?;
+        if after_brace.strip_prefix(',').is_some_and(begins_fact) {
+            return text.len().checked_sub(after_brace.len());
         }
-        after_brace = bytes[i] == b'}';
+        rest = after_brace;
+    }
+    None
+}
+
+// Returns the text after its first `size` bytes. If these end inside a character, returns the text
+// after that character.
+fn text_after(text: &str, size: usize) -> Option<&str> {
+    for at in size..size.saturating_add(4) {
+        if let Some(rest) = text.get(at..) {
+            return Some(rest);
+        }
     }
     None
 }

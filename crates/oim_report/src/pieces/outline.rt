@@ -7,9 +7,13 @@ use crate::pieces::spaces::{strip_back, strip_front, trim_back};
 use serde_json::{Map, Value};
 use std::alloc::Global;
 
-// `guess_end` looks for the end of `facts` only in the last `MOST_BEHIND` bytes of a document, not
-// counting white space at the end.
-const MOST_BEHIND: usize = 4_096;
+// `guess_end` looks for the end of `facts` only in this many of the last bytes of a document, not
+// counting white space at the end. This number is used if `facts` is the first member.
+const SEARCHED_IF_FIRST: usize = 4_096;
+
+// Used if members precede `facts`: usually nothing follows then, so a longer search would only cost
+// time.
+const SEARCHED_IF_LATER: usize = 256;
 
 /// A document without its member `facts`, and the text of the members of `facts`.
 #[derive(Drop)]
@@ -48,7 +52,11 @@ fn split_document(text: &str) -> Option<Split<'_>>
 {
     let (head, tail) = text.split_once("\"facts\"")?;
     let before = split_head(head)?;
-    let (facts, behind) = split_tail(tail)?;
+    let searched = match before {
+        Some(_) => SEARCHED_IF_LATER,
+        None => SEARCHED_IF_FIRST,
+    };
+    let (facts, behind) = split_tail(tail, searched)?;
     Some(Split {
         before,
         facts,
@@ -71,11 +79,12 @@ fn split_head(text: &str) -> Option<Option<&str>>
 }
 
 #[tactic(auto, using(crate::proofs::Outlines::tail_is))]
-fn split_tail(text: &str) -> Option<(&str, Option<&str>)>
+fn split_tail(text: &str, searched: usize) -> Option<(&str, Option<&str>)>
     ensures { IfSome result (λ p. IsTail text.now p.0.now (option_map (λ t. t.now) p.1)) }
 {
     let inner = strip_front(strip_front(text, ":")?, "{")?;
-    let (front, rest) = cut_at_brace(inner, guess_end(trim_back(inner)?.as_bytes()))?;
+    let end = guess_end(trim_back(inner)?.as_bytes(), searched);
+    let (front, rest) = cut_at_brace(inner, end)?;
     let facts = trim_back(front)?;
     let behind = split_end(rest)?;
     Some((facts, behind))
@@ -104,11 +113,12 @@ fn split_end(text: &str) -> Option<Option<&str>>
 
 // Guesses the index of the brace that closes `facts`: the leftmost closing brace or bracket that is
 // not inside another pair. The last byte is skipped, because it closes the document.
-fn guess_end(bytes: &[u8]) -> usize {
+fn guess_end(bytes: &[u8], searched: usize) -> usize {
     let mut end = 0;
     let mut depth: usize = 0;
     let mut in_text = false;
-    for i in (bytes.len().saturating_sub(MOST_BEHIND)..bytes.len().saturating_sub(1)).rev() {
+    let last = bytes.len().saturating_sub(1);
+    for i in (bytes.len().saturating_sub(searched)..last).rev() {
         let byte = bytes[i];
         if byte == b'"' && !(i > 0 && bytes[i - 1] == b'\\') {
             in_text = !in_text;

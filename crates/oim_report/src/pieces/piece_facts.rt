@@ -12,7 +12,8 @@ use crate::document::found_facts::FoundFacts;
 use crate::fact::fact_parts::FactParts;
 use crate::fact::fact_reader::FactReader;
 use crate::pieces::piece::{ends_with_brace, fill_alone};
-use json::{Element, Members, Scratch, Tape};
+use crate::pieces::piece_buffers::PieceBuffers;
+use json::{Element, Members, Tape};
 use std::alloc::Global;
 
 /// Reads the facts of a piece, in the order of the text. The result is `None` if the piece cannot
@@ -20,8 +21,7 @@ use std::alloc::Global;
 pub(crate) fn read_piece_facts(
     alloc: Global,
     reader: &mut FactReader<'_>,
-    buffer: &mut String,
-    scratch: &mut Scratch,
+    buffers: &mut PieceBuffers,
     piece: &str,
 ) -> Option<FoundFacts>
     ensures same { reader.new ≡ reader.old }
@@ -31,8 +31,9 @@ pub(crate) fn read_piece_facts(
     if !ends_with_brace(piece) {
         return None;
     }
-    fill_alone(buffer, piece)?;
-    let tape = Tape::parse(buffer.as_str(), scratch, Vec::new(alloc)).ok()?;
+    let PieceBuffers { text, scratch } = buffers;
+    fill_alone(text, piece)?;
+    let tape = Tape::parse(text.as_str(), scratch, Vec::new(alloc)).ok()?;
     read_members(alloc, reader, only_object(&tape.root())?)
 }
 
