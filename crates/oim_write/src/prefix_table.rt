@@ -1,6 +1,7 @@
-ghost use Rattle.std.specs.Prelude.{◌≡◌, IfOk, string_bytes};
+ghost use Rattle.std.specs.Prelude.{◌≡◌, ◌++◌, length, map, IfOk, OnOk, string_bytes};
 ghost use Rattle.fact_base.specs.Body.{text_cmp};
-ghost use Rattle.oim_write.specs.Rank.{rank};
+ghost use Rattle.fact_base.specs.Passed.{IsSet};
+ghost use Rattle.oim_write.specs.Rank.{rank, width};
 ghost use Rattle.oim_write.specs.Tree.{prefix};
 ghost use Rattle.oim_write.specs.Uris.{uris};
 
@@ -16,6 +17,8 @@ use std::marker::Model;
 #[derive(Drop)]
 pub(crate) struct PrefixTable {
     uris: Vec<Text>,
+    // the prefixes, in the order of the URIs
+    prefixes: Vec<String>,
     digits: usize,
     cache: PositionCache,
 }
@@ -28,7 +31,7 @@ impl Model for PrefixTable {
 
     ghost view = { λ t. t.uris.items };
 
-    ghost invariant = { λ t. IsTable t.uris.items t.digits };
+    ghost invariant = { λ t. IsTable t.uris.items t.prefixes.items t.digits };
 }
 
 impl PrefixTable {
@@ -41,9 +44,11 @@ impl PrefixTable {
         }
         let uris = set.into_uris();
         let digits = width_of(uris.len() as u128);
+        let prefixes = prefixes_of(alloc, uris.as_slice(), digits)?;
         let cache = places_of(uris.as_slice());
         Ok(PrefixTable {
             uris,
+            prefixes,
             digits,
             cache,
         })
@@ -58,21 +63,23 @@ impl PrefixTable {
     pub(crate) fn prefix(&self, alloc: Global, uri: &str) -> Result<String, AllocError>
         ensures { IfOk result (λ text. string_bytes text ≡ prefix self.now uri.now) }
     {
-        label(alloc, "n", self.digits, self.rank(uri))
+        let mut text = String::new(alloc);
+        self.push_prefix(&mut text, uri)?;
+        Ok(text)
     }
 
     // Few URIs share a class of the cache, so the cache usually has the index.
-    fn rank(&self, uri: &str) -> u128
-        ensures { result ≡ rank text_cmp uri.now self.now }
+    fn push_prefix(&self, text: &mut String, uri: &str) -> Result<(), AllocError>
+        ensures { OnOk result (string_bytes text.new ≡ string_bytes text.old ++ prefix self.now uri.now) }
     {
         let place = self.cache.place(uri);
         match self.uris.get(place) {
-            Some(known) if known.as_str() == uri => 1 + place as u128,
-            _ => self.counted(uri),
+            Some(known) if known.as_str() == uri => text.push_str(self.prefixes[place].as_str()),
+            _ => push_label(text, "n", self.digits, self.rank(uri)),
         }
     }
 
-    fn counted(&self, uri: &str) -> u128
+    fn rank(&self, uri: &str) -> u128
         ensures { result ≡ rank text_cmp uri.now self.now }
     {
         1 + self.uris.partition_point(|known| known.as_str() < uri) as u128
@@ -85,10 +92,22 @@ impl Spelling for PrefixTable {
     ghost spelled = { name_text };
 
     fn push_name(&self, text: &mut String, name: &Name) -> Result<(), AllocError> {
-        push_label(text, "n", self.digits, self.rank(name.uri()))?;
+        self.push_prefix(text, name.uri())?;
         text.push_str(":")?;
         text.push_str(name.local())
     }
+}
+
+fn prefixes_of(alloc: Global, uris: &[Text], digits: usize) -> Result<Vec<String>, AllocError>
+    requires rises { IsSet text_cmp uris.now }
+    requires digits { digits ≡ width (length uris.now) }
+    ensures { IfOk result (λ prefixes. map string_bytes prefixes.items ≡ map (prefix uris.now) uris.now) }
+{
+    let mut prefixes = Vec::with_capacity(alloc, uris.len())?;
+    for index in 0..uris.len() {
+        prefixes.push(label(alloc, "n", digits, 1 + index as u128)?)?;
+    }
+    Ok(prefixes)
 }
 
 // Caches the indices of the URIs, except indices above 65,535. If several URIs share a class of the

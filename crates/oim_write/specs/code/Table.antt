@@ -1,16 +1,19 @@
 -- The table of prefixes, and how its URIs are collected (own).
-use Rattle.std.specs.Prelude.{◌≡◌, ℕ, List, length, ◌↔◌, ◌⊎◌, Contains, ◌++◌, flat_map}
+use Rattle.std.specs.Prelude.{◌≡◌, ℕ, List, String, length, map, string_bytes, ◌↔◌, ◌⊎◌, Contains, ◌++◌, flat_map}
+use Rattle.std.specs.declared.alloc.Global.{Global}
 use Rattle.fact_base.specs.Passed.{IsSet}
 use Rattle.fact_base.specs.Body.{text_cmp}
 use Rattle.oim_names.specs.QName.{QName}
 use Rattle.fact_base.specs.Rows.{Row}
 use Rattle.oim_write.specs.Rank.{width}
+use Rattle.oim_write.specs.Tree.{prefix}
 use Rattle.oim_write.specs.Uris.{dimension_names, uris_of_names, value_names}
 
--- the invariant of a table of prefixes: the URIs ascend, and `digits` is the width of the number of URIs
-pub record IsTable (us : List (List ℕ)) (digits : ℕ) : Type 0 where
+-- the invariant of a table of prefixes: the URIs ascend, `digits` is the width of the number of URIs, and `prefixes` lists the prefixes of the URIs in order
+pub record IsTable (us : List (List ℕ)) (prefixes : List (String Global)) (digits : ℕ) : Type 0 where
   pub rises : IsSet text_cmp us
   pub enough : digits ≡ width (length us)
+  pub spelled : map string_bytes prefixes ≡ map (prefix us) us
 
 -- the names in a row's dimensions and values
 abbrev pub row_names : Row → List QName

@@ -1,23 +1,20 @@
-use Rattle.std.proofs.Common.{◌≡◌, ℕ, ◌+◌, ◌<◌, length, get_or, sym, ap, subst, ◌∙◌, arith}
-use Rattle.fact_base.specs.Body.{text_cmp}
-use Rattle.fact_base.proofs.TextOrder.{text_cmp_total}
-use Rattle.oim_names.proofs.Bytes.{same_bytes}
+use Rattle.std.proofs.Common.{◌≡◌, ℕ, suc, ◌+◌, List, Bool, sym, ap, subst, ◌∙◌, rules, arith}
+use Rattle.std.specs.List.Sorted.{IsPartitionedBy}
+use Rattle.std.specs.Ordering.{nat_cmp, is_lt}
+use Rattle.std.specs.Cmp.Lexicographic.{slice_cmp}
+use Rattle.std.proofs.lemmas.Cmp.{nat_list_cmp_total}
+use Rattle.std.proofs.lemmas.List.Sorted.{IsPartitionPoint-from_clause}
 use Rattle.oim_write.specs.Rank.{rank}
-use Rattle.oim_write.proofs.Ranks.{rank_at}
+use Rattle.oim_write.proofs.Ranks.{count_at, parted}
 use Rattle.oim_write.proofs.prefix_table.PrefixTable.rank.Goals as goal
 
-other_side : (n : ℕ) → 1 + n ≡ n + 1
-other_side n = omega arith
+add_one : (n : ℕ) → 1 + n ≡ suc n
+add_one n = omega arith
 
-pub returns-in-Some : goal.returns-in-Some
-returns-in-Some c =
-    let uri = c.args.uri.now in
-    let us = c.self.inside.uris.items in
-    let place = c.place-place.result in
-    let same = same_bytes c.as_str.result.now uri (sym c.eq.ensures ∙ c.if-eq.true) in
-    let there : get_or us place uri ≡ uri = ap (λ vs. get_or vs place uri) (sym c.deref.ensures.value) ∙ sym (c.in-Some.ensures.lookup.3.1 uri) ∙ sym c.as_str.ensures.bytes ∙ same in
-    let within : place < length us = subst (λ vs. place < length vs) c.deref.ensures.value c.in-Some.ensures.lookup.3.0 in
-    other_side place
-    ∙ sym (rank_at text_cmp_total us place uri c.self.invariant.rises within)
-    ∙ ap (λ x. rank text_cmp x us) there
-    ∙ ap (rank text_cmp uri) c.self.view_is
+pub returns : goal.returns
+returns c =
+    let smaller : List ℕ → Bool = λ known. is_lt (slice_cmp nat_cmp known c.args.uri.now) in
+    let rises = subst (IsPartitionedBy smaller) (sym c.deref.ensures.value) (parted nat_list_cmp_total c.self.inside.uris.items c.args.uri.now c.self.invariant.rises) in
+    let point = IsPartitionPoint-from_clause smaller _ _ c.partition_point.ensures.partitioned rises (λ a r q k. search rules) in
+    let place = count_at smaller c.deref.result.now c.partition_point.result c.partition_point.ensures.bound point in
+    ap (λ n. 1 + n) (sym place) ∙ (add_one _ ∙ ap (rank (slice_cmp nat_cmp) c.args.uri.now) (c.deref.ensures.value ∙ c.self.view_is))

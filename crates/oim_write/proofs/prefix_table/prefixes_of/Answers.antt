@@ -1,0 +1,25 @@
+use Rattle.std.proofs.Common.{◌≡◌, ℕ, ◌+◌, ◌<◌, [], ◌∷◌, ◌++◌, length, map, get_or, take, string_bytes, sym, ap, ◌∙◌, arith}
+use Rattle.std.proofs.lemmas.List.{map-append, take_more}
+use Rattle.fact_base.proofs.TextOrder.{text_cmp_total}
+use Rattle.oim_write.specs.Rank.{padded}
+use Rattle.oim_write.specs.Tree.{prefix}
+use Rattle.oim_write.proofs.Ranks.{rank_at}
+use Rattle.oim_write.proofs.prefix_table.prefixes_of.Goals as goal
+
+other_side : (n : ℕ) → 1 + n ≡ n + 1
+other_side n = omega arith
+
+pub loop-index-preserved : goal.loop-index-preserved
+loop-index-preserved c =
+    let us = c.args.uris.now in
+    let l = c.loop-index in
+    let within : l.index < length us = c.loop-index-test.true in
+    let uri = get_or us l.index [] in
+    let own = c.in_ok-label.field-0 in
+    let spelled : string_bytes own ≡ prefix us uri
+    = c.in_ok-label.ensures ∙ (λ i. 110 ∷ padded (c.requires.digits i) ((other_side l.index ∙ sym (rank_at text_cmp_total us l.index [] c.requires.rises within)) i)) in
+    ap (map string_bytes) c.in_ok-push.ensures.items
+    ∙ map-append string_bytes l.prefixes.items (own ∷ [])
+    ∙ (λ i. l.invariant i ++ spelled i ∷ [])
+    ∙ sym (map-append (prefix us) (take l.index us) (uri ∷ []))
+    ∙ ap (map (prefix us)) (sym (take_more us l.index [] within))
