@@ -8,9 +8,8 @@ use oim_write::Encoded;
 use std::alloc::{AllocError, Global};
 
 /// The buffer grows by at least `FEWEST` and at most `MOST` bytes at once. Only its last growth may
-/// be less, so that its size stays within the limit plus one byte. The growth increases with the
-/// bytes read, so small files need little memory.
-const FEWEST: usize = 1 << 12;
+/// be less, so that its size stays within the limit plus one byte. Many files need only one growth.
+const FEWEST: usize = 1 << 15;
 
 const MOST: usize = 1 << 16;
 
