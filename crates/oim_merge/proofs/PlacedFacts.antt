@@ -14,14 +14,11 @@ use Rattle.oim_dims.specs.FactOrder.{fact_cmp}
 use Rattle.oim_dims.specs.declared.fact.Fact.{Fact}
 use Rattle.oim_dims.proofs.Orders.{fact_cmp_exact, fact_cmp_total}
 use Rattle.oim_write.proofs.Ranks.{rank_at}
-use Rattle.oim_merge.specs.Mentions.{all_placed, place, placed}
-use Rattle.oim_merge.specs.Sources.{Mention, by_fact, is_of}
+use Rattle.oim_merge.specs.Mentions.{AreOf, all_placed, place, placed}
+use Rattle.oim_merge.specs.Sources.{by_fact, is_of}
+use Rattle.oim_merge.specs.declared.sources.mention.Mention.{Mention}
 use Rattle.oim_merge.specs.declared.sources.placed_mention.PlacedMention.{PlacedMention}
 use Rattle.oim_merge.proofs.ByPlace.{grouped, groups, has_place, is_equal, is_place, place_is, rise_from, same_groups, same_here}
-
--- each mentioned fact is in the list
-abbrev pub AreOf : List Fact → List Mention → Type 0
-AreOf facts ms = AllByRecursion (λ (m : Mention). Contains facts m.fact) ms
 
 one_less : (m n : ℕ) → suc m ≡ n + 1 → m ≡ n
 one_less m n e = omega (arith, e)

@@ -28,9 +28,10 @@ use Rattle.fact_base.specs.Body.{all_facts}
 use Rattle.fact_base.proofs.Members.{first_or_later, first_there, in_one_of_both, later_there, none_there}
 use Rattle.fact_base.proofs.Sets.{set_of_is_set}
 use Rattle.oim_merge.specs.Reports.{accepted, document_in, merged}
-use Rattle.oim_merge.specs.Sources.{EachFactIsSaid, EachMentionIsTold, EachObjectIsMentioned, IsMentionOf, Mention, by_fact, is_of, mentions, mentions_by_fact, mentions_from, mentions_in, mentions_of}
+use Rattle.oim_merge.specs.declared.sources.mention.Mention.{Mention}
+use Rattle.oim_merge.specs.Sources.{EachFactIsSaid, EachMentionIsTold, EachObjectIsMentioned, IsMentionOf, by_fact, is_of, mentions, mentions_by_fact, mentions_from, mentions_in, mentions_of}
 use Rattle.oim_merge.proofs.ByPlace.{is_equal}
-use Rattle.oim_merge.proofs.PlacedFacts.{AreOf}
+use Rattle.oim_merge.specs.Mentions.{AreOf}
 use Rattle.oim_merge.proofs.SourceMentions.{mentions_are_of}
 
 -- ---- each object once

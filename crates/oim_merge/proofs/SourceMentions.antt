@@ -14,8 +14,9 @@ use Rattle.fact_base.specs.Body.{all_facts}
 use Rattle.fact_base.proofs.Members.{first_there, in_one_of_both, later_there}
 use Rattle.fact_base.proofs.Sets.{set_of_is_set}
 use Rattle.oim_merge.specs.Reports.{accepted, document_in, merged}
-use Rattle.oim_merge.specs.Sources.{Mention, mentions, mentions_from, mentions_in, mentions_of}
-use Rattle.oim_merge.proofs.PlacedFacts.{AreOf}
+use Rattle.oim_merge.specs.declared.sources.mention.Mention.{Mention}
+use Rattle.oim_merge.specs.Sources.{mentions, mentions_from, mentions_in, mentions_of}
+use Rattle.oim_merge.specs.Mentions.{AreOf}
 
 both_all : {A : Type 0} (P : A → Type 0) (xs ys : List A) → AllByRecursion P xs → AllByRecursion P ys → AllByRecursion P (xs ++ ys)
 both_all P [] ys h g = g

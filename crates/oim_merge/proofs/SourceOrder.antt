@@ -13,7 +13,8 @@ use Rattle.oim_report.specs.Sheet.{Sheet}
 use Rattle.oim_report.specs.declared.refusal.Refusal.{Refusal}
 use Rattle.fact_base.proofs.Bodies.{body_ignores_order}
 use Rattle.oim_merge.specs.Reports.{accepted, document_in}
-use Rattle.oim_merge.specs.Sources.{Mention, Saying, SourcesIgnoreOrder, mentions_by_fact, mentions_from, mentions_in, mentions_of, saying}
+use Rattle.oim_merge.specs.declared.sources.mention.Mention.{Mention}
+use Rattle.oim_merge.specs.Sources.{Saying, SourcesIgnoreOrder, mentions_by_fact, mentions_from, mentions_in, mentions_of, saying}
 use Rattle.oim_merge.proofs.Reordered.{reordered}
 use Rattle.oim_merge.proofs.SourceLaws.{each_mention_is_told}
 

@@ -14,7 +14,8 @@ use Rattle.oim_merge.specs.code.Listing.{placed_text}
 use Rattle.oim_merge.specs.Reports.{merged}
 use Rattle.oim_merge.specs.Run.{fault_of}
 use Rattle.oim_merge.specs.SourceListing.{AppendingStops}
-use Rattle.oim_merge.specs.Sources.{Mention, SourceText, mention_text, mentions_by_fact, sources_by}
+use Rattle.oim_merge.specs.declared.sources.mention.Mention.{Mention}
+use Rattle.oim_merge.specs.Sources.{SourceText, by_fact, mention_text, mentions, sources_by}
 use Rattle.oim_merge.specs.declared.sources.placed_mention.PlacedMention.{PlacedMention}
 
 add_one : (n : ℕ) → n + 1 ≡ suc n
@@ -31,12 +32,12 @@ module _ (written : SourceText) where
       ∙ (λ i. flat_map (λ m. same_text facts m i) ms)
 
   -- the texts of all mentions in these reports, by fact, are the texts of the sources
-  pub merged_sources : (sheet : Sheet) (reports : List (List ℕ)) (base : Contents) (count : ℕ) (ms : List PlacedMention) → base ≡ record { sheet = sheet; body = merged sheet reports } → count ≡ length base.body.facts →
-      ms ≡ all_placed base.body.facts (mentions_by_fact base.sheet reports) → flat_map (placed_text written count) ms ≡ sources_by written sheet reports
-  merged_sources sheet reports base count ms is count_is placed_are =
+  pub merged_sources : (sheet : Sheet) (reports : List (List ℕ)) (base : Contents) (count : ℕ) (said : List Mention) (ms : List PlacedMention) → base ≡ record { sheet = sheet; body = merged sheet reports } → count ≡ length base.body.facts →
+      said ≡ mentions sheet reports → ms ≡ all_placed base.body.facts (by_fact base.body.facts said) → flat_map (placed_text written count) ms ≡ sources_by written sheet reports
+  merged_sources sheet reports base count said ms is count_is said_is placed_are =
       ap (flat_map (placed_text written count)) placed_are
-      ∙ sources_are base.body.facts (mentions_by_fact base.sheet reports) count count_is
-      ∙ (λ i. flat_map (mention_text written (is i).body.facts) (mentions_by_fact (is i).sheet reports))
+      ∙ sources_are base.body.facts (by_fact base.body.facts said) count count_is
+      ∙ (λ i. flat_map (mention_text written (is i).body.facts) (by_fact (is i).body.facts (said_is i)))
 
 -- if a first part of the header and the texts was appended before a fault, `AppendingStops` holds for that fault
 pub stops_at : (header : List ℕ) (written : SourceText) (sheet : Sheet) (reports : List (List ℕ)) {old new : Option (List ℕ)} (fault : WriteFault) →

@@ -1,10 +1,15 @@
 -- Mentions, each with the index of its fact (own).
-use Rattle.std.specs.Prelude.{ℕ, List, map, count_by}
+use Rattle.std.specs.Prelude.{ℕ, List, Contains, map, count_by}
+use Rattle.std.specs.List.{AllByRecursion}
 use Rattle.std.specs.Ordering.{is_lt}
 use Rattle.oim_dims.specs.FactOrder.{fact_cmp}
 use Rattle.oim_dims.specs.declared.fact.Fact.{Fact}
-use Rattle.oim_merge.specs.Sources.{Mention}
+use Rattle.oim_merge.specs.declared.sources.mention.Mention.{Mention}
 use Rattle.oim_merge.specs.declared.sources.placed_mention.PlacedMention.{PlacedMention}
+
+-- each mentioned fact is in the list
+abbrev pub AreOf : List Fact → List Mention → Type 0
+AreOf facts ms = AllByRecursion (λ (m : Mention). Contains facts m.fact) ms
 
 -- the number of these facts that are less than a fact
 abbrev pub place : List Fact → Fact → ℕ

@@ -18,12 +18,7 @@ use Rattle.oim_report.specs.Sheet.{Sheet}
 use Rattle.oim_report.specs.declared.refusal.Refusal.{Refusal}
 use Rattle.oim_write.specs.Tree.{identifier}
 use Rattle.oim_merge.specs.Reports.{merged}
-
--- the report with this number reports the fact, in an object with this identifier
-pub record Mention : Type 0 where
-  pub report : ℕ
-  pub identifier : List ℕ
-  pub fact : Fact
+use Rattle.oim_merge.specs.declared.sources.mention.Mention.{Mention}
 
 -- the mentions in a report, given its identifiers and facts in the same order
 abbrev pub mentions_in : ℕ → List (List ℕ) → List Fact → List Mention

@@ -3,4 +3,5 @@ pub mod EventParts
 pub mod Held
 pub mod Readings
 pub mod Listing
+pub mod Outcomes
 pub mod SameLine

@@ -1,18 +1,24 @@
-ghost use Rattle.std.specs.Prelude.{◌≡◌, [], ◌+◌, ◌-◌, ◌^◌, ◌<◌, IfOk, IfErr, OnOk, OnErr};
+ghost use Rattle.std.specs.Prelude.{◌≡◌, ℕ, List, [], ◌++◌, ◌+◌, ◌-◌, ◌^◌, ◌<◌, IfOk, IfErr, OnOk, OnErr};
+ghost use Rattle.oim_report.specs.Identifiers.{identifiers};
+ghost use Rattle.oim_report.specs.Outcome.{outcome};
 ghost use Rattle.oim_merge.specs.Added.{added, begun, with_report};
 ghost use Rattle.oim_merge.specs.Lines.{line_text};
 ghost use Rattle.oim_merge.specs.Listing.{ListStops, Lists};
 ghost use Rattle.oim_merge.specs.Run.{Consolidates, ConsolidationStops, Stops, Writes, failures_after_run};
+ghost use Rattle.oim_merge.specs.Sources.{mentions_of};
+ghost use Rattle.oim_merge.specs.code.Outcomes.{IsOutcome};
 
 use crate::allowed_level::write_within;
 use crate::fault::Fault;
 use crate::merged::Merged;
-use crate::reading::read;
+use crate::reading::{read, read_with_identifiers};
 use crate::refusals::Refusals;
+use crate::sources::mention::Mention;
+use crate::sources::mentions::add_mentions;
 use crate::verdicts::verdict_line::VerdictLines;
 use crate::verdicts::verdict_listing::write_verdicts;
 use fact_base::Gathering;
-use oim_report::{ReportReader, Sheet};
+use oim_report::{Refusal, Report, ReportReader, Sheet};
 use oim_value::Level;
 use oim_write::{Encoded, Sink};
 use std::alloc::{AllocError, Global};
@@ -106,10 +112,46 @@ impl<'s> Consolidation<'s> {
         ensures ok { OnOk result (self.new ≡ with_report self.old bytes.now) }
         ensures err { OnErr result (self.new ≡ self.old) }
     {
+        let read = read(&mut self.reader, bytes)?;
+        self.add_read(read)
+    }
+
+    /// Does the same as `add`, and appends the mentions in the report.
+    ///
+    /// Errors: out of memory; some of the mentions may then have been appended.
+    pub(crate) fn add_with_mentions(
+        &mut self,
+        bytes: &[u8],
+        mentions: &mut Vec<Mention>,
+    ) -> Result<(), AllocError>
+        requires { self.old.reports + 1 < 2 ^ 64 }
+        ensures added { OnOk result (self.new ≡ with_report self.old bytes.now) }
+        ensures mentions { OnOk result (mentions.new.items ≡ mentions.old.items
+            ++ mentions_of (self.old.reports + 1) (identifiers bytes.now) (outcome self.old.sheet bytes.now)) }
+    {
+        let read = match read_with_identifiers(&mut self.reader, bytes)? {
+            Ok((report, identifiers)) => {
+                let identifiers = identifiers.as_slice();
+                let number = self.reports + 1;
+                add_mentions(self.alloc, number, identifiers, report.facts(), mentions)?;
+                Ok(report)
+            }
+            Err(refusal) => Err(refusal),
+        };
+        self.add_read(read)
+    }
+
+    // Adds a report that was read, or stores its refusal, and counts it.
+    fn add_read(&mut self, read: Result<Report<'_>, Refusal>) -> Result<(), AllocError>
+        requires room { self.old.reports + 1 < 2 ^ 64 }
+        requires sheet { IfOk read (λ report. report.sheet ≡ self.old.sheet) }
+        ensures ok { OnOk result ((bytes : List ℕ) → IsOutcome self.old.sheet bytes read.entry → self.new ≡ with_report self.old bytes) }
+        ensures err { OnErr result (self.new ≡ self.old) }
+    {
         // The contract of `sheet` states that the facts so far fit the sheet.
         let _sheet = self.gathered.sheet();
         let number = self.reports + 1;
-        match read(&mut self.reader, bytes)? {
+        match read {
             Ok(report) => self.gathered.add(report)?,
             Err(refusal) => self.refusals.push(number, refusal)?,
         }

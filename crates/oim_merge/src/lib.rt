@@ -30,7 +30,6 @@ pub use refusals::Refusals;
 // verdicts, sources of facts, and checks
 pub use checked::{Checked, check_report};
 pub use identifiers::Identifiers;
-pub use sources::mentions::mentions_by_fact;
 pub use sources::placed_mention::PlacedMention;
 pub use sources::source_format::SourceFormat;
 pub use sources::source_listing::{source_lines, write_sources};

@@ -50,7 +50,8 @@ pub(crate) fn read_with_identifiers<'s>(
 ) -> Result<Result<(Report<'s>, Vec<Text>), Refusal>, AllocError>
     ensures same { reader.new ≡ reader.old }
     ensures read { IfOk result (λ read. MatchResult read
-        (λ told. (outcome reader.old bytes.now ≡ Ok told.0.document) × (identifiers bytes.now ≡ Some told.1.items))
+        (λ told. (outcome reader.old bytes.now ≡ Ok told.0.document) × (told.0.sheet ≡ reader.old)
+        × (identifiers bytes.now ≡ Some told.1.items))
         (λ refusal. outcome reader.old bytes.now ≡ Err refusal)) }
 {
     match reader.read_identified(bytes) {

@@ -1,6 +1,7 @@
 //! Lists where each fact was reported.
 
 pub(crate) mod fact_list;
+pub(crate) mod mention;
 pub(crate) mod mentions;
 pub(crate) mod placed_mention;
 pub(crate) mod source_format;

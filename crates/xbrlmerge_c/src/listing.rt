@@ -69,7 +69,7 @@ fn listed(
     })
 }
 
-/// Only the listing of sources needs a copy of the reports, since it reads each report twice.
+/// Only the listing of sources needs copies of the reports, since `source_lines` takes a list.
 fn write<S: Sink>(
     alloc: Global,
     listing: Listing,

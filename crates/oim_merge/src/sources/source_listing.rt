@@ -9,7 +9,7 @@ ghost use Rattle.oim_merge.specs.SourceListing.{AppendingStops, AppendsSources, 
 use crate::fault::Fault;
 use crate::merged::Merged;
 use crate::refusals::Refusals;
-use crate::sources::mentions::mentions_by_fact;
+use crate::sources::mentions::{merge_with_mentions, placed_by_fact};
 use crate::sources::placed_mention::PlacedMention;
 use crate::sources::source_format::SourceFormat;
 use crate::sources::source_line::SourceLines;
@@ -22,7 +22,8 @@ use std::alloc::{AllocError, Global};
 /// of the report (from 1), and the object's own identifier as a JSON string. Lines are sorted by
 /// fact, report and object identifier. Returns the refusals with the numbers of their reports.
 ///
-/// Each report is read a second time after the merge, so a plain merge need not store identifiers.
+/// Memory holds a copy of each object's fact until the lines are sorted, even if another object
+/// reports the same fact, and each object's identifier until all lines are written.
 ///
 /// Errors: `Device` if the sink failed; `OutOfMemory`.
 pub fn source_lines<S: Sink>(
@@ -54,8 +55,8 @@ pub fn write_sources<S: Sink, F: SourceFormat>(
     ensures err { IfErr result (AppendingStops (F.header format.now) (F.source_text format.now) sheet.now reports.now (S.told out.old) (S.told out.new)) }
     ensures failures { S.failures out.new ≡ failures_after_run result (S.failures out.old) }
 {
-    let Merged { base, refusals } = Merged::of(alloc, sheet, reports)?;
-    let mentions = mentions_by_fact(alloc, &base, reports)?;
+    let (Merged { base, refusals }, mentions) = merge_with_mentions(alloc, sheet, reports)?;
+    let mentions = placed_by_fact(alloc, &base, mentions)?;
     write_all(alloc, base.fact_count(), mentions.as_slice(), format, out)?;
     Ok(refusals)
 }
