@@ -31,10 +31,10 @@ others. Each of the N replicas begins empty. EVENTS contains one event per line.
 and messages are counted from 1.
 
   take I R      replica I takes report R
-  join I J      replica I takes everything that replica J has
+  join I J      replica I takes all facts and taxonomy references of replica J
   send I        replica I sends its merged report, which is the next message
   receive I K   replica I takes message K, which may be late, repeated or reordered
-  restart I     replica I loses everything
+  restart I     replica I becomes empty
 
 At the end, the merged report of each replica is written, one per line. For every schedule, it
 equals one merge of the reports that reached the replica since its start or last restart, directly
