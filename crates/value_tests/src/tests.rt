@@ -1,3 +1,4 @@
+mod asked_again;
 mod dimensions;
 mod merges;
 mod names;

@@ -3,6 +3,7 @@ mod refused;
 mod sets;
 mod units;
 
+use super::asked_again::{bind, copied, tell_refused, text};
 use oim_dims::{
     Dimensions, Member, Period, Unit, read_language, read_period, read_unit, write_period,
 };
@@ -11,40 +12,6 @@ use std::alloc::AllocError;
 
 // `tests/refused_memory` refuses one request for memory in a run. The test then prints `refused
 // here` for its own request, or `refused` for a request of the library, and repeats the call.
-
-fn tell_refused(rt: &HostRuntime) {
-    let _ = eprintln!(rt; "refused");
-}
-
-fn text(rt: &HostRuntime, bytes: &str) -> Result<Text, AllocError> {
-    match Text::new(rt.alloc(), bytes) {
-        Err(_) => {
-            tell_refused(rt);
-            Text::new(rt.alloc(), bytes)
-        }
-        made => made,
-    }
-}
-
-fn copied<T: Copied>(rt: &HostRuntime, value: &T) -> Result<T, AllocError> {
-    match value.copied(rt.alloc()) {
-        Err(_) => {
-            tell_refused(rt);
-            value.copied(rt.alloc())
-        }
-        copy => copy,
-    }
-}
-
-fn bind(rt: &HostRuntime, aliases: &mut Aliases, prefix: &str, uri: &str) -> Result<(), Reason> {
-    match aliases.add(prefix, uri) {
-        Err(Reason::OutOfMemory) => {
-            tell_refused(rt);
-            aliases.add(prefix, uri)
-        }
-        answer => answer,
-    }
-}
 
 fn bind_all(
     rt: &HostRuntime,

@@ -4,6 +4,7 @@ mod summaries;
 
 ghost use Rattle.std.specs.Prelude.{◌≡◌, ◌≤◌, [], vec_capacity, IfOk};
 
+use super::asked_again::{copied, tell_refused, text};
 use merge_laws::{Merge, SortedSet, laws};
 use oim_names::{Copied, Text};
 use std::alloc::AllocError;
@@ -13,30 +14,6 @@ use std::test::Fail;
 // here` for its own request, or `refused` for a request of the library, and repeats the call.
 
 type Items = SortedSet<Text>;
-
-fn tell_refused(rt: &HostRuntime) {
-    let _ = eprintln!(rt; "refused");
-}
-
-fn text(rt: &HostRuntime, bytes: &str) -> Result<Text, AllocError> {
-    match Text::new(rt.alloc(), bytes) {
-        Err(_) => {
-            tell_refused(rt);
-            Text::new(rt.alloc(), bytes)
-        }
-        made => made,
-    }
-}
-
-fn copied<T: Copied>(rt: &HostRuntime, value: &T) -> Result<T, AllocError> {
-    match value.copied(rt.alloc()) {
-        Err(_) => {
-            tell_refused(rt);
-            value.copied(rt.alloc())
-        }
-        copy => copy,
-    }
-}
 
 fn merge<M: Merge>(rt: &HostRuntime, value: &mut M, other: &M) -> Result<(), AllocError> {
     other.known();

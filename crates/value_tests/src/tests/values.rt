@@ -1,6 +1,7 @@
 mod intervals;
 mod level;
 
+use super::asked_again::{bind, tell_refused, text as text_of};
 use oim_names::{Aliases, Copied, Name, Reason, Text};
 use oim_value::{Decimals, Fixed, Value, read_fixed, write_fixed, write_units};
 use std::alloc::AllocError;
@@ -10,23 +11,6 @@ pub(crate) const UNIT: i128 = 10_000_000_000_000_000_000;
 
 /// The greatest number, eighteen nines, in units of 10^-19.
 const GREATEST: i128 = 999_999_999_999_999_999 * UNIT;
-
-// `tests/refused_memory` refuses one request for memory in a run. The test then prints `refused`
-// and repeats the call.
-
-fn tell_refused(rt: &HostRuntime) {
-    let _ = eprintln!(rt; "refused");
-}
-
-fn text_of(rt: &HostRuntime, text: &str) -> Result<Text, AllocError> {
-    match Text::new(rt.alloc(), text) {
-        Err(_) => {
-            tell_refused(rt);
-            Text::new(rt.alloc(), text)
-        }
-        made => made,
-    }
-}
 
 fn written(rt: &HostRuntime, number: Fixed) -> Result<Text, AllocError> {
     match write_fixed(rt.alloc(), number) {
@@ -45,16 +29,6 @@ pub(crate) fn units_written(rt: &HostRuntime, units: i128) -> Result<Text, Alloc
             write_units(rt.alloc(), units)
         }
         text => text,
-    }
-}
-
-fn bind(rt: &HostRuntime, aliases: &mut Aliases, prefix: &str, uri: &str) -> Result<(), Reason> {
-    match aliases.add(prefix, uri) {
-        Err(Reason::OutOfMemory) => {
-            tell_refused(rt);
-            aliases.add(prefix, uri)
-        }
-        bound => bound,
     }
 }
 

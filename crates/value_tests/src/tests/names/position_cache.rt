@@ -1,4 +1,4 @@
-use super::add;
+use super::bind;
 use oim_names::{Aliases, PositionCache};
 use std::test::Fail;
 
@@ -15,8 +15,8 @@ fn a_class_has_the_place_that_was_put_last(rt: HostRuntime) -> Result<(), Fail> 
 #[test]
 fn prefixes_of_one_class_keep_their_uris(rt: HostRuntime) -> Result<(), Fail> {
     let mut aliases = Aliases::new(rt.alloc());
-    add(&rt, &mut aliases, "a-2024", "http://example.org/a")?;
-    add(&rt, &mut aliases, "b-2024", "http://example.org/b")?;
+    bind(&rt, &mut aliases, "a-2024", "http://example.org/a")?;
+    bind(&rt, &mut aliases, "b-2024", "http://example.org/b")?;
     assert_eq!(rt; aliases.uri("a-2024").unwrap_or(""), "http://example.org/a");
     assert_eq!(rt; aliases.uri("b-2024").unwrap_or(""), "http://example.org/b");
     assert!(rt; aliases.uri("c-2024").is_none());
