@@ -8,7 +8,7 @@ from sheet_making.kinds import Kinds, kinds_of
 from sheet_making.limits import Limits
 from sheet_making.taxonomy import Taxonomy
 
-NO_NAMESPACE = "it has no namespace, and no schema with one includes it"
+NO_NAMESPACE = "it has no namespace, and no schema with one refers to it"
 
 
 def kinds_in(inputs: Iterable[str], limits: Limits) -> tuple[Kinds, list[str]]:
