@@ -1,7 +1,7 @@
 //! Calls that are repeated if a request for memory is refused: `tests/refused_memory` refuses one
 //! request in a run. `refused` is printed before the call is repeated.
 
-use oim_names::{Aliases, Copied, Reason, Text};
+use oim_names::{Aliases, Copied, Name, Reason, Text};
 use std::alloc::AllocError;
 
 pub(crate) fn tell_refused(rt: &HostRuntime) {
@@ -18,6 +18,13 @@ pub(crate) fn text(rt: &HostRuntime, bytes: &str) -> Result<Text, AllocError> {
     }
 }
 
+pub(crate) fn is_text(made: Result<Text, AllocError>, plain: &str) -> bool {
+    match made {
+        Ok(text) => text.as_str() == plain,
+        Err(_) => false,
+    }
+}
+
 pub(crate) fn copied<T: Copied>(rt: &HostRuntime, value: &T) -> Result<T, AllocError> {
     match value.copied(rt.alloc()) {
         Err(_) => {
@@ -25,6 +32,13 @@ pub(crate) fn copied<T: Copied>(rt: &HostRuntime, value: &T) -> Result<T, AllocE
             value.copied(rt.alloc())
         }
         copy => copy,
+    }
+}
+
+pub(crate) fn equals_its_copy<T: Copied + PartialEq>(rt: &HostRuntime, value: &T) -> bool {
+    match copied(rt, value) {
+        Ok(copy) => copy == *value,
+        Err(_) => false,
     }
 }
 
@@ -38,6 +52,33 @@ pub(crate) fn bind(
         Err(Reason::OutOfMemory) => {
             tell_refused(rt);
             aliases.add(prefix, uri)
+        }
+        answer => answer,
+    }
+}
+
+fn bind_all(
+    rt: &HostRuntime,
+    aliases: &mut Aliases,
+    bindings: &[(&str, &str)],
+) -> Result<(), Reason> {
+    for (prefix, uri) in bindings {
+        bind(rt, aliases, prefix, uri)?;
+    }
+    Ok(())
+}
+
+pub(crate) fn aliases_of(rt: &HostRuntime, bindings: &[(&str, &str)]) -> Result<Aliases, Reason> {
+    let mut aliases = Aliases::new(rt.alloc());
+    bind_all(rt, &mut aliases, bindings)?;
+    Ok(aliases)
+}
+
+pub(crate) fn expand(rt: &HostRuntime, aliases: &Aliases, text: &str) -> Result<Name, Reason> {
+    match aliases.expand(text) {
+        Err(Reason::OutOfMemory) => {
+            tell_refused(rt);
+            aliases.expand(text)
         }
         answer => answer,
     }

@@ -1,4 +1,3 @@
-mod many;
 mod maps;
 mod summaries;
 
@@ -126,14 +125,8 @@ fn copy_has_just(rt: &HostRuntime, set: &Items, items: &[&str]) -> Result<bool, 
     Ok(has_just(&copied(rt, set)?, items))
 }
 
-#[test]
-fn an_item_is_new_once(rt: HostRuntime) -> Result<(), Fail> {
-    let mut one = SortedSet::of_one(rt.alloc(), text(&rt, "b")?);
-    assert!(rt; copy_has_just(&rt, &one, &["b"])?);
-    assert!(rt; !insert(&rt, &mut one, "b")?);
-    assert!(rt; insert(&rt, &mut one, "a")?);
-    assert!(rt; copy_has_just(&rt, &one, &["a", "b"])?);
-    Ok(())
+fn is_new_once(rt: &HostRuntime, set: &mut Items) -> Result<bool, AllocError> {
+    Ok(insert(rt, set, "a")? && !insert(rt, set, "a")? && copy_has_just(rt, set, &["a", "b"])?)
 }
 
 // Returns the set of two items if the first is less than the second, and otherwise the empty set.
@@ -154,7 +147,9 @@ fn two_items(rt: &HostRuntime, first: &str, second: &str) -> Result<Items, Alloc
 }
 
 #[test]
-fn items_in_order_make_a_set(rt: HostRuntime) -> Result<(), Fail> {
+fn an_item_is_new_once(rt: HostRuntime) -> Result<(), Fail> {
+    let mut one = SortedSet::of_one(rt.alloc(), text(&rt, "b")?);
+    assert!(rt; is_new_once(&rt, &mut one)?);
     assert!(rt; has_just(&two_items(&rt, "a", "c")?, &["a", "c"]));
     Ok(())
 }

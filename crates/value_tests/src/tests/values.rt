@@ -1,11 +1,11 @@
 mod intervals;
-mod level;
 
-use super::asked_again::{bind, tell_refused, text as text_of};
-use oim_names::{Aliases, Copied, Name, Reason, Text};
-use oim_value::{Decimals, Fixed, Value, read_fixed, write_fixed, write_units};
+use super::asked_again::{
+    aliases_of, equals_its_copy, expand, is_text, tell_refused, text as text_of,
+};
+use oim_names::{Name, Reason, Text};
+use oim_value::{Decimals, Fixed, Level, Value, read_fixed, value_meets, write_fixed, write_units};
 use std::alloc::AllocError;
-use std::test::Fail;
 
 pub(crate) const UNIT: i128 = 10_000_000_000_000_000_000;
 
@@ -22,172 +22,148 @@ fn written(rt: &HostRuntime, number: Fixed) -> Result<Text, AllocError> {
     }
 }
 
-pub(crate) fn units_written(rt: &HostRuntime, units: i128) -> Result<Text, AllocError> {
+fn are_written(rt: &HostRuntime, units: i128, plain: &str) -> bool {
     match write_units(rt.alloc(), units) {
         Err(_) => {
             tell_refused(rt);
-            write_units(rt.alloc(), units)
+            is_text(write_units(rt.alloc(), units), plain)
         }
-        text => text,
+        text => is_text(text, plain),
     }
 }
 
-fn name_of(rt: &HostRuntime, text: &str) -> Result<Name, Reason> {
-    let mut aliases = Aliases::new(rt.alloc());
-    bind(rt, &mut aliases, "b", "http://a.org")?;
-    bind(rt, &mut aliases, "a", "http://b.org")?;
-    match aliases.expand(text) {
-        Err(Reason::OutOfMemory) => {
-            tell_refused(rt);
-            aliases.expand(text)
-        }
-        name => name,
+// Texts of numbers, their numbers in units of 10^-19, and the texts that these are written as.
+const NUMBERS: [(&str, i128, &str); 16] = [
+    ("0", 0, "0"),
+    ("-0", 0, "0"),
+    ("+0.00", 0, "0"),
+    (".0", 0, "0"),
+    ("1.", UNIT, "1"),
+    ("-1", -UNIT, "-1"),
+    ("+12.50", 12 * UNIT + UNIT / 2, "12.5"),
+    ("-.50", -UNIT / 2, "-0.5"),
+    ("100.25", 100 * UNIT + UNIT / 4, "100.25"),
+    ("0.10000000000000000000", UNIT / 10, "0.1"),
+    ("-0.000000000000000001", -10, "-0.000000000000000001"),
+    ("0.000000000000000001", 10, "0.000000000000000001"),
+    ("0.999999999999999999", UNIT - 10, "0.999999999999999999"),
+    ("000999999999999999999", GREATEST, "999999999999999999"),
+    ("-999999999999999999.000", -GREATEST, "-999999999999999999"),
+    (
+        "123456789.012345678",
+        123456789012345678 * (UNIT / 1_000_000_000),
+        "123456789.012345678",
+    ),
+];
+
+const NO_NUMBERS: [(Reason, &[&str]); 2] = [
+    (
+        Reason::NumberForm,
+        &[
+            "", ".", "+", "-", "+.", "--1", "+-1", "1e2", "1E2", "INF", "-INF", "NaN", " 1", "1 ",
+            "1\n", "1 000", "1,5", "1.2.3", "1-", "0x1", "١",
+        ],
+    ),
+    (
+        Reason::NumberDigits,
+        &[
+            "1000000000000000000",
+            "-1000000000000000000.0",
+            "0.0000000000000000001",
+            "0.1234567890123456789",
+            "1234567890.123456789",
+        ],
+    ),
+];
+
+const UNITS: [(i128, &str); 6] = [
+    (0, "0"),
+    (1, "0.0000000000000000001"),
+    (-1, "-0.0000000000000000001"),
+    (10 * UNIT + UNIT / 10, "10.1"),
+    (i128::MAX, "17014118346046923173.1687303715884105727"),
+    (i128::MIN, "-17014118346046923173.1687303715884105728"),
+];
+
+fn is_number(rt: &HostRuntime, row: &(&str, i128, &str)) -> bool {
+    match read_fixed(row.0) {
+        Ok(number) => number.units() == row.1 && is_text(written(rt, number), row.2),
+        Err(_) => false,
     }
+}
+
+fn are_refused(reason: Reason, texts: &[&str]) -> bool {
+    for text in texts {
+        if read_fixed(text) != Err(reason) {
+            return false;
+        }
+    }
+    true
 }
 
 #[test]
-fn numbers_are_read(rt: HostRuntime) {
-    let rows = [
-        ("0", 0),
-        ("-0", 0),
-        ("+0.00", 0),
-        (".0", 0),
-        ("1.", UNIT),
-        ("-1", -UNIT),
-        ("+12.50", 12 * UNIT + UNIT / 2),
-        ("0.1", UNIT / 10),
-        ("0.10000000000000000000", UNIT / 10),
-        ("-0.000000000000000001", -10),
-        ("0.000000000000000001", 10),
-        ("0.999999999999999999", UNIT - 10),
-        ("999999999999999999", GREATEST),
-        ("000999999999999999999", GREATEST),
-        ("-999999999999999999.000", -GREATEST),
-        (
-            "123456789.012345678",
-            123456789012345678 * (UNIT / 1_000_000_000),
-        ),
-    ];
-    for (text, units) in rows {
-        match read_fixed(text) {
-            Ok(number) => assert_eq!(rt; number.units(), units, "{text}"),
-            Err(_) => panic!(rt; "{text} is refused"),
-        }
+fn numbers_are_read_and_written(rt: HostRuntime) {
+    for row in &NUMBERS {
+        assert!(rt; is_number(&rt, row), "{}", row.0);
+    }
+    for (reason, texts) in &NO_NUMBERS {
+        assert!(rt; are_refused(*reason, texts));
+    }
+    for (units, plain) in &UNITS {
+        assert!(rt; are_written(&rt, *units, plain), "{plain}");
     }
 }
 
-#[test]
-fn other_texts_are_refused(rt: HostRuntime) {
-    let forms = [
-        "", ".", "+", "-", "+.", "--1", "+-1", "1e2", "1E2", "INF", "-INF", "NaN", " 1", "1 ",
-        "1\n", "1 000", "1,5", "1.2.3", "1-", "0x1", "١",
-    ];
-    for text in forms {
-        assert!(rt; read_fixed(text) == Err(Reason::NumberForm), "{text}");
-    }
-    let digits = [
-        "1000000000000000000",
-        "-1000000000000000000.0",
-        "0.0000000000000000001",
-        "0.1234567890123456789",
-        "1234567890.123456789",
-    ];
-    for text in digits {
-        assert!(rt; read_fixed(text) == Err(Reason::NumberDigits), "{text}");
-    }
-}
+const DECIMALS: [(i64, Option<i8>); 15] = [
+    (i64::MIN, None),
+    (-256, None),
+    (-129, None),
+    (-19, None),
+    (-18, Some(-18)),
+    (-13, Some(-13)),
+    (-1, Some(-1)),
+    (0, Some(0)),
+    (13, Some(13)),
+    (18, Some(18)),
+    (19, None),
+    (128, None),
+    (244, None),
+    (256, None),
+    (i64::MAX, None),
+];
 
-#[test]
-fn numbers_are_written_plain(rt: HostRuntime) -> Result<(), Fail> {
-    let rows = [
-        ("-0", "0"),
-        ("+0.00", "0"),
-        (".0", "0"),
-        ("1.", "1"),
-        ("-.50", "-0.5"),
-        ("0.10000000000000000000", "0.1"),
-        ("-0.000000000000000001", "-0.000000000000000001"),
-        ("100.25", "100.25"),
-        ("000999999999999999999", "999999999999999999"),
-        ("-123456789.012345678", "-123456789.012345678"),
-    ];
-    for (text, plain) in rows {
-        match read_fixed(text) {
-            Ok(number) => assert_eq!(rt; written(&rt, number)?.as_str(), plain),
-            Err(_) => panic!(rt; "{text} is refused"),
-        }
+fn has_places(number: i64, places: Option<i8>) -> bool {
+    match Decimals::finite(number) {
+        Ok(decimals) => decimals.get() == places,
+        Err(reason) => places == None && reason == Reason::DecimalsRange,
     }
-    Ok(())
-}
-
-#[test]
-fn any_units_are_written_plain(rt: HostRuntime) -> Result<(), Fail> {
-    let rows = [
-        (0, "0"),
-        (1, "0.0000000000000000001"),
-        (-1, "-0.0000000000000000001"),
-        (10, "0.000000000000000001"),
-        (-UNIT, "-1"),
-        (10 * UNIT + UNIT / 10, "10.1"),
-        (i128::MAX, "17014118346046923173.1687303715884105727"),
-        (i128::MIN, "-17014118346046923173.1687303715884105728"),
-    ];
-    for (units, plain) in rows {
-        assert_eq!(rt; units_written(&rt, units)?.as_str(), plain);
-    }
-    Ok(())
 }
 
 #[test]
 fn decimals_have_a_range(rt: HostRuntime) {
-    for number in [i64::MIN, -256, -129, -19, 19, 128, 244, 256, i64::MAX] {
-        assert!(rt;
-            Decimals::finite(number) == Err(Reason::DecimalsRange),
-            "{number}"
-        );
+    for (number, places) in &DECIMALS {
+        assert!(rt; has_places(*number, *places), "{number}");
     }
-    for (number, places) in [
-        (-18, -18i8),
-        (-13, -13),
-        (-1, -1),
-        (0, 0),
-        (13, 13),
-        (18, 18),
-    ] {
-        match Decimals::finite(number) {
-            Ok(decimals) => assert!(rt; decimals.get() == Some(places)),
-            Err(_) => panic!(rt; "{number} is refused"),
-        }
-    }
-    assert!(rt; Decimals::INFINITE.get() == None);
+    assert!(rt; Decimals::INFINITE.get() == None && equals_its_copy(&rt, &finite(2)));
 }
+
+const LEVELS: [(&str, Level); 4] = [
+    ("none", Level::Unique),
+    ("complete", Level::Complete),
+    ("consistent", Level::Consistent),
+    ("all", Level::All),
+];
 
 #[test]
-fn decimals_are_copied(rt: HostRuntime) {
-    for decimals in [finite(-18), finite(2), Decimals::INFINITE] {
-        assert!(rt; decimals.copied(rt.alloc()) == Ok(decimals));
+fn levels_have_their_texts(rt: HostRuntime) {
+    for (text, level) in &LEVELS {
+        assert!(rt;
+            Level::read(text) == Some(*level) && level.text() == *text,
+            "{text}"
+        );
     }
-}
-
-pub(crate) fn number(text: &str, decimals: Decimals) -> Value {
-    match read_fixed(text) {
-        Ok(number) => Value::Number(number, decimals),
-        Err(_) => Value::Nil,
-    }
-}
-
-pub(crate) fn text(rt: &HostRuntime, text: &str) -> Value {
-    match text_of(rt, text) {
-        Ok(text) => Value::Text(text),
-        Err(_) => Value::Nil,
-    }
-}
-
-pub(crate) fn name(rt: &HostRuntime, text: &str) -> Value {
-    match name_of(rt, text) {
-        Ok(name) => Value::Name(name),
-        Err(_) => Value::Nil,
-    }
+    assert!(rt; Level::read("None") == None && Level::read("all ") == None);
+    assert!(rt; Level::Unique < Level::Complete && Level::Consistent < Level::All);
 }
 
 pub(crate) fn finite(number: i64) -> Decimals {
@@ -197,48 +173,94 @@ pub(crate) fn finite(number: i64) -> Decimals {
     }
 }
 
-#[test]
-fn values_are_in_order(rt: HostRuntime) {
-    let rising = [
-        Value::Nil,
-        number("-2", Decimals::INFINITE),
-        number("-1.5", finite(12)),
-        number("0", finite(-12)),
-        number("0", finite(0)),
-        number("0", finite(12)),
-        number("0", Decimals::INFINITE),
-        number("0.000000000000000001", finite(0)),
-        text(&rt, ""),
-        text(&rt, "10"),
-        text(&rt, "9"),
-        text(&rt, "é"),
-        name(&rt, "b:y"),
-        name(&rt, "b:z"),
-        name(&rt, "a:x"),
-    ];
-    for i in 0..rising.len() {
-        for j in 0..rising.len() {
-            assert!(rt; rising[i].cmp(&rising[j]) == i.cmp(&j), "{i} {j}");
-        }
+/// Without a number of places, the decimals are infinite.
+fn decimals(places: Option<i64>) -> Decimals {
+    match places {
+        Some(number) => finite(number),
+        None => Decimals::INFINITE,
     }
 }
 
-#[test]
-fn values_are_copied(rt: HostRuntime) -> Result<(), Fail> {
-    let rows = [
-        Value::Nil,
-        number("1", finite(2)),
-        text(&rt, "ab"),
-        name(&rt, "a:x"),
-    ];
-    for value in &rows {
-        match value.copied(rt.alloc()) {
-            Ok(copy) => assert!(rt; copy == *value),
-            Err(_) => {
-                tell_refused(&rt);
-                assert!(rt; value.copied(rt.alloc())? == *value);
-            }
+enum Spelled {
+    Nil,
+    Number(&'static str, Option<i64>),
+    Text(&'static str),
+    Name(&'static str),
+}
+
+fn number(text: &str, places: Option<i64>) -> Value {
+    match read_fixed(text) {
+        Ok(number) => Value::Number(number, decimals(places)),
+        Err(_) => Value::Nil,
+    }
+}
+
+fn text(rt: &HostRuntime, text: &str) -> Value {
+    match text_of(rt, text) {
+        Ok(text) => Value::Text(text),
+        Err(_) => Value::Nil,
+    }
+}
+
+fn name_of(rt: &HostRuntime, text: &str) -> Result<Name, Reason> {
+    let aliases = aliases_of(rt, &[("b", "http://a.org"), ("a", "http://b.org")])?;
+    expand(rt, &aliases, text)
+}
+
+fn name(rt: &HostRuntime, text: &str) -> Value {
+    match name_of(rt, text) {
+        Ok(name) => Value::Name(name),
+        Err(_) => Value::Nil,
+    }
+}
+
+fn value(rt: &HostRuntime, spelled: &Spelled) -> Value {
+    match spelled {
+        Spelled::Nil => Value::Nil,
+        Spelled::Number(spelled, places) => number(spelled, *places),
+        Spelled::Text(spelled) => text(rt, spelled),
+        Spelled::Name(spelled) => name(rt, spelled),
+    }
+}
+
+// Values in ascending order. Two values meet if they have the same number here.
+const RISING: [(u8, Spelled); 13] = [
+    (0, Spelled::Nil),
+    (1, Spelled::Number("-2", None)),
+    (2, Spelled::Number("-1.5", Some(12))),
+    (3, Spelled::Number("0", Some(0))),
+    (3, Spelled::Number("0", Some(12))),
+    (3, Spelled::Number("0", None)),
+    (3, Spelled::Number("0.000000000000000001", Some(0))),
+    (4, Spelled::Text("")),
+    (5, Spelled::Text("10")),
+    (6, Spelled::Text("9")),
+    (7, Spelled::Text("é")),
+    (8, Spelled::Name("b:y")),
+    (9, Spelled::Name("a:x")),
+];
+
+/// Returns whether the first value is at most the second, and whether the values meet.
+fn compared(rt: &HostRuntime, first: &Value, second: &Spelled) -> (bool, bool) {
+    let second = value(rt, second);
+    (*first <= second, value_meets(first, &second))
+}
+
+fn compares(rt: &HostRuntime, place: usize, group: u8, value: &Value) -> bool {
+    for (other, (other_group, spelled)) in RISING.iter().enumerate() {
+        if compared(rt, value, spelled) != (place <= other, group == *other_group) {
+            return false;
         }
     }
-    Ok(())
+    equals_its_copy(rt, value)
+}
+
+#[test]
+fn values_are_in_order(rt: HostRuntime) {
+    for (place, (group, spelled)) in RISING.iter().enumerate() {
+        assert!(rt;
+            compares(&rt, place, *group, &value(&rt, spelled)),
+            "{place}"
+        );
+    }
 }

@@ -84,7 +84,11 @@ fn merges_rows(rt: &HostRuntime, rows: &[Row], others: &[Row]) -> Result<bool, A
 fn absorbs_rows(rt: &HostRuntime, rows: &[Row], others: &[Row]) -> Result<bool, AllocError> {
     let mut map = map_of(rt, rows)?;
     absorb_rows(rt, &mut map, others)?;
-    is_merged(rt, &map)
+    copy_is_merged(rt, &map)
+}
+
+fn copy_is_merged(rt: &HostRuntime, map: &ItemsAt) -> Result<bool, AllocError> {
+    is_merged(rt, &copied(rt, map)?)
 }
 
 const MAPS: [(&[Row], &[Row]); 4] = [
@@ -102,57 +106,39 @@ fn maps_merge_key_by_key(rt: HostRuntime) -> Result<(), Fail> {
     Ok(())
 }
 
-fn copy_is_merged(rt: &HostRuntime, map: &ItemsAt) -> Result<bool, AllocError> {
-    is_merged(rt, &copied(rt, map)?)
+fn keyed_items(rt: &HostRuntime) -> Result<(Text, Items), AllocError> {
+    let key = text(rt, "k")?;
+    Ok((key, set_of(rt, &["a"])?))
+}
+
+fn map_of_one(rt: &HostRuntime) -> Result<ItemsAt, AllocError> {
+    let mut entries = room(rt)?;
+    entries.push_reserved(keyed_items(rt)?);
+    Ok(SortedMap::of_rising(entries))
 }
 
 #[test]
-fn a_copy_has_the_entries(rt: HostRuntime) -> Result<(), Fail> {
-    let map = map_of(&rt, MAPS[2].1)?;
-    assert!(rt; copy_is_merged(&rt, &map)?);
+fn one_entry_makes_a_map(rt: HostRuntime) -> Result<(), Fail> {
+    assert!(rt; is_entry(&map_of_one(&rt)?, 0, "k", &["a"]));
     Ok(())
 }
 
 type Pair = (Items, Items);
-
-type PairsAt = SortedMap<Text, Pair>;
 
 fn pair(rt: &HostRuntime, left: &str, right: &str) -> Result<Pair, AllocError> {
     let first = set_of(rt, &[left])?;
     Ok((first, set_of(rt, &[right])?))
 }
 
-fn keyed_pair(rt: &HostRuntime, left: &str, right: &str) -> Result<(Text, Pair), AllocError> {
-    let key = text(rt, "k")?;
-    Ok((key, pair(rt, left, right)?))
-}
-
-fn pair_at(rt: &HostRuntime, left: &str, right: &str) -> Result<PairsAt, AllocError> {
-    let mut entries = room(rt)?;
-    entries.push_reserved(keyed_pair(rt, left, right)?);
-    Ok(SortedMap::of_rising(entries))
-}
-
-fn merge_pair(rt: &HostRuntime, map: &mut PairsAt) -> Result<(), AllocError> {
-    let other = pair_at(rt, "b", "w")?;
-    merge(rt, map, &other)
-}
-
-fn has_pair(map: &PairsAt) -> bool {
-    match map.at(0) {
-        Some((_, pair)) => has_just(&pair.0, &["a", "b"]) && has_just(&pair.1, &["w", "x"]),
-        None => false,
-    }
-}
-
-fn copy_has_pair(rt: &HostRuntime, map: &PairsAt) -> Result<bool, AllocError> {
-    Ok(has_pair(&copied(rt, map)?))
+fn merge_pair(rt: &HostRuntime, value: &mut Pair) -> Result<(), AllocError> {
+    let other = pair(rt, "b", "w")?;
+    merge(rt, value, &other)
 }
 
 #[test]
 fn pairs_merge_part_by_part(rt: HostRuntime) -> Result<(), Fail> {
-    let mut map = pair_at(&rt, "a", "x")?;
-    merge_pair(&rt, &mut map)?;
-    assert!(rt; map.len() == 1 && copy_has_pair(&rt, &map)?);
+    let mut value = pair(&rt, "a", "x")?;
+    merge_pair(&rt, &mut value)?;
+    assert!(rt; has_just(&value.0, &["a", "b"]) && has_just(&value.1, &["w", "x"]));
     Ok(())
 }

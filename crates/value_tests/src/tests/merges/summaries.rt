@@ -1,19 +1,11 @@
-use super::{copied, merge, text};
-use merge_laws::Summary;
+use super::{copied, merge, tell_refused, text};
+use crate::tests::values::{UNIT, finite};
+use merge_laws::{SortedMap, Summary};
 use oim_value::{Decimals, Interval, Value, read_fixed};
 use std::alloc::AllocError;
 use std::test::Fail;
 
-const UNIT: i128 = 10_000_000_000_000_000_000;
-
-pub(super) fn finite(number: i64) -> Decimals {
-    match Decimals::finite(number) {
-        Ok(decimals) => decimals,
-        Err(_) => Decimals::INFINITE,
-    }
-}
-
-pub(super) fn rounded(spelled: &str, places: i64) -> Summary {
+fn rounded(spelled: &str, places: i64) -> Summary {
     match read_fixed(spelled) {
         Ok(number) => Summary::of(&Value::Number(number, finite(places))),
         Err(_) => Summary::of(&Value::Nil),
@@ -82,12 +74,60 @@ fn of_text(rt: &HostRuntime) -> Result<Summary, AllocError> {
 
 #[test]
 fn a_summary_tells_nil_and_number(rt: HostRuntime) -> Result<(), Fail> {
+    let nil = Summary::of(&Value::Nil);
+    assert!(rt; nil.ends() == None && nil.nil());
     let mut summary = of_text(&rt)?;
     assert!(rt; summary.ends() == None && !summary.nil());
     merge(&rt, &mut summary, &rounded("7", 0))?;
     assert!(rt; summary == rounded("7", 0) && !summary.nil());
-    merge(&rt, &mut summary, &Summary::of(&Value::Nil))?;
+    merge(&rt, &mut summary, &nil)?;
     assert!(rt; summary.nil() && summary.ends() == rounded("7", 0).ends());
     assert!(rt; copied(&rt, &summary)? == summary);
+    Ok(())
+}
+
+type SummaryAt = SortedMap<Decimals, Summary>;
+
+fn put(
+    rt: &HostRuntime,
+    map: &mut SummaryAt,
+    key: i64,
+    summary: &Summary,
+) -> Result<(), AllocError> {
+    match map.put(&finite(key), summary) {
+        Err(_) => {
+            tell_refused(rt);
+            map.put(&finite(key), summary)
+        }
+        done => done,
+    }
+}
+
+// Puts the summary at each key from -18 to 18.
+fn put_all(rt: &HostRuntime, map: &mut SummaryAt, summary: &Summary) -> Result<(), AllocError> {
+    for key in -18..19i64 {
+        put(rt, map, key, summary)?;
+    }
+    Ok(())
+}
+
+fn has_both(map: &SummaryAt, key: i64) -> bool {
+    let both = Interval {
+        low: 1015 * (UNIT / 10),
+        high: 1005 * (UNIT / 10),
+    };
+    match map.get(&finite(key)) {
+        Some(found) => found.ends() == Some(both),
+        None => false,
+    }
+}
+
+#[test]
+fn summaries_at_one_key_are_merged(rt: HostRuntime) -> Result<(), Fail> {
+    let mut map = SortedMap::new(rt.alloc());
+    put_all(&rt, &mut map, &rounded("100", 0))?;
+    put_all(&rt, &mut map, &rounded("102", 0))?;
+    assert!(rt; map.len() == 37);
+    assert!(rt; has_both(&map, -18) && has_both(&map, 0) && has_both(&map, 18));
     Ok(())
 }
