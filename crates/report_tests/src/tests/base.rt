@@ -1,9 +1,8 @@
 mod bases;
-mod gathered;
 mod small_reports;
 mod verdicts;
 
-use fact_base::{Base, Evidence, Verdict};
+use fact_base::Base;
 use oim_report::{Report, Sheet};
 use test_helpers::asked_again::{joined, read, tell_refused};
 
@@ -63,14 +62,4 @@ fn base_between<'s>(
 
 fn base_of<'s>(rt: &HostRuntime, sheet: &'s Sheet, values: &[&str]) -> Option<Base<'s>> {
     base_between(rt, sheet, FACT, values, OF_A)
-}
-
-fn judged(base: &Base<'_>) -> Option<(Verdict, Evidence)> {
-    let row = base.rows().next()?;
-    let judged = (row.verdict(), row.evidence());
-    let found = (
-        base.verdict(row.dimensions)?,
-        base.evidence(row.dimensions)?,
-    );
-    (judged == found).then_some(judged)
 }

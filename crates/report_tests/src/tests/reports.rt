@@ -3,13 +3,11 @@
 mod accepted;
 mod conditions;
 mod documents;
-mod duplicates;
 mod facts;
 mod faults;
 mod features;
 mod identifiers;
 mod limits;
-mod malformed;
 mod pieces;
 mod readers;
 mod references;
@@ -17,7 +15,7 @@ mod said;
 mod sheets;
 
 use oim_dims::Fact;
-use oim_names::{Reason, Text};
+use oim_names::Text;
 use oim_report::{Place, Refusal, Report, Sheet};
 use oim_value::Level;
 use std::alloc::AllocError;
@@ -107,12 +105,7 @@ fn are_of(facts: &[Fact], concepts: &[&str]) -> bool {
     facts.len() == concepts.len()
 }
 
-fn gives_up(report: Report, concepts: &[&str], order: &[usize]) -> bool {
-    let (facts, places) = report.into_facts();
-    are_of(facts.as_slice(), concepts) && places.as_slice() == order
-}
-
-fn is_so_read(report: Report, answer: &Answer) -> bool {
+fn is_so_read(report: &Report, answer: &Answer) -> bool {
     match answer {
         InDocument(_) | InFact(..) => false,
         Read => true,
@@ -123,17 +116,24 @@ fn is_so_read(report: Report, answer: &Answer) -> bool {
         }
         Declares(level) => report.declared() == *level,
         Keeps(texts) => are_spelled(report.taxonomy(), texts),
+        Sorts(concepts, order) => are_of(report.facts(), concepts) && report.order() == *order,
+    }
+}
+
+// Returns whether a report gives up its facts and their order, if these are wanted.
+fn gives_up(report: Report, answer: &Answer) -> bool {
+    let (facts, places) = report.into_facts();
+    match answer {
         Sorts(concepts, order) => {
-            are_of(report.facts(), concepts)
-                && report.order() == *order
-                && gives_up(report, concepts, order)
+            are_of(facts.as_slice(), concepts) && places.as_slice() == *order
         }
+        _ => true,
     }
 }
 
 fn is_answer(rt: &HostRuntime, sheet: &Sheet, bytes: &[u8], answer: &Answer) -> bool {
     match read(rt, sheet, bytes) {
-        Ok(report) => report.sheet().same_as(sheet) && is_so_read(report, answer),
+        Ok(report) => is_so_read(&report, answer) && gives_up(report, answer),
         Err(refusal) => is_so_refused(refusal, answer),
     }
 }
@@ -164,10 +164,9 @@ fn table_holds(rt: &HostRuntime, sheet: &Sheet, table: &Table) -> Result<bool, A
     Ok(true)
 }
 
-fn hold(rt: &HostRuntime, sheet: &str, tables: &[Table]) -> Result<bool, Reason> {
-    let sheet = read_sheet(rt, sheet)?;
+fn hold(rt: &HostRuntime, sheet: &Sheet, tables: &[Table]) -> Result<bool, AllocError> {
     for table in tables {
-        if !table_holds(rt, &sheet, table)? {
+        if !table_holds(rt, sheet, table)? {
             return Ok(false);
         }
     }

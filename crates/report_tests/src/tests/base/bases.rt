@@ -1,6 +1,7 @@
-use super::{FACT, OF_A, base_between, base_of, judged};
+use super::{FACT, OF_A, base_between, base_of};
 use fact_base::Base;
 use oim_report::Sheet;
+use oim_value::Level;
 use std::test::Fail;
 use test_helpers::asked_again::{SHEET, joined, read, read_sheet, tell_refused};
 
@@ -10,23 +11,13 @@ const TWO: &str = r#""value":"2","decimals":0"#;
 
 const NINE: &str = r#""value":"9","decimals":0"#;
 
-fn has_nothing(base: &Base<'_>) -> bool {
+fn is_new_base_empty(rt: &HostRuntime, sheet: &Sheet) -> bool {
+    let base = Base::new(rt.alloc(), sheet);
     base.row_count() == 0
         && base.fact_count() == 0
         && base.taxonomy().is_empty()
-        && judged(base).is_none()
-}
-
-fn is_new_base_empty(rt: &HostRuntime, sheet: &Sheet) -> bool {
-    let base = Base::new(rt.alloc(), sheet);
-    has_nothing(&base)
-}
-
-#[test]
-fn a_new_base_has_nothing(rt: HostRuntime) -> Result<(), Fail> {
-    let sheet = read_sheet(&rt, SHEET)?;
-    assert!(rt; is_new_base_empty(&rt, &sheet));
-    Ok(())
+        && base.level() == Level::Unique
+        && base.rows().next().is_none()
 }
 
 fn join(rt: &HostRuntime, base: &mut Base<'_>, other: &Base<'_>) -> bool {
@@ -40,81 +31,10 @@ fn join(rt: &HostRuntime, base: &mut Base<'_>, other: &Base<'_>) -> bool {
     base.join(other).is_ok()
 }
 
-struct Joined<'t> {
-    values: &'t [&'t str],
-    others: &'t [&'t str],
-    all: &'t [&'t str],
-    // whether the base has all values before it joins the other base
-    has_all: bool,
-}
-
-fn joins_to(rt: &HostRuntime, row: &Joined<'_>, other: &Base<'_>, all: &Base<'_>) -> bool {
-    match base_of(rt, all.sheet(), row.values) {
-        Some(mut base) => {
-            base.same_as(all) == row.has_all && join(rt, &mut base, other) && base.same_as(all)
-        }
+fn joins_two(rt: &HostRuntime, base: &mut Base<'_>) -> bool {
+    match base_of(rt, base.sheet(), &[TWO, ONE]) {
+        Some(other) => join(rt, base, &other),
         None => false,
-    }
-}
-
-fn joins_others_to(rt: &HostRuntime, row: &Joined<'_>, all: &Base<'_>) -> bool {
-    match base_of(rt, all.sheet(), row.others) {
-        Some(other) => joins_to(rt, row, &other, all),
-        None => false,
-    }
-}
-
-fn joins_under(rt: &HostRuntime, row: &Joined<'_>, sheet: &Sheet) -> bool {
-    match base_of(rt, sheet, row.all) {
-        Some(all) => joins_others_to(rt, row, &all),
-        None => false,
-    }
-}
-
-fn is_joined(rt: &HostRuntime, row: &Joined<'_>) -> bool {
-    match read_sheet(rt, SHEET) {
-        Ok(sheet) => joins_under(rt, row, &sheet),
-        Err(_) => false,
-    }
-}
-
-const GROUPED: Joined<'static> = Joined {
-    values: &[NINE, ONE],
-    others: &[TWO, ONE],
-    all: &[ONE, TWO, NINE],
-    has_all: false,
-};
-
-#[test]
-fn grouping_does_not_matter(rt: HostRuntime) {
-    assert!(rt; is_joined(&rt, &GROUPED));
-}
-
-const ADDING_NOTHING: [Joined<'static>; 3] = [
-    Joined {
-        values: &[ONE, TWO],
-        others: &[ONE, TWO],
-        all: &[ONE, TWO],
-        has_all: true,
-    },
-    Joined {
-        values: &[ONE, TWO],
-        others: &[],
-        all: &[ONE, TWO],
-        has_all: true,
-    },
-    Joined {
-        values: &[],
-        others: &[ONE, TWO],
-        all: &[ONE, TWO],
-        has_all: false,
-    },
-];
-
-#[test]
-fn an_equal_or_empty_base_adds_nothing(rt: HostRuntime) {
-    for row in &ADDING_NOTHING {
-        assert!(rt; is_joined(&rt, row));
     }
 }
 
@@ -127,35 +47,9 @@ fn absorb_two(rt: &HostRuntime, base: &mut Base<'_>) -> Option<bool> {
     Some(base.absorb(other).is_ok())
 }
 
-fn absorbs(rt: &HostRuntime, base: &mut Base<'_>) -> bool {
-    match absorb_two(rt, base) {
-        Some(false) => {
-            tell_refused(rt);
-            absorb_two(rt, base) == Some(true)
-        }
-        absorbed => absorbed == Some(true),
-    }
-}
-
-fn is_counted_once(rt: &HostRuntime, sheet: &Sheet) -> bool {
-    match base_of(rt, sheet, &[NINE, ONE]) {
-        Some(mut base) => {
-            absorbs(rt, &mut base) && base.row_count() == 1 && base.fact_count() == 3
-        }
-        None => false,
-    }
-}
-
-#[test]
-fn what_is_absorbed_is_counted_once(rt: HostRuntime) -> Result<(), Fail> {
-    let sheet = read_sheet(&rt, SHEET)?;
-    assert!(rt; is_counted_once(&rt, &sheet));
-    Ok(())
-}
-
 // Returns `Some(false)` if memory for `absorb_report` is refused; the report is then lost.
-fn absorb_value(rt: &HostRuntime, base: &mut Base<'_>, value: &str) -> Option<bool> {
-    let text = joined(rt, &[FACT, value, OF_A]).ok()?;
+fn absorb_report(rt: &HostRuntime, base: &mut Base<'_>) -> Option<bool> {
+    let text = joined(rt, &[FACT, TWO, OF_A]).ok()?;
     let report = read(rt, base.sheet(), &text).ok()?;
     if !base.same_sheet(report.sheet()) {
         return None;
@@ -163,41 +57,66 @@ fn absorb_value(rt: &HostRuntime, base: &mut Base<'_>, value: &str) -> Option<bo
     Some(base.absorb_report(report).is_ok())
 }
 
-fn absorbs_value(rt: &HostRuntime, base: &mut Base<'_>, value: &str) -> bool {
-    match absorb_value(rt, base, value) {
-        Some(false) => {
-            tell_refused(rt);
-            absorb_value(rt, base, value) == Some(true)
-        }
-        absorbed => absorbed == Some(true),
+#[derive(Clone, Copy)]
+enum Call {
+    Join,
+    Absorb,
+    AbsorbReport,
+}
+
+fn calls_once(rt: &HostRuntime, base: &mut Base<'_>, call: Call) -> Option<bool> {
+    match call {
+        Call::Join => Some(joins_two(rt, base)),
+        Call::Absorb => absorb_two(rt, base),
+        Call::AbsorbReport => absorb_report(rt, base),
     }
 }
 
-// A base with two values must have all values after it absorbs a third value, and after it absorbs
-// that value again.
-fn is_given_up(rt: &HostRuntime, all: &Base<'_>) -> bool {
+fn calls(rt: &HostRuntime, base: &mut Base<'_>, call: Call) -> bool {
+    match calls_once(rt, base, call) {
+        Some(false) => {
+            tell_refused(rt);
+            calls_once(rt, base, call) == Some(true)
+        }
+        done => done == Some(true),
+    }
+}
+
+// A base with two values must have all values after the call, and after the same call again.
+fn reaches(rt: &HostRuntime, all: &Base<'_>, call: Call) -> bool {
     match base_of(rt, all.sheet(), &[NINE, ONE]) {
         Some(mut base) => {
-            absorbs_value(rt, &mut base, TWO)
+            !base.same_as(all)
+                && calls(rt, &mut base, call)
                 && base.same_as(all)
-                && absorbs_value(rt, &mut base, TWO)
+                && calls(rt, &mut base, call)
                 && base.same_as(all)
         }
         None => false,
     }
 }
 
-fn is_given_up_under(rt: &HostRuntime, sheet: &Sheet) -> bool {
+fn all_reach(rt: &HostRuntime, all: &Base<'_>) -> bool {
+    for call in [Call::Join, Call::Absorb, Call::AbsorbReport] {
+        if !reaches(rt, all, call) {
+            return false;
+        }
+    }
+    all.row_count() == 1 && all.fact_count() == 3
+}
+
+fn all_reach_under(rt: &HostRuntime, sheet: &Sheet) -> bool {
     match base_of(rt, sheet, &[TWO, ONE, NINE]) {
-        Some(all) => is_given_up(rt, &all),
+        Some(all) => all_reach(rt, &all),
         None => false,
     }
 }
 
 #[test]
-fn a_report_that_is_given_up_is_taken(rt: HostRuntime) -> Result<(), Fail> {
+fn a_base_gets_what_it_lacks(rt: HostRuntime) -> Result<(), Fail> {
     let sheet = read_sheet(&rt, SHEET)?;
-    assert!(rt; is_given_up_under(&rt, &sheet));
+    assert!(rt; is_new_base_empty(&rt, &sheet));
+    assert!(rt; all_reach_under(&rt, &sheet));
     Ok(())
 }
 
@@ -205,13 +124,7 @@ fn a_report_that_is_given_up_is_taken(rt: HostRuntime) -> Result<(), Fail> {
 const TAXONOMY: &str =
     r#"{"documentInfo":{"documentType":"https://xbrl.org/2021/xbrl-json","taxonomy":[""#;
 
-fn base_of_references<'s>(
-    rt: &HostRuntime,
-    sheet: &'s Sheet,
-    references: &[&str],
-) -> Option<Base<'s>> {
-    base_between(rt, sheet, TAXONOMY, references, r#""]},"facts":{}}"#)
-}
+const NO_FACTS: &str = r#""]},"facts":{}}"#;
 
 const SPELLED: [&str; 4] = [
     "HTTP://X.org/b.xsd",
@@ -220,53 +133,35 @@ const SPELLED: [&str; 4] = [
     "a.xsd",
 ];
 
-fn are_kept_once(rt: &HostRuntime, sheet: &Sheet) -> bool {
-    match base_of_references(rt, sheet, &SPELLED) {
-        Some(base) => base.taxonomy().len() == 3,
+fn are_spelled(base: &Base<'_>, references: &[&str]) -> bool {
+    for (text, reference) in base.taxonomy().iter().zip(references) {
+        if text.as_str() != *reference {
+            return false;
+        }
+    }
+    base.taxonomy().len() == references.len()
+}
+
+fn joins_references(rt: &HostRuntime, base: &mut Base<'_>) -> bool {
+    match base_between(rt, base.sheet(), TAXONOMY, &["c.xsd", "a.xsd"], NO_FACTS) {
+        Some(other) => !base.same_as(&other) && join(rt, base, &other),
+        None => false,
+    }
+}
+
+fn are_references_joined(rt: &HostRuntime, sheet: &Sheet) -> bool {
+    match base_between(rt, sheet, TAXONOMY, &SPELLED, NO_FACTS) {
+        Some(mut base) => {
+            are_spelled(&base, &["a.xsd", "http://x.org/b.xsd", "urn:x:Y"])
+                && joins_references(rt, &mut base)
+                && are_spelled(&base, &["a.xsd", "c.xsd", "http://x.org/b.xsd", "urn:x:Y"])
+        }
         None => false,
     }
 }
 
 #[test]
 fn references_are_kept_once(rt: HostRuntime) -> Result<(), Fail> {
-    let sheet = read_sheet(&rt, SHEET)?;
-    assert!(rt; are_kept_once(&rt, &sheet));
-    Ok(())
-}
-
-fn are_spelled(base: &Base<'_>, references: &[&str]) -> bool {
-    for (place, reference) in references.iter().enumerate() {
-        match base.taxonomy().get(place) {
-            Some(text) if text.as_str() == *reference => {}
-            _ => return false,
-        }
-    }
-    base.taxonomy().len() == references.len()
-}
-
-fn joins_references(rt: &HostRuntime, base: &mut Base<'_>, other: &Base<'_>) -> bool {
-    !base.same_as(other)
-        && join(rt, base, other)
-        && base.row_count() == 0
-        && are_spelled(base, &["a.xsd", "b.xsd", "c.xsd"])
-}
-
-fn joins_other_references(rt: &HostRuntime, base: &mut Base<'_>) -> bool {
-    match base_of_references(rt, base.sheet(), &["c.xsd", "b.xsd"]) {
-        Some(other) => joins_references(rt, base, &other),
-        None => false,
-    }
-}
-
-fn are_references_joined(rt: &HostRuntime, sheet: &Sheet) -> bool {
-    match base_of_references(rt, sheet, &["b.xsd", "a.xsd"]) {
-        Some(mut base) => joins_other_references(rt, &mut base),
-        None => false,
-    }
-}
-
-#[test]
-fn references_of_both_are_joined(rt: HostRuntime) -> Result<(), Fail> {
     let sheet = read_sheet(&rt, SHEET)?;
     assert!(rt; are_references_joined(&rt, &sheet));
     Ok(())

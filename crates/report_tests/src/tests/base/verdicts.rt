@@ -1,7 +1,7 @@
-use super::{FACT, OF_A, OF_Q, OF_T, add, base_between, base_of, judged};
+use super::{FACT, OF_A, OF_Q, OF_T, base_between};
 use fact_base::{Base, Evidence, Verdict};
 use oim_report::Sheet;
-use oim_value::{Interval, Level, Value};
+use oim_value::{Interval, Level};
 use std::test::Fail;
 use test_helpers::asked_again::{SHEET, read_sheet};
 
@@ -10,39 +10,10 @@ type Said = (Verdict, Evidence);
 // Values of one dimension set, in any order, with their verdict and evidence.
 type Row<'t> = (&'t [&'t str], Said);
 
-fn is_said(rt: &HostRuntime, sheet: &Sheet, end: &str, row: &Row<'_>) -> bool {
-    match base_between(rt, sheet, FACT, row.0, end) {
-        Some(base) => judged(&base) == Some(row.1),
-        None => false,
-    }
-}
-
-fn first_other_under(
-    rt: &HostRuntime,
-    sheet: &Sheet,
-    end: &str,
-    rows: &[Row<'_>],
-) -> Option<usize> {
-    for (place, row) in rows.iter().enumerate() {
-        if !is_said(rt, sheet, end, row) {
-            return Some(place);
-        }
-    }
-    None
-}
-
-// Returns the index of the first row with an unexpected verdict or evidence, or None if there is no
-// such row. Returns `Some(0)` if the sheet cannot be read.
-fn first_other(rt: &HostRuntime, end: &str, rows: &[Row<'_>]) -> Option<usize> {
-    match read_sheet(rt, SHEET) {
-        Ok(sheet) => first_other_under(rt, &sheet, end, rows),
-        Err(_) => Some(0),
-    }
-}
-
 const ALIKE: Said = (Verdict::Complete, Evidence::Alike);
 
-const MEETING: [Row<'static>; 6] = [
+const NUMBERS: [Row<'static>; 19] = [
+    // values that meet are consistent
     // half a unit in the eighteenth decimal place is five steps of 10^-19
     (
         &[
@@ -111,14 +82,7 @@ const MEETING: [Row<'static>; 6] = [
             }),
         ),
     ),
-];
-
-#[test]
-fn values_that_meet_are_consistent(rt: HostRuntime) {
-    assert_eq!(rt; first_other(&rt, OF_A, &MEETING), None);
-}
-
-const CROSSED: [Row<'static>; 6] = [
+    // the value that ends first and the value that begins last are apart
     (
         &[
             r#""value":"0.000000000000000001","decimals":18"#,
@@ -164,14 +128,7 @@ const CROSSED: [Row<'static>; 6] = [
         ],
         (Verdict::Inconsistent, Evidence::Apart(0, 2)),
     ),
-];
-
-#[test]
-fn the_first_that_ends_and_the_last_that_begins_are_apart(rt: HostRuntime) {
-    assert_eq!(rt; first_other(&rt, OF_A, &CROSSED), None);
-}
-
-const WITH_NIL: [Row<'static>; 3] = [
+    // nil is apart from numbers
     (
         &[r#""value":"5""#, r#""value":null"#],
         (Verdict::Inconsistent, Evidence::Apart(0, 1)),
@@ -181,14 +138,7 @@ const WITH_NIL: [Row<'static>; 3] = [
         (Verdict::Inconsistent, Evidence::Apart(0, 1)),
     ),
     (&[r#""value":null"#, r#""value":null"#], ALIKE),
-];
-
-#[test]
-fn nil_is_apart_from_numbers(rt: HostRuntime) {
-    assert_eq!(rt; first_other(&rt, OF_A, &WITH_NIL), None);
-}
-
-const EQUAL: [Row<'static>; 2] = [
+    // equal facts are one
     (
         &[
             r#""value":"-0""#,
@@ -199,45 +149,17 @@ const EQUAL: [Row<'static>; 2] = [
         ALIKE,
     ),
     (&[r#""value":"999999999999999999","decimals":-12"#], ALIKE),
-];
-
-#[test]
-fn equal_facts_are_one(rt: HostRuntime) {
-    assert_eq!(rt; first_other(&rt, OF_A, &EQUAL), None);
-}
-
-const LEVELS: [(&[&str], Level); 4] = [
-    (&[], Level::Unique),
     (
         &[r#""value":"1","decimals":0"#, r#""value":"1","decimals":0"#],
-        Level::Unique,
-    ),
-    (
-        &[r#""value":"1","decimals":0"#, r#""value":"1""#],
-        Level::Consistent,
+        ALIKE,
     ),
     (
         &[r#""value":"1","decimals":0"#, r#""value":"3""#],
-        Level::All,
+        (Verdict::Inconsistent, Evidence::Apart(0, 1)),
     ),
 ];
 
-fn is_level(rt: &HostRuntime, sheet: &Sheet, values: &[&str], level: Level) -> bool {
-    match base_of(rt, sheet, values) {
-        Some(base) => base.level() == level,
-        None => false,
-    }
-}
-
-#[test]
-fn levels_are_those_of_facts_of_which_each_is_there_once(rt: HostRuntime) -> Result<(), Fail> {
-    let sheet = read_sheet(&rt, SHEET)?;
-    for (values, level) in &LEVELS {
-        assert!(rt; is_level(&rt, &sheet, values, *level));
-    }
-    Ok(())
-}
-
+// Texts and names meet if they are equal.
 const TEXTS: [Row<'static>; 3] = [
     (
         &[r#""value":"b""#, r#""value":"a""#, r#""value":null"#],
@@ -261,52 +183,48 @@ const NAMES: [Row<'static>; 2] = [
     ),
 ];
 
-#[test]
-fn texts_and_names_meet_as_equal(rt: HostRuntime) {
-    assert_eq!(rt; first_other(&rt, OF_T, &TEXTS), None);
-    assert_eq!(rt; first_other(&rt, OF_Q, &NAMES), None);
+// The level of facts of which each is there once.
+fn level_of(verdict: Verdict) -> Level {
+    match verdict {
+        Verdict::Complete => Level::Unique,
+        Verdict::Consistent => Level::Consistent,
+        Verdict::Inconsistent => Level::All,
+    }
 }
 
-fn has_nil_first(base: &Base<'_>) -> bool {
-    match base.rows().next() {
-        Some(row) => {
-            row.dimensions.concept().local() == "Q" && matches!(row.values, [Value::Nil, _])
-        }
+fn judged(base: &Base<'_>) -> Option<Said> {
+    let row = base.rows().next()?;
+    let judged = (row.verdict(), row.evidence());
+    let found = (
+        base.verdict(row.dimensions)?,
+        base.evidence(row.dimensions)?,
+    );
+    (judged == found && base.level() == level_of(judged.0)).then_some(judged)
+}
+
+fn is_said(rt: &HostRuntime, sheet: &Sheet, end: &str, row: &Row<'_>) -> bool {
+    match base_between(rt, sheet, FACT, row.0, end) {
+        Some(base) => judged(&base) == Some(row.1),
         None => false,
     }
 }
 
-const SEVERAL: [(&str, &str); 4] = [
-    (r#""value":"a""#, OF_T),
-    (r#""value":"eg:B""#, OF_Q),
-    (r#""value":null"#, OF_T),
-    (r#""value":null"#, OF_Q),
-];
-
-fn add_several(rt: &HostRuntime, base: &mut Base<'_>) -> bool {
-    for (value, dimensions) in &SEVERAL {
-        if !add(rt, base, FACT, value, dimensions) {
-            return false;
+// Returns the index of the first row with an unexpected verdict or evidence, or None if there is no
+// such row.
+fn first_other(rt: &HostRuntime, sheet: &Sheet, end: &str, rows: &[Row<'_>]) -> Option<usize> {
+    for (place, row) in rows.iter().enumerate() {
+        if !is_said(rt, sheet, end, row) {
+            return Some(place);
         }
     }
-    true
-}
-
-fn has_several(base: &Base<'_>) -> bool {
-    base.row_count() == 2
-        && base.fact_count() == 4
-        && base.level() == Level::All
-        && has_nil_first(base)
-}
-
-fn are_several(rt: &HostRuntime, sheet: &Sheet) -> bool {
-    let mut base = Base::new(rt.alloc(), sheet);
-    add_several(rt, &mut base) && has_several(&base)
+    None
 }
 
 #[test]
-fn nil_comes_before_texts_and_names(rt: HostRuntime) -> Result<(), Fail> {
+fn rows_have_verdicts_and_evidence(rt: HostRuntime) -> Result<(), Fail> {
     let sheet = read_sheet(&rt, SHEET)?;
-    assert!(rt; are_several(&rt, &sheet));
+    assert_eq!(rt; first_other(&rt, &sheet, OF_A, &NUMBERS), None);
+    assert_eq!(rt; first_other(&rt, &sheet, OF_T, &TEXTS), None);
+    assert_eq!(rt; first_other(&rt, &sheet, OF_Q, &NAMES), None);
     Ok(())
 }

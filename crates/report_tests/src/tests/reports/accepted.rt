@@ -1,13 +1,30 @@
-use super::{BOUND, Declares, FACTS, HasLevel, Keeps, NO_FACTS, SHEET, Sorts, Table, hold};
+use super::{
+    BOUND, Declares, FACTS, HasLevel, Keeps, NO_FACTS, SHEET, Sorts, Table, features, hold,
+    read_sheet, references,
+};
 use oim_value::Level::{All, Complete, Consistent, Unique};
 use std::test::Fail;
 
-const LEVELS: &[Table] = &[
+const TABLES: &[Table] = &[
     // equal facts in one report are complete duplicates
     Table {
         start: FACTS,
         rows: &[
             (HasLevel(0, Unique), &[""]),
+            (
+                HasLevel(2, Unique),
+                &[
+                    r#""a":{"value":"1","dimensions":{"concept":"eg:B"}},"b":{"value":"1","dimensions":{"concept":"eg:A"}}"#,
+                ],
+            ),
+            (
+                HasLevel(3, Complete),
+                &[
+                    r#""a":{"value":null,"dimensions":{"concept":"eg:A"}},"b":{"value":"2","dimensions":{"concept":"eg:B"}},"c":{"value":null,"dimensions":{"concept":"eg:A"}}"#,
+                    r#""a":{"value":"x","dimensions":{"concept":"eg:T"}},"b":{"value":"2","dimensions":{"concept":"eg:B"}},"c":{"value":"x","dimensions":{"concept":"eg:T"}}"#,
+                    r#""a":{"value":"eg:N","dimensions":{"concept":"eg:Q"}},"b":{"value":"2","dimensions":{"concept":"eg:B"}},"c":{"value":"eg:N","dimensions":{"concept":"eg:Q"}}"#,
+                ],
+            ),
             (
                 HasLevel(2, Complete),
                 &[
@@ -75,6 +92,29 @@ const LEVELS: &[Table] = &[
                 ],
             ),
             (
+                HasLevel(2, Consistent),
+                &[
+                    r#""a":{"value":"1","decimals":0,"dimensions":{"concept":"eg:A"}},"b":{"value":"1","dimensions":{"concept":"eg:A"}}"#,
+                    r#""a":{"value":"1.5","dimensions":{"concept":"eg:A"}},"b":{"value":"1","decimals":0,"dimensions":{"concept":"eg:A"}}"#,
+                ],
+            ),
+            // numbers that meet, one of them twice
+            (
+                HasLevel(3, Consistent),
+                &[
+                    r#""a":{"value":"100","decimals":0,"dimensions":{"concept":"eg:A"}},"b":{"value":"101","decimals":0,"dimensions":{"concept":"eg:A"}},"c":{"value":"100","decimals":0,"dimensions":{"concept":"eg:A"}}"#,
+                ],
+            ),
+            (
+                HasLevel(3, All),
+                &[
+                    r#""a":{"value":"101","decimals":0,"dimensions":{"concept":"eg:A"}},"b":{"value":"102","decimals":0,"dimensions":{"concept":"eg:A"}},"c":{"value":"100","decimals":0,"dimensions":{"concept":"eg:A"}}"#,
+                    r#""a":{"value":null,"dimensions":{"concept":"eg:B"}},"b":{"value":"x","dimensions":{"concept":"eg:T"}},"c":{"value":"y","dimensions":{"concept":"eg:T"}}"#,
+                    r#""a":{"value":null,"dimensions":{"concept":"eg:B"}},"b":{"value":"x","dimensions":{"concept":"eg:T"}},"c":{"value":null,"dimensions":{"concept":"eg:T"}}"#,
+                    r#""a":{"value":null,"dimensions":{"concept":"eg:B"}},"b":{"value":"eg:N","dimensions":{"concept":"eg:Q"}},"c":{"value":"eg:M","dimensions":{"concept":"eg:Q"}}"#,
+                ],
+            ),
+            (
                 HasLevel(3, All),
                 &[
                     r#""a":{"value":"100","decimals":0,"dimensions":{"concept":"eg:A"}},"b":{"value":"101","decimals":0,"dimensions":{"concept":"eg:A"}},"c":{"value":"102","decimals":0,"dimensions":{"concept":"eg:A"}}"#,
@@ -112,9 +152,6 @@ const LEVELS: &[Table] = &[
         )],
         end: "",
     },
-];
-
-const KEPT: &[Table] = &[
     // the declared level may be looser than the level of the facts
     Table {
         start: r#"{"documentInfo":{"documentType":"https://xbrl.org/2021/xbrl-json","namespaces":{"y":"https://xbrl.org/2021"},"features":{"y:allowedDuplicates":""#,
@@ -162,7 +199,9 @@ const KEPT: &[Table] = &[
 
 #[test]
 fn reports_say_what_is_written(rt: HostRuntime) -> Result<(), Fail> {
-    assert!(rt; hold(&rt, SHEET, LEVELS)?);
-    assert!(rt; hold(&rt, SHEET, KEPT)?);
+    let sheet = read_sheet(&rt, SHEET)?;
+    assert!(rt; hold(&rt, &sheet, TABLES)?);
+    assert!(rt; hold(&rt, &sheet, features::TABLES)?);
+    assert!(rt; hold(&rt, &sheet, references::TABLES)?);
     Ok(())
 }

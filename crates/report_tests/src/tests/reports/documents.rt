@@ -7,7 +7,7 @@ use std::test::Fail;
 const EMPTY: &str =
     r#"{"documentInfo":{"documentType":"https://xbrl.org/2021/xbrl-json","namespaces":{},"taxonomy":[]},"facts":{}}"#;
 
-const TEXTS: [Table; 3] = [
+const TABLES: &[Table] = &[
     // a document is a JSON text
     Table {
         start: "",
@@ -31,32 +31,6 @@ const TEXTS: [Table; 3] = [
         ],
         end: EMPTY,
     },
-];
-
-pub(super) fn no_prefix_is_read(rt: &HostRuntime, sheet: &Sheet, bytes: &[u8]) -> bool {
-    for (count, _) in bytes.iter().enumerate() {
-        let prefix = bytes.get(..count).unwrap_or(bytes);
-        if !is_answer(rt, sheet, prefix, &InDocument(1)) {
-            return false;
-        }
-    }
-    is_answer(rt, sheet, bytes, &Read)
-}
-
-const HUNDRED: &str =
-    r#"{"documentInfo":{"documentType":"https://xbrl.org/2021/xbrl-json","namespaces":{"eg":"http://example.org/t","x":"http://example.org/u","xbrli":"http://www.xbrl.org/2003/instance","xbrl":"https://xbrl.org/2021"}},"facts":{"a":{"value":"100","decimals":0,"dimensions":{"concept":"eg:A"}}}}"#;
-
-#[test]
-fn a_document_is_a_whole_json_text(rt: HostRuntime) -> Result<(), Fail> {
-    assert!(rt; hold(&rt, SHEET, &TEXTS)?);
-    let sheet = read_sheet(&rt, SHEET)?;
-    // a document is UTF-8
-    assert!(rt; is_answer(&rt, &sheet, b"{\"eg:x\":\"\xff\"}", &InDocument(1)));
-    assert!(rt; no_prefix_is_read(&rt, &sheet, HUNDRED.as_bytes()));
-    Ok(())
-}
-
-const MEMBERS: [Table; 4] = [
     // each part of a document has its JSON type
     Table {
         start: "",
@@ -141,9 +115,6 @@ const MEMBERS: [Table; 4] = [
         ],
         end: "}}",
     },
-];
-
-const INFO: [Table; 3] = [
     // a prefix is well-formed, and its URI is a text that is not empty
     Table {
         start: r#"{"documentInfo":{"documentType":"https://xbrl.org/2021/xbrl-json","namespaces":{"#,
@@ -214,18 +185,8 @@ const INFO: [Table; 3] = [
         ],
         end: NO_FACTS,
     },
-];
-
-#[test]
-fn parts_of_a_document_have_their_forms(rt: HostRuntime) -> Result<(), Fail> {
-    assert!(rt; hold(&rt, SHEET, &MEMBERS)?);
-    assert!(rt; hold(&rt, SHEET, &INFO)?);
-    Ok(())
-}
-
-// Each document has the expected fault. Each document without the reference `a.xsd` also has the
-// fault with the next number.
-const TWO_FAULTS: [Table; 3] = [
+    // each document has the expected fault. Each document without the reference `a.xsd` also has the
+    // fault with the next number
     Table {
         start: "",
         rows: &[
@@ -273,27 +234,42 @@ const TWO_FAULTS: [Table; 3] = [
         )],
         end: NO_FACTS,
     },
+    // each document has a refused fact. A fault of the document takes precedence over it
+    Table {
+        start: BOUND,
+        rows: &[
+            (InFact(2, 1), &[""]),
+            (InDocument(3), &[r#","colour":1"#]),
+            (InDocument(6), &[r#","baseURL":1"#]),
+            (InDocument(7), &[r#","taxonomy":[1]"#]),
+            (
+                InDocument(8),
+                &[r#","features":{"xbrl:allowedDuplicates":"some"}"#],
+            ),
+        ],
+        end: r#"},"facts":{"a":7}}"#,
+    },
 ];
 
-// Each document has a refused fact. A fault of the document takes precedence over the refused fact.
-const BEFORE_FACTS: Table = Table {
-    start: BOUND,
-    rows: &[
-        (InFact(2, 1), &[""]),
-        (InDocument(3), &[r#","colour":1"#]),
-        (InDocument(6), &[r#","baseURL":1"#]),
-        (InDocument(7), &[r#","taxonomy":[1]"#]),
-        (
-            InDocument(8),
-            &[r#","features":{"xbrl:allowedDuplicates":"some"}"#],
-        ),
-    ],
-    end: r#"},"facts":{"a":7}}"#,
-};
+fn no_prefix_is_read(rt: &HostRuntime, sheet: &Sheet, bytes: &[u8]) -> bool {
+    for (count, _) in bytes.iter().enumerate() {
+        let prefix = bytes.get(..count).unwrap_or(bytes);
+        if !is_answer(rt, sheet, prefix, &InDocument(1)) {
+            return false;
+        }
+    }
+    is_answer(rt, sheet, bytes, &Read)
+}
+
+const HUNDRED: &str =
+    r#"{"documentInfo":{"documentType":"https://xbrl.org/2021/xbrl-json","namespaces":{"eg":"http://example.org/t","x":"http://example.org/u","xbrli":"http://www.xbrl.org/2003/instance","xbrl":"https://xbrl.org/2021"}},"facts":{"a":{"value":"100","decimals":0,"dimensions":{"concept":"eg:A"}}}}"#;
 
 #[test]
-fn the_least_fault_of_a_document_is_answered(rt: HostRuntime) -> Result<(), Fail> {
-    assert!(rt; hold(&rt, SHEET, &TWO_FAULTS)?);
-    assert!(rt; hold(&rt, SHEET, &[BEFORE_FACTS])?);
+fn documents_are_answered_as_wanted(rt: HostRuntime) -> Result<(), Fail> {
+    let sheet = read_sheet(&rt, SHEET)?;
+    assert!(rt; hold(&rt, &sheet, TABLES)?);
+    // a document is UTF-8
+    assert!(rt; is_answer(&rt, &sheet, b"{\"eg:x\":\"\xff\"}", &InDocument(1)));
+    assert!(rt; no_prefix_is_read(&rt, &sheet, HUNDRED.as_bytes()));
     Ok(())
 }

@@ -1,7 +1,9 @@
-use super::{FACTS, InDocument, InFact, Read, SHEET, Table, hold};
+use super::{
+    FACTS, InDocument, InFact, Read, SHEET, Table, conditions, hold, read_sheet, table_holds,
+};
 use std::test::Fail;
 
-const PLACES: [Table; 3] = [
+const TABLES: &[Table] = &[
     // the first refused fact is reported with its place
     Table {
         start: FACTS,
@@ -79,9 +81,6 @@ const PLACES: [Table; 3] = [
         ],
         end: "}}",
     },
-];
-
-const PARTS: [Table; 6] = [
     // notes are refused, and so are links that are not empty
     Table {
         start: r#"{"documentInfo":{"documentType":"https://xbrl.org/2021/xbrl-json","namespaces":{"eg":"http://example.org/t"}},"facts":{"a":"#,
@@ -227,8 +226,9 @@ const PARTS: [Table; 6] = [
 
 #[test]
 fn facts_are_answered_by_their_places(rt: HostRuntime) -> Result<(), Fail> {
-    assert!(rt; hold(&rt, SHEET, &PLACES)?);
-    assert!(rt; hold(&rt, SHEET, &PARTS)?);
+    let sheet = read_sheet(&rt, SHEET)?;
+    assert!(rt; hold(&rt, &sheet, TABLES)?);
+    assert!(rt; hold(&rt, &sheet, conditions::TABLES)?);
     Ok(())
 }
 
@@ -254,10 +254,20 @@ const UNKNOWN: Table = Table {
     end: "}}",
 };
 
+// A sheet that binds another prefix, and one that lists no concept.
+const SHEETS: [(&str, Table); 2] = [
+    (
+        r#"{"namespaces":{"zz":"http://example.org/t"},"concepts":{"zz:A":"numeric"}}"#,
+        NAMES,
+    ),
+    ("{}", UNKNOWN),
+];
+
 #[test]
 fn names_are_those_of_the_sheet(rt: HostRuntime) -> Result<(), Fail> {
-    let sheet = r#"{"namespaces":{"zz":"http://example.org/t"},"concepts":{"zz:A":"numeric"}}"#;
-    assert!(rt; hold(&rt, sheet, &[NAMES])?);
-    assert!(rt; hold(&rt, "{}", &[UNKNOWN])?);
+    for (text, table) in &SHEETS {
+        let sheet = read_sheet(&rt, text)?;
+        assert!(rt; table_holds(&rt, &sheet, table)?);
+    }
     Ok(())
 }

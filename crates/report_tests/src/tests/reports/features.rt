@@ -1,11 +1,13 @@
-use super::{BOUND, InDocument, InFact, Read, SHEET, Table, hold};
-use std::test::Fail;
+use super::{BOUND, InDocument, InFact, Read, Table};
 
 // Two equal facts, which `none` does not allow.
 const REPEATED: &str =
     r#"},"facts":{"a":{"value":"1","dimensions":{"concept":"eg:A"}},"b":{"value":"1","dimensions":{"concept":"eg:A"}}}}"#;
 
-const FEATURES: [Table; 4] = [
+const DECLARED: &str =
+    r#"{"documentInfo":{"documentType":"https://xbrl.org/2021/xbrl-json","namespaces":{"eg":"http://example.org/t","xbrl":"https://xbrl.org/2021"},"features":{"xbrl:allowedDuplicates":"#;
+
+pub(super) const TABLES: &[Table] = &[
     // a declared level is one of four texts
     Table {
         start: r#"{"documentInfo":{"documentType":"https://xbrl.org/2021/xbrl-json","namespaces":{"xbrl":"https://xbrl.org/2021"},"features":{"xbrl:allowedDuplicates":"#,
@@ -85,12 +87,6 @@ const FEATURES: [Table; 4] = [
         ],
         end: "}}}",
     },
-];
-
-const DECLARED: &str =
-    r#"{"documentInfo":{"documentType":"https://xbrl.org/2021/xbrl-json","namespaces":{"eg":"http://example.org/t","xbrl":"https://xbrl.org/2021"},"features":{"xbrl:allowedDuplicates":"#;
-
-const DUPLICATES: [Table; 5] = [
     // equal facts need `complete` or a looser level
     Table {
         start: DECLARED,
@@ -140,10 +136,3 @@ const DUPLICATES: [Table; 5] = [
         end: r#"}},"facts":{"a":{"value":"1","dimensions":{"concept":"eg:A"}},"b":{"value":"1","dimensions":{"concept":"eg:A"}},"c":7}}"#,
     },
 ];
-
-#[test]
-fn duplicates_are_allowed_by_the_feature(rt: HostRuntime) -> Result<(), Fail> {
-    assert!(rt; hold(&rt, SHEET, &FEATURES)?);
-    assert!(rt; hold(&rt, SHEET, &DUPLICATES)?);
-    Ok(())
-}

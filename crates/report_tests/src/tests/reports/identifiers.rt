@@ -1,4 +1,4 @@
-use super::{SHEET, read_sheet, tell_refused};
+use super::{SHEET, are_spelled, read_sheet, tell_refused};
 use oim_names::{Reason, Text};
 use oim_report::{Refusal, Report, ReportReader, Sheet, fact_identifiers};
 use oim_value::Value;
@@ -14,37 +14,30 @@ fn identifiers(rt: &HostRuntime, text: &str) -> Result<Vec<Text>, Reason> {
     }
 }
 
-fn gives(rt: &HostRuntime, text: &str, wanted: &[&str]) -> Result<bool, Reason> {
-    let found = identifiers(rt, text)?;
-    if found.len() != wanted.len() {
-        return Ok(false);
+// Texts with the identifiers in byte order, or None if the text is not JSON.
+const TEXTS: [(&str, Option<&[&str]>); 4] = [
+    (
+        r#"{"facts":{"f10":{},"é\n":1,"f9":{}},"a":{}}"#,
+        Some(&["f10", "f9", "é\n"]),
+    ),
+    (r#"{"facts":[{"f1":1}]}"#, Some(&[])),
+    ("7", Some(&[])),
+    (r#"{"facts":{"f1":{}}"#, None),
+];
+
+fn gives(rt: &HostRuntime, text: &str, wanted: Option<&[&str]>) -> bool {
+    match (identifiers(rt, text), wanted) {
+        (Ok(found), Some(spelled)) => are_spelled(found.as_slice(), spelled),
+        (Err(reason), None) => reason == Reason::NotJson,
+        _ => false,
     }
-    for (identifier, spelled) in found.iter().zip(wanted) {
-        if identifier.as_str() != *spelled {
-            return Ok(false);
-        }
+}
+
+#[test]
+fn identifiers_stand_in_byte_order(rt: HostRuntime) {
+    for (text, wanted) in &TEXTS {
+        assert!(rt; gives(&rt, text, *wanted), "{text}");
     }
-    Ok(true)
-}
-
-#[test]
-fn identifiers_stand_in_byte_order(rt: HostRuntime) -> Result<(), Fail> {
-    let text = r#"{"facts":{"f10":{},"é\n":1,"f9":{}},"a":{}}"#;
-    assert!(rt; gives(&rt, text, &["f10", "f9", "é\n"])?);
-    Ok(())
-}
-
-#[test]
-fn without_fact_objects_there_is_no_identifier(rt: HostRuntime) -> Result<(), Fail> {
-    assert!(rt; gives(&rt, r#"{"facts":[{"f1":1}]}"#, &[])?);
-    assert!(rt; gives(&rt, "7", &[])?);
-    Ok(())
-}
-
-#[test]
-fn what_is_no_json_has_no_identifiers(rt: HostRuntime) {
-    let found = identifiers(&rt, r#"{"facts":{"f1":{}}"#);
-    assert!(rt; matches!(&found, Err(Reason::NotJson)));
 }
 
 const TWO: &str =
@@ -77,20 +70,23 @@ fn says(read: &(Report<'_>, Vec<Text>), place: usize, identifier: &str, text: &s
     }
 }
 
-#[test]
-fn a_report_is_read_with_its_identifiers(rt: HostRuntime) -> Result<(), Fail> {
-    let sheet = read_sheet(&rt, SHEET)?;
-    let read = identified(&rt, &sheet, TWO)?;
-    assert!(rt; says(&read, 0, "a", "first"));
-    assert!(rt; says(&read, 1, "b", "last"));
-    assert!(rt; !says(&read, 2, "b", "last"));
-    Ok(())
+fn are_identified(rt: &HostRuntime, sheet: &Sheet) -> bool {
+    match identified(rt, sheet, TWO) {
+        Ok(read) => says(&read, 0, "a", "first") && says(&read, 1, "b", "last"),
+        Err(_) => false,
+    }
+}
+
+fn is_refused(rt: &HostRuntime, sheet: &Sheet) -> bool {
+    match identified(rt, sheet, "{}") {
+        Ok(_) => false,
+        Err(refusal) => refusal == Refusal::from(Reason::MemberForm),
+    }
 }
 
 #[test]
-fn a_refused_report_has_no_identifiers(rt: HostRuntime) -> Result<(), Fail> {
+fn a_report_is_read_with_its_identifiers(rt: HostRuntime) -> Result<(), Fail> {
     let sheet = read_sheet(&rt, SHEET)?;
-    let read = identified(&rt, &sheet, "{}");
-    assert!(rt; matches!(&read, Err(refusal) if *refusal == Refusal::from(Reason::MemberForm)));
+    assert!(rt; are_identified(&rt, &sheet) && is_refused(&rt, &sheet));
     Ok(())
 }

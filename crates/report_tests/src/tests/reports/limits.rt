@@ -86,11 +86,18 @@ fn limit_holds(rt: &HostRuntime, sheet: &Sheet, long: &Long) -> Result<bool, All
     Ok(true)
 }
 
+fn all_limits_hold(rt: &HostRuntime, sheet: &Sheet) -> Result<bool, AllocError> {
+    for long in &LIMITS {
+        if !limit_holds(rt, sheet, long)? {
+            return Ok(false);
+        }
+    }
+    Ok(true)
+}
+
 #[test]
 fn nesting_and_texts_have_limits(rt: HostRuntime) -> Result<(), Fail> {
     let sheet = read_sheet(&rt, SHEET)?;
-    for long in &LIMITS {
-        assert!(rt; limit_holds(&rt, &sheet, long)?);
-    }
+    assert!(rt; all_limits_hold(&rt, &sheet)?);
     Ok(())
 }

@@ -47,13 +47,17 @@ fn has_own_entity(rt: &HostRuntime, reader: &mut ReportReader<'_>, uri: &str) ->
     }
 }
 
+fn have_own_entities(rt: &HostRuntime, reader: &mut ReportReader<'_>) -> bool {
+    has_own_entity(rt, reader, "http://example.org/u")
+        && has_own_entity(rt, reader, "http://example.org/u")
+        && has_own_entity(rt, reader, "http://example.org/v")
+        && has_own_entity(rt, reader, "http://example.org/u")
+}
+
 #[test]
 fn a_prefix_has_the_uri_that_its_report_binds(rt: HostRuntime) -> Result<(), Fail> {
     let sheet = read_sheet(&rt, SHEET)?;
     let mut reader = ReportReader::new(rt.alloc(), &sheet);
-    assert!(rt; has_own_entity(&rt, &mut reader, "http://example.org/u"));
-    assert!(rt; has_own_entity(&rt, &mut reader, "http://example.org/u"));
-    assert!(rt; has_own_entity(&rt, &mut reader, "http://example.org/v"));
-    assert!(rt; has_own_entity(&rt, &mut reader, "http://example.org/u"));
+    assert!(rt; have_own_entities(&rt, &mut reader));
     Ok(())
 }

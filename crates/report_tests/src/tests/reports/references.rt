@@ -1,7 +1,6 @@
-use super::{InDocument, Keeps, Read, SHEET, Table, hold};
-use std::test::Fail;
+use super::{InDocument, Keeps, Read, Table};
 
-const REFERENCES: [Table; 3] = [
+pub(super) const TABLES: &[Table] = &[
     // references without a base URL
     Table {
         start: r#"{"documentInfo":{"documentType":"https://xbrl.org/2021/xbrl-json","taxonomy":[""#,
@@ -76,9 +75,3 @@ const REFERENCES: [Table; 3] = [
         end: r#""}}"#,
     },
 ];
-
-#[test]
-fn references_are_kept_or_resolved(rt: HostRuntime) -> Result<(), Fail> {
-    assert!(rt; hold(&rt, SHEET, &REFERENCES)?);
-    Ok(())
-}
