@@ -1,11 +1,9 @@
-use crate::tests::sinks::sheet_of;
 use oim_merge::{Checked, check_report};
-use oim_names::Reason;
-use oim_report::Refusal;
+use oim_report::{Refusal, Sheet};
 use oim_value::Level;
-use std::alloc::{AllocError, Global};
+use std::alloc::AllocError;
 use std::test::Fail;
-use test_helpers::asked_again::{INFO, SHEET, joined, tell_refused};
+use test_helpers::asked_again::{INFO, SHEET, is_want_of_memory, joined, read_sheet, tell_refused};
 use test_helpers::canonical_parts::{
     CONSISTENT_HEAD, CONTRADICTING_HEAD, EARLIER_HEAD, EARLIER_MIDDLE, END, HEAD, MIDDLE,
     MIDDLE_ALONE, ONE_URI, WRITTEN_BOTH, WRITTEN_HUNDRED,
@@ -18,7 +16,18 @@ type Row = (&'static [&'static str], u64, Level, bool);
 
 /// Canonical texts, texts in the earlier form, and texts that differ from a canonical text only
 /// outside the facts.
-const ROWS: [Row; 9] = [
+const ROWS: [Row; 10] = [
+    // two equal facts
+    (
+        &[
+            INFO,
+            r#""a":{"value":"1","decimals":0,"dimensions":{"concept":"eg:A"}},"b":{"value":"1","decimals":0,"dimensions":{"concept":"eg:A"}}"#,
+            END,
+        ],
+        2,
+        Level::Complete,
+        false,
+    ),
     (&[HEAD, MIDDLE_ALONE, END], 0, Level::Unique, true),
     (
         &[CONTRADICTING_HEAD, MIDDLE_ALONE, END],
@@ -130,67 +139,48 @@ const SPELLED: [&[&str]; 9] = [
 const MORE: &str =
     r#"{"namespaces":{"q":"http://example.org/t","z":"http://example.org/z"},"concepts":{"q:A":"numeric","q:B":"numeric","z:C":"text","q:Q":"name"}}"#;
 
-fn checked(
-    alloc: Global,
-    sheet_text: &str,
-    report: &[u8],
-) -> Result<Result<Checked, Refusal>, AllocError> {
-    let sheet = sheet_of(alloc, sheet_text)?;
-    match check_report(alloc, &sheet, report) {
-        Err(refusal) if refusal.reason == Reason::OutOfMemory => Err(AllocError),
-        checked => Ok(checked),
+fn check(rt: &HostRuntime, sheet: &Sheet, report: &[u8]) -> Result<Checked, Refusal> {
+    match check_report(rt.alloc(), sheet, report) {
+        Err(refusal) if is_want_of_memory(refusal) => {
+            tell_refused(rt);
+            check_report(rt.alloc(), sheet, report)
+        }
+        answer => answer,
     }
 }
 
-fn comes_to(
-    rt: &HostRuntime,
-    sheet_text: &str,
-    parts: &[&str],
-    expected: Checked,
-) -> Result<bool, Fail> {
+fn comes_to(rt: &HostRuntime, sheet: &Sheet, row: &Row) -> Result<bool, AllocError> {
+    let (parts, facts, level, canonical) = *row;
     let report = joined(rt, parts)?;
-    let mut answer = checked(rt.alloc(), sheet_text, &report);
-    if answer.is_err() {
-        tell_refused(rt);
-        answer = checked(rt.alloc(), sheet_text, &report);
+    let expected = Checked {
+        facts,
+        level,
+        canonical,
+    };
+    Ok(check(rt, sheet, &report) == Ok(expected))
+}
+
+fn all_come_to(rt: &HostRuntime, sheet: &Sheet) -> Result<bool, AllocError> {
+    let mut all = true;
+    for row in &ROWS {
+        all = comes_to(rt, sheet, row)? && all;
     }
-    Ok(answer? == Ok(expected))
+    for parts in &SPELLED {
+        all = comes_to(rt, sheet, &(*parts, 1, Level::Unique, false))? && all;
+    }
+    Ok(all)
 }
 
 #[test]
 fn texts_of_today_are_canonical(rt: HostRuntime) -> Result<(), Fail> {
-    for (parts, facts, level, canonical) in &ROWS {
-        let expected = Checked {
-            facts: *facts,
-            level: *level,
-            canonical: *canonical,
-        };
-        assert!(rt; comes_to(&rt, SHEET, parts, expected)?);
-    }
-    Ok(())
-}
-
-#[test]
-fn other_spellings_are_not_canonical(rt: HostRuntime) -> Result<(), Fail> {
-    let expected = Checked {
-        facts: 1,
-        level: Level::Unique,
-        canonical: false,
-    };
-    for parts in &SPELLED {
-        assert!(rt; comes_to(&rt, SHEET, parts, expected)?);
-    }
+    let sheet = read_sheet(&rt, SHEET)?;
+    assert!(rt; all_come_to(&rt, &sheet)?);
     Ok(())
 }
 
 #[test]
 fn a_text_is_canonical_under_any_sheet_that_lists_it(rt: HostRuntime) -> Result<(), Fail> {
-    let expected = Checked {
-        facts: 1,
-        level: Level::Unique,
-        canonical: true,
-    };
-    let text = [HEAD, ONE_URI, MIDDLE, WRITTEN_HUNDRED, END];
-    assert!(rt; comes_to(&rt, MORE, &text, expected)?);
+    let sheet = read_sheet(&rt, MORE)?;
+    assert!(rt; comes_to(&rt, &sheet, &ROWS[9])?);
     Ok(())
 }

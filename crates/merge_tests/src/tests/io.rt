@@ -77,16 +77,6 @@ fn stops_behind(rt: &HostRuntime, front: &[u8], limit: u32) -> bool {
     true
 }
 
-fn never_ends(rt: &HostRuntime, limit: u32) -> bool {
-    for step in STEPS {
-        let reader = TestReader::new(b"ab", step, Then::GoesOn);
-        if !answers(rt, reader, limit, Err(ReadFault::TooLong)) {
-            return false;
-        }
-    }
-    true
-}
-
 #[test]
 fn sources_stop_at_each_place_of_a_bundle(rt: HostRuntime) -> Result<(), Fail> {
     let bundle = joined(&rt, &[SHEET, "\n", INFO, HUNDRED, END])?;
@@ -97,56 +87,61 @@ fn sources_stop_at_each_place_of_a_bundle(rt: HostRuntime) -> Result<(), Fail> {
     Ok(())
 }
 
-#[test]
-fn endless_sources_are_too_long(rt: HostRuntime) -> Result<(), Fail> {
-    for limit in 0..=64 {
-        assert!(rt; never_ends(&rt, limit), "with the limit {limit}");
-    }
-    assert!(rt; never_ends(&rt, 200_000));
-    Ok(())
+// What a source returns, its steps and its end, the limit, and the result.
+type Row = (
+    &'static [u8],
+    Step,
+    Then,
+    u32,
+    Result<&'static [u8], ReadFault>,
+);
+
+const ROWS: [Row; 11] = [
+    (b"12345", Step::All, Then::Ends, 5, Ok(b"12345")),
+    (b"12345", Step::Few(1), Then::Ends, 5, Ok(b"12345")),
+    (
+        b"12345",
+        Step::Few(2),
+        Then::Ends,
+        2_147_483_648,
+        Ok(b"12345"),
+    ),
+    (b"12345", Step::All, Then::Ends, 4, Err(ReadFault::TooLong)),
+    (
+        b"12345",
+        Step::Few(1),
+        Then::Ends,
+        4,
+        Err(ReadFault::TooLong),
+    ),
+    (b"", Step::Few(1), Then::Ends, 0, Ok(b"")),
+    (b"", Step::Few(1), Then::GoesOn, 0, Err(ReadFault::TooLong)),
+    (b"", Step::Few(1), Then::GoesOn, 4, Err(ReadFault::TooLong)),
+    (b"", Step::All, Then::GoesOn, 4, Err(ReadFault::TooLong)),
+    (b"12", Step::All, Then::Fails, 4, Err(ReadFault::Device(2))),
+    (
+        b"12",
+        Step::Few(1),
+        Then::IsInterrupted,
+        4,
+        Err(ReadFault::Device(2)),
+    ),
+];
+
+fn row_holds(rt: &HostRuntime, row: &Row) -> bool {
+    answers(rt, TestReader::new(row.0, row.1, row.2), row.3, row.4)
 }
 
 #[test]
-fn sources_are_read_to_their_end(rt: HostRuntime) -> Result<(), Fail> {
-    let rows: [(&[u8], Step, Then, u32, Result<&[u8], ReadFault>); 11] = [
-        (b"12345", Step::All, Then::Ends, 5, Ok(b"12345")),
-        (b"12345", Step::Few(1), Then::Ends, 5, Ok(b"12345")),
-        (
-            b"12345",
-            Step::Few(2),
-            Then::Ends,
-            2_147_483_648,
-            Ok(b"12345"),
-        ),
-        (b"12345", Step::All, Then::Ends, 4, Err(ReadFault::TooLong)),
-        (
-            b"12345",
-            Step::Few(1),
-            Then::Ends,
-            4,
-            Err(ReadFault::TooLong),
-        ),
-        (b"", Step::Few(1), Then::Ends, 0, Ok(b"")),
-        (b"", Step::Few(1), Then::GoesOn, 0, Err(ReadFault::TooLong)),
-        (b"", Step::Few(1), Then::GoesOn, 4, Err(ReadFault::TooLong)),
-        (b"", Step::All, Then::GoesOn, 4, Err(ReadFault::TooLong)),
-        (b"12", Step::All, Then::Fails, 4, Err(ReadFault::Device(2))),
-        (
-            b"12",
-            Step::Few(1),
-            Then::IsInterrupted,
-            4,
-            Err(ReadFault::Device(2)),
-        ),
-    ];
-    for (left, step, then, limit, want) in rows {
-        let reader = TestReader::new(left, step, then);
+fn sources_are_read_to_their_end(rt: HostRuntime) {
+    for row in &ROWS {
         assert!(rt;
-            answers(&rt, reader, limit, want),
-            "at {left:?} with the limit {limit}"
+            row_holds(&rt, row),
+            "at {:?} with the limit {}",
+            row.0,
+            row.3
         );
     }
-    Ok(())
 }
 
 // The program prints `too long` after the name of the file.

@@ -4,14 +4,11 @@ mod merges;
 use crate::tests::sinks::TOUCHING;
 use fact_base::Base;
 use oim_merge::read_back;
-use oim_names::Aliases;
 use oim_report::{Report, Sheet};
-use oim_write::{Encoded, Sink, StdSink, WriteFault, prefixes, text, write_to};
+use oim_write::{Encoded, Sink, StdSink, WriteFault, text, write_to};
 use std::alloc::AllocError;
 use std::test::Fail;
-use test_helpers::asked_again::{
-    INFO, SHEET, joined, read, read_sheet, tell_refused, tell_refused_here,
-};
+use test_helpers::asked_again::{INFO, SHEET, joined, read, read_sheet, repeated, tell_refused};
 use test_helpers::canonical_parts::{CONSISTENT_HEAD, END, MIDDLE, ONE_URI, WRITTEN_BOTH};
 use test_helpers::expecting::Expecting;
 
@@ -104,24 +101,6 @@ fn has_text(rt: &HostRuntime, base: &Base<'_>, bytes: &[u8]) -> bool {
     }
 }
 
-fn prefixes_of(rt: &HostRuntime, base: &Base<'_>) -> Result<Aliases, AllocError> {
-    match prefixes(rt.alloc(), base) {
-        Err(_) => {
-            tell_refused(rt);
-            prefixes(rt.alloc(), base)
-        }
-        answer => answer,
-    }
-}
-
-fn has_one_prefix(rt: &HostRuntime, base: &Base<'_>) -> bool {
-    match prefixes_of(rt, base) {
-        Ok(aliases) => aliases.uri("n1") == Some("http://example.org/t")
-            && aliases.uri("n2").is_none(),
-        Err(_) => false,
-    }
-}
-
 fn back_of<'s>(rt: &HostRuntime, base: &Base<'s>) -> Result<Base<'s>, AllocError> {
     match read_back(rt.alloc(), base) {
         Err(_) => {
@@ -142,16 +121,11 @@ fn comes_back(rt: &HostRuntime, base: &Base<'_>) -> bool {
 /// The merged text of two facts, with the values 100 and 101.
 const BOTH: [&str; 5] = [CONSISTENT_HEAD, ONE_URI, MIDDLE, WRITTEN_BOTH, END];
 
-fn base_writes(rt: &HostRuntime, sheet: &Sheet, report: &[u8], text: &[u8]) -> bool {
+fn base_holds(rt: &HostRuntime, sheet: &Sheet, report: &[u8], text: &[u8]) -> bool {
     match base_of(rt, sheet, report) {
-        Some(base) => writes(rt, &base, text) && has_text(rt, &base, text),
-        None => false,
-    }
-}
-
-fn base_comes_back(rt: &HostRuntime, sheet: &Sheet, report: &[u8]) -> bool {
-    match base_of(rt, sheet, report) {
-        Some(base) => has_one_prefix(rt, &base) && comes_back(rt, &base),
+        Some(base) => {
+            writes(rt, &base, text) && has_text(rt, &base, text) && comes_back(rt, &base)
+        }
         None => false,
     }
 }
@@ -160,14 +134,7 @@ fn base_comes_back(rt: &HostRuntime, sheet: &Sheet, report: &[u8]) -> bool {
 fn a_refused_text_has_its_front_in_the_sink(rt: HostRuntime) -> Result<(), Fail> {
     let sheet = read_sheet(&rt, SHEET)?;
     let text = joined(&rt, &BOTH)?;
-    assert!(rt; base_writes(&rt, &sheet, TOUCHING.as_bytes(), &text));
-    Ok(())
-}
-
-#[test]
-fn a_refused_base_comes_back(rt: HostRuntime) -> Result<(), Fail> {
-    let sheet = read_sheet(&rt, SHEET)?;
-    assert!(rt; base_comes_back(&rt, &sheet, TOUCHING.as_bytes()));
+    assert!(rt; base_holds(&rt, &sheet, TOUCHING.as_bytes(), &text));
     Ok(())
 }
 
@@ -181,45 +148,29 @@ const MANY: usize = 400;
 
 const MORE: usize = 1_200;
 
-/// Two parts of the text of a fact: between the identifier and the value, and after the value.
-const OPEN_TEXT: [&str; 2] = [r#"":{"value":""#, r#"","dimensions":{"concept":"eg:T"}}"#];
+/// The text of each fact up to its value, and after its value.
+const OPEN: [&str; 5] = [
+    r#""1":{"value":"1"#,
+    r#","2":{"value":"2"#,
+    r#","3":{"value":"3"#,
+    r#","4":{"value":"4"#,
+    r#","5":{"value":"5"#,
+];
 
-const LONG_ROOM: usize = 1 << 18;
+const CLOSE: &str = r#"","dimensions":{"concept":"eg:T"}}"#;
 
-fn long_room(rt: &HostRuntime) -> Result<String, AllocError> {
-    match String::with_capacity(rt.alloc(), LONG_ROOM) {
-        Err(_) => {
-            tell_refused_here(rt);
-            String::with_capacity(rt.alloc(), LONG_ROOM)
-        }
-        room => room,
-    }
+fn long_of(rt: &HostRuntime, many: &str) -> Result<Vec<u8>, AllocError> {
+    let more = repeated(rt, LETTERS, MORE)?;
+    let parts = [
+        INFO, OPEN[0], many, CLOSE, OPEN[1], many, CLOSE, OPEN[2], many, CLOSE, OPEN[3], many,
+        CLOSE, OPEN[4], &more, CLOSE, END,
+    ];
+    joined(rt, &parts)
 }
 
-fn push_long(text: &mut String, mark: &str, digit: &str, many: usize) -> Result<(), AllocError> {
-    for part in [mark, "\"", digit, OPEN_TEXT[0], digit] {
-        text.push_str(part)?;
-    }
-    for _ in 0..many {
-        text.push_str(LETTERS)?;
-    }
-    text.push_str(OPEN_TEXT[1])
-}
-
-fn push_all_long(text: &mut String) -> Result<(), AllocError> {
-    text.push_str(INFO)?;
-    push_long(text, "", "1", MANY)?;
-    for digit in ["2", "3", "4"] {
-        push_long(text, ",", digit, MANY)?;
-    }
-    push_long(text, ",", "5", MORE)?;
-    text.push_str(END)
-}
-
-fn long_report(rt: &HostRuntime) -> Result<String, AllocError> {
-    let mut text = long_room(rt)?;
-    push_all_long(&mut text)?;
-    Ok(text)
+fn long_report(rt: &HostRuntime) -> Result<Vec<u8>, AllocError> {
+    let many = repeated(rt, LETTERS, MANY)?;
+    long_of(rt, &many)
 }
 
 /// True if `write_to` writes the same bytes as `text` returns, and the text is longer than a chunk.
@@ -241,6 +192,6 @@ fn long_is_written(rt: &HostRuntime, sheet: &Sheet, report: &[u8]) -> bool {
 fn a_refused_long_text_has_its_front_in_the_sink(rt: HostRuntime) -> Result<(), Fail> {
     let sheet = read_sheet(&rt, SHEET)?;
     let report = long_report(&rt)?;
-    assert!(rt; long_is_written(&rt, &sheet, report.as_str().as_bytes()));
+    assert!(rt; long_is_written(&rt, &sheet, &report));
     Ok(())
 }

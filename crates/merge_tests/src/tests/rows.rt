@@ -5,7 +5,6 @@ use oim_report::Sheet;
 use oim_write::{Encoded, Sink, StdSink};
 use row_formats::{RowFormat, finish_rows, finish_rows_last, source_rows, verdict_rows};
 use std::alloc::{AllocError, Global};
-use std::test::Fail;
 use test_helpers::asked_again::{SHEET, tell_refused};
 
 // Compares the output of the calls of `row_formats` with output written by hand. The rows have
@@ -137,32 +136,23 @@ fn holds(rt: &HostRuntime, call: Call, format: RowFormat, wanted: &[u8]) -> bool
     answer == Ok(true)
 }
 
+const ROWS: [(Call, RowFormat, &[u8]); 6] = [
+    (Call::Verdicts, RowFormat::Json, VERDICTS_JSON),
+    (Call::Added, RowFormat::Json, VERDICTS_JSON),
+    (Call::AddedLast, RowFormat::Json, VERDICTS_JSON),
+    (Call::Sources, RowFormat::Json, SOURCES_JSON),
+    (Call::Verdicts, RowFormat::Csv, VERDICTS_CSV),
+    // no cell of a spreadsheet is a formula
+    (
+        Call::Sources,
+        RowFormat::SpreadsheetCsv,
+        SOURCES_SPREADSHEET,
+    ),
+];
+
 #[test]
-fn verdicts_are_json(rt: HostRuntime) -> Result<(), Fail> {
-    for call in [Call::Verdicts, Call::Added, Call::AddedLast] {
-        assert!(rt; holds(&rt, call, RowFormat::Json, VERDICTS_JSON));
+fn rows_are_written_in_each_format(rt: HostRuntime) {
+    for (place, (call, format, wanted)) in ROWS.iter().enumerate() {
+        assert!(rt; holds(&rt, *call, *format, wanted), "{place}");
     }
-    Ok(())
-}
-
-#[test]
-fn sources_are_json(rt: HostRuntime) {
-    assert!(rt; holds(&rt, Call::Sources, RowFormat::Json, SOURCES_JSON));
-}
-
-#[test]
-fn verdicts_are_csv(rt: HostRuntime) {
-    assert!(rt; holds(&rt, Call::Verdicts, RowFormat::Csv, VERDICTS_CSV));
-}
-
-#[test]
-fn sources_of_a_spreadsheet_are_no_formulas(rt: HostRuntime) {
-    assert!(rt;
-        holds(
-            &rt,
-            Call::Sources,
-            RowFormat::SpreadsheetCsv,
-            SOURCES_SPREADSHEET
-        )
-    );
 }

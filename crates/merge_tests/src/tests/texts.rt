@@ -6,9 +6,9 @@ mod prefixes;
 
 use oim_merge::{Fault, consolidate_bundle};
 use oim_write::StdSink;
+use std::alloc::AllocError;
 use std::test::Fail;
-use test_helpers::asked_again::{INFO, SHEET, joined, tell_refused};
-use test_helpers::canonical_parts::{END, HEAD, MIDDLE};
+use test_helpers::asked_again::{SHEET, joined, tell_refused};
 use test_helpers::expecting::Expecting;
 
 // After a refused request for memory, the call is repeated. A line on standard error reports the
@@ -34,22 +34,26 @@ fn merges(rt: &HostRuntime, bundle: &[u8], text: &[u8]) -> Option<bool> {
     Some(same)
 }
 
-fn gives(rt: &HostRuntime, bundle: &[&str], text: &[&str]) -> Result<bool, Fail> {
+fn gives(rt: &HostRuntime, bundle: &[&str], text: &[&str]) -> Result<bool, AllocError> {
     let bundle = joined(rt, bundle)?;
+    merges_to(rt, &bundle, text)
+}
+
+fn merges_to(rt: &HostRuntime, bundle: &[u8], text: &[&str]) -> Result<bool, AllocError> {
     let text = joined(rt, text)?;
-    match merges(rt, &bundle, &text) {
+    Ok(match merges(rt, bundle, &text) {
         None => {
             tell_refused(rt);
-            Ok(merges(rt, &bundle, &text) == Some(true))
+            merges(rt, bundle, &text) == Some(true)
         }
-        Some(same) => Ok(same),
-    }
+        Some(same) => same,
+    })
 }
 
 /// The parts of a bundle, and the parts of its merged text.
 type Row = (&'static [&'static str], &'static [&'static str]);
 
-fn all_give(rt: &HostRuntime, rows: &[Row]) -> Result<bool, Fail> {
+fn all_give(rt: &HostRuntime, rows: &[Row]) -> Result<bool, AllocError> {
     let mut all = true;
     for (bundle, text) in rows {
         all = gives(rt, bundle, text)? && all;
@@ -57,9 +61,11 @@ fn all_give(rt: &HostRuntime, rows: &[Row]) -> Result<bool, Fail> {
     Ok(all)
 }
 
-/// True if the merged text of a report with these facts has these namespaces and these fact texts,
-/// and declares the level `none`.
-fn writes(rt: &HostRuntime, facts: &str, namespaces: &str, text: &str) -> Result<bool, Fail> {
-    let bundle = [SHEET, LINE, INFO, facts, END];
-    gives(rt, &bundle, &[HEAD, namespaces, MIDDLE, text, END])
+#[test]
+fn texts_are_written_as_listed(rt: HostRuntime) -> Result<(), Fail> {
+    assert!(rt; all_give(&rt, bodies::ROWS)?);
+    assert!(rt; all_give(&rt, levels::ROWS)?);
+    assert!(rt; all_give(&rt, orders::ROWS)?);
+    assert!(rt; all_give(&rt, prefixes::ROWS)?);
+    Ok(())
 }

@@ -42,17 +42,11 @@ fn passes(alloc: Global) -> Result<bool, AllocError> {
     Ok(counted && sink.into_inner().as_slice() == b"one two three".as_slice())
 }
 
-#[test]
-fn identifiers_are_padded(rt: HostRuntime) {
-    assert!(rt; holds(&rt, are_identifiers));
+fn all_are_written(alloc: Global) -> Result<bool, AllocError> {
+    Ok(are_identifiers(alloc)? && is_encoded(alloc)? && passes(alloc)?)
 }
 
 #[test]
-fn encoded_bytes_are_those_given(rt: HostRuntime) {
-    assert!(rt; holds(&rt, is_encoded));
-}
-
-#[test]
-fn what_is_pushed_comes_to_the_writer(rt: HostRuntime) {
-    assert!(rt; holds(&rt, passes));
+fn pieces_come_to_the_writer(rt: HostRuntime) {
+    assert!(rt; holds(&rt, all_are_written));
 }

@@ -49,84 +49,60 @@ fn three<'s>(
     Ok(consolidation)
 }
 
-fn finishes_last_once(rt: &HostRuntime, sheet: &Sheet, text: &[u8]) -> Option<bool> {
+/// Writes the merged text. If `last` is set, the call also consumes the reports.
+fn finishes_once(rt: &HostRuntime, sheet: &Sheet, last: bool, text: &[u8]) -> Option<bool> {
     let Ok(consolidation) = three(rt, sheet, TOUCHING, TOUCHING) else {
         return Some(false);
     };
     let mut sink = StdSink::new(Expecting::just(text));
-    let answer = consolidation.finish_last(Level::Consistent, &mut sink);
+    let answer = if last {
+        consolidation.finish_last(Level::Consistent, &mut sink)
+    } else {
+        consolidation.finish(Level::Consistent, &mut sink)
+    };
     came_to(rt, answer, sink, text)
 }
 
-fn lists_last_once(rt: &HostRuntime, sheet: &Sheet) -> Option<bool> {
+/// Writes the verdict lines. If `last` is set, the call also consumes the reports.
+fn lists_once(rt: &HostRuntime, sheet: &Sheet, last: bool) -> Option<bool> {
     let Ok(consolidation) = three(rt, sheet, THREE_SETS, ONE_OF_THREE) else {
         return Some(false);
     };
     let mut sink = StdSink::new(Expecting::just(THREE_LINES));
-    let answer = consolidation.finish_lines_last(&mut sink);
+    let answer = if last {
+        consolidation.finish_lines_last(&mut sink)
+    } else {
+        consolidation.finish_lines(&mut sink)
+    };
     came_to(rt, answer, sink, THREE_LINES)
 }
 
-#[test]
-fn what_is_left_in_memory_is_written_alike(rt: HostRuntime) -> Result<(), Fail> {
-    let sheet = read_sheet(&rt, SHEET)?;
-    let text = joined(&rt, &BOTH)?;
-    let mut answer = finishes_last_once(&rt, &sheet, &text);
-    if answer.is_none() {
-        answer = finishes_last_once(&rt, &sheet, &text);
+fn finishes(rt: &HostRuntime, sheet: &Sheet, last: bool, text: &[u8]) -> bool {
+    match finishes_once(rt, sheet, last, text) {
+        None => finishes_once(rt, sheet, last, text) == Some(true),
+        Some(met) => met,
     }
-    assert!(rt; answer == Some(true));
-    Ok(())
 }
 
-#[test]
-fn what_is_left_in_memory_is_judged_alike(rt: HostRuntime) -> Result<(), Fail> {
-    let sheet = read_sheet(&rt, SHEET)?;
-    let mut answer = lists_last_once(&rt, &sheet);
-    if answer.is_none() {
-        answer = lists_last_once(&rt, &sheet);
+fn lists(rt: &HostRuntime, sheet: &Sheet, last: bool) -> bool {
+    match lists_once(rt, sheet, last) {
+        None => lists_once(rt, sheet, last) == Some(true),
+        Some(met) => met,
     }
-    assert!(rt; answer == Some(true));
-    Ok(())
-}
-
-fn finishes_once(rt: &HostRuntime, sheet: &Sheet, text: &[u8]) -> Option<bool> {
-    let Ok(consolidation) = three(rt, sheet, TOUCHING, TOUCHING) else {
-        return Some(false);
-    };
-    let mut sink = StdSink::new(Expecting::just(text));
-    let answer = consolidation.finish(Level::Consistent, &mut sink);
-    came_to(rt, answer, sink, text)
-}
-
-fn lists_once(rt: &HostRuntime, sheet: &Sheet) -> Option<bool> {
-    let Ok(consolidation) = three(rt, sheet, THREE_SETS, ONE_OF_THREE) else {
-        return Some(false);
-    };
-    let mut sink = StdSink::new(Expecting::just(THREE_LINES));
-    let answer = consolidation.finish_lines(&mut sink);
-    came_to(rt, answer, sink, THREE_LINES)
 }
 
 #[test]
 fn reports_that_are_added_are_merged(rt: HostRuntime) -> Result<(), Fail> {
     let sheet = read_sheet(&rt, SHEET)?;
     let text = joined(&rt, &BOTH)?;
-    let mut answer = finishes_once(&rt, &sheet, &text);
-    if answer.is_none() {
-        answer = finishes_once(&rt, &sheet, &text);
-    }
-    assert!(rt; answer == Some(true));
+    assert!(rt; finishes(&rt, &sheet, false, &text));
+    assert!(rt; finishes(&rt, &sheet, true, &text));
     Ok(())
 }
 
 #[test]
 fn reports_that_are_added_are_judged(rt: HostRuntime) -> Result<(), Fail> {
     let sheet = read_sheet(&rt, SHEET)?;
-    let mut answer = lists_once(&rt, &sheet);
-    if answer.is_none() {
-        answer = lists_once(&rt, &sheet);
-    }
-    assert!(rt; answer == Some(true));
+    assert!(rt; lists(&rt, &sheet, false) && lists(&rt, &sheet, true));
     Ok(())
 }

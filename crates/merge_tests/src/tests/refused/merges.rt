@@ -1,22 +1,17 @@
 use super::{BOTH, wanted_memory};
 use crate::tests::sinks::TOUCHING;
-use oim_merge::{
-    Checked, Fault, Refusals, check_report, consolidate, consolidate_bundle, source_lines,
-    verdict_lines,
-};
+use oim_merge::{Fault, Refusals, consolidate, consolidate_bundle, source_lines, verdict_lines};
 use oim_names::Reason;
-use oim_report::{Refusal, Sheet};
+use oim_report::Sheet;
 use oim_value::Level;
 use oim_write::{Encoded, StdSink};
 use std::alloc::AllocError;
 use std::test::Fail;
-use test_helpers::asked_again::{
-    SHEET, is_want_of_memory, joined, read_sheet, tell_refused, tell_refused_here,
-};
+use test_helpers::asked_again::{SHEET, joined, read_sheet, tell_refused, tell_refused_here};
 use test_helpers::expecting::Expecting;
 
-// Tests `consolidate`, `verdict_lines`, `source_lines`, `consolidate_bundle` and `check_report`.
-// After a refused request for memory, the call is repeated.
+// Tests `consolidate`, `verdict_lines`, `source_lines` and `consolidate_bundle`. After a refused
+// request for memory, the call is repeated.
 
 fn encoded(rt: &HostRuntime, bytes: &[u8]) -> Result<Encoded, AllocError> {
     match Encoded::new(rt.alloc(), bytes) {
@@ -69,39 +64,6 @@ pub(crate) fn came_to(
     }
 }
 
-fn consolidates_once(
-    rt: &HostRuntime,
-    sheet: &Sheet,
-    reports: &[Encoded],
-    text: &[u8],
-) -> Option<bool> {
-    let mut sink = StdSink::new(Expecting::just(text));
-    let answer = consolidate(rt.alloc(), sheet, reports, Level::Consistent, &mut sink);
-    came_to(rt, answer, sink, text)
-}
-
-fn consolidates(rt: &HostRuntime, sheet: &Sheet, reports: &[Encoded], text: &[u8]) -> bool {
-    match consolidates_once(rt, sheet, reports, text) {
-        None => consolidates_once(rt, sheet, reports, text) == Some(true),
-        Some(met) => met,
-    }
-}
-
-fn is_consolidated(rt: &HostRuntime, sheet: &Sheet, text: &[u8]) -> bool {
-    match reports(rt, TOUCHING) {
-        Ok(reports) => consolidates(rt, sheet, reports.as_slice(), text),
-        Err(_) => false,
-    }
-}
-
-#[test]
-fn a_refused_merge_has_its_front_in_the_sink(rt: HostRuntime) -> Result<(), Fail> {
-    let sheet = read_sheet(&rt, SHEET)?;
-    let text = joined(&rt, &BOTH)?;
-    assert!(rt; is_consolidated(&rt, &sheet, &text));
-    Ok(())
-}
-
 /// Two numbers whose rounding intervals touch, two whose intervals are disjoint, and a text.
 pub(crate) const THREE_SETS: &str =
     r#"{"documentInfo":{"documentType":"https://xbrl.org/2021/xbrl-json","namespaces":{"eg":"http://example.org/t"}},"facts":{"a":{"value":"100","decimals":0,"dimensions":{"concept":"eg:A"}},"b":{"value":"101","decimals":0,"dimensions":{"concept":"eg:A"}},"c":{"value":"1","decimals":0,"dimensions":{"concept":"eg:B"}},"d":{"value":"3","decimals":0,"dimensions":{"concept":"eg:B"}},"e":{"value":"Blue","dimensions":{"concept":"eg:T"}}}}"#;
@@ -111,49 +73,60 @@ pub(crate) const THREE_SETS: &str =
 pub(crate) const THREE_LINES: &[u8] =
     b"1 f1 f2 consistent common 100.5 100.5\n2 f3 f4 inconsistent apart f3 f4\n3 f5 f5 complete\n";
 
-fn lists_once(rt: &HostRuntime, sheet: &Sheet, reports: &[Encoded]) -> Option<bool> {
-    let mut sink = StdSink::new(Expecting::just(THREE_LINES));
-    let answer = verdict_lines(rt.alloc(), sheet, reports, &mut sink);
-    came_to(rt, answer, sink, THREE_LINES)
-}
-
-fn lists(rt: &HostRuntime, sheet: &Sheet, reports: &[Encoded]) -> bool {
-    match lists_once(rt, sheet, reports) {
-        None => lists_once(rt, sheet, reports) == Some(true),
-        Some(met) => met,
-    }
-}
-
-#[test]
-fn refused_lines_have_their_front_in_the_sink(rt: HostRuntime) -> Result<(), Fail> {
-    let sheet = read_sheet(&rt, SHEET)?;
-    let reports = reports(&rt, THREE_SETS)?;
-    assert!(rt; lists(&rt, &sheet, reports.as_slice()));
-    Ok(())
-}
-
 /// The source lines if `THREE_SETS` is the second and the third report.
 const TEN_SOURCES: &[u8] =
     b"f1 2 \"a\"\nf1 3 \"a\"\nf2 2 \"b\"\nf2 3 \"b\"\nf3 2 \"c\"\nf3 3 \"c\"\nf4 2 \"d\"\nf4 3 \"d\"\nf5 2 \"e\"\nf5 3 \"e\"\n";
 
-fn traces_once(rt: &HostRuntime, sheet: &Sheet, reports: &[Encoded]) -> Option<bool> {
-    let mut sink = StdSink::new(Expecting::just(TEN_SOURCES));
-    let answer = source_lines(rt.alloc(), sheet, reports, &mut sink);
-    came_to(rt, answer, sink, TEN_SOURCES)
+#[derive(Clone, Copy)]
+enum Call {
+    Merge,
+    Verdicts,
+    Sources,
 }
 
-fn traces(rt: &HostRuntime, sheet: &Sheet, reports: &[Encoded]) -> bool {
-    match traces_once(rt, sheet, reports) {
-        None => traces_once(rt, sheet, reports) == Some(true),
+fn called_once(
+    rt: &HostRuntime,
+    sheet: &Sheet,
+    reports: &[Encoded],
+    call: Call,
+    text: &[u8],
+) -> Option<bool> {
+    let mut sink = StdSink::new(Expecting::just(text));
+    let answer = match call {
+        Call::Merge => consolidate(rt.alloc(), sheet, reports, Level::Consistent, &mut sink),
+        Call::Verdicts => verdict_lines(rt.alloc(), sheet, reports, &mut sink),
+        Call::Sources => source_lines(rt.alloc(), sheet, reports, &mut sink),
+    };
+    came_to(rt, answer, sink, text)
+}
+
+fn called(rt: &HostRuntime, sheet: &Sheet, reports: &[Encoded], call: Call, text: &[u8]) -> bool {
+    match called_once(rt, sheet, reports, call, text) {
+        None => called_once(rt, sheet, reports, call, text) == Some(true),
         Some(met) => met,
     }
 }
 
+fn gives(rt: &HostRuntime, sheet: &Sheet, call: Call, report: &str, text: &[u8]) -> bool {
+    match reports(rt, report) {
+        Ok(reports) => called(rt, sheet, reports.as_slice(), call, text),
+        Err(_) => false,
+    }
+}
+
+fn merges(rt: &HostRuntime, sheet: &Sheet) -> bool {
+    match joined(rt, &BOTH) {
+        Ok(text) => gives(rt, sheet, Call::Merge, TOUCHING, &text),
+        Err(_) => false,
+    }
+}
+
 #[test]
-fn refused_sources_have_their_front_in_the_sink(rt: HostRuntime) -> Result<(), Fail> {
+fn a_refused_call_has_its_front_in_the_sink(rt: HostRuntime) -> Result<(), Fail> {
     let sheet = read_sheet(&rt, SHEET)?;
-    let reports = reports(&rt, THREE_SETS)?;
-    assert!(rt; traces(&rt, &sheet, reports.as_slice()));
+    assert!(rt; merges(&rt, &sheet));
+    assert!(rt; gives(&rt, &sheet, Call::Verdicts, THREE_SETS, THREE_LINES));
+    assert!(rt; gives(&rt, &sheet, Call::Sources, THREE_SETS, TEN_SOURCES));
     Ok(())
 }
 
@@ -178,28 +151,5 @@ fn a_refused_bundle_has_its_front_in_the_sink(rt: HostRuntime) -> Result<(), Fai
     let bundle = joined(&rt, &BUNDLE)?;
     let text = joined(&rt, &BOTH)?;
     assert!(rt; consolidates_bundle(&rt, &bundle, &text));
-    Ok(())
-}
-
-fn check(rt: &HostRuntime, sheet: &Sheet, report: &[u8]) -> Result<Checked, Refusal> {
-    match check_report(rt.alloc(), sheet, report) {
-        Err(refusal) if is_want_of_memory(refusal) => {
-            tell_refused(rt);
-            check_report(rt.alloc(), sheet, report)
-        }
-        answer => answer,
-    }
-}
-
-#[test]
-fn a_refused_check_tells_of_the_document(rt: HostRuntime) -> Result<(), Fail> {
-    let sheet = read_sheet(&rt, SHEET)?;
-    let text = joined(&rt, &BOTH)?;
-    let expected = Checked {
-        facts: 2,
-        level: Level::Consistent,
-        canonical: true,
-    };
-    assert!(rt; check(&rt, &sheet, &text) == Ok(expected));
     Ok(())
 }

@@ -1,5 +1,4 @@
-use super::{LINE, Row, SHEET, TWO_URIS, all_give};
-use std::test::Fail;
+use super::{LINE, Row, SHEET, TWO_URIS};
 use test_helpers::asked_again::{INFO, OPEN_INFO};
 use test_helpers::canonical_parts::{END, HEAD, MIDDLE};
 
@@ -22,16 +21,6 @@ const ONE_TEXT: &str =
 const BOTH_TEXT: &str =
     r#"{"documentInfo":{"documentType":"https://xbrl.org/2021/xbrl-json","features":{"xbrl:allowedDuplicates":"consistent"},"namespaces":{"n1":"http://example.org/t","xbrl":"https://xbrl.org/2021"},"taxonomy":[]},"facts":{"f1":{"decimals":0,"dimensions":{"concept":"n1:A"},"value":"100"},"f2":{"decimals":0,"dimensions":{"concept":"n1:A"},"value":"101"}}}"#;
 
-const LENGTHS: &[(&str, usize)] = &[(NONE_TEXT, 183), (ONE_TEXT, 276), (BOTH_TEXT, 348)];
-
-#[test]
-fn texts_have_their_lengths(rt: HostRuntime) -> Result<(), Fail> {
-    for (text, length) in LENGTHS {
-        assert_eq!(rt; text.len(), *length);
-    }
-    Ok(())
-}
-
 const BLUE: &str =
     r#""f1":{"dimensions":{"concept":"n1:T","entity":"n2:529900:A1","language":"en-gb","n1:Reg":"n1:North","n1:Sku":"a b","period":"2020-01-01T00:00:00/2021-01-01T00:00:00"},"value":"Blue"}"#;
 
@@ -44,7 +33,7 @@ const NO_URI: &str = r#""xbrl":"https://xbrl.org/2021"},"taxonomy":["#;
 /// The text from the end of `documentInfo`, if there are no facts.
 const NO_FACTS: &str = r#"},"facts":{}}"#;
 
-const ROWS: &[Row] = &[
+pub(super) const ROWS: &[Row] = &[
     // bundles without facts
     (&[SHEET], &[NONE_TEXT]),
     (&[SHEET, LINE, LINE], &[NONE_TEXT]),
@@ -180,9 +169,3 @@ const ROWS: &[Row] = &[
         ],
     ),
 ];
-
-#[test]
-fn bodies_are_written(rt: HostRuntime) -> Result<(), Fail> {
-    assert!(rt; all_give(&rt, ROWS)?);
-    Ok(())
-}

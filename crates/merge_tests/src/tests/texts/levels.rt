@@ -1,9 +1,9 @@
-use super::{LINE, Row, SHEET, all_give, gives};
+use super::{LINE, Row, SHEET};
 use oim_names::Reason;
-use oim_report::{Place, Refusal};
-use std::alloc::{AllocError, Global};
+use oim_report::{Refusal, Sheet};
+use std::alloc::AllocError;
 use std::test::Fail;
-use test_helpers::asked_again::{INFO, OPEN_INFO, joined, read_once, read_sheet, tell_refused};
+use test_helpers::asked_again::{INFO, OPEN_INFO, joined, read, read_sheet};
 use test_helpers::canonical_parts::{
     CONSISTENT_HEAD, CONTRADICTING_HEAD, EARLIER_HEAD, EARLIER_MIDDLE, END, HEAD, MIDDLE,
     MIDDLE_ALONE, ONE_URI, WRITTEN_BOTH, WRITTEN_HUNDRED,
@@ -25,62 +25,52 @@ const WITH_NIL: &str =
 const WIDE: &str =
     r#""f1":{"decimals":0,"dimensions":{"concept":"n1:A"},"value":"100"},"f2":{"decimals":0,"dimensions":{"concept":"n1:A"},"value":"102"}"#;
 
-/// Returns why a text with these facts and this declared level is refused; None if it is accepted.
-fn refusal(
-    alloc: Global,
+/// A declared level, and whether two facts that meet are refused under it.
+const LEVELS: [(&str, bool); 4] = [
+    ("none", true),
+    ("complete", true),
+    ("consistent", false),
+    ("all", false),
+];
+
+fn is_read(rt: &HostRuntime, sheet: &Sheet, text: &[u8], refused: bool) -> bool {
+    match read(rt, sheet, text) {
+        Ok(_) => !refused,
+        Err(refusal) => refused && refusal == Refusal::from(Reason::DisallowedDuplicates),
+    }
+}
+
+fn is_held(
     rt: &HostRuntime,
+    sheet: &Sheet,
     level: &str,
-    facts: &str,
-) -> Result<Option<Refusal>, Fail> {
-    let sheet = read_sheet(rt, SHEET)?;
+    refused: bool,
+) -> Result<bool, AllocError> {
     let parts = [
         BEFORE_LEVEL,
         level,
         BEHIND_LEVEL,
         ONE_URI,
         MIDDLE,
-        facts,
+        WRITTEN_BOTH,
         END,
     ];
     let text = joined(rt, &parts)?;
-    Ok(read_once(alloc, &sheet, &text).err())
+    Ok(is_read(rt, sheet, &text, refused))
 }
 
-const TOO_LOW: Option<Refusal> = Some(Refusal {
-    reason: Reason::DisallowedDuplicates,
-    place: Place::Document,
-});
-
-const NO_MEMORY: Option<Refusal> = Some(Refusal {
-    reason: Reason::OutOfMemory,
-    place: Place::Document,
-});
-
-fn is_held(rt: &HostRuntime, level: &str, facts: &str, refused: bool) -> Result<bool, Fail> {
-    let expected = if refused { TOO_LOW } else { None };
-    let mut found = refusal(rt.alloc(), rt, level, facts)?;
-    if found == NO_MEMORY {
-        tell_refused(rt);
-        found = refusal(rt.alloc(), rt, level, facts)?;
+fn are_held(rt: &HostRuntime, sheet: &Sheet) -> Result<bool, AllocError> {
+    let mut all = true;
+    for (level, refused) in &LEVELS {
+        all = is_held(rt, sheet, level, *refused)? && all;
     }
-    Ok(found == expected)
+    Ok(all)
 }
 
 #[test]
 fn a_text_is_held_to_its_level(rt: HostRuntime) -> Result<(), Fail> {
-    for (level, facts, refused) in [
-        ("none", WRITTEN_BOTH, true),
-        ("complete", WRITTEN_BOTH, true),
-        ("consistent", WRITTEN_BOTH, false),
-        ("all", WRITTEN_BOTH, false),
-        ("none", WITH_NIL, true),
-        ("complete", WITH_NIL, true),
-        ("consistent", WITH_NIL, true),
-        ("all", WITH_NIL, false),
-        ("none", WRITTEN_HUNDRED, false),
-    ] {
-        assert!(rt; is_held(&rt, level, facts, refused)?, "{level} of {facts}");
-    }
+    let sheet = read_sheet(&rt, SHEET)?;
+    assert!(rt; are_held(&rt, &sheet)?);
     Ok(())
 }
 
@@ -89,7 +79,7 @@ const ONE_VALUE: &str = r#""f1":{"decimals":0,"dimensions":{"concept":"n1:A"},"v
 
 const VALUE_END: &str = r#""}}}"#;
 
-const ROWS: &[Row] = &[
+pub(super) const ROWS: &[Row] = &[
     // nil and a number in one dimension set contradict each other
     (
         &[
@@ -141,63 +131,64 @@ const ROWS: &[Row] = &[
         ],
         &[HEAD, ONE_URI, MIDDLE, WRITTEN_HUNDRED, END],
     ),
+    // texts in the earlier form
+    (
+        &[SHEET, LINE, EARLIER_HEAD, EARLIER_MIDDLE, END],
+        &[HEAD, MIDDLE_ALONE, END],
+    ),
+    (
+        &[
+            SHEET,
+            LINE,
+            EARLIER_HEAD,
+            ONE_URI,
+            EARLIER_MIDDLE,
+            WRITTEN_HUNDRED,
+            END,
+        ],
+        &[HEAD, ONE_URI, MIDDLE, WRITTEN_HUNDRED, END],
+    ),
+    (
+        &[
+            SHEET,
+            LINE,
+            EARLIER_HEAD,
+            ONE_URI,
+            EARLIER_MIDDLE,
+            WRITTEN_BOTH,
+            END,
+        ],
+        &[CONSISTENT_HEAD, ONE_URI, MIDDLE, WRITTEN_BOTH, END],
+    ),
 ];
 
-#[test]
-fn the_least_level_is_declared(rt: HostRuntime) -> Result<(), Fail> {
-    assert!(rt; all_give(&rt, ROWS)?);
-    Ok(())
-}
-
-/// A text in the earlier form and its length in bytes, then the canonical text and its length in
-/// bytes.
-type Earlier = (
-    &'static [&'static str],
-    usize,
-    &'static [&'static str],
-    usize,
-);
-
-const EARLIER: [Earlier; 3] = [
-    (
-        &[EARLIER_HEAD, EARLIER_MIDDLE, END],
-        108,
-        &[HEAD, MIDDLE_ALONE, END],
-        183,
-    ),
+/// Texts in the earlier form and in the canonical form, with their lengths in bytes.
+const LENGTHS: [(&[&str], usize); 6] = [
+    (&[EARLIER_HEAD, EARLIER_MIDDLE, END], 108),
     (
         &[EARLIER_HEAD, ONE_URI, EARLIER_MIDDLE, WRITTEN_HUNDRED, END],
         200,
-        &[HEAD, ONE_URI, MIDDLE, WRITTEN_HUNDRED, END],
-        276,
     ),
     (
         &[EARLIER_HEAD, ONE_URI, EARLIER_MIDDLE, WRITTEN_BOTH, END],
         266,
-        &[CONSISTENT_HEAD, ONE_URI, MIDDLE, WRITTEN_BOTH, END],
-        348,
     ),
+    (&[HEAD, MIDDLE_ALONE, END], 183),
+    (&[HEAD, ONE_URI, MIDDLE, WRITTEN_HUNDRED, END], 276),
+    (&[CONSISTENT_HEAD, ONE_URI, MIDDLE, WRITTEN_BOTH, END], 348),
 ];
 
-fn length(rt: &HostRuntime, parts: &[&str]) -> Result<usize, AllocError> {
-    Ok(joined(rt, parts)?.len())
-}
-
-/// True if merging the text in the earlier form gives the canonical text.
-fn is_renewed(rt: &HostRuntime, earlier: &[&str], text: &[&str]) -> Result<bool, Fail> {
-    let earlier = joined(rt, earlier)?;
-    match std::str::from_utf8(&earlier) {
-        Ok(earlier) => gives(rt, &[SHEET, LINE, earlier], text),
-        Err(_) => Ok(false),
+fn length(parts: &[&str]) -> usize {
+    let mut all = 0usize;
+    for part in parts {
+        all = all.saturating_add(part.len());
     }
+    all
 }
 
 #[test]
-fn earlier_texts_are_read(rt: HostRuntime) -> Result<(), Fail> {
-    for (earlier, before, text, now) in &EARLIER {
-        assert_eq!(rt; length(&rt, earlier)?, *before);
-        assert_eq!(rt; length(&rt, text)?, *now);
-        assert!(rt; is_renewed(&rt, earlier, text)?);
+fn texts_have_their_lengths(rt: HostRuntime) {
+    for (parts, wanted) in &LENGTHS {
+        assert_eq!(rt; length(parts), *wanted);
     }
-    Ok(())
 }

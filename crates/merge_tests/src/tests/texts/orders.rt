@@ -1,5 +1,4 @@
-use super::{LINE, Row, SHEET, TWO_URIS, all_give};
-use std::test::Fail;
+use super::{LINE, Row, SHEET, TWO_URIS};
 use test_helpers::asked_again::INFO;
 use test_helpers::canonical_parts::{CONTRADICTING_HEAD, END, HEAD, MIDDLE, ONE_URI};
 
@@ -10,7 +9,7 @@ use test_helpers::canonical_parts::{CONTRADICTING_HEAD, END, HEAD, MIDDLE, ONE_U
 const NINE: &str =
     r#""a":{"value":"1","decimals":0,"dimensions":{"concept":"eg:A"}},"b":{"value":"2","decimals":0,"dimensions":{"concept":"eg:A"}},"c":{"value":"3","decimals":0,"dimensions":{"concept":"eg:A"}},"d":{"value":"4","decimals":0,"dimensions":{"concept":"eg:A"}},"e":{"value":"5","decimals":0,"dimensions":{"concept":"eg:A"}},"f":{"value":"6","decimals":0,"dimensions":{"concept":"eg:A"}},"g":{"value":"7","decimals":0,"dimensions":{"concept":"eg:A"}},"h":{"value":"8","decimals":0,"dimensions":{"concept":"eg:A"}},"i":{"value":"9","decimals":0,"dimensions":{"concept":"eg:A"}}"#;
 
-const ROWS: &[Row] = &[
+pub(super) const ROWS: &[Row] = &[
     // facts with equal dimensions are in the order of their values, then of their decimals
     (
         &[
@@ -175,9 +174,3 @@ const ROWS: &[Row] = &[
         ],
     ),
 ];
-
-#[test]
-fn facts_are_numbered_in_order(rt: HostRuntime) -> Result<(), Fail> {
-    assert!(rt; all_give(&rt, ROWS)?);
-    Ok(())
-}

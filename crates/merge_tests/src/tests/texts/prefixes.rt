@@ -1,5 +1,4 @@
-use super::{LINE, Row, SHEET, all_give};
-use std::test::Fail;
+use super::{LINE, Row, SHEET};
 use test_helpers::asked_again::OPEN_INFO;
 use test_helpers::canonical_parts::{END, HEAD, MIDDLE};
 
@@ -89,7 +88,7 @@ const NINETY_NINE_WRITTEN: &[&str] = &[
     END,
 ];
 
-const ROWS: &[Row] = &[
+pub(super) const ROWS: &[Row] = &[
     // prefixes are in the byte order of their URIs
     (
         &[
@@ -153,9 +152,3 @@ const ROWS: &[Row] = &[
     // a hundred prefixes have three digits
     (NINETY_NINE, NINETY_NINE_WRITTEN),
 ];
-
-#[test]
-fn prefixes_are_numbered_in_order(rt: HostRuntime) -> Result<(), Fail> {
-    assert!(rt; all_give(&rt, ROWS)?);
-    Ok(())
-}

@@ -98,15 +98,6 @@ fn stops(
 
 const LINE: &str = "1 f1 f3 inconsistent apart f1 f3\n";
 
-fn stops_anywhere(alloc: Global) -> Result<bool, AllocError> {
-    for room in 0..=LINE.len() {
-        if !stops(alloc, LINE.as_bytes(), (10, 11), room)? {
-            return Ok(false);
-        }
-    }
-    Ok(true)
-}
-
 /// How many bytes a writer takes before it stops: near the end of the first chunk (65,536 bytes),
 /// near the end of a piece (65,990 bytes), and near both ends of the text.
 const LONG_ROOMS: [usize; 9] = [0, 1, 65_535, 65_536, 65_537, 65_989, 65_990, 65_999, 66_000];
@@ -123,11 +114,6 @@ fn stops_about_a_chunk(alloc: Global) -> Result<bool, AllocError> {
         }
     }
     Ok(text.as_bytes().len() == 66_000)
-}
-
-#[test]
-fn a_writer_may_stop_at_any_place(rt: HostRuntime) {
-    assert!(rt; holds(&rt, stops_anywhere));
 }
 
 #[test]
