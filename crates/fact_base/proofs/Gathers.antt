@@ -122,6 +122,17 @@ with_nothing b rises = λ i. record {
   references = is_set_of text_cmp_total text_cmp_exact b.references (b.references ++ []) rises.references (λ r. (subst (λ rs. Contains rs r) (sym (append-nil b.references)), subst (λ rs. Contains rs r) (append-nil b.references))) i;
 }
 
+-- the facts and the references of a body are in order, each once
+gathered_body : (b : Body) → IsBody b → gathered b.facts b.references ≡ b
+gathered_body b rises = sym (λ i. record {
+  facts = is_set_of fact_cmp_total fact_cmp_exact b.facts b.facts rises.facts (λ f. (λ h. h, λ h. h)) i;
+  references = is_set_of text_cmp_total text_cmp_exact b.references b.references rises.references (λ r. (λ h. h, λ h. h)) i;
+})
+
+pub gathered_with_body : (b : Body) (facts listed : List Fact) (references texts : List (List ℕ)) → IsBody b → listed ≡ facts ++ b.facts → texts ≡ references ++ b.references → gathered listed texts ≡ union (gathered facts references) b
+gathered_with_body b facts listed references texts rises p q =
+    (λ i. gathered (p i) (q i)) ∙ gathered_both facts b.facts references b.references ∙ ap (union (gathered facts references)) (gathered_body b rises)
+
 -- ---- unions in another order
 
 pub union_commutes : (a b : Body) → union a b ≡ union b a

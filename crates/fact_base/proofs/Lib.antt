@@ -2,6 +2,7 @@ pub mod Members
 pub mod Sets
 pub mod TextOrder
 pub mod Bodies
+pub mod Emptied
 pub mod EntryFacts
 pub mod Unions
 pub mod RowLists

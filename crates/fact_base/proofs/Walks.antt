@@ -9,7 +9,7 @@ use Rattle.std.specs.Option.{option_map, unwrap_or}
 use Rattle.std.specs.Cmp.{Equal-is, tied_itself}
 use Rattle.std.specs.Ordering.{is_eq, ord_max}
 use Rattle.std.specs.Bool.{Decides}
-use Rattle.std.proofs.lemmas.List.{drop_all, length-append, length-map, take_all}
+use Rattle.std.proofs.lemmas.List.{append_assoc, drop_all, length-append, length-map, take_all}
 use Rattle.std.proofs.lemmas.List.Elements.{All-contains}
 use Rattle.std.proofs.lemmas.Slice.Eq.{slice_eq-Decides}
 use Rattle.std.proofs.lemmas.Option.{slice_get-map}
@@ -53,6 +53,13 @@ one_more i = omega arith
 
 pub next_drop : {A : Type 0} (xs : List A) (i : ℕ) (x : A) → slice_get xs i ≡ Some x → drop i xs ≡ x ∷ drop (i + 1) xs
 next_drop xs i x is = drop_from xs i x is ∙ ap (λ k. x ∷ drop k xs) (one_more i)
+
+-- ---- facts
+
+pub facts_further : (es : List Entry) (i : ℕ) (e : Entry) (facts more all : List Fact) → slice_get es i ≡ Some e → more ≡ facts ++ facts_of_entry e → facts ++ facts_of_entries (drop i es) ≡ all → more ++ facts_of_entries (drop (i + 1) es) ≡ all
+facts_further es i e facts more all at put known =
+    let rest = facts_of_entries (drop (i + 1) es) in
+    ap (λ fs. fs ++ rest) put ∙ append_assoc facts (facts_of_entry e) rest ∙ ap (λ ds. facts ++ facts_of_entries ds) (sym (next_drop es i e at)) ∙ known
 
 -- ---- levels
 

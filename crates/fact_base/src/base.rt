@@ -1,4 +1,4 @@
-ghost use Rattle.std.specs.Prelude.{◌≡◌, ◌≢◌, ◌↔◌, [], ◌∷◌, length, is_some, IsTrue, IfSome, MatchOption, OnOk, OnErr};
+ghost use Rattle.std.specs.Prelude.{◌≡◌, ◌≢◌, ◌↔◌, [], ◌∷◌, length, is_some, IsTrue, IfOk, IfSome, MatchOption, OnOk, OnErr};
 ghost use Rattle.fact_base.specs.Body.{body, union};
 ghost use Rattle.fact_base.specs.Entries.{facts_of_entries};
 ghost use Rattle.fact_base.specs.code.Entries.{AreStored};
@@ -8,14 +8,14 @@ ghost use Rattle.fact_base.specs.Shown.{rows_left};
 ghost use Rattle.fact_base.specs.Verdict.{IsEvidence, verdict};
 ghost use Rattle.oim_report.specs.Duplicates.{level_of};
 
-use crate::entries::{Entries, count_of, entries_from, level_of, same_rows};
+use crate::entries::{Entries, copied_facts, count_of, entries_from, level_of, same_rows};
 use crate::evidence::Evidence;
 use crate::references::{replace, with_all};
 use crate::row::Row;
 use crate::rows::Rows;
 use crate::verdict::Verdict;
 use merge_laws::{Merge, SortedMap, SortedSet, Summary};
-use oim_dims::Dimensions;
+use oim_dims::{Dimensions, Fact};
 use oim_names::{Text, copies_of};
 use oim_report::{Report, Sheet};
 use oim_value::{Level, Value};
@@ -215,6 +215,13 @@ impl<'s> Base<'s> {
         ensures evidence { IfSome result (IsEvidence (values_at dimensions.now self.now.body.facts)) }
     {
         Some(self.row(dimensions)?.evidence())
+    }
+
+    // Returns copies of the facts, in order.
+    pub(crate) fn copied_facts(&self) -> Result<Vec<Fact>, AllocError>
+        ensures { IfOk result (λ facts. facts.items ≡ self.now.body.facts) }
+    {
+        copied_facts(self.alloc, &self.entries)
     }
 
     fn row<'b>(&'b self, dimensions: &'b Dimensions) -> Option<Row<'b>>

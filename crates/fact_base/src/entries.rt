@@ -2,7 +2,7 @@ ghost use Rattle.std.specs.Prelude.{map, ◌≡◌, ◌↔◌, [], ◌∷◌, �
 ghost use Rattle.std.specs.List.{All};
 ghost use Rattle.std.specs.List.Sorted.{IsSorted};
 ghost use Rattle.std.specs.Option.{option_map};
-ghost use Rattle.fact_base.specs.Entries.{facts_of_entries};
+ghost use Rattle.fact_base.specs.Entries.{facts_of_entries, facts_with};
 ghost use Rattle.fact_base.specs.code.Entries.{AreEntriesOf, NoneAbove, entry_of, with_fact, with_value};
 ghost use Rattle.fact_base.specs.code.Judged.{AreSummarised, level_at};
 ghost use Rattle.fact_base.specs.Shown.{row_of};
@@ -16,6 +16,7 @@ use crate::ordering::in_order;
 use crate::verdict::Verdict;
 use merge_laws::{Merge, SortedMap, SortedSet, Summary};
 use oim_dims::{Dimensions, Fact};
+use oim_names::Copied;
 use oim_value::{Level, Value};
 use std::alloc::{AllocError, Global};
 
@@ -23,6 +24,9 @@ use std::alloc::{AllocError, Global};
 pub(crate) type Entries = SortedMap<Dimensions, (SortedSet<Value>, Summary)>;
 
 type Entry = (Dimensions, (SortedSet<Value>, Summary));
+
+// The number of facts whose memory is given back at once.
+const FREED_AT_ONCE: usize = 4096;
 
 /// Returns the entries of the facts. `order` visits each fact once, in ascending order. Each fact
 /// is therefore added to the last entry or after it, without a look-up.
@@ -38,15 +42,29 @@ pub(crate) fn entries_from(
     entries_in_order(alloc, sorted)
 }
 
+/// Returns the entries of the facts, which must be in order. Frees the list of facts piece by piece
+/// while it is emptied, so that its memory and the memory of all entries are not needed together.
 pub(crate) fn entries_in_order(alloc: Global, facts: Vec<Fact>) -> Result<Entries, AllocError>
     requires { IsSorted fact_cmp facts.items }
     ensures { IfOk result (AreEntriesOf facts.items) }
 {
     let mut entries = Vec::with_capacity(alloc, facts.len())?;
-    for fact in facts {
+    let mut left = facts;
+    // A list gives memory back at its end only.
+    left.reverse();
+    while let Some(fact) = left.pop() {
         push_given(alloc, &mut entries, fact)?;
+        free_spare(&mut left);
     }
     Ok(SortedMap::of_rising(entries))
+}
+
+fn free_spare(facts: &mut Vec<Fact>)
+    ensures { facts.new.items ≡ facts.old.items }
+{
+    if facts.len() % FREED_AT_ONCE == 0 {
+        facts.shrink_to_fit();
+    }
 }
 
 fn push_given(alloc: Global, entries: &mut Vec<Entry>, fact: Fact) -> Result<(), AllocError>
@@ -94,6 +112,36 @@ fn entry_given(alloc: Global, fact: Fact) -> Entry
     let Fact { dimensions, value } = fact;
     let summary = Summary::of(&value);
     (dimensions, (SortedSet::of_one(alloc, value), summary))
+}
+
+/// Returns copies of all facts, in order.
+pub(crate) fn copied_facts(alloc: Global, entries: &Entries) -> Result<Vec<Fact>, AllocError>
+    ensures { IfOk result (λ facts. facts.items ≡ facts_of_entries entries.now) }
+{
+    let mut facts = Vec::new(alloc);
+    for place in 0..entries.len() {
+        if let Some((dimensions, (values, _summary))) = entries.at(place) {
+            push_facts(alloc, &mut facts, dimensions, values.as_slice())?;
+        }
+    }
+    Ok(facts)
+}
+
+fn push_facts(
+    alloc: Global,
+    facts: &mut Vec<Fact>,
+    dimensions: &Dimensions,
+    values: &[Value],
+) -> Result<(), AllocError>
+    ensures { OnOk result (facts.new.items ≡ facts.old.items ++ facts_with dimensions.now values.now) }
+{
+    for value in values {
+        facts.push(Fact {
+            dimensions: dimensions.copied(alloc)?,
+            value: value.copied(alloc)?,
+        })?;
+    }
+    Ok(())
 }
 
 pub(crate) fn count_of(entries: &Entries) -> u128

@@ -146,7 +146,7 @@ impl<'s> Gathering<'s> {
     {
         let Gathering {
             alloc,
-            base,
+            mut base,
             facts,
             references,
             ..
@@ -155,8 +155,11 @@ impl<'s> Gathering<'s> {
         if facts.is_empty() && references.is_empty() {
             return Ok(base);
         }
-        let others = base_of(alloc, sheet, facts, references)?;
-        joined(base, others)
+        if base.fact_count() < facts.len() as u128 {
+            return base_of_all(alloc, base, facts, references);
+        }
+        base.absorb(base_of(alloc, sheet, facts, references)?)?;
+        Ok(base)
     }
 }
 
@@ -190,14 +193,19 @@ fn base_of<'s>(
     Ok(Base::of(alloc, sheet, entries, references))
 }
 
-fn joined<'s>(mut base: Base<'s>, mut other: Base<'s>) -> Result<Base<'s>, AllocError>
-    requires { base.sheet ≡ other.sheet }
-    ensures { IfOk result (λ both. both ≡ record { sheet = base.entry.sheet; body = union base.entry.body other.entry.body }) }
+// Adds the facts of the base to the list. If the list is the longer one, this needs less memory than
+// to absorb its entries.
+fn base_of_all<'s>(
+    alloc: Global,
+    base: Base<'s>,
+    mut facts: Vec<Fact>,
+    mut references: Vec<Text>,
+) -> Result<Base<'s>, AllocError>
+    requires { Fits base.sheet (gathered facts.items references.items) }
+    ensures { IfOk result (λ all. all ≡ record { sheet = base.entry.sheet; body = union base.entry.body (gathered facts.items references.items) }) }
 {
-    if other.row_count() > base.row_count() {
-        other.absorb(base)?;
-        return Ok(other);
-    }
-    base.absorb(other)?;
-    Ok(base)
+    let sheet = base.sheet();
+    facts.append(&mut base.copied_facts()?)?;
+    references.append(&mut copies_of(alloc, base.taxonomy(), 0)?)?;
+    base_of(alloc, sheet, facts, references)
 }

@@ -1,46 +1,50 @@
-use Rattle.std.proofs.Common.{◌+◌, ◌++◌, ◌∷◌, [], length, sym, subst, ◌∙◌, arith}
-use Rattle.std.proofs.lemmas.Iterator.Adapters.{YieldsList-from_vec}
-use Rattle.std.proofs.lemmas.Iterator.Consumers.{YieldsList-turn, YieldsList-end}
-use Rattle.std.proofs.lemmas.List.{length_push, map-id}
+use Rattle.std.proofs.Common.{◌≡◌, ◌+◌, ◌++◌, ◌∷◌, [], length, sym, ap, subst, ◌∙◌, arith}
+use Rattle.std.specs.Prelude.{reverse}
+use Rattle.std.specs.Option.{option_to_list}
+use Rattle.std.proofs.lemmas.List.{length_push, reverse-reverse}
 use Rattle.fact_base.specs.code.Entries.{AreEntriesOf}
 use Rattle.fact_base.proofs.Derived.{rises_too}
+use Rattle.fact_base.proofs.Emptied.{one_taken, taken_is_there, taken_is_within}
 use Rattle.fact_base.proofs.Pushes.{ReachedIn, next_reached_in, none_reached_in}
 use Rattle.fact_base.proofs.Puts.{none_of_none, one_more}
 use Rattle.fact_base.proofs.entries.entries_in_order.Goals as goal
 
 pub loop-fact-init : goal.loop-fact-init
-loop-fact-init c = record {
-  entries = subst (AreEntriesOf []) (sym c.in_ok-entries.ensures.items) none_of_none;
-  reached = subst (ReachedIn c.args.facts.items 0) (sym c.in_ok-entries.ensures.items) (none_reached_in c.args.facts.items);
-}
-
-pub push_given-requires-clause-rise : goal.push_given-requires-clause-rise
-push_given-requires-clause-rise c = c.loop-fact.invariant.entries.rise
+loop-fact-init c =
+    let facts = c.args.facts.items in
+    record {
+      done = [];
+      split = ap reverse c.reverse.ensures.items ∙ reverse-reverse facts;
+      entries = subst (AreEntriesOf []) (sym c.in_ok-entries.ensures.items) none_of_none;
+      reached = subst (ReachedIn facts 0) (sym c.in_ok-entries.ensures.items) (none_reached_in facts);
+    }
 
 pub push_given-requires-clause-below : goal.push_given-requires-clause-below
 push_given-requires-clause-below c =
-    let l = c.loop-fact in
-    let turn = YieldsList-turn (YieldsList-from_vec {s = c.into_iter-fact-iterator.result} c.args.facts.items (cc) (omega arith)) l.yielded l.fact-iterator l.yielded_by c.next.result c.next.new.self c.in-Some.fact c.in-Some.is c.next.ensures.steps in
-    l.invariant.reached c.in-Some.fact turn.0 turn.1
+    let i = c.loop-fact.invariant in
+    let facts = c.args.facts.items in
+    let is = c.pop.ensures.items ∙ ap (λ x. c.pop.new.self.items ++ option_to_list x) c.in-Some.is in
+    i.reached c.in-Some.fact
+    (taken_is_within i.done c.loop-fact.left.items c.pop.new.self.items facts c.in-Some.fact i.split is)
+    (taken_is_there i.done c.loop-fact.left.items c.pop.new.self.items facts c.in-Some.fact i.split is)
 
 pub loop-fact-preserved : goal.loop-fact-preserved
 loop-fact-preserved c =
     let l = c.loop-fact in
-    let f = c.in-Some.fact in
+    let i = l.invariant in
     let facts = c.args.facts.items in
-    let turn = YieldsList-turn (YieldsList-from_vec {s = c.into_iter-fact-iterator.result} facts (cc) (omega arith)) l.yielded l.fact-iterator l.yielded_by c.next.result c.next.new.self f c.in-Some.is c.next.ensures.steps in
+    let rest = c.pop.new.self.items in
+    let f = c.in-Some.fact in
+    let is = c.pop.ensures.items ∙ ap (λ x. rest ++ option_to_list x) c.in-Some.is in
+    let within = taken_is_within i.done l.left.items rest facts f i.split is in
+    let there = taken_is_there i.done l.left.items rest facts f i.split is in
     record {
-      entries = subst (AreEntriesOf (l.yielded ++ f ∷ [])) (sym c.in_ok-push_given.ensures) (one_more l.yielded l.entries.items f l.invariant.entries);
-      reached = subst (λ n. ReachedIn facts n c.push_given.new.entries.items) (sym (length_push l.yielded f))
-          (subst (ReachedIn facts (length l.yielded + 1)) (sym c.in_ok-push_given.ensures) (next_reached_in facts (length l.yielded) f l.entries.items c.requires turn.0 turn.1 l.invariant.reached));
+      done = i.done ++ f ∷ [];
+      split = ap (λ xs. (i.done ++ f ∷ []) ++ reverse xs) c.free_spare.ensures ∙ one_taken i.done l.left.items rest facts f i.split is;
+      entries = subst (AreEntriesOf (i.done ++ f ∷ [])) (sym c.in_ok-push_given.ensures) (one_more i.done l.entries.items f i.entries);
+      reached = subst (λ n. ReachedIn facts n c.push_given.new.entries.items) (sym (length_push i.done f))
+          (subst (ReachedIn facts (length i.done + 1)) (sym c.in_ok-push_given.ensures) (next_reached_in facts (length i.done) f l.entries.items c.requires within there i.reached));
     }
 
 pub of_rising-requires : goal.of_rising-requires
 of_rising-requires c = rises_too c.loop-fact.entries.items c.loop-fact.invariant.entries.rise
-
-pub returns : goal.returns
-returns c =
-    let l = c.loop-fact in
-    let end = YieldsList-end (YieldsList-from_vec {s = c.into_iter-fact-iterator.result} c.args.facts.items (cc) (omega arith)) l.yielded l.fact-iterator l.yielded_by c.next.result c.next.new.self c.in-None.is c.next.ensures.steps in
-    subst (AreEntriesOf c.args.facts.items) (sym c.of_rising.ensures)
-    (subst (λ fs. AreEntriesOf fs l.entries.items) (sym (map-id l.yielded) ∙ end.0) l.invariant.entries)

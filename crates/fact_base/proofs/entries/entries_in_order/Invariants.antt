@@ -1,10 +1,17 @@
-use Rattle.std.proofs.Common.{length}
+use Rattle.std.proofs.Common.{◌≡◌, List, ◌++◌, length}
+use Rattle.std.specs.Prelude.{reverse}
+use Rattle.oim_dims.specs.declared.fact.Fact.{Fact}
 use Rattle.fact_base.specs.code.Entries.{AreEntriesOf}
 use Rattle.fact_base.proofs.Pushes.{ReachedIn}
 use Rattle.fact_base.proofs.entries.entries_in_order.Given as goal
 
 abbrev pub invariant-loop-fact : goal.invariant-loop-fact
 invariant-loop-fact l = record {
-  entries : AreEntriesOf l.yielded l.entries.items;
-  reached : ReachedIn l.fn.facts.items (length l.yielded) l.entries.items;
+  done : List Fact;
+  split : done ++ reverse l.left.items ≡ l.fn.facts.items;
+  entries : AreEntriesOf done l.entries.items;
+  reached : ReachedIn l.fn.facts.items (length done) l.entries.items;
 }
+
+abbrev pub decreases-loop-fact : goal.decreases-loop-fact
+decreases-loop-fact l = length l.left.items

@@ -1,0 +1,7 @@
+use Rattle.std.proofs.Common.{◌≡◌, ◌++◌, drop}
+use Rattle.fact_base.specs.Entries.{facts_of_entries}
+use Rattle.fact_base.proofs.entries.copied_facts.Given as goal
+
+-- appending the facts of the remaining entries gives all facts
+abbrev pub invariant-loop-place : goal.invariant-loop-place
+invariant-loop-place l = l.facts.items ++ facts_of_entries (drop l.place l.entries) ≡ facts_of_entries l.entries
