@@ -6,11 +6,11 @@ pub const MOST_LEVELS: usize = 127;
 
 /// The greatest number of texts in a cache. The limit bounds the memory of the cache, and the time
 /// of a search among texts with the same hash.
-pub const MOST_MEANINGS: usize = 1_024;
+pub const MOST_MEANINGS: usize = 4_096;
 
 /// The greatest length in bytes of a text in a cache. The limit bounds the memory of the caches,
 /// which a `ReportReader` keeps even after a report is refused.
-pub const MOST_MEANING_BYTES: usize = 1_024;
+pub const MOST_MEANING_BYTES: usize = 256;
 
 /// The least size in bytes of each piece of a report's facts, except the last piece. Larger pieces
 /// cause more page faults.
