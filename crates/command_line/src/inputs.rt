@@ -75,8 +75,7 @@ impl<'n, F: Files, E: Write> Inputs<'n, F, E> {
     {
         let names = self.names;
         for place in 0..names.len() {
-            let report = self.read_report(names[place])?;
-            consolidation.add(report.as_bytes())?;
+            consolidation.add_owned(self.read_report(names[place])?)?;
         }
         self.console.clear();
         Ok(())

@@ -116,6 +116,20 @@ impl<'s> Consolidation<'s> {
         self.add_read(read)
     }
 
+    /// Does the same as `add`, but consumes the bytes and frees them before the report's facts are
+    /// merged, so that a long report needs less memory.
+    ///
+    /// Errors: out of memory; then nothing changes, but the bytes are lost.
+    pub fn add_owned(&mut self, report: Encoded) -> Result<(), AllocError>
+        requires { self.old.reports + 1 < 2 ^ 64 }
+        ensures ok { OnOk result (self.new ≡ with_report self.old report) }
+        ensures err { OnErr result (self.new ≡ self.old) }
+    {
+        let read = read(&mut self.reader, report.as_bytes())?;
+        drop(report);
+        self.add_read(read)
+    }
+
     /// Does the same as `add`, and appends the mentions in the report.
     ///
     /// Errors: out of memory; some of the mentions may then have been appended.
