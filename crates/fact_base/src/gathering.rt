@@ -193,8 +193,8 @@ fn base_of<'s>(
     Ok(Base::of(alloc, sheet, entries, references))
 }
 
-// Adds the facts of the base to the list. If the list is the longer one, this needs less memory than
-// to absorb its entries.
+// Adds copies of the base's facts and references to the lists. If the lists are longer than the
+// base, this needs less memory than absorbing their entries.
 fn base_of_all<'s>(
     alloc: Global,
     base: Base<'s>,
