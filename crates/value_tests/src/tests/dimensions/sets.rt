@@ -156,9 +156,19 @@ fn full_fact(rt: &HostRuntime, aliases: &Aliases) -> Result<Fact, Reason> {
     })
 }
 
+fn are_members_copied(rt: &HostRuntime, set: &Dimensions) -> bool {
+    for member in set.members() {
+        if !equals_its_copy(rt, member) {
+            return false;
+        }
+    }
+    true
+}
+
 fn has_parts_and_copy(rt: &HostRuntime, fact: &Fact) -> bool {
     has_every_part(&fact.dimensions)
         && are_parts_copied(rt, &fact.dimensions)
+        && are_members_copied(rt, &fact.dimensions)
         && equals_its_copy(rt, fact)
 }
 

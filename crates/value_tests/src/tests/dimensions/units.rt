@@ -1,5 +1,5 @@
 use super::{example, unit};
-use crate::tests::asked_again::tell_refused;
+use crate::tests::asked_again::{aliases_of, tell_refused};
 use oim_dims::{Unit, can_write_unit, unit_refusal, write_unit};
 use oim_names::{Aliases, Name, Reason, Text};
 use std::alloc::AllocError;
@@ -140,10 +140,21 @@ fn first_other(rt: &HostRuntime, aliases: &Aliases) -> Option<&'static str> {
     None
 }
 
+// Returns whether a unit of `aliases` cannot be written with the prefixes of `few`.
+fn is_unwritable(rt: &HostRuntime, aliases: &Aliases, few: &Aliases, spelled: &str) -> bool {
+    match unit(rt, aliases, spelled) {
+        Ok(Some(unit)) => !can_write_unit(few, &unit),
+        _ => false,
+    }
+}
+
 #[test]
 fn units_are_read_and_written(rt: HostRuntime) -> Result<(), Fail> {
     let aliases = example(&rt)?;
     assert_eq!(rt; first_other(&rt, &aliases), None);
     assert!(rt; has_measures(&rt, &aliases));
+    let few = aliases_of(&rt, &[("e*g", "http://example.org/t")])?;
+    assert!(rt; is_unwritable(&rt, &aliases, &few, "x:a"));
+    assert!(rt; is_unwritable(&rt, &aliases, &few, "eg:b"));
     Ok(())
 }
