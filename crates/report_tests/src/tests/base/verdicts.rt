@@ -183,7 +183,7 @@ const NAMES: [Row<'static>; 2] = [
     ),
 ];
 
-// The level of facts of which each is there once.
+// The level of the facts if none is repeated.
 fn level_of(verdict: Verdict) -> Level {
     match verdict {
         Verdict::Complete => Level::Unique,
