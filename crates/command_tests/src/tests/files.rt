@@ -3,7 +3,7 @@ mod made;
 mod replayed;
 mod rows;
 
-use crate::tests::ran::{ends, no_input, piped, stops, words_of};
+use crate::tests::ran::{ends, piped, stops, words_of};
 use command_line::run;
 use explained::{EXPLAINED, SAID};
 use made::{FOLDER, made};
@@ -12,44 +12,39 @@ use rows::{
     CHECKED, FULL, Full, JUDGED, LISTED, MERGED, ONE, Row, SHOWN, STOPPED, UNFLUSHED, UNHEARD,
     WRITTEN,
 };
-use std::alloc::AllocError;
 use std::test::Fail;
 use std::{env, fs};
 use test_helpers::asked_again::{joined, tell_refused, tell_refused_here};
-use test_helpers::devices::{FullAfter, NeverFlushed};
+use test_helpers::devices::{FullAfter, NeverFlushed, Step, TestReader, Then};
 use test_helpers::expecting::Expecting;
 
 // The program is run again after a refused request for memory.
 
-fn is_met(rt: &HostRuntime, row: &Row, text: &[u8]) -> Result<bool, AllocError> {
-    let words = words_of(rt, row.0)?;
-    let err = Expecting::just(row.3.as_bytes());
-    Ok(ends(rt, &words, no_input(), row.1, Expecting::just(text), err))
-}
-
-fn are_met(rt: &HostRuntime, rows: &[Row]) -> Result<bool, AllocError> {
+fn are_met(rt: &HostRuntime, rows: &[Row]) -> Result<bool, Fail> {
     let mut all = true;
-    for row in rows {
-        let text = joined(rt, row.2)?;
-        all = is_met(rt, row, &text)? && all;
+    for (line, status, out, err) in rows {
+        let words = words_of(rt, line)?;
+        let text = joined(rt, out)?;
+        let err = Expecting::just(err.as_bytes());
+        all = ends(rt, &words, *status, Expecting::just(&text), err) && all;
     }
     Ok(all)
 }
 
-fn stop_when_full(rt: &HostRuntime, rows: &[Full]) -> Result<bool, AllocError> {
+fn stop_when_full(rt: &HostRuntime, rows: &[Full]) -> Result<bool, Fail> {
     let mut all = true;
     for (line, room, err) in rows {
         let words = words_of(rt, line)?;
-        all = stops(rt, &words, no_input(), FullAfter::new(*room), err) && all;
+        all = stops(rt, &words, FullAfter::new(*room), err) && all;
     }
     Ok(all)
 }
 
-fn stop_unflushed(rt: &HostRuntime, rows: &[(&str, &str)]) -> Result<bool, AllocError> {
+fn stop_unflushed(rt: &HostRuntime, rows: &[(&str, &str)]) -> Result<bool, Fail> {
     let mut all = true;
     for (line, err) in rows {
         let words = words_of(rt, line)?;
-        all = stops(rt, &words, no_input(), NeverFlushed, err) && all;
+        all = stops(rt, &words, NeverFlushed, err) && all;
     }
     Ok(all)
 }
@@ -57,26 +52,26 @@ fn stop_unflushed(rt: &HostRuntime, rows: &[(&str, &str)]) -> Result<bool, Alloc
 /// Returns whether the program ends with this status and this standard output when standard error
 /// takes only three bytes.
 fn ends_unheard(rt: &HostRuntime, words: &[&str], status: u8, out: &[u8]) -> bool {
+    let input = TestReader::new(b"", Step::All, Then::Fails);
     let mut out = Expecting::just(out);
-    let streams = piped(no_input(), &mut out, FullAfter::new(3));
-    let ended = run(rt.alloc(), rt, words, streams);
+    let ended = run(
+        rt.alloc(),
+        rt,
+        words,
+        piped(input, &mut out, FullAfter::new(3)),
+    );
     ended == status && out.is_met()
 }
 
-fn is_unheard(rt: &HostRuntime, row: &Row, text: &[u8]) -> Result<bool, AllocError> {
-    let words = words_of(rt, row.0)?;
-    if ends_unheard(rt, &words, row.1, text) {
-        return Ok(true);
-    }
-    tell_refused(rt);
-    Ok(ends_unheard(rt, &words, row.1, text))
-}
-
-fn are_unheard(rt: &HostRuntime, rows: &[Row]) -> Result<bool, AllocError> {
+fn are_unheard(rt: &HostRuntime, rows: &[Row]) -> Result<bool, Fail> {
     let mut all = true;
-    for row in rows {
-        let text = joined(rt, row.2)?;
-        all = is_unheard(rt, row, &text)? && all;
+    for (line, status, out, _) in rows {
+        let words = words_of(rt, line)?;
+        let text = joined(rt, out)?;
+        if !ends_unheard(rt, &words, *status, &text) {
+            tell_refused(rt);
+            all = ends_unheard(rt, &words, *status, &text) && all;
+        }
     }
     Ok(all)
 }
@@ -100,13 +95,17 @@ fn holds(rt: &HostRuntime, name: &str, parts: &[&str]) -> Result<bool, Fail> {
 /// is a terminal.
 fn shows_once(rt: &HostRuntime, words: &[&str], shown: &str) -> bool {
     let mut err = Expecting::just(shown.as_bytes());
-    let mut streams = piped(no_input(), FullAfter::new(1_000), &mut err);
+    let mut streams = piped(
+        TestReader::new(b"", Step::All, Then::Fails),
+        FullAfter::new(1_000),
+        &mut err,
+    );
     streams.is_err_terminal = true;
     let status = run(rt.alloc(), rt, words, streams);
     status == 0 && err.is_met()
 }
 
-fn show(rt: &HostRuntime, rows: &[(&str, &str)]) -> Result<bool, AllocError> {
+fn show(rt: &HostRuntime, rows: &[(&str, &str)]) -> Result<bool, Fail> {
     let mut all = true;
     for (line, shown) in rows {
         let words = words_of(rt, line)?;
@@ -123,25 +122,25 @@ fn show(rt: &HostRuntime, rows: &[(&str, &str)]) -> Result<bool, AllocError> {
 #[test]
 fn files_are_read_and_answered(rt: HostRuntime) -> Result<(), Fail> {
     made(&rt)?;
-    assert!(rt; are_met(&rt, &MERGED)?);
-    assert!(rt; are_met(&rt, &JUDGED)?);
-    assert!(rt; are_met(&rt, &CHECKED)?);
-    assert!(rt; are_met(&rt, &EXPLAINED)?);
+    assert!(rt; are_met(&rt, MERGED.as_slice())?);
+    assert!(rt; are_met(&rt, JUDGED.as_slice())?);
+    assert!(rt; are_met(&rt, CHECKED.as_slice())?);
+    assert!(rt; are_met(&rt, EXPLAINED.as_slice())?);
     assert!(rt; holds(&rt, "said", SAID)?);
-    assert!(rt; are_met(&rt, &REPLAYED)?);
-    assert!(rt; are_met(&rt, &LISTED)?);
-    assert!(rt; show(&rt, &SHOWN)?);
-    assert!(rt; are_met(&rt, &WRITTEN)?);
+    assert!(rt; stop_when_full(&rt, explained::FULL.as_slice())?);
+    assert!(rt; are_met(&rt, REPLAYED.as_slice())?);
+    assert!(rt; are_met(&rt, LISTED.as_slice())?);
+    assert!(rt; show(&rt, SHOWN.as_slice())?);
+    assert!(rt; are_met(&rt, WRITTEN.as_slice())?);
     assert!(rt; holds(&rt, "out", ONE)?);
-    assert!(rt; are_met(&rt, &STOPPED)?);
-    assert!(rt; are_met(&rt, &replayed::STOPPED)?);
-    assert!(rt; stop_when_full(&rt, &FULL)?);
-    assert!(rt; stop_when_full(&rt, &explained::FULL)?);
-    assert!(rt; stop_when_full(&rt, &replayed::FULL)?);
-    assert!(rt; stop_unflushed(&rt, &UNFLUSHED)?);
-    assert!(rt; stop_unflushed(&rt, &replayed::UNFLUSHED)?);
-    assert!(rt; are_unheard(&rt, &UNHEARD)?);
-    assert!(rt; are_unheard(&rt, &replayed::UNHEARD)?);
+    assert!(rt; are_met(&rt, STOPPED.as_slice())?);
+    assert!(rt; are_met(&rt, replayed::STOPPED.as_slice())?);
+    assert!(rt; stop_when_full(&rt, FULL.as_slice())?);
+    assert!(rt; stop_when_full(&rt, replayed::FULL.as_slice())?);
+    assert!(rt; stop_unflushed(&rt, UNFLUSHED.as_slice())?);
+    assert!(rt; stop_unflushed(&rt, replayed::UNFLUSHED.as_slice())?);
+    assert!(rt; are_unheard(&rt, UNHEARD.as_slice())?);
+    assert!(rt; are_unheard(&rt, replayed::UNHEARD.as_slice())?);
     env::set_current_dir(&rt, "../..")?;
     let _ = fs::remove_dir_all(&rt, FOLDER);
     Ok(())

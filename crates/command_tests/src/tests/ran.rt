@@ -38,25 +38,19 @@ pub(crate) fn words_of<'t>(rt: &HostRuntime, line: &'t str) -> Result<Vec<&'t st
     Ok(words)
 }
 
-/// A standard input that fails.
-pub(crate) fn no_input() -> TestReader<'static> {
-    TestReader::new(b"", Step::All, Then::Fails)
-}
-
-/// Returns whether the program ends with this status and prints these texts. If not, prints the
-/// status and the numbers of missing bytes.
+/// Returns whether the program, with a standard input that fails, ends with this status and prints
+/// these texts. If not, prints the status and the numbers of missing bytes.
 pub(crate) fn ends(
     rt: &HostRuntime,
     words: &[&str],
-    input: TestReader<'_>,
     status: u8,
     out: Expecting<'_>,
     err: Expecting<'_>,
 ) -> bool {
-    match ends_once(rt, words, input, status, out, err) {
+    match ends_once(rt, words, status, out, err) {
         None => {
             tell_refused(rt);
-            ends_once(rt, words, input, status, out, err) == Some(true)
+            ends_once(rt, words, status, out, err) == Some(true)
         }
         Some(same) => same,
     }
@@ -66,12 +60,11 @@ pub(crate) fn ends(
 fn ends_once(
     rt: &HostRuntime,
     words: &[&str],
-    input: TestReader<'_>,
     status: u8,
     mut out: Expecting<'_>,
     err: Expecting<'_>,
 ) -> Option<bool> {
-    let (ended, heard) = heard(rt, words, input, &mut out, err);
+    let (ended, heard) = heard(rt, words, &mut out, err);
     if ended == 3 && heard.1.is_met() {
         return None;
     }
@@ -90,14 +83,13 @@ fn ends_once(
 pub(crate) fn stops<O: Write + Copy + Drop>(
     rt: &HostRuntime,
     words: &[&str],
-    input: TestReader<'_>,
     out: O,
     line: &str,
 ) -> bool {
-    match stops_once(rt, words, input, out, line) {
+    match stops_once(rt, words, out, line) {
         None => {
             tell_refused(rt);
-            stops_once(rt, words, input, out, line) == Some(true)
+            stops_once(rt, words, out, line) == Some(true)
         }
         Some(same) => same,
     }
@@ -107,11 +99,10 @@ pub(crate) fn stops<O: Write + Copy + Drop>(
 fn stops_once<O: Write + Drop>(
     rt: &HostRuntime,
     words: &[&str],
-    input: TestReader<'_>,
     out: O,
     line: &str,
 ) -> Option<bool> {
-    let (ended, heard) = heard(rt, words, input, out, Expecting::just(line.as_bytes()));
+    let (ended, heard) = heard(rt, words, out, Expecting::just(line.as_bytes()));
     if ended == 3 && heard.1.is_met() {
         return None;
     }
@@ -123,16 +114,16 @@ fn stops_once<O: Write + Drop>(
     Some(same)
 }
 
-/// Runs the program. Returns the status, and standard error as compared with the expected text and
-/// with the line for refused memory.
+/// Runs the program with a standard input that fails. Returns the status, and standard error as
+/// compared with the expected text and with the line for refused memory.
 fn heard<'a, O: Write + Drop>(
     rt: &HostRuntime,
     words: &[&str],
-    input: TestReader<'_>,
     out: O,
     err: Expecting<'a>,
 ) -> (u8, Either<'a>) {
     let mut heard = Either(err, Expecting::just(b"out of memory\n"));
+    let input = TestReader::new(b"", Step::All, Then::Fails);
     let status = run(rt.alloc(), rt, words, piped(input, out, &mut heard));
     (status, heard)
 }

@@ -1,25 +1,85 @@
-use crate::tests::ran::{NO_WORDS, ends, piped, stops};
+use crate::tests::ran::{NO_WORDS, piped};
 use command_line::run;
 use std::alloc::AllocError;
 use std::test::Fail;
 use test_helpers::asked_again::{INFO, SHEET, joined, tell_refused};
 use test_helpers::canonical_parts::{END, HEAD, MIDDLE, MIDDLE_ALONE, ONE_URI, WRITTEN_HUNDRED};
-use test_helpers::devices::{FullAfter, NeverFlushed, STEPS, Step, TestReader, Then};
-use test_helpers::expecting::Expecting;
+use test_helpers::devices::{FullAfter, NeverFlushed, STEPS, Step, TestReader, TestWriter, Then};
+use test_helpers::expecting::{Either, Expecting};
 
 // If memory is refused, the program must report the refusal; the test then prints a line on
 // standard error and runs the program again.
 
+const ROOM: usize = 1 << 16;
+
 const HUNDRED: &str = r#""a":{"value":"100","decimals":0,"dimensions":{"concept":"eg:A"}}"#;
 
-/// The merged text without facts.
-const EMPTY_TEXT: &[&str] = &[HEAD, MIDDLE_ALONE, END];
+fn writer(rt: &HostRuntime, room: usize) -> Result<TestWriter, AllocError> {
+    match TestWriter::new(rt.alloc(), Step::All, room, Then::Fails) {
+        Err(_) => {
+            tell_refused(rt);
+            TestWriter::new(rt.alloc(), Step::All, room, Then::Fails)
+        }
+        made => made,
+    }
+}
+
+#[derive(Drop)]
+struct Ran {
+    status: u8,
+    out: TestWriter,
+    err: TestWriter,
+}
+
+fn run_once(rt: &HostRuntime, input: TestReader<'_>, room: usize) -> Result<Ran, AllocError> {
+    let mut out = writer(rt, room)?;
+    let mut err = writer(rt, ROOM)?;
+    let status = run(rt.alloc(), rt, NO_WORDS, piped(input, &mut out, &mut err));
+    Ok(Ran { status, out, err })
+}
+
+/// Runs the program on this standard input, with room for this many bytes on standard output.
+fn run_in(rt: &HostRuntime, input: TestReader<'_>, room: usize) -> Result<Ran, AllocError> {
+    let ran = run_once(rt, input, room)?;
+    if ran.status == 3 && ran.err.held() == b"out of memory\n".as_slice() {
+        tell_refused(rt);
+        return run_once(rt, input, room);
+    }
+    Ok(ran)
+}
+
+/// Returns whether the program gives these results for a bundle. If not, prints the actual status.
+fn gives(
+    rt: &HostRuntime,
+    parts: &[&str],
+    status: u8,
+    out: &[&str],
+    err: &str,
+) -> Result<bool, Fail> {
+    let bundle = joined(rt, parts)?;
+    let text = joined(rt, out)?;
+    let ran = run_in(rt, TestReader::new(&bundle, Step::All, Then::Ends), ROOM)?;
+    let same = ran.status == status
+        && ran.err.held() == err.as_bytes()
+        && ran.out.held() == text.as_slice();
+    if !same {
+        let _ = eprintln!(rt; "status {}", ran.status);
+    }
+    Ok(same)
+}
+
+#[test]
+fn no_report_gives_the_empty_text(rt: HostRuntime) -> Result<(), Fail> {
+    let text = [HEAD, MIDDLE_ALONE, END];
+    assert_eq!(rt; joined(&rt, &text)?.len(), 183);
+    for ends in ["", "\n", "\n\n\n"] {
+        assert!(rt; gives(&rt, &[SHEET, ends], 0, &text, "")?);
+    }
+    Ok(())
+}
 
 /// The merged text of one fact, with the value 100.
 const HUNDRED_TEXT: &[&str] = &[HEAD, ONE_URI, MIDDLE, WRITTEN_HUNDRED, END];
-
-/// A bundle with one fact.
-const BUNDLE: &[&str] = &[SHEET, "\n", INFO, HUNDRED, END];
 
 /// Three facts. The prefix of the second fact's concept is not bound.
 const SECOND_UNBOUND: &str =
@@ -39,123 +99,99 @@ const BETWEEN_REFUSED: &[&str] = &[
     "\n{}",
 ];
 
-/// A bundle, the status, the text on standard output, and the lines on standard error.
-type Row = (
-    &'static [&'static str],
-    u8,
-    &'static [&'static str],
-    &'static str,
-);
+#[test]
+fn a_refused_report_changes_nothing(rt: HostRuntime) -> Result<(), Fail> {
+    let refused = [SHEET, "\n", INFO, SECOND_UNBOUND, END];
+    let line = "report 1: 13 UnboundPrefix at fact 2\n";
+    assert!(rt; gives(&rt, &refused, 1, &[HEAD, MIDDLE_ALONE, END], line)?);
+    let lines = "report 1: 13 UnboundPrefix at fact 2\nreport 3: 2 MemberForm at document\n";
+    assert!(rt; gives(&rt, BETWEEN_REFUSED, 1, HUNDRED_TEXT, lines)?);
+    Ok(())
+}
 
-const ROWS: [Row; 12] = [
-    // no report gives the empty text
-    (&[SHEET], 0, EMPTY_TEXT, ""),
-    (&[SHEET, "\n"], 0, EMPTY_TEXT, ""),
-    (&[SHEET, "\n\n\n"], 0, EMPTY_TEXT, ""),
-    (&["{}"], 0, EMPTY_TEXT, ""),
-    (BUNDLE, 0, HUNDRED_TEXT, ""),
-    // a refused report changes nothing
+/// Bundles with a refused sheet, each with the line that reports the refusal.
+const REFUSED_SHEETS: [(&str, &str); 5] = [
+    ("", "sheet: 1 NotJson\n"),
+    ("\n{}", "sheet: 1 NotJson\n"),
+    ("[]", "sheet: 2 MemberForm\n"),
     (
-        &[SHEET, "\n", INFO, SECOND_UNBOUND, END],
-        1,
-        EMPTY_TEXT,
-        "report 1: 13 UnboundPrefix at fact 2\n",
-    ),
-    (
-        BETWEEN_REFUSED,
-        1,
-        HUNDRED_TEXT,
-        "report 1: 13 UnboundPrefix at fact 2\nreport 3: 2 MemberForm at document\n",
-    ),
-    // a refused sheet ends the run
-    (&[""], 3, &[], "sheet: 1 NotJson\n"),
-    (&["\n{}"], 3, &[], "sheet: 1 NotJson\n"),
-    (&["[]"], 3, &[], "sheet: 2 MemberForm\n"),
-    (
-        &[r#"{"concepts":{"eg:A":"numeric"}}"#],
-        3,
-        &[],
+        r#"{"concepts":{"eg:A":"numeric"}}"#,
         "sheet: 13 UnboundPrefix\n",
     ),
     (
-        &[r#"{"namespaces":{"eg":"http://example.org/t"},"concepts":{"eg:A":"number"}}"#],
-        3,
-        &[],
+        r#"{"namespaces":{"eg":"http://example.org/t"},"concepts":{"eg:A":"number"}}"#,
         "sheet: 32 SheetKind\n",
     ),
 ];
 
-fn prints(rt: &HostRuntime, bundle: &[u8], row: &Row) -> Result<bool, AllocError> {
-    let text = joined(rt, row.2)?;
-    let input = TestReader::new(bundle, Step::All, Then::Ends);
-    let err = Expecting::just(row.3.as_bytes());
-    Ok(ends(rt, NO_WORDS, input, row.1, Expecting::just(&text), err))
-}
-
-fn gives(rt: &HostRuntime, row: &Row) -> Result<bool, AllocError> {
-    let bundle = joined(rt, row.0)?;
-    prints(rt, &bundle, row)
+fn all_end(rt: &HostRuntime, rows: &[(&str, &str)]) -> Result<bool, Fail> {
+    let mut all = true;
+    for (bundle, line) in rows {
+        all = gives(rt, &[bundle], 3, &[], line)? && all;
+    }
+    Ok(all)
 }
 
 #[test]
-fn a_bundle_is_merged(rt: HostRuntime) -> Result<(), Fail> {
-    for (place, row) in ROWS.iter().enumerate() {
-        assert!(rt; gives(&rt, row)?, "{place}");
-    }
+fn a_refused_sheet_ends_the_run(rt: HostRuntime) -> Result<(), Fail> {
+    assert!(rt; all_end(&rt, REFUSED_SHEETS.as_slice())?);
+    assert!(rt; gives(&rt, &["{}"], 0, &[HEAD, MIDDLE_ALONE, END], "")?);
     Ok(())
 }
 
-fn is_full_after(rt: &HostRuntime, input: TestReader<'_>) -> bool {
-    stops(
-        rt,
-        NO_WORDS,
-        input,
-        FullAfter::new(0),
-        "device: 0 bytes written\n",
-    ) && stops(
-        rt,
-        NO_WORDS,
-        input,
-        FullAfter::new(275),
-        "device: 275 bytes written\n",
-    ) && stops(
-        rt,
-        NO_WORDS,
-        input,
-        NeverFlushed,
-        "device: 276 bytes written\n",
-    )
+/// Runs the program with room for this many bytes on standard output. Returns whether the run ends
+/// with status 3, exactly this text on standard output, and this line on standard error.
+fn stops(
+    rt: &HostRuntime,
+    input: TestReader<'_>,
+    room: usize,
+    text: &[u8],
+    line: &str,
+) -> Result<bool, Fail> {
+    let ran = run_in(rt, input, room)?;
+    Ok(ran.status == 3 && ran.err.held() == line.as_bytes() && ran.out.held() == text)
 }
 
 #[test]
 fn a_full_device_ends_the_run(rt: HostRuntime) -> Result<(), Fail> {
-    let bundle = joined(&rt, BUNDLE)?;
-    assert!(rt; is_full_after(&rt, TestReader::new(&bundle, Step::Few(1), Then::Ends)));
+    let bundle = joined(&rt, &[SHEET, "\n", INFO, HUNDRED, END])?;
+    let text = joined(&rt, HUNDRED_TEXT)?;
+    let input = TestReader::new(&bundle, Step::Few(1), Then::Ends);
+    assert!(rt; stops(&rt, input, 0, b"", "device: 0 bytes written\n")?);
+    let front = text.get(..275).unwrap_or_default();
+    assert!(rt; stops(&rt, input, 275, front, "device: 275 bytes written\n")?);
     Ok(())
 }
 
-fn is_unread(rt: &HostRuntime, input: TestReader<'_>) -> bool {
-    let err = Expecting::just(b"file -: cannot be read\n");
-    ends(rt, NO_WORDS, input, 3, Expecting::just(b""), err)
+/// Returns whether the run ends with status 3 and prints only that its input cannot be read; None
+/// if memory was refused.
+fn is_unread(rt: &HostRuntime, input: TestReader<'_>) -> Option<bool> {
+    let mut out = Expecting::just(b"");
+    let mut err = Either(
+        Expecting::just(b"file -: cannot be read\n"),
+        Expecting::just(b"out of memory\n"),
+    );
+    let status = run(rt.alloc(), rt, NO_WORDS, piped(input, &mut out, &mut err));
+    if status == 3 && err.1.is_met() {
+        return None;
+    }
+    Some(status == 3 && out.is_met() && err.0.is_met())
 }
 
 /// Returns whether the program reports an input that fails or is interrupted after these bytes, for
 /// each of `STEPS`.
 fn are_unread(rt: &HostRuntime, front: &[u8]) -> bool {
     for step in STEPS {
-        if !is_unread(rt, TestReader::new(front, step, Then::Fails))
-            || !is_unread(rt, TestReader::new(front, step, Then::IsInterrupted))
-        {
-            return false;
-        }
-    }
-    true
-}
-
-fn each_front_is_unread(rt: &HostRuntime, bundle: &[u8]) -> bool {
-    for length in 0..=bundle.len() {
-        if !are_unread(rt, bundle.get(..length).unwrap_or_default()) {
-            return false;
+        for then in [Then::Fails, Then::IsInterrupted] {
+            let input = TestReader::new(front, step, then);
+            let mut answer = is_unread(rt, input);
+            if answer.is_none() {
+                tell_refused(rt);
+                answer = is_unread(rt, input);
+            }
+            if answer != Some(true) {
+                return false;
+            }
         }
     }
     true
@@ -163,14 +199,44 @@ fn each_front_is_unread(rt: &HostRuntime, bundle: &[u8]) -> bool {
 
 #[test]
 fn an_input_that_stops_at_any_place_ends_the_run(rt: HostRuntime) -> Result<(), Fail> {
-    let bundle = joined(&rt, BUNDLE)?;
-    assert!(rt; each_front_is_unread(&rt, &bundle));
+    let bundle = joined(&rt, &[SHEET, "\n", INFO, HUNDRED, END])?;
+    for length in 0..=bundle.len() {
+        let front = bundle.get(..length).unwrap_or_default();
+        assert!(rt; are_unread(&rt, front), "at {length}");
+    }
+    Ok(())
+}
+
+#[test]
+fn a_text_that_is_not_flushed_is_a_fault(rt: HostRuntime) -> Result<(), Fail> {
+    let refused = [SHEET, "\n{}\n", INFO, HUNDRED, END];
+    let bundle = joined(&rt, &refused)?;
+    let mut err = writer(&rt, ROOM)?;
+    let input = TestReader::new(&bundle, Step::All, Then::Ends);
+    let mut status = run(
+        rt.alloc(),
+        &rt,
+        NO_WORDS,
+        piped(input, NeverFlushed, &mut err),
+    );
+    if err.held() == b"out of memory\n".as_slice() {
+        tell_refused(&rt);
+        err = writer(&rt, ROOM)?;
+        status = run(
+            rt.alloc(),
+            &rt,
+            NO_WORDS,
+            piped(input, NeverFlushed, &mut err),
+        );
+    }
+    assert_eq!(rt; status, 3);
+    assert_eq!(rt; err.held(), b"device: 276 bytes written\n".as_slice());
     Ok(())
 }
 
 /// Returns the status and the number of flushes when standard output has room for this many bytes;
 /// None if memory was refused.
-fn flushed_once(rt: &HostRuntime, bundle: &[u8], room: usize) -> Option<(u8, u64)> {
+fn flushed(rt: &HostRuntime, bundle: &[u8], room: usize) -> Option<(u8, u64)> {
     let mut out = FullAfter::new(room);
     let mut err = Expecting::just(b"out of memory\n");
     let input = TestReader::new(bundle, Step::All, Then::Ends);
@@ -181,20 +247,37 @@ fn flushed_once(rt: &HostRuntime, bundle: &[u8], room: usize) -> Option<(u8, u64
     Some((status, out.flushes))
 }
 
-fn flushed(rt: &HostRuntime, bundle: &[u8], room: usize) -> Option<(u8, u64)> {
-    match flushed_once(rt, bundle, room) {
-        None => {
-            tell_refused(rt);
-            flushed_once(rt, bundle, room)
+#[test]
+fn an_output_that_failed_is_not_flushed(rt: HostRuntime) -> Result<(), Fail> {
+    let bundle = joined(&rt, &[SHEET, "\n", INFO, HUNDRED, END])?;
+    for (room, expected) in [(0, (3, 0)), (275, (3, 0)), (276, (0, 1))] {
+        let mut answer = flushed(&rt, &bundle, room);
+        if answer.is_none() {
+            tell_refused(&rt);
+            answer = flushed(&rt, &bundle, room);
         }
-        answer => answer,
+        assert!(rt; answer == Some(expected), "room for {room} bytes");
     }
+    Ok(())
+}
+
+fn status_of(rt: &HostRuntime, bundle: &[u8], out: &mut TestWriter, err: &mut TestWriter) -> u8 {
+    let input = TestReader::new(bundle, Step::All, Then::Ends);
+    run(rt.alloc(), rt, NO_WORDS, piped(input, out, err))
 }
 
 #[test]
-fn an_output_that_failed_is_not_flushed(rt: HostRuntime) -> Result<(), Fail> {
-    let bundle = joined(&rt, BUNDLE)?;
-    assert!(rt; flushed(&rt, &bundle, 275) == Some((3, 0)));
-    assert!(rt; flushed(&rt, &bundle, 276) == Some((0, 1)));
+fn a_failing_standard_error_is_passed_over(rt: HostRuntime) -> Result<(), Fail> {
+    let bundle = joined(&rt, &[SHEET, "\n{}"])?;
+    let mut out = writer(&rt, ROOM)?;
+    let mut err = writer(&rt, 3)?;
+    let status = status_of(&rt, &bundle, &mut out, &mut err);
+    if err.held() == b"out".as_slice() {
+        tell_refused(&rt);
+        return Ok(());
+    }
+    assert_eq!(rt; status, 1);
+    assert_eq!(rt; err.held(), b"rep".as_slice());
+    assert_eq!(rt; out.held().len(), 183);
     Ok(())
 }

@@ -1,5 +1,6 @@
 use crate::tests::ran::NO_WORDS;
 use command_line::{Streams, run};
+use std::test::Fail;
 use test_helpers::asked_again::tell_refused;
 use test_helpers::devices::{FullAfter, Step, TestReader, Then};
 use test_helpers::expecting::Expecting;
@@ -28,37 +29,36 @@ fn shows(rt: &HostRuntime, words: &[&str], input: &str, lines: &str) -> bool {
     shows_once(rt, words, input, lines)
 }
 
-const MISSING: &str = "file none: cannot be read\nThere is no such file.\n";
-
-/// Arguments, standard input, and the lines on standard error.
-const ROWS: [(&[&str], &str, &str); 5] = [
-    (
-        NO_WORDS,
-        "",
-        "Waiting for a bundle on standard input; `xbrlmerge --help` shows the commands.\nsheet: 1 NotJson\n",
-    ),
-    (&["check", "--sheet", "none", "r"], "", MISSING),
-    (
-        &["check", "--sheet", ".", "r"],
-        "",
-        "file .: cannot be read\nIt is a folder.\n",
-    ),
-    // standard input lists the reports
-    (
-        &["verdicts", "--sheet", "none", "--reports-from", "-"],
-        "\n",
-        "file -: names no report\n",
-    ),
-    (
-        &["verdicts", "--sheet", "none", "--reports-from", "-"],
-        "r",
-        MISSING,
-    ),
-];
+#[test]
+fn a_bundle_is_awaited(rt: HostRuntime) -> Result<(), Fail> {
+    let lines =
+        "Waiting for a bundle on standard input; `xbrlmerge --help` shows the commands.\nsheet: 1 NotJson\n";
+    assert!(rt; shows(&rt, NO_WORDS, "", lines));
+    Ok(())
+}
 
 #[test]
-fn more_is_shown_on_terminals(rt: HostRuntime) {
-    for (words, input, lines) in &ROWS {
-        assert!(rt; shows(&rt, words, input, lines), "{lines}");
-    }
+fn it_is_told_why_a_file_cannot_be_read(rt: HostRuntime) -> Result<(), Fail> {
+    let missing = ["check", "--sheet", "none", "r"];
+    let folder = ["check", "--sheet", ".", "r"];
+    let none = "file none: cannot be read\nThere is no such file.\n";
+    assert!(rt; shows(&rt, missing.as_slice(), "", none));
+    assert!(rt;
+        shows(
+            &rt,
+            folder.as_slice(),
+            "",
+            "file .: cannot be read\nIt is a folder.\n"
+        )
+    );
+    Ok(())
+}
+
+#[test]
+fn standard_input_names_reports(rt: HostRuntime) -> Result<(), Fail> {
+    let words = ["verdicts", "--sheet", "none", "--reports-from", "-"];
+    let none = "file none: cannot be read\nThere is no such file.\n";
+    assert!(rt; shows(&rt, words.as_slice(), "\n", "file -: names no report\n"));
+    assert!(rt; shows(&rt, words.as_slice(), "r", none));
+    Ok(())
 }

@@ -1,10 +1,22 @@
-use crate::tests::ran::{ends, no_input, stops, words_of};
-use std::alloc::AllocError;
+use crate::tests::ran::{ends, stops, words_of};
 use std::test::Fail;
 use test_helpers::devices::FullAfter;
 use test_helpers::expecting::Expecting;
 
 // clap formats the help and the errors, so only the beginning of most texts is compared.
+
+/// Returns whether the program ends with status 3 and prints an error, on standard error only.
+fn is_usage(rt: &HostRuntime, words: &[&str]) -> bool {
+    let out = Expecting::just(b"");
+    ends(rt, words, 3, out, Expecting::front(b"error: "))
+}
+
+/// Returns whether the program ends with status 0 and prints a text that begins like this, on
+/// standard output only.
+fn is_answered(rt: &HostRuntime, words: &[&str], front: &str) -> bool {
+    let out = Expecting::front(front.as_bytes());
+    ends(rt, words, 0, out, Expecting::just(b""))
+}
 
 const WRONG: [&str; 54] = [
     "merge --sheet s --reports-from",
@@ -63,31 +75,22 @@ const WRONG: [&str; 54] = [
     "check --sheet s r r",
 ];
 
-/// Returns whether the program ends with status 3 and prints an error, on standard error only.
-fn is_usage(rt: &HostRuntime, line: &str) -> Result<bool, AllocError> {
-    let words = words_of(rt, line)?;
-    let err = Expecting::front(b"error: ");
-    Ok(ends(rt, &words, no_input(), 3, Expecting::just(b""), err))
+fn are_usage(rt: &HostRuntime, lines: &[&str]) -> Result<bool, Fail> {
+    let mut all = true;
+    for line in lines {
+        let words = words_of(rt, line)?;
+        all = is_usage(rt, &words) && all;
+    }
+    Ok(all)
 }
 
 #[test]
 fn other_words_are_usage(rt: HostRuntime) -> Result<(), Fail> {
-    for line in &WRONG {
-        assert!(rt; is_usage(&rt, line)?, "{line}");
-    }
+    assert!(rt; are_usage(&rt, WRONG.as_slice())?);
     Ok(())
 }
 
-const NOT_READ: &str = "file none: cannot be read\n";
-
-/// Arguments, and all that is printed. The run ends with status 3.
-const STOPPED: [(&str, &str); 12] = [
-    // valid spellings of the number of replicas
-    ("replay --sheet none --replicas 1 --events e", NOT_READ),
-    ("replay --sheet none --replicas 64 --events e", NOT_READ),
-    ("replay --sheet none --replicas +3 --events e", NOT_READ),
-    ("replay --sheet none --replicas 03 --events e", NOT_READ),
-    ("replay --sheet none --replicas 00064 --events e", NOT_READ),
+const USAGE: [(&str, &str); 7] = [
     (
         "merge r",
         "error: the following required arguments were not provided:
@@ -156,15 +159,11 @@ For more information, try '--help'.
     ),
 ];
 
-fn is_stopped(rt: &HostRuntime, line: &str, text: &str) -> Result<bool, AllocError> {
-    let words = words_of(rt, line)?;
-    Ok(stops(rt, &words, no_input(), FullAfter::new(0), text))
-}
-
 #[test]
 fn usage_tells_what_is_wrong(rt: HostRuntime) -> Result<(), Fail> {
-    for (line, text) in &STOPPED {
-        assert!(rt; is_stopped(&rt, line, text)?, "{line}");
+    for (line, text) in USAGE {
+        let words = words_of(&rt, line)?;
+        assert!(rt; stops(&rt, &words, FullAfter::new(0), text), "{line}");
     }
     Ok(())
 }
@@ -189,18 +188,30 @@ const ANSWERED: [(&str, &str); 17] = [
     ("-V", "xbrlmerge 0.3.0-dev\n"),
 ];
 
-/// Returns whether the program ends with status 0 and prints a text that begins like this, on
-/// standard output only.
-fn is_answered(rt: &HostRuntime, line: &str, front: &str) -> Result<bool, AllocError> {
-    let words = words_of(rt, line)?;
-    let out = Expecting::front(front.as_bytes());
-    Ok(ends(rt, &words, no_input(), 0, out, Expecting::just(b"")))
-}
-
 #[test]
 fn help_is_answered(rt: HostRuntime) -> Result<(), Fail> {
-    for (line, front) in &ANSWERED {
-        assert!(rt; is_answered(&rt, line, front)?, "{line}");
+    for (line, front) in ANSWERED {
+        let words = words_of(&rt, line)?;
+        assert!(rt; is_answered(&rt, &words, front), "{line}");
+    }
+    Ok(())
+}
+
+/// Arguments with valid spellings of the number of replicas.
+const COUNTS: [&str; 5] = [
+    "replay --sheet none --replicas 1 --events e",
+    "replay --sheet none --replicas 64 --events e",
+    "replay --sheet none --replicas +3 --events e",
+    "replay --sheet none --replicas 03 --events e",
+    "replay --sheet none --replicas 00064 --events e",
+];
+
+#[test]
+fn replicas_are_counted_in_digits(rt: HostRuntime) -> Result<(), Fail> {
+    for line in COUNTS {
+        let words = words_of(&rt, line)?;
+        let stopped = "file none: cannot be read\n";
+        assert!(rt; stops(&rt, &words, FullAfter::new(0), stopped), "{line}");
     }
     Ok(())
 }
