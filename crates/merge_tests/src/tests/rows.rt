@@ -61,7 +61,7 @@ fn added<'s>(alloc: Global, sheet: &'s Sheet) -> Result<Consolidation<'s>, Alloc
     let mut consolidation = Consolidation::new(alloc, sheet);
     consolidation.add(FIRST)?;
     consolidation.add(REFUSED)?;
-    consolidation.add_owned(Encoded::new(alloc, SECOND)?)?;
+    consolidation.add(SECOND)?;
     Ok(consolidation)
 }
 
