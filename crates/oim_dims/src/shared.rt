@@ -1,6 +1,6 @@
 ghost use Rattle.std.specs.Prelude.{◌≡◌, IfOk};
 
-use oim_names::{Copied, Key};
+use oim_names::Copied;
 use std::alloc::{AllocError, Global};
 use std::cmp::Ordering;
 use std::marker::Model;
@@ -8,17 +8,17 @@ use std::rc::Rc;
 
 /// A value whose copies share its memory. Contracts see the value.
 #[derive(Debug, Drop)]
-pub struct Shared<T: Key> {
+pub struct Shared<T: Ord + Drop> {
     value: Rc<T>,
 }
 
-impl<T: Key> Model for Shared<T> {
+impl<T: Ord + Drop> Model for Shared<T> {
     ghost Value = { T };
 
     ghost view = { λ a. a.value.value };
 }
 
-impl<T: Key> Shared<T> {
+impl<T: Ord + Drop> Shared<T> {
     pub(crate) fn new(alloc: Global, value: T) -> Result<Self, AllocError>
         ensures { IfOk result (λ made. made ≡ value) }
     {
@@ -33,7 +33,7 @@ impl<T: Key> Shared<T> {
     }
 }
 
-impl<T: Key> PartialEq for Shared<T> {
+impl<T: Ord + Drop> PartialEq for Shared<T> {
     ghost eq = { T.eq };
 
     ghost laws = { T.PartialEq.laws };
@@ -43,11 +43,11 @@ impl<T: Key> PartialEq for Shared<T> {
     }
 }
 
-impl<T: Key> Eq for Shared<T> {
+impl<T: Ord + Drop> Eq for Shared<T> {
     ghost laws = { T.Eq.laws };
 }
 
-impl<T: Key> PartialOrd for Shared<T> {
+impl<T: Ord + Drop> PartialOrd for Shared<T> {
     ghost partial_cmp = { T.partial_cmp };
 
     ghost laws = { T.PartialOrd.laws };
@@ -57,7 +57,7 @@ impl<T: Key> PartialOrd for Shared<T> {
     }
 }
 
-impl<T: Key> Ord for Shared<T> {
+impl<T: Ord + Drop> Ord for Shared<T> {
     ghost cmp = { T.cmp };
 
     ghost total = { T.total };
@@ -71,13 +71,9 @@ impl<T: Key> Ord for Shared<T> {
     }
 }
 
-impl<T: Key> Copied for Shared<T> {
+impl<T: Ord + Drop> Copied for Shared<T> {
     fn copied(&self, _alloc: Global) -> Result<Self, AllocError> {
         let value = self.value.clone()?;
         Ok(Shared { value })
     }
-}
-
-impl<T: Key> Key for Shared<T> {
-    ghost exact = { T.exact };
 }

@@ -1,6 +1,5 @@
 use crate::sequence::Sequence;
-use oim_names::{Copied, Key, Name};
-use std::alloc::{AllocError, Global};
+use oim_names::Name;
 use std::marker::Model;
 
 /// The two sides of a unit. They are ordered by numerators, then by denominators.
@@ -18,19 +17,4 @@ impl Model for UnitSides {
     ghost view = { λ a. record { numerators = a.numerators; denominators = a.denominators } };
 
     ghost inverse = { λ m. record { numerators = m.numerators; denominators = m.denominators } };
-}
-
-impl Copied for UnitSides {
-    fn copied(&self, alloc: Global) -> Result<Self, AllocError> {
-        Ok(UnitSides {
-            numerators: self.numerators.copied(alloc)?,
-            denominators: self.denominators.copied(alloc)?,
-        })
-    }
-}
-
-impl Key for UnitSides {
-    ghost use Rattle.oim_dims.specs.code.Ties.{exact_measures};
-
-    ghost exact = { exact_measures };
 }
