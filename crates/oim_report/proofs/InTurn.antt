@@ -11,7 +11,6 @@ use Rattle.oim_value.specs.ValueOrder.{name_cmp}
 use Rattle.oim_dims.specs.DimensionSet.{has_name, repeats, rises, with_member}
 use Rattle.oim_dims.specs.declared.member.Member.{Member}
 use Rattle.oim_dims.proofs.Places.{old_or_new, old_is_kept, new_is_there}
-use Rattle.oim_report.specs.declared.dimension_kind.DimensionKind.{DimensionKind}
 use Rattle.oim_report.specs.declared.fact.json_member.JsonMember.{JsonMember}
 use Rattle.oim_report.specs.Names.{comes_again, named}
 use Rattle.oim_report.specs.Said.{dimension_kind, dimension_names, members_with, said_member, said_members}
@@ -84,9 +83,9 @@ module _ (sheet : Sheet) (bs : List Binding) (xs : List (Bor (List ℕ) × JsonM
       (λ x c. Contains-permutation found sorted x moved (⊎_elim (λ old. absurd (none_in x old)) (λ one. one) (old_or_one found [] x c)))
       (λ x c. each_is_there found [] x (Contains-permutation sorted found x (IsPermutation-sym found sorted moved) c)))
 
-pub found_more : (sheet : Sheet) (bs : List Binding) (xs : List (Bor (List ℕ) × JsonMember)) (found new : List Item) (i : ℕ) (x : Bor (List ℕ) × JsonMember) (within : i < length xs) (kind : DimensionKind) (n : QName) (m : Member) → let d = seen_item (get_or xs i x) in
-    dimension_kind sheet bs d.0 ≡ Some kind → named bs d.0 ≡ Some n → said_member bs (Some kind) d.1 ≡ Some m → new ≡ found ++ (n, m) ∷ [] → AreFound sheet bs xs found i → AreFound sheet bs xs new (i + 1)
-found_more sheet bs xs found new i x within kind n m known names said pushed are =
+pub found_more : (sheet : Sheet) (bs : List Binding) (xs : List (Bor (List ℕ) × JsonMember)) (found new : List Item) (i : ℕ) (x : Bor (List ℕ) × JsonMember) (within : i < length xs) (n : QName) (m : Member) → let d = seen_item (get_or xs i x) in
+    named bs d.0 ≡ Some n → said_member bs (dimension_kind sheet bs d.0) d.1 ≡ Some m → new ≡ found ++ (n, m) ∷ [] → AreFound sheet bs xs found i → AreFound sheet bs xs new (i + 1)
+found_more sheet bs xs found new i x within n m names said pushed are =
     let d = seen_item (get_or xs i x) in
     let ds = seen_defined (drop (i + 1) xs) in
     let next = sym (next_defined xs i x within) in record {
@@ -98,7 +97,7 @@ found_more sheet bs xs found new i x within kind n m known names said pushed are
       members =
           ap (λ fs. members_with sheet bs (with_each fs []) ds) pushed
           ∙ ap (λ es. members_with sheet bs es ds) (with_each-push found [] (n, m))
-          ∙ sym (members_more sheet bs d ds kind (with_each found []) n m known names said)
+          ∙ sym (members_more sheet bs d ds (with_each found []) n m names said)
           ∙ ap (members_with sheet bs (with_each found [])) next
           ∙ are.members;
     }

@@ -7,7 +7,6 @@ use Rattle.oim_names.specs.QName.{QName}
 use Rattle.oim_names.specs.Bindings.{Binding}
 use Rattle.oim_dims.specs.DimensionSet.{with_member}
 use Rattle.oim_dims.specs.declared.member.Member.{Member}
-use Rattle.oim_report.specs.declared.dimension_kind.DimensionKind.{DimensionKind}
 use Rattle.oim_report.specs.declared.fact.json_member.JsonMember.{JsonMember}
 use Rattle.oim_report.specs.code.JsonMember.{seen}
 use Rattle.oim_report.specs.Json.{Given}
@@ -25,8 +24,8 @@ seen_item x = (x.0.now, seen x.1)
 pub next_defined : (xs : List (Bor (List ℕ) × JsonMember)) (i : ℕ) (x : Bor (List ℕ) × JsonMember) → i < length xs → seen_defined (drop i xs) ≡ seen_item (get_or xs i x) ∷ seen_defined (drop (i + 1) xs)
 next_defined xs i x within = rw (add-one, drop-cons xs i x) refl
 
-pub members_more : (sheet : Sheet) (bs : List Binding) (d : List ℕ × Given) (ds : List (List ℕ × Given)) (kind : DimensionKind) (es : List (QName × Member)) (n : QName) (m : Member) → dimension_kind sheet bs d.0 ≡ Some kind → named bs d.0 ≡ Some n → said_member bs (Some kind) d.1 ≡ Some m → members_with sheet bs es (d ∷ ds) ≡ members_with sheet bs (with_member n m es) ds
-members_more sheet bs d ds kind es n m known names said = rw (known, names, said) refl
+pub members_more : (sheet : Sheet) (bs : List Binding) (d : List ℕ × Given) (ds : List (List ℕ × Given)) (es : List (QName × Member)) (n : QName) (m : Member) → named bs d.0 ≡ Some n → said_member bs (dimension_kind sheet bs d.0) d.1 ≡ Some m → members_with sheet bs es (d ∷ ds) ≡ members_with sheet bs (with_member n m es) ds
+members_more sheet bs d ds es n m names said = rw (said, names) refl
 
 names_pushed : (es : List (QName × Member)) (e : QName × Member) → names_of (es ++ e ∷ []) ≡ names_of es ++ e.0 ∷ []
 names_pushed [] e = refl

@@ -1,4 +1,4 @@
-ghost use Rattle.std.specs.Prelude.{◌≡◌, ◌⊎◌, Ok, Err, Some, None, IsTrue, IfOk, IfErr, IfSome, option_map};
+ghost use Rattle.std.specs.Prelude.{◌≡◌, ◌⊎◌, [], Ok, Err, Some, None, IsTrue, IfOk, IfErr, IfSome, OnOk, option_map};
 ghost use Rattle.serde_json.specs.Data.{Data};
 ghost use Rattle.serde_json.specs.View.{view};
 ghost use Rattle.oim_report.specs.code.JsonMember.{seen};
@@ -164,8 +164,8 @@ impl<'s> FactReader<'s> {
         let Some((name, kind)) = self.find_concept(dimensions.concept) else {
             return Err(Reason::UnknownConcept);
         };
-        let concept = name.copied(self.alloc)?;
-        let read = self.read_dimensions(concept, kind, dimensions)?;
+        let mut read = Dimensions::new(self.alloc, name.copied(self.alloc)?);
+        self.read_dimensions(kind, dimensions, &mut read)?;
         let value = read_value(self.alloc, &self.aliases, kind, parts.value, parts.decimals)?;
         Ok(Fact {
             dimensions: read,
@@ -184,52 +184,62 @@ impl<'s> FactReader<'s> {
         self.caches.concepts.find(concepts, &self.aliases, text)
     }
 
+    // `read` is lent, so an error has nothing to drop here.
     fn read_dimensions(
         &mut self,
-        concept: Name,
         kind: ConceptKind,
         parts: &DimensionParts<'_>,
-    ) -> Result<Dimensions, Reason>
-        requires concept { said_concept self.old.aliases (seen parts.now.concept) ≡ Some concept }
+        read: &mut Dimensions,
+    ) -> Result<(), Reason>
+        requires concept { said_concept self.old.aliases (seen parts.now.concept) ≡ Some read.old.concept }
+        requires others { read.old ≡ concept_with read.old.concept [] }
         ensures same { self.new ≡ self.old }
-        ensures said { IfOk result
-            (λ d. said_dimensions self.old.sheet self.old.aliases kind (seen_dimensions parts.now) ≡ Some d) }
+        ensures said { OnOk result
+            (said_dimensions self.old.sheet self.old.aliases kind (seen_dimensions parts.now) ≡ Some read.new) }
     {
-        let mut read = self.read_members(concept, parts.defined.as_slice())?;
+        self.read_members(parts.defined.as_slice(), read)?;
         let (alloc, aliases, caches) = (self.alloc, &self.aliases, &mut self.caches);
         read.set_period(read_period(alloc, &mut caches.periods, parts.period)?);
         read.set_unit(read_unit(alloc, aliases, &mut caches.units, kind, parts.unit)?);
         let language = read_language(alloc, &mut caches.languages, kind, parts.language)?;
-        set_language(&mut read, language);
+        set_language(read, language);
         let entity = read_entity(alloc, aliases, &mut caches.entities, parts.entity)?;
-        set_entity(&mut read, entity);
-        Ok(read)
+        set_entity(read, entity);
+        Ok(())
     }
 
     // The keys in `defined` are in byte order of their spelling, not in the order of names. So the
     // members are sorted once, at the end.
     fn read_members(
         &mut self,
-        concept: Name,
         defined: &[(&str, JsonMember<'_>)],
-    ) -> Result<Dimensions, Reason>
+        read: &mut Dimensions,
+    ) -> Result<(), Reason>
         ensures same { self.new ≡ self.old }
         ensures said { let all = seen_defined defined.now in
-            IfOk result (λ d. said_members self.old.sheet self.old.aliases all ≡ Some d.members) }
-        ensures others { IfOk result (λ d. d ≡ concept_with concept d.members) }
+            OnOk result (said_members self.old.sheet self.old.aliases all ≡ Some read.new.members) }
+        ensures others { OnOk result (read.new ≡ record read.old { members = read.new.members }) }
     {
-        let alloc = self.alloc;
-        let mut found = Vec::with_capacity(alloc, defined.len())?;
+        let mut found = Vec::with_capacity(self.alloc, defined.len())?;
         for (key, member) in defined {
-            let Some((name, kind)) = self.find_dimension(*key) else {
-                return Err(Reason::UnknownDimension);
-            };
-            let member = self.read_member(kind, *member)?;
-            found.push_reserved((name.copied(alloc)?, member));
+            let entry = self.read_defined(*key, *member)?;
+            found.push_reserved(entry);
         }
-        let mut dimensions = Dimensions::new(alloc, concept);
-        dimensions.set_members(found)?;
-        Ok(dimensions)
+        read.set_members(found)?;
+        Ok(())
+    }
+
+    fn read_defined(&mut self, key: &str, member: JsonMember<'_>) -> Result<(Name, Member), Reason>
+        ensures same { self.new ≡ self.old }
+        ensures name { IfOk result (λ d. named self.old.aliases key.now ≡ Some d.0) }
+        ensures said { let kind = dimension_kind self.old.sheet self.old.aliases key.now in
+            IfOk result (λ d. said_member self.old.aliases kind (seen member.entry) ≡ Some d.1) }
+    {
+        let Some((name, kind)) = self.find_dimension(key) else {
+            return Err(Reason::UnknownDimension);
+        };
+        let member = self.read_member(kind, member)?;
+        Ok((name.copied(self.alloc)?, member))
     }
 
     fn find_dimension(&mut self, key: &str) -> Option<(&'s Name, DimensionKind)>

@@ -1,6 +1,7 @@
 //! Finds the first taxonomy-defined dimension in a fact object to which a condition applies.
 
 ghost use Rattle.std.specs.Prelude.{◌≡◌, ◌&&◌, [], option_map, IfOk};
+ghost use Rattle.std.specs.FinMap as map;
 ghost use Rattle.std.specs.Ordering.{is_eq};
 ghost use Rattle.oim_names.specs.Expansion.{a_name};
 ghost use Rattle.oim_value.specs.ValueOrder.{name_cmp};
@@ -61,7 +62,8 @@ impl<'a> FactInScope<'_, 'a> {
         if let Some(part) = self.misfit_in(dimensions) {
             return Ok(Some(part));
         }
-        two_keys(alloc, self.aliases, dimensions)
+        let mut before = NameTableBuilder::new(alloc);
+        two_keys(&mut before, self.aliases, dimensions)
     }
 
     fn misfit_in(&self, dimensions: &'a Map<String, Value>) -> Option<Part<'a>>
@@ -99,15 +101,15 @@ pub(crate) fn is_defined(key: &str) -> bool
 }
 
 fn two_keys<'a>(
-    alloc: Global,
+    before: &mut NameTableBuilder<DimensionKind>,
     aliases: &Aliases,
     dimensions: &'a Map<String, Value>,
 ) -> Result<Option<Part<'a>>, AllocError>
+    requires { before.old.names ≡ map.empty }
     ensures { let ms = members_view dimensions.now.entries in
         IfOk result (λ part. option_map seen part ≡ option_map (λ m. beside_first aliases.now (entries ms) m.0)
         (repeated aliases.now [] (defined_members ms))) }
 {
-    let mut before = NameTableBuilder::new(alloc);
     for (key, _value) in dimensions.iter() {
         if let Some(name) = dimension_name(aliases, key.as_str())? {
             before.turn_to(name.uri())?;

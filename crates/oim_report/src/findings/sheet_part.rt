@@ -1,6 +1,7 @@
 ghost use Rattle.std.specs.Prelude.{◌≡◌, ◌≢◌, Some, IfOk, option_map};
 ghost use Rattle.std.specs.List.{find};
 ghost use Rattle.std.specs.Option.{option_map_or};
+ghost use Rattle.std.specs.FinMap as map;
 ghost use Rattle.oim_names.specs.Expansion.{refuses};
 ghost use Rattle.serde_json.specs.View.{view, members_view};
 ghost use Rattle.oim_report.specs.Json.{members};
@@ -197,21 +198,22 @@ fn two_kinds<'a, K: Kind>(
     ensures { let ms = members (option_map (λ m. members_view m.now.entries) entries.entry) in
         IfOk result (λ part. option_map seen part ≡ two_kinds K.kind_named K.same_kind aliases.now ms) }
 {
-    match entries {
-        Some(entries) => two_kinds_in::<K>(alloc, aliases, entries),
-        None => Ok(None),
-    }
+    let Some(entries) = entries else {
+        return Ok(None);
+    };
+    let mut gathered = NameTableBuilder::new(alloc);
+    two_kinds_in::<K>(&mut gathered, aliases, entries)
 }
 
 fn two_kinds_in<'a, K: Kind>(
-    alloc: Global,
+    gathered: &mut NameTableBuilder<K>,
     aliases: &Aliases,
     listed: &'a Map<String, Value>,
 ) -> Result<Option<Part<'a>>, AllocError>
+    requires { gathered.old.names ≡ map.empty }
     ensures { let ms = members_view listed.now.entries in
         IfOk result (λ part. option_map seen part ≡ two_kinds K.kind_named K.same_kind aliases.now ms) }
 {
-    let mut gathered: NameTableBuilder<K> = NameTableBuilder::new(alloc);
     for (key, value) in listed.iter() {
         if let Some((name, kind)) = named_kind::<K>(aliases, key.as_str(), value)? {
             gathered.turn_to(name.uri())?;

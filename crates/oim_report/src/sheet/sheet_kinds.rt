@@ -1,4 +1,5 @@
 ghost use Rattle.std.specs.Prelude.{◌≡◌, ◌⊎◌, true, false, None, IfOk, IfErr, IfSome, OnOk, option_map};
+ghost use Rattle.std.specs.FinMap as map;
 ghost use Rattle.serde_json.specs.View.{view, members_view};
 ghost use Rattle.oim_report.specs.Json.{members};
 ghost use Rattle.oim_report.specs.Names.{names_refusal};
@@ -28,27 +29,29 @@ pub(crate) fn read_table<K: Kind>(
         IfErr result (λ r. (r ≡ Reason.OutOfMemory) ⊎ ((r ≡ Reason.SheetKind)
         × (has_bad_kind K.kind_named K.same_kind aliases.now ms ≡ true))) }
 {
-    match object {
-        Some(members) => list_all(alloc, aliases, members),
-        None => Ok(NameTable::new(alloc)),
-    }
+    let Some(members) = object else {
+        return Ok(NameTable::new(alloc));
+    };
+    let mut gathered = NameTableBuilder::new(alloc);
+    list_all(&mut gathered, aliases, members)?;
+    Ok(gathered.into_table()?)
 }
 
 fn list_all<K: Kind>(
-    alloc: Global,
+    gathered: &mut NameTableBuilder<K>,
     aliases: &Aliases,
     members: &Map<String, Value>,
-) -> Result<NameTable<K>, Reason>
-    requires { names_refusal aliases.now (key_names (members_view members.now.entries)) ≡ None }
+) -> Result<(), Reason>
+    requires names { names_refusal aliases.now (key_names (members_view members.now.entries)) ≡ None }
+    requires empty { gathered.old.names ≡ map.empty }
     ensures listed { let ms = members_view members.now.entries in
-        IfOk result (λ l. l ≡ listed K.kind_named K.same_kind aliases.now ms) }
+        OnOk result (gathered.new.names ≡ listed K.kind_named K.same_kind aliases.now ms) }
     ensures kinds { let ms = members_view members.now.entries in
-        IfOk result (λ _. has_bad_kind K.kind_named K.same_kind aliases.now ms ≡ false) }
+        OnOk result (has_bad_kind K.kind_named K.same_kind aliases.now ms ≡ false) }
     ensures refused { let ms = members_view members.now.entries in
         IfErr result (λ r. (r ≡ Reason.OutOfMemory) ⊎ ((r ≡ Reason.SheetKind)
         × (has_bad_kind K.kind_named K.same_kind aliases.now ms ≡ true))) }
 {
-    let mut gathered = NameTableBuilder::new(alloc);
     let mut last = None;
     for (key, value) in members.iter() {
         let Some(kind) = kind_in::<K>(value) else {
@@ -56,14 +59,14 @@ fn list_all<K: Kind>(
         };
         let name = aliases.expand(key.as_str())?;
         let (prefix, _local) = split(key.as_str());
-        turn(&mut gathered, last, prefix, name.uri())?;
+        turn(gathered, last, prefix, name.uri())?;
         last = Some(prefix);
         let known = gathered.put(name, kind)?;
         if !kind.is(known) {
             return Err(Reason::SheetKind);
         }
     }
-    Ok(gathered.into_table()?)
+    Ok(())
 }
 
 // Keys are in byte order, so keys with the same prefix are adjacent, and the group changes at most

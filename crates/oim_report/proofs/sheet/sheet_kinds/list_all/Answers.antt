@@ -16,7 +16,7 @@ loop-key-init g c =
     let all = members_view c.args.members.now.entries in
     let start : members_view c.into_iter-key-iterator.result ≡ all = search rules in
     record {
-      names = rw (start, c.new-gathered.ensures) (begins g.K.Kind.kind_named g.K.Kind.same_kind c.args.aliases.now all c.requires);
+      names = rw (start, c.requires.empty) (begins g.K.Kind.kind_named g.K.Kind.same_kind c.args.aliases.now all c.requires.names);
       last = tt;
     }
 

@@ -1,4 +1,4 @@
-use Rattle.std.proofs.Common.{◌≡◌, ◌+◌, get_or, Some, option_map, sym, ap, ◌∙◌}
+use Rattle.std.proofs.Common.{◌≡◌, ◌+◌, get_or, Some, sym, ap, ◌∙◌}
 use Rattle.std.proofs.lemmas.Bool.{false_from_ne_true}
 use Rattle.oim_dims.specs.DimensionSet.{repeats}
 use Rattle.oim_report.specs.Names.{named}
@@ -13,15 +13,13 @@ loop-key-preserved c =
     let own = c.args.self.now in
     let xs = c.args.defined.now in
     let d = seen_item (get_or xs l.key-index _) in
-    let kind = c.in-Some.kind in
+    let e = c.in_ok-entry.entry in
     let here = l.invariant.same in
-    let there = c.find_dimension.ensures.same ∙ here in
-    let known : dimension_kind own.sheet own.aliases d.0 ≡ Some kind = ap (λ s. dimension_kind s.sheet s.aliases d.0) (sym here) ∙ sym c.find_dimension.ensures.kind ∙ ap (option_map (λ f. f.1)) c.in-Some.is in
-    let names : named own.aliases d.0 ≡ Some c.in_ok-copied.field-0 = ap (λ s. named s.aliases d.0) (sym here) ∙ c.in-Some.ensures.name ∙ ap Some (sym c.in_ok-copied.ensures) in
-    let said : said_member own.aliases (Some kind) d.1 ≡ Some c.in_ok-member.member = ap (λ s. said_member s.aliases (Some kind) d.1) (sym there) ∙ c.in_ok-member.ensures.said in
+    let name : named own.aliases d.0 ≡ Some e.0 = ap (λ s. named s.aliases d.0) (sym here) ∙ c.in_ok-entry.ensures.name in
+    let said : said_member own.aliases (dimension_kind own.sheet own.aliases d.0) d.1 ≡ Some e.1 = ap (λ s. said_member s.aliases (dimension_kind s.sheet s.aliases d.0) d.1) (sym here) ∙ c.in_ok-entry.ensures.said in
     record {
-      same = c.read_member.ensures.same ∙ there;
-      found = found_more own.sheet own.aliases xs l.found.items c.push_reserved.new.self.items l.key-index _ c.loop-key-test.true kind c.in_ok-copied.field-0 c.in_ok-member.member known names said c.push_reserved.ensures.items l.invariant.found;
+      same = c.read_defined.ensures.same ∙ here;
+      found = found_more own.sheet own.aliases xs l.found.items c.push_reserved.new.self.items l.key-index _ c.loop-key-test.true e.0 e.1 name said c.push_reserved.ensures.items l.invariant.found;
       count = c.push_reserved.ensures.len ∙ ap (λ n. n + 1) l.invariant.count;
       room = rw c.push_reserved.ensures.capacity l.invariant.room;
     }
