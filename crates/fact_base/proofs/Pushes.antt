@@ -1,11 +1,9 @@
 -- Entries that are built one fact at a time.
 use Rattle.std.proofs.Common.{◌≡◌, ℕ, zero, suc, ◌<◌, ◌+◌, length, get_or, set, false, List, [], ◌∷◌, ◌++◌, refl, sym, ap, subst, ◌∙◌, arith}
-use mathlib.Core.Bool.{true≢false}
 use Rattle.std.specs.List.{All, AllByRecursion}
 use Rattle.std.specs.List.Sorted.{IsSorted, IsStrictlySortedBy}
 use Rattle.std.specs.Cmp.{tied_itself}
-use Rattle.std.specs.Ordering.{is_eq, is_gt, is_lt, match_ordering, ordering_reverse, ordering_then}
-use Rattle.std.specs.declared.cmp.Ordering.{Ordering}
+use Rattle.std.specs.Ordering.{is_eq, is_gt, is_lt, match_ordering, ordering_reverse}
 use Rattle.std.specs.declared.cmp.Ordering.TheVariants.{Less, Equal, Greater}
 use Rattle.std.proofs.lemmas.List.{get_or_default}
 use Rattle.merge_laws.specs.Sorted.{IsRising, entry_key}
@@ -19,18 +17,10 @@ use Rattle.oim_dims.proofs.Orders.{dimensions_cmp_exact, dimensions_cmp_total, f
 use Rattle.fact_base.specs.Entries.{Entry, Summed}
 use Rattle.fact_base.specs.code.Entries.{NoneAbove, entry_of, summed_of_both, with_fact, with_value}
 use Rattle.fact_base.proofs.Members.{turn_there}
+use Rattle.oim_report.proofs.Runs.{first_up, less_from, up_cases}
+use Rattle.oim_report.proofs.Places.{turned as turned_up}
 
 -- ---- orders
-
-up_cases : {P : Type 0} (a : Ordering) → is_gt a ≡ false → (a ≡ Less → P) → (a ≡ Equal → P) → P
-up_cases Less up less equal = less refl
-up_cases Equal up less equal = equal refl
-up_cases Greater up less equal = absurd (true≢false up)
-
-less_from : (a : Ordering) → is_gt a ≡ false → is_eq a ≡ false → a ≡ Less
-less_from Less up other = refl
-less_from Equal up other = absurd (true≢false other)
-less_from Greater up other = absurd (true≢false up)
 
 up_then_up : (r s t : DimensionSet) → is_gt (dimensions_cmp r s) ≡ false → is_gt (dimensions_cmp s t) ≡ false → is_gt (dimensions_cmp r t) ≡ false
 up_then_up r s t first second =
@@ -96,14 +86,6 @@ none_above_next es f g up next =
     one : NoneAbove g.dimensions (entry_of f ∷ [])
     one zero d within = next
     one (suc k) d within = absurd (omega (arith, within))
-
-first_up : (a b : Ordering) → is_gt (ordering_then a b) ≡ false → is_gt a ≡ false
-first_up Greater b up = up
-first_up a b up = refl
-
-turned_up : (a : Ordering) → is_lt a ≡ false → is_gt (ordering_reverse a) ≡ false
-turned_up Less up = absurd (true≢false up)
-turned_up a up = refl
 
 -- ---- a sorted list of facts
 

@@ -83,10 +83,8 @@ of_one_kind (v ∷ vs) alike = ⊎_elim
 
 no_intervals : (vs : List Value) → list_any has_interval vs ≡ false → intervals_of vs ≡ []
 no_intervals [] h = refl
-no_intervals (Nil ∷ vs) h = no_intervals vs h
 no_intervals (Number m d ∷ vs) h = absurd (true≢false h)
-no_intervals (AText t ∷ vs) h = no_intervals vs h
-no_intervals (AName n ∷ vs) h = no_intervals vs h
+no_intervals (v ∷ vs) h = no_intervals vs h
 
 ends_told : (vs : List Value) (ends : Interval) → AreEnds ends (intervals_of vs) → (summary_of_all vs).ends ≡ Some ends
 ends_told vs ends are = by_ends (summary_of_all vs).ends refl

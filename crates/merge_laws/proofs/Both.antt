@@ -2,39 +2,27 @@
 use Rattle.std.proofs.Common.{◌≡◌, Bool, true, false, cond, List, [], ◌∷◌, Option, Some, None, refl, sym, ap, ◌∙◌, inl, inr, ⊎_elim, ℕ, zero, suc, ◌<◌, length, get_or, subst, arith}
 use mathlib.Core.Bool.{◌||◌, true≢false}
 use Rattle.std.specs.Prelude.{◌⊎◌, Contains, is_some, unwrap_or}
-use Rattle.std.specs.Option.{option_map, option_or}
+use Rattle.std.specs.Option.{option_map}
 use Rattle.std.specs.List.{list_any}
 use Rattle.std.specs.Ordering.{eq_by_cmp, is_eq}
 use Rattle.std.specs.declared.cmp.Ordering.{Ordering}
 use Rattle.std.specs.declared.cmp.Ordering.TheVariants.{Equal}
 use Rattle.std.specs.Cmp.{IsTotalOrder, Equal-is, eq_by_cmp_equiv, tied_itself}
 use Rattle.std.proofs.lemmas.Map.Views.{Contains-from_any, list_any-from_Contains}
+use Rattle.std.proofs.lemmas.Bool.{or_cases, or_left, or_right}
 use Rattle.merge_laws.specs.Sorted.{IsSet, item_at, has_key, itself, entry_key, value_at, IsRising}
 use Rattle.merge_laws.specs.Union.{either_or_both, older, merged_entries, set_with, set_union, IsSetOfBoth, SetUnionHasBoth, SetWithHasItem, MapTellsEntry, MapUnionHasBoth, MapWithMerges, SetTellsItem}
 use Rattle.merge_laws.specs.code.Items.{alone, rises_with, rises_union, item_at-with, item_at-union}
 use Rattle.merge_laws.proofs.Edits.{item_found}
 use Rattle.merge_laws.proofs.Places.{found_here}
 
-either : (a b : Bool) → (a || b) ≡ true → (a ≡ true) ⊎ (b ≡ true)
-either true b e = inl refl
-either false b e = inr e
-
-left_so : (a b : Bool) → a ≡ true → (a || b) ≡ true
-left_so true b e = refl
-left_so false b e = absurd (true≢false (sym e))
-
-right_so : (a b : Bool) → b ≡ true → (a || b) ≡ true
-right_so true b e = refl
-right_so false b e = e
-
 found_some : {A : Type 0} (p : A → Bool) (xs : List A) → is_some (Rattle.std.specs.List.find p xs) ≡ list_any p xs
 found_some p [] = refl
 found_some p (x ∷ xs) = elim (p x) as (λ b. is_some (cond b (Some x) (Rattle.std.specs.List.find p xs)) ≡ (b || list_any p xs)) [ true ↦ refl | false ↦ found_some p xs ]
 
 some_of_both : {A : Type 0} (join : A → A → A) (a b : Option A) → is_some (either_or_both join a b) ≡ (is_some a || is_some b)
-some_of_both join None b = refl
 some_of_both join (Some x) None = refl
-some_of_both join (Some x) (Some y) = refl
+some_of_both join o b = refl
 
 module _ {K : Type 0} {R : K → K → Ordering} (o : IsTotalOrder R) (exact : (x y : K) → R x y ≡ Equal → x ≡ y) where
   there : (xs : List K) (x : K) → has_key R itself x xs ≡ true → Contains xs x
@@ -47,8 +35,8 @@ module _ {K : Type 0} {R : K → K → Ordering} (o : IsTotalOrder R) (exact : (
   of_both xs ys set h has = record {
     rises = h;
     members = λ x. (
-      λ one. ⊎_elim (λ l. inl (there xs x l)) (λ r. inr (there ys x r)) (either _ _ (sym (has x) ∙ tested set x one)),
-      ⊎_elim (λ l. there set x (has x ∙ left_so _ _ (tested xs x l))) (λ r. there set x (has x ∙ right_so _ _ (tested ys x r))),
+      λ one. ⊎_elim (λ l. inl (there xs x l)) (λ r. inr (there ys x r)) (or_cases _ _ (sym (has x) ∙ tested set x one)),
+      ⊎_elim (λ l. there set x (has x ∙ or_left _ _ (tested xs x l))) (λ r. there set x (has x ∙ or_right _ _ (tested ys x r))),
     );
   }
 
@@ -72,9 +60,8 @@ module _ {K : Type 0} {R : K → K → Ordering} (o : IsTotalOrder R) (exact : (
       or_false false = refl
 
 value_of : {K V : Type 0} (merged : V → V → V) (a b : Option (K × V)) → option_map (λ e. e.1) (either_or_both (merged_entries merged) a b) ≡ either_or_both merged (option_map (λ e. e.1) a) (option_map (λ e. e.1) b)
-value_of merged None b = refl
 value_of merged (Some x) None = refl
-value_of merged (Some x) (Some y) = refl
+value_of merged o b = refl
 
 module _ {K V : Type 0} {R : K → K → Ordering} (o : IsTotalOrder R) (merged : V → V → V) where
   pub map_union_has_both : MapUnionHasBoth R merged

@@ -6,7 +6,7 @@ use Rattle.std.specs.List.{list_any}
 use Rattle.oim_value.specs.Interval.{common_part, interval}
 use Rattle.oim_value.specs.declared.interval.Interval.{Interval}
 use Rattle.oim_value.specs.declared.value.Value.{Value}
-use Rattle.oim_value.specs.declared.value.Value.TheVariants.{Nil, Number, Text as AText, Name as AName}
+use Rattle.oim_value.specs.declared.value.Value.TheVariants.{Nil, Number}
 use Rattle.oim_value.specs.Ends.{AreEnds, intervals_of, has_interval}
 use Rattle.oim_value.proofs.Ends.{ends_of_one, ends_of_more}
 use Rattle.merge_laws.specs.Ends.{summary_of_all, SummaryTellsAll}
@@ -23,10 +23,8 @@ kept_more i (Some e) is ends = ends_of_more i e is ends
 
 keeps_ends : (vs : List Value) → Kept (summary_of_all vs).ends (intervals_of vs)
 keeps_ends [] = refl
-keeps_ends (Nil ∷ vs) = keeps_ends vs
 keeps_ends (Number m d ∷ vs) = kept_more (interval m d) (summary_of_all vs).ends (intervals_of vs) (keeps_ends vs)
-keeps_ends (AText t ∷ vs) = keeps_ends vs
-keeps_ends (AName n ∷ vs) = keeps_ends vs
+keeps_ends (v ∷ vs) = keeps_ends vs
 
 ends_told : (a : Option Interval) (is : List Interval) → Kept a is → IfSome a (λ e. AreEnds e is)
 ends_told None is k = tt
@@ -34,10 +32,8 @@ ends_told (Some e) is k = k
 
 number_seen : (vs : List Value) → is_some (summary_of_all vs).ends ≡ list_any has_interval vs
 number_seen [] = refl
-number_seen (Nil ∷ vs) = number_seen vs
 number_seen (Number m d ∷ vs) = elim (summary_of_all vs).ends as (λ a. is_some (either_or_both common_part (Some (interval m d)) a) ≡ true) [ None ↦ refl | Some e ↦ refl ]
-number_seen (AText t ∷ vs) = number_seen vs
-number_seen (AName n ∷ vs) = number_seen vs
+number_seen (v ∷ vs) = number_seen vs
 
 abbrev is_nil : Value → Bool
 is_nil Nil = true
@@ -46,16 +42,12 @@ is_nil other = false
 nil_seen : (vs : List Value) → (summary_of_all vs).nil ≡ list_any is_nil vs
 nil_seen [] = refl
 nil_seen (Nil ∷ vs) = refl
-nil_seen (Number m d ∷ vs) = nil_seen vs
-nil_seen (AText t ∷ vs) = nil_seen vs
-nil_seen (AName n ∷ vs) = nil_seen vs
+nil_seen (v ∷ vs) = nil_seen vs
 
 nil_there : (vs : List Value) → list_any is_nil vs ≡ true → Contains vs Nil
 nil_there [] h = absurd (true≢false (sym h))
 nil_there (Nil ∷ vs) h = (zero, omega arith, refl)
-nil_there (Number m d ∷ vs) h = let a = nil_there vs h in (suc a.0, omega (arith, a.1), a.2)
-nil_there (AText t ∷ vs) h = let a = nil_there vs h in (suc a.0, omega (arith, a.1), a.2)
-nil_there (AName n ∷ vs) h = let a = nil_there vs h in (suc a.0, omega (arith, a.1), a.2)
+nil_there (v ∷ vs) h = let a = nil_there vs h in (suc a.0, omega (arith, a.1), a.2)
 
 nil_found : (vs : List Value) (k : ℕ) → k < length vs → get_or vs k Nil ≡ Nil → list_any is_nil vs ≡ true
 nil_found [] k lt is = absurd (omega (arith, lt))

@@ -7,7 +7,7 @@ use Rattle.std.specs.Cmp.{IsTotalOrder, Equal-is}
 use Rattle.std.specs.Ordering.{is_eq, match_ordering}
 use Rattle.std.specs.declared.cmp.Ordering.{Ordering}
 use Rattle.std.specs.declared.cmp.Ordering.TheVariants.{Less, Equal, Greater}
-use mathlib.Core.Bool.{◌||◌}
+use Rattle.std.proofs.Math.Bool.{or-false}
 use Rattle.oim_value.specs.Interval.{common_part}
 use Rattle.oim_value.specs.declared.value.Value.{Value}
 use Rattle.merge_laws.specs.Ends.{Summarised, summary_of, both_summaries, summary_of_all}
@@ -90,12 +90,8 @@ module _ {K V : Type 0} {R : K → K → Ordering} (exact : (x y : K) → R x y 
 
 -- ---- summaries
 
-or_nothing : (a : Bool) → (a || false) ≡ a
-or_nothing true = refl
-or_nothing false = refl
-
 with_nothing : (a : Summarised) → both_summaries a (summary_of_all []) ≡ a
-with_nothing a = λ i. record { nil = or_nothing a.nil i; ends = alone common_part a.ends i }
+with_nothing a = λ i. record { nil = or-false a.nil i; ends = alone common_part a.ends i }
 
 pub summary_of_one : SummaryOfOne
 summary_of_one v = with_nothing (summary_of v)

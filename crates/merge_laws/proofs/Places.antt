@@ -19,8 +19,7 @@ use Rattle.merge_laws.specs.code.Items.{turned_less, turned_greater}
 
 pub less : (r : Ordering) → true ≡ is_lt r → r ≡ Less
 less Less t = refl
-less Equal t = absurd (true≢false t)
-less Greater t = absurd (true≢false t)
+less r t = absurd (true≢false t)
 
 module _ {K E : Type 0} {R : K → K → Ordering} (key : E → K) (o : IsTotalOrder R) where
   pub rising_at : (es : List E) → IsRising R key es → (i j : ℕ) (d : E) → i < j → j < length es → R (key (get_or es i d)) (key (get_or es j d)) ≡ Less

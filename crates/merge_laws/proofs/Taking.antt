@@ -20,18 +20,15 @@ use Rattle.merge_laws.proofs.Lists.{AllBelow, from_end, all_both, all_front, all
 
 absent_below : {A : Type 0} (a b : Option A) → option_or (option_or a b) None ≡ option_or (option_or a None) (option_or b None)
 absent_below None None = refl
-absent_below None (Some y) = refl
-absent_below (Some x) b = refl
+absent_below o b = refl
 
 absent_tied : {A : Type 0} (a b : Option A) (y : A) → option_or (option_or a b) (Some y) ≡ option_or (option_or a None) (option_or b (Some y))
 absent_tied None None y = refl
-absent_tied None (Some x) y = refl
-absent_tied (Some x) b y = refl
+absent_tied o b y = refl
 
 absent_above : {A : Type 0} (a d : Option A) → option_or (option_or a None) d ≡ option_or (option_or a d) None
 absent_above None None = refl
-absent_above None (Some y) = refl
-absent_above (Some x) d = refl
+absent_above o d = refl
 
 there_first : {A : Type 0} (a b : Option A) → is_some a ≡ true → option_or a b ≡ a
 there_first None b has = absurd (true≢false (sym has))

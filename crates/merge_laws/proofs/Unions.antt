@@ -15,9 +15,8 @@ use Rattle.merge_laws.proofs.Taking.{takes_all}
 use Rattle.merge_laws.proofs.Values.{revalued, IsRevalued, revalues_all}
 
 older_or : {A : Type 0} (a b : Option A) → option_or a b ≡ either_or_both older a b
-older_or None b = refl
 older_or (Some x) None = refl
-older_or (Some x) (Some y) = refl
+older_or o b = refl
 
 module _ {K : Type 0} {R : K → K → Ordering} (o : IsTotalOrder R) where
   pub set_taken : (xs ys : List K) → IsSet R xs → IsSet R ys → inserted xs (reverse (new_items R itself xs ys)) ≡ set_union R xs ys
@@ -37,9 +36,8 @@ module _ {K : Type 0} {R : K → K → Ordering} (o : IsTotalOrder R) where
 
 module _ {K V : Type 0} {R : K → K → Ordering} (o : IsTotalOrder R) (merged : V → V → V) where
   revalued_or : (a b : Option (K × V)) → option_or (revalued o merged a b) b ≡ either_or_both (merged_entries merged) a b
-  revalued_or None b = refl
   revalued_or (Some x) None = refl
-  revalued_or (Some x) (Some y) = refl
+  revalued_or o b = refl
 
   -- replacing values does not change which entries are new
   same_news : (es out fs : List (K × V)) → IsRevalued o merged es fs out → (gs : List (K × V)) → new_items R entry_key es gs ≡ new_items R entry_key out gs

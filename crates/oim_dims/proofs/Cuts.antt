@@ -32,7 +32,7 @@ some_after : (p : ℕ → Bool) (xs ys : List ℕ) (c : ℕ) → p c ≡ true �
 some_after p [] ys c here = rw here refl
 some_after p (x ∷ xs) ys c here = rw (some_after p xs ys c here) (elim (p x) as (λ b. (b || true) ≡ true) [ true ↦ refl | false ↦ refl ])
 
-drop_past : (xs ys : List ℕ) (c : ℕ) → drop (length xs + 1) (xs ++ c ∷ ys) ≡ ys
+pub drop_past : (xs ys : List ℕ) (c : ℕ) → drop (length xs + 1) (xs ++ c ∷ ys) ≡ ys
 drop_past [] ys c = refl
 drop_past (x ∷ xs) ys c = let next : suc (length xs) + 1 ≡ suc (length xs + 1) = omega arith in rw next (drop_past xs ys c)
 

@@ -7,7 +7,8 @@ use Rattle.jiff_core.specs.Calendar.{days_from_civil, days_in_month, days_in_yea
 use Rattle.jiff_core.proofs.CalendarLemmas.{day_count-next_year, day_count-next_month, day_count-last_of_year, day_count-day, days_in_month_bounds, days_from_civil-day_count, day_count-end}
 use Rattle.jiff_core.proofs.SignedLemmas.{signed_arith}
 use Rattle.oim_dims.specs.DateTime.{greatest, year_of, month_of, day_of}
-use Rattle.oim_dims.proofs.Calendar.{first_day, le_true}
+use Rattle.oim_dims.proofs.Calendar.{first_day}
+use Rattle.oim_value.proofs.Ends.{le_from, le_to}
 
 -- g is the greatest number from k to n that passes the test
 record IsGreatest (p : ℕ → Bool) (n k g : ℕ) : Type 0 where
@@ -39,16 +40,13 @@ greatest_passes p (suc n) k low high here =
       ]
     ] refl
 
-le_is : (a b : ℤ) → int_le a b ≡ true → a ≤ℤ b
-le_is a b h = grind (arith, ints)
-
 lt_is : (a b : ℤ) → int_le a b ≡ false → b <ℤ a
 lt_is a b h = grind (arith, ints)
 
 -- the day z is in the year found for z
 year_holds : (z : ℤ) → IsBetween (neg_ℤ (pos 719_162)) (pos 2_932_896) z → (y : ℕ) → IsGreatest (λ n. int_le (days_from_civil (pos n) 1 1) z) 9999 1 y → (days_from_civil (pos y) 1 1 ≤ℤ z) × (z <ℤ (days_from_civil (pos y) 1 1 +ℤ pos (days_in_year (pos y))))
 year_holds z h y g =
-    let here : days_from_civil (pos y) 1 1 ≤ℤ z = le_is _ _ g.here in
+    let here : days_from_civil (pos y) 1 1 ≤ℤ z = le_from _ _ g.here in
     let number = days_from_civil-day_count (pos y) 1 1 in
     let next = day_count-next_year (pos y) (pos (y + 1)) (omega (arith, signed_arith)) (omega (arith, signed_arith)) in
     let next_number = days_from_civil-day_count (pos (y + 1)) 1 1 in
@@ -60,7 +58,7 @@ year_holds z h y g =
 -- the day z is in the month found for z
 month_holds : (y : ℕ) (z : ℤ) → z <ℤ (days_from_civil (pos y) 1 1 +ℤ pos (days_in_year (pos y))) → (m : ℕ) → IsGreatest (λ n. int_le (days_from_civil (pos y) n 1) z) 12 1 m → (days_from_civil (pos y) m 1 ≤ℤ z) × (z <ℤ (days_from_civil (pos y) m 1 +ℤ pos (days_in_month (pos y) m)))
 month_holds y z within m g =
-    let here : days_from_civil (pos y) m 1 ≤ℤ z = le_is _ _ g.here in
+    let here : days_from_civil (pos y) m 1 ≤ℤ z = le_from _ _ g.here in
     let number = days_from_civil-day_count (pos y) m 1 in
     elim (cases_lt m 12) [
       | inl lt ↦ let past : z <ℤ days_from_civil (pos y) (m + 1) 1 = lt_is _ _ (g.above (m + 1) (omega arith) (omega arith)) in (here, omega (arith, signed_arith, past, number, day_count-next_month (pos y) m g.low, days_from_civil-day_count (pos y) (m + 1) 1))
@@ -70,7 +68,7 @@ month_holds y z within m g =
 -- the day of the month found for z is in the month, and z is the day number of that date
 day_holds : (y m : ℕ) (z : ℤ) → z <ℤ (days_from_civil (pos y) m 1 +ℤ pos (days_in_month (pos y) m)) → (n : ℕ) → IsGreatest (λ j. int_le (days_from_civil (pos y) m j) z) 31 1 n → (n ≤ days_in_month (pos y) m) × (days_from_civil (pos y) m n ≡ z)
 day_holds y m z within n g =
-    let here : days_from_civil (pos y) m n ≤ℤ z = le_is _ _ g.here in
+    let here : days_from_civil (pos y) m n ≤ℤ z = le_from _ _ g.here in
     let number = days_from_civil-day_count (pos y) m n in
     let first = days_from_civil-day_count (pos y) m 1 in
     let from_first = day_count-day (pos y) m n 1 g.low (omega arith) in
@@ -94,10 +92,10 @@ pub date_of_day : (z : ℤ) → IsBetween (neg_ℤ (pos 719_162)) (pos 2_932_896
 unfolding year_of month_of day_of
 date_of_day z h =
     let one : days_from_civil (pos 1) 1 1 ≤ℤ z = omega (arith, signed_arith, h.0, days_from_civil-day_count (pos 1) 1 1, first_day) in
-    let y = greatest_passes (λ n. int_le (days_from_civil (pos n) 1 1) z) 9999 1 (omega arith) (omega arith) (le_true _ _ one) in
+    let y = greatest_passes (λ n. int_le (days_from_civil (pos n) 1 1) z) 9999 1 (omega arith) (omega arith) (le_to _ _ one) in
     let in_year = year_holds z h (year_of z) y in
-    let m = greatest_passes (λ n. int_le (days_from_civil (pos (year_of z)) n 1) z) 12 1 (omega arith) (omega arith) (le_true _ _ in_year.0) in
+    let m = greatest_passes (λ n. int_le (days_from_civil (pos (year_of z)) n 1) z) 12 1 (omega arith) (omega arith) (le_to _ _ in_year.0) in
     let in_month = month_holds (year_of z) z in_year.1 (month_of z) m in
-    let d = greatest_passes (λ n. int_le (days_from_civil (pos (year_of z)) (month_of z) n) z) 31 1 (omega arith) (omega arith) (le_true _ _ in_month.0) in
+    let d = greatest_passes (λ n. int_le (days_from_civil (pos (year_of z)) (month_of z) n) z) 31 1 (omega arith) (omega arith) (le_to _ _ in_month.0) in
     let on_day = day_holds (year_of z) (month_of z) z in_month.1 (day_of z) d in
     record { first = y.low; civil = ((omega (arith, signed_arith), omega (arith, signed_arith, y.high)), (m.low, m.high), (d.low, on_day.0)); number = on_day.1 }

@@ -5,7 +5,7 @@ use Rattle.std.specs.Option.{option_or}
 use Rattle.std.specs.List.{find, list_any}
 use Rattle.std.proofs.lemmas.List.Folds.{find-append}
 
-some_found : {B : Type 0} (test : B → Bool) (xs : List B) → is_some (find test xs) ≡ list_any test xs
+pub some_found : {B : Type 0} (test : B → Bool) (xs : List B) → is_some (find test xs) ≡ list_any test xs
 some_found test [] = refl
 some_found test (x ∷ xs) = elim (test x) as (λ b. is_some (cond b (Some x) (find test xs)) ≡ (b || list_any test xs)) [ true ↦ refl | false ↦ some_found test xs ]
 

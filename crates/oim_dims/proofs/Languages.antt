@@ -1,5 +1,5 @@
 -- A language in lower case is read without a change.
-use Rattle.std.proofs.Common.{◌≡◌, ℕ, zero, suc, Bool, true, false, cond, List, [], ◌∷◌, map, take, refl, sym, ap, ◌∙◌, arith}
+use Rattle.std.proofs.Common.{◌≡◌, ℕ, suc, Bool, true, false, cond, List, [], ◌∷◌, map, take, refl, sym, ap, ◌∙◌, arith}
 use Rattle.std.specs.List.{list_all, slice_split, onto_first, position_or_len}
 use Rattle.std.specs.Char.{is_ascii_alphabetic, is_ascii_alphanumeric, to_ascii_lowercase}
 use Rattle.std.specs.Str.{str_to_ascii_lowercase}
@@ -48,9 +48,8 @@ lower_place [] = refl
 lower_place (x ∷ xs) = rw (lower_hyphen x, lower_place xs) refl
 
 lower_take : (n : ℕ) (xs : List ℕ) → take n (str_to_ascii_lowercase xs) ≡ str_to_ascii_lowercase (take n xs)
-lower_take zero xs = refl
-lower_take (suc n) [] = refl
 lower_take (suc n) (x ∷ xs) = ap (λ t. to_ascii_lowercase x ∷ t) (lower_take n xs)
+lower_take n xs = refl
 
 pub lower_language : (t : List ℕ) → is_language (str_to_ascii_lowercase t) ≡ is_language t
 lower_language t = rw (lower_split t, lower_groups (slice_split is_hyphen t), lower_place t, lower_take (position_or_len is_hyphen t) t, lower_all is_ascii_alphabetic lower_letter (take (position_or_len is_hyphen t) t)) refl

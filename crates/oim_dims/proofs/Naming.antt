@@ -21,10 +21,8 @@ first_of_three form unbound reserved =
     else Some NameForm
 
 none_of_three : (a b c : Bool) → not a ≡ false → (a && b) ≡ false → (a && c) ≡ false → first_of_three a b c ≡ None
-none_of_three false b c h k l = cc
-none_of_three true true c h k l = cc
-none_of_three true false true h k l = cc
 none_of_three true false false h k l = refl
+none_of_three b c other h k l = cc
 
 piece_named : (bs : List Binding) (p : List ℕ) → lacks_form is_name p ≡ false → lacks_binding is_name bs p ≡ false → lies_in_reserved is_name bs p ≡ false → name_refusal bs p ≡ None
 piece_named bs p h k l = none_of_three (is_name p) (is_unbound bs p) (is_reserved bs p) h k l
@@ -49,11 +47,8 @@ first_of_four form named unbound reserved =
     if not form then Some UnitForm else (if named then Some NameForm else (if unbound then Some UnboundPrefix else (if reserved then Some ReservedNamespace else None)))
 
 none_of_four : (a b c d : Bool) → first_of_four a b c d ≡ None → (a ≡ true) × (b ≡ false) × (c ≡ false) × (d ≡ false)
-none_of_four false b c d h = cc
-none_of_four true true c d h = cc
-none_of_four true false true d h = cc
-none_of_four true false false true h = cc
 none_of_four true false false false h = (refl, refl, refl, refl)
+none_of_four b c other d h = cc
 
 pub unit_named : (bs : List Binding) (t : List ℕ) → unit_refusal bs t ≡ None → IsNamed bs t
 unit_named bs t h =
@@ -66,7 +61,7 @@ unit_named bs t h =
 pub only_memory : (bs : List Binding) (p : List ℕ) (e : Reason) → name_refusal bs p ≡ None → (e ≡ OutOfMemory) ⊎ (name_refusal bs p ≡ Some e) → e ≡ OutOfMemory
 only_memory bs p e none h = elim h [ inl memory ↦ memory | inr refused ↦ absurd (cc (sym none ∙ refused)) ]
 
-no_mark_after : (n : ℕ) (p : List ℕ) → list_any is_mark p ≡ false → list_any is_mark (drop n p) ≡ false
+pub no_mark_after : (n : ℕ) (p : List ℕ) → list_any is_mark p ≡ false → list_any is_mark (drop n p) ≡ false
 no_mark_after zero p h = h
 no_mark_after (suc n) [] h = refl
 no_mark_after (suc n) (c ∷ cs) h = no_mark_after n cs (or_parts (is_mark c) (list_any is_mark cs) h).1
@@ -85,11 +80,10 @@ measure_of_piece bs p n were e h =
 
 pub measures_of_pieces : (bs : List Binding) (ps : List (List ℕ)) (ns : List QName) → AreBindings bs → AllZip (Expands bs) ps ns → list_all is_piece ps ≡ true → All IsMeasure ns
 measures_of_pieces bs [] [] were z h = λ j d lt. absurd (omega arith)
-measures_of_pieces bs [] (n ∷ ns) were z h = absurd z
-measures_of_pieces bs (p ∷ ps) [] were z h = absurd z
 measures_of_pieces bs (p ∷ ps) (n ∷ ns) were z h =
     let b = and_parts (is_piece p) (list_all is_piece ps) h in
     All-cons IsMeasure n ns (measure_of_piece bs p n were z.0 b.0) (measures_of_pieces bs ps ns were z.1 b.1)
+measures_of_pieces bs xs ys were z h = absurd z
 
 onto_some : (c : ℕ) (ps : List (List ℕ)) → 0 < length (onto_first c ps)
 onto_some c [] = omega arith
@@ -101,17 +95,15 @@ split_some (c ∷ cs) = elim (is_star c) as (λ b. 0 < length (cond b ([] ∷ sl
 
 long : (bs : List Binding) (ps : List (List ℕ)) (ns : List QName) → AllZip (Expands bs) ps ns → length ns ≡ length ps
 long bs [] [] z = refl
-long bs [] (n ∷ ns) z = absurd z
-long bs (p ∷ ps) [] z = absurd z
 long bs (p ∷ ps) (n ∷ ns) z = omega (arith, long bs ps ns z.1)
+long bs xs ys z = absurd z
 
 pub side_some : (bs : List Binding) (s : List ℕ) (ns ms : List QName) → AllZip (Expands bs) (slice_split is_star s) ns → length ms ≡ length ns → ms ≢ []
 side_some bs s ns ms z same e = let none : length ms ≡ 0 = ap length e in omega (arith, long bs (slice_split is_star s) ns z, split_some s)
 
 pub alone_is : (ns : List QName) (n : QName) → length ns ≡ 1 → n ≡ get_or ns 0 n → ns ≡ n ∷ []
-alone_is [] n one h = absurd (omega arith)
 alone_is (m ∷ []) n one h = ap (λ x. x ∷ []) (sym h)
-alone_is (m ∷ k ∷ ns) n one h = absurd (omega arith)
+alone_is xs n one h = absurd (omega arith)
 
 pub empty_is : (ns : List QName) → length ns ≡ 0 → ns ≡ []
 empty_is [] h = refl

@@ -1,17 +1,16 @@
 -- A text that denotes a unit is not refused, and it denotes only one unit that satisfies `IsUnit`.
-use Rattle.std.proofs.Common.{◌≡◌, ◌≢◌, ◌⊎◌, inl, inr, ℕ, suc, true, false, List, [], ◌∷◌, refl, subst, sym, ap, ◌∙◌, arith}
+use Rattle.std.proofs.Common.{◌≡◌, ◌≢◌, ◌⊎◌, inl, inr, ℕ, suc, false, List, [], ◌∷◌, refl, subst, sym, ap, ◌∙◌, arith}
 use Rattle.std.specs.Prelude.{Some, None, All}
 use Rattle.std.specs.List.{AllZip, list_any}
 use Rattle.std.specs.List.Sorted.{IsSorted}
 use Rattle.std.specs.Cmp.{tied_itself}
 use Rattle.std.specs.declared.cmp.Ordering.TheVariants.{Less, Equal, Greater}
-use Rattle.std.specs.Str.{bytes_eq}
 use Rattle.std.proofs.lemmas.List.Sorted.{IsPermutation-refl}
 use Rattle.oim_names.specs.QName.{QName, is_name, exact_name}
 use Rattle.oim_names.specs.Bindings.{Binding}
 use Rattle.oim_names.specs.Expansion.{Expands, name_refusal, reserved_uri, lacks_form, lacks_binding, lies_in_reserved}
 use Rattle.oim_names.specs.contracts.name.NameOrd.TheImpl.Laws.{total-law as name_total}
-use Rattle.oim_names.proofs.Bytes.{same_bytes}
+use Rattle.oim_names.proofs.Bytes.{bytes_not_eq}
 use Rattle.oim_names.proofs.Refusals.{kept_named, names_one}
 use Rattle.oim_value.specs.ValueOrder.{name_cmp}
 use Rattle.oim_dims.specs.Unit.{Measures, NamesEach, HasMeasures, unit_refusal, pure_name, pure_alone, numerator_pieces, denominator_pieces, UnitsAreNotRefused, OthersAreRefused, TextsDenoteOneUnit}
@@ -20,11 +19,10 @@ use Rattle.oim_dims.proofs.SortedOnce.{sorted_once}
 
 same_names : (bs : List Binding) (ps : List (List ℕ)) (ms ns : List QName) → AllZip (Expands bs) ps ms → AllZip (Expands bs) ps ns → ms ≡ ns
 same_names bs [] [] [] a b = refl
-same_names bs [] [] (n ∷ ns) a b = absurd b
 same_names bs [] (m ∷ ms) ns a b = absurd a
 same_names bs (p ∷ ps) [] ns a b = absurd a
-same_names bs (p ∷ ps) (m ∷ ms) [] a b = absurd b
 same_names bs (p ∷ ps) (m ∷ ms) (n ∷ ns) a b = let one = names_one is_name bs p m n a.0 b.0 in let rest = same_names bs ps ms ns a.1 b.1 in λ i. one i ∷ rest i
+same_names bs xs ys zs a b = absurd b
 
 one_side : (bs : List Binding) (ps : List (List ℕ)) (ms ns : List QName) → NamesEach bs ps ms → NamesEach bs ps ns → IsSorted name_cmp ms → IsSorted name_cmp ns → ms ≡ ns
 one_side bs ps ms ns a b sm sn =
@@ -55,23 +53,19 @@ record IsFree (bs : List Binding) (p : List ℕ) : Type 0 where
   prefix : lacks_binding is_name bs p ≡ false
   space : lies_in_reserved is_name bs p ≡ false
 
-differs : (s t : List ℕ) → s ≢ t → bytes_eq s t ≡ false
-differs s t h = elim (bytes_eq s t) as (λ b. bytes_eq s t ≡ b → b ≡ false) [ true ↦ λ e. absurd (h (same_bytes s t e)) | false ↦ λ e. refl ] refl
-
 free : (bs : List Binding) (p : List ℕ) (n : QName) → Expands bs p n → IsFree bs p
 free bs p n e =
-    let other = differs n.uri reserved_uri e.allowed in
+    let other = bytes_not_eq n.uri reserved_uri e.allowed in
     record { form = rw e.form refl; prefix = rw (e.form, e.uri) refl; space = rw (e.form, e.uri, other) refl }
 
 -- no piece is refused if each piece expands to a name
 none_refused : (bs : List Binding) (ps : List (List ℕ)) (ns : List QName) → AllZip (Expands bs) ps ns → (list_any (lacks_form is_name) ps ≡ false) × (list_any (lacks_binding is_name bs) ps ≡ false) × (list_any (lies_in_reserved is_name bs) ps ≡ false)
 none_refused bs [] [] z = (refl, refl, refl)
-none_refused bs [] (n ∷ ns) z = absurd z
-none_refused bs (p ∷ ps) [] z = absurd z
 none_refused bs (p ∷ ps) (n ∷ ns) z =
     let here = free bs p n z.0 in
     let rest = none_refused bs ps ns z.1 in
     (rw (here.form, rest.0) refl, rw (here.prefix, rest.1) refl, rw (here.space, rest.2) refl)
+none_refused bs xs ys z = absurd z
 
 measured_not_refused : (bs : List Binding) (t : List ℕ) (m : Measures) → HasMeasures bs t m → unit_refusal bs t ≡ None
 measured_not_refused bs t m h =

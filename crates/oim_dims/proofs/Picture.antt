@@ -1,5 +1,5 @@
 -- The form of a date-time, and the digits of its parts.
-use Rattle.std.proofs.Common.{◌≡◌, ℕ, zero, suc, ◌+◌, ◌-◌, ◌<◌, Bool, true, false, List, [], ◌∷◌, length, get_or, take, drop, refl, sym, ◌∙◌, add-one, arith}
+use Rattle.std.proofs.Common.{◌≡◌, ℕ, zero, suc, ◌+◌, ◌-◌, ◌<◌, true, false, List, [], ◌∷◌, length, get_or, take, drop, refl, sym, ◌∙◌, add-one, arith}
 use Rattle.std.specs.Prelude.{◌==◌, slice_range}
 use Rattle.std.proofs.lemmas.Bool.{and_parts}
 use mathlib.Core.Bool.{◌&&◌}
@@ -7,20 +7,20 @@ use Rattle.std.proofs.lemmas.Bool.Decides.{nat_tests}
 use Rattle.std.specs.Char.{is_ascii_digit}
 use Rattle.std.specs.List.{list_all, zip}
 use Rattle.std.proofs.Math.Seq.{drop-cons}
+use Rattle.std.proofs.Math.Bool.{and-false}
 use Rattle.oim_dims.specs.DateTime.{matches_picture, picture, has_picture}
 
 digit_there : (sign c : ℕ) → matches_picture (sign, c) ≡ true → (sign == 48) ≡ true → is_ascii_digit c ≡ true
 digit_there sign c h zero_sign = rw zero_sign at h
 
 front_digits : (n : ℕ) (ps cs : List ℕ) → length ps ≡ length cs → list_all matches_picture (zip ps cs) ≡ true → list_all (λ sign. sign == 48) (take n ps) ≡ true → list_all is_ascii_digit (take n cs) ≡ true
-front_digits zero ps cs same h zeros = refl
-front_digits (suc n) [] [] same h zeros = refl
 front_digits (suc n) [] (c ∷ cs) same h zeros = absurd (omega arith)
 front_digits (suc n) (p ∷ ps) [] same h zeros = absurd (omega arith)
 front_digits (suc n) (p ∷ ps) (c ∷ cs) same h zeros =
     let fit = and_parts (matches_picture (p, c)) (list_all matches_picture (zip ps cs)) h in
     let zero_signs = and_parts (p == 48) (list_all (λ sign. sign == 48) (take n ps)) zeros in
     rw (digit_there p c fit.0 zero_signs.0) (front_digits n ps cs (omega arith) fit.1 zero_signs.1)
+front_digits n ps cs same h zeros = refl
 
 -- the n characters after the first i are digits if the form has zeros there
 part_digits : (i n : ℕ) (ps cs : List ℕ) → length ps ≡ length cs → list_all matches_picture (zip ps cs) ≡ true → list_all (λ sign. sign == 48) (take n (drop i ps)) ≡ true → list_all is_ascii_digit (take n (drop i cs)) ≡ true
@@ -45,10 +45,6 @@ pictured_digits t i j h zeros =
 -- the form and the text match from index i on exactly if they match at i and after it
 picture_at : (i : ℕ) (ps cs : List ℕ) → i < length ps → i < length cs → list_all matches_picture (zip (drop i ps) (drop i cs)) ≡ (matches_picture (get_or ps i 0, get_or cs i 0) && list_all matches_picture (zip (drop (i + 1) ps) (drop (i + 1) cs)))
 picture_at i ps cs h k = rw (drop-cons ps i 0 h, drop-cons cs i 0 k, add-one) refl
-
-and-false : (b : Bool) → (b && false) ≡ false
-and-false true = refl
-and-false false = refl
 
 pub pictured_so_far : (i : ℕ) (t : List ℕ) → i < 19 → i < length t → matches_picture (get_or picture i 0, get_or t i 0) ≡ true → list_all matches_picture (zip (drop i picture) (drop i t)) ≡ list_all matches_picture (zip picture t) → list_all matches_picture (zip (drop (i + 1) picture) (drop (i + 1) t)) ≡ list_all matches_picture (zip picture t)
 pictured_so_far i t h k fit so_far = rw fit at (sym (picture_at i picture t h k)) ∙ so_far

@@ -1,6 +1,6 @@
 -- The index at which a member is inserted among members in the order of names.
 use Rattle.std.proofs.Common.{◌≡◌, ◌⊎◌, inl, inr, ℕ, zero, suc, ◌<◌, Bool, true, false, List, [], ◌∷◌, ◌++◌, length, get_or, take, drop, refl, subst, sym, ap, ◌∙◌, arith}
-use Rattle.std.specs.Prelude.{◌||◌, if◌then◌else◌, Result, Ok, Err, OnOk, OnErr, Contains, IsTrue}
+use Rattle.std.specs.Prelude.{if◌then◌else◌, Result, Ok, Err, OnOk, OnErr, Contains, IsTrue}
 use Rattle.std.proofs.lemmas.Bool.{and_parts}
 use Rattle.std.specs.List.{insert}
 use Rattle.std.specs.Ordering.{is_lt, is_eq, ordering_reverse}
@@ -8,6 +8,7 @@ use Rattle.std.specs.declared.cmp.Ordering.{Ordering}
 use Rattle.std.specs.declared.cmp.Ordering.TheVariants.{Less, Equal, Greater}
 use Rattle.std.specs.Cmp.{tied_itself}
 use Rattle.std.proofs.Math.Seq.{drop-cons}
+use Rattle.std.proofs.Math.Bool.{or-true}
 use Rattle.oim_names.specs.QName.{QName, exact_name}
 use Rattle.oim_names.specs.contracts.name.NameOrd.TheImpl.Laws.{total-law as name_total}
 use Rattle.oim_dims.specs.declared.member.Member.{Member}
@@ -22,8 +23,7 @@ pub record IsPast (n : QName) (es : List (QName × Member)) (i : ℕ) : Type 0 w
 
 pub less_is : (o : Ordering) → is_lt o ≡ true → o ≡ Less
 less_is Less h = refl
-less_is Equal h = cc
-less_is Greater h = cc
+less_is r h = cc
 
 below_none : (n k : QName) (es : List (QName × Member)) → name_cmp n k ≡ Less → is_below k es ≡ true → has_name n es ≡ false
 below_none n k [] less h = refl
@@ -89,11 +89,7 @@ there n (e ∷ es) h =
 here_at : (n : QName) (es : List (QName × Member)) (m : Member) (k : ℕ) → k < length es → get_or es k (n, m) ≡ (n, m) → has_name n es ≡ true
 here_at n [] m k within is = absurd (omega arith)
 here_at n (e ∷ es) m zero within is = let tie : name_cmp n e.0 ≡ Equal = ap (λ (f : QName × Member). name_cmp n f.0) is ∙ tied_itself name_total n in rw tie refl
-here_at n (e ∷ es) m (suc k) within is = rw (here_at n es m k (omega arith) is) (or_true (is_eq (name_cmp n e.0)))
-  where
-    or_true : (b : Bool) → (b || true) ≡ true
-    or_true true = refl
-    or_true false = refl
+here_at n (e ∷ es) m (suc k) within is = rw (here_at n es m k (omega arith) is) (or-true (is_eq (name_cmp n e.0)))
 
 pub names_are_there : NamesAreThere
 names_are_there n es = (there n es, λ found. here_at n es found.0 found.1.0 found.1.1 found.1.2)

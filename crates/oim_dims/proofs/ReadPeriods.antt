@@ -63,8 +63,6 @@ ends : (s e : ℤ) → int_lt e s ≡ false → int_eq s e ≡ false → s <ℤ 
 ends s e h k = grind (arith, ints)
 
 from_to_is : (s e : Option ℤ) (p : Period) → ((z : ℤ) → s ≡ Some z → IsMoment z) → ((z : ℤ) → e ≡ Some z → IsMoment z) → from_to s e ≡ Ok p → IsPeriod p
-from_to_is None e p hs he h = absurd (cc)
-from_to_is (Some s) None p hs he h = absurd (cc)
 from_to_is (Some s) (Some e) p hs he h =
     elim (int_lt e s) as (λ b. int_lt e s ≡ b → (if b then Err PeriodOrder else (if int_eq s e then Ok (Instant s) else Ok (Duration s e))) ≡ Ok p → IsPeriod p) [
       | true ↦ λ k q. absurd (cc)
@@ -73,6 +71,7 @@ from_to_is (Some s) (Some e) p hs he h =
         | false ↦ λ l r. let is : Duration s e ≡ p = cc in subst IsPeriod is (record { moments = (hs s refl, he e refl); forward = ends s e k l })
       ] refl q
     ] refl h
+from_to_is o e p hs he h = absurd (cc)
 
 pub read_period_is : ReadPeriodsArePeriods
 read_period_is t p h = from_to_is (moment_of (start_part t)) (moment_of (end_part t)) p (read_moment_is (start_part t)) (read_moment_is (end_part t)) h

@@ -10,6 +10,7 @@ use Rattle.std.proofs.Math.Seq.{drop-cons}
 use Rattle.std.proofs.lemmas.Bool.{and_parts, or_parts, or_from}
 use Rattle.std.proofs.lemmas.List.Sorted.{IsPermutation-sym}
 use Rattle.std.proofs.lemmas.Map.Keys.{IsDistinct-IsPermutation}
+use Rattle.std.proofs.Math.Bool.{and-false}
 use Rattle.oim_names.specs.QName.{QName}
 use Rattle.oim_names.specs.contracts.name.NameOrd.TheImpl.Laws.{total-law as name_total}
 use Rattle.oim_dims.specs.contracts.member.MemberOrd.TheImpl.{cmp-value as derived_member}
@@ -27,16 +28,12 @@ item_order x y = ordering_then (name_cmp x.0 y.0) (derived_member.it x.1 y.1)
 
 -- ---- neighbours
 
-and_false : (b : Bool) → (b && false) ≡ false
-and_false true = refl
-and_false false = refl
-
 pub rises_behind : (e f : Item) (es : List Item) → is_lt (name_cmp e.0 f.0) ≡ true → rises (e ∷ f ∷ es) ≡ rises (f ∷ es)
 rises_behind e f es lesser =
     ap (λ b. (b && is_below e.0 es) && (is_below f.0 es && rises es)) lesser
     ∙ elim (is_below f.0 es) as (λ b. is_below f.0 es ≡ b → (is_below e.0 es && (b && rises es)) ≡ (b && rises es)) [
       | true ↦ λ h. ap (λ b. b && rises es) (below_all e.0 f.0 es (less_is _ lesser) h)
-      | false ↦ λ h. and_false (is_below e.0 es)
+      | false ↦ λ h. and-false (is_below e.0 es)
     ] refl
 
 pub falls_behind : (e f : Item) (es : List Item) → is_lt (name_cmp e.0 f.0) ≡ false → rises (e ∷ f ∷ es) ≡ false
@@ -50,10 +47,9 @@ at_place es i e within is = rw add-one (drop-cons es i e within ∙ ap (λ x. x 
 abbrev same_name : Item → Item → Bool
 same_name x y = is_eq (name_cmp x.0 y.0)
 
-same_back : (o : Ordering) → is_eq (ordering_reverse o) ≡ is_eq o
+pub same_back : (o : Ordering) → is_eq (ordering_reverse o) ≡ is_eq o
 same_back Less = refl
-same_back Equal = refl
-same_back Greater = refl
+same_back r = refl
 
 same_flips : (x y : Item) → same_name x y ≡ same_name y x
 same_flips x y = ap is_eq (name_total.antisymm x.0 y.0) ∙ same_back (name_cmp y.0 x.0)
@@ -97,8 +93,6 @@ sorted_rest : (e : Item) (es : List Item) → IsSorted item_order (e ∷ es) →
 sorted_rest e es h k d low within = let one : suc k + 1 ≡ suc (k + 1) = omega arith in rw one at (h (suc k) d (omega arith) (omega arith))
 
 pub once_rises : (es : List Item) → IsSorted item_order es → repeats es ≡ false → rises es ≡ true
-once_rises [] sorted h = refl
-once_rises (e ∷ []) sorted h = refl
 once_rises (e ∷ f ∷ es) sorted h =
     let b = or_parts (has_name e.0 (f ∷ es)) (repeats (f ∷ es)) h in
     elim (name_cmp e.0 f.0) as (λ o. name_cmp e.0 f.0 ≡ o → rises (e ∷ f ∷ es) ≡ true) [
@@ -108,6 +102,7 @@ once_rises (e ∷ f ∷ es) sorted h =
           let back : name_cmp f.0 e.0 ≡ Less = name_total.antisymm f.0 e.0 ∙ ap ordering_reverse o in
           absurd (let apart : is_lt (item_order f e) ≡ false = sorted 0 e (omega arith) (omega arith) in cc (rw back at apart))
     ] refl
+once_rises xs sorted h = refl
 
 pub once_where_it_rises : (es sorted : List Item) → IsPermutation es sorted → rises sorted ≡ true → repeats es ≡ false
 once_where_it_rises es sorted moved up = repeats_moved sorted es (IsPermutation-sym es sorted moved) (rises_once sorted up)

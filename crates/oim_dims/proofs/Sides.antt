@@ -4,7 +4,7 @@ use Rattle.std.specs.Prelude.{if◌then◌else◌, ◌==◌}
 use Rattle.std.specs.List.{position_or_len, before_first, after_first}
 use Rattle.std.proofs.lemmas.List.{take_more, take_all}
 use Rattle.std.proofs.Math.Seq.{take-append_seam, get_or-append_seam}
-use Rattle.std.proofs.lemmas.Bool.Decides.{nat_tests}
+use Rattle.std.proofs.lemmas.Bool.{eqb-true}
 use Rattle.oim_dims.specs.Separators.{is_slash}
 use Rattle.oim_dims.specs.Unit.{inner, side_pieces, numerator_pieces, denominator_pieces}
 use Rattle.oim_dims.proofs.Cuts.{none_passes, some_passes}
@@ -14,14 +14,11 @@ front_and_last xs h =
     let e : length xs - 1 + 1 ≡ length xs = omega arith in
     sym (rw e at (sym (take_more xs (length xs - 1) 0 (omega arith))) ∙ take_all (length xs) xs (omega arith))
 
-is_it : (c n : ℕ) → (c == n) ≡ true → c ≡ n
-is_it c n h = grind (arith, nat_tests)
-
 pub unopened : (s : List ℕ) → ((rest : List ℕ) → s ≢ 40 ∷ rest) → s ≡ inner s
 unopened [] h = refl
 unopened (c ∷ cs) h =
     elim (c == 40) as (λ b. (c == 40) ≡ b → c ∷ cs ≡ inner (c ∷ cs)) [
-      | true ↦ λ e. absurd (h cs (ap (λ x. x ∷ cs) (is_it c 40 e)))
+      | true ↦ λ e. absurd (h cs (ap (λ x. x ∷ cs) (eqb-true c 40 e)))
       | false ↦ λ e. rw e refl
     ] refl
 
@@ -30,7 +27,7 @@ inner_open rest = let e : length (40 ∷ rest) - 1 ≡ length rest = omega arith
 
 last_open : (c : ℕ) (cs : List ℕ) → (get_or (40 ∷ c ∷ cs) (length (c ∷ cs)) 0 == 41) ≡ true → c ∷ cs ≡ take (length cs) (c ∷ cs) ++ 41 ∷ []
 last_open c cs h =
-    let last : get_or (c ∷ cs) (length cs) 0 ≡ 41 = is_it _ 41 h in
+    let last : get_or (c ∷ cs) (length cs) 0 ≡ 41 = eqb-true _ 41 h in
     let e : length (c ∷ cs) - 1 ≡ length cs = omega arith in
     rw (e, last) at (front_and_last (c ∷ cs) (omega arith))
 

@@ -94,14 +94,12 @@ under_opening c h = grind (arith, nat_tests)
 -- splitting a product at `*` returns the texts of its measures
 split_joined : (bs : List Binding) (ts : List (List ℕ)) (ns : List QName) → AllZip (Spells bs) ts ns → 0 < length ns → slice_split is_star (join_with_byte 42 ts) ≡ ts
 split_joined bs [] [] z h = absurd (omega arith)
-split_joined bs [] (n ∷ ns) z h = absurd z
-split_joined bs (t ∷ ts) [] z h = absurd z
 split_joined bs (t ∷ []) (n ∷ []) z h = slice_split_none is_star t (none_all is_star t (without is_star under_star t (plain_piece t z.0.piece)))
-split_joined bs (t ∷ []) (n ∷ m ∷ ns) z h = absurd z.1
-split_joined bs (t ∷ u ∷ ts) (n ∷ []) z h = absurd z.1
 split_joined bs (t ∷ u ∷ ts) (n ∷ m ∷ ns) z h =
     slice_split_at is_star t 42 (join_with_byte 42 (u ∷ ts)) (none_all is_star t (without is_star under_star t (plain_piece t z.0.piece))) refl
     ∙ ap (λ x. t ∷ x) (split_joined bs (u ∷ ts) (m ∷ ns) z.1 (omega arith))
+split_joined bs (t ∷ xs) (n ∷ ys) z h = absurd z.1
+split_joined bs xs ys z h = absurd z
 
 no_opening : (s : List ℕ) → list_any is_opening s ≡ false → s ≡ inner s
 no_opening s h = unopened s (λ rest is. absurd (cc (rw is at h)))
@@ -142,9 +140,8 @@ pieces_are bs (t ∷ ts) (n ∷ ns) z = rw (z.0.piece, pieces_are bs ts ns z.1) 
 
 expand_each : (bs : List Binding) (ts : List (List ℕ)) (ns : List QName) → AllZip (Spells bs) ts ns → AllZip (Expands bs) ts ns
 expand_each bs [] [] z = tt
-expand_each bs [] (n ∷ ns) z = absurd z
-expand_each bs (t ∷ ts) [] z = absurd z
 expand_each bs (t ∷ ts) (n ∷ ns) z = (z.0.expands, expand_each bs ts ns z.1)
+expand_each bs xs ys z = absurd z
 
 names_each : (bs : List Binding) (f : QName → List ℕ) (ns : List QName) → AllZip (Spells bs) (map f ns) ns → NamesEach bs (map f ns) ns
 names_each bs f ns z = record { spelled = ns; expands = expand_each bs _ ns z; same = IsPermutation-refl ns }

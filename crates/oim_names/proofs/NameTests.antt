@@ -18,18 +18,11 @@ refuses_so ReservedNamespace form uri = form && option_map_or (λ u. bytes_eq u 
 refuses_so r form uri = false
 
 told_so : (r : Reason) (form : Bool) (uri : Option (List ℕ)) → option_eq same_reason.it (if form then prefix_refusal uri else Some NameForm) (Some r) ≡ refuses_so r form uri
-told_so NameForm false uri = refl
-told_so UnboundPrefix false uri = refl
-told_so ReservedNamespace false uri = refl
-told_so r false uri = refl
-told_so NameForm true None = refl
-told_so UnboundPrefix true None = refl
-told_so ReservedNamespace true None = refl
-told_so r true None = refl
 told_so NameForm true (Some u) = elim (bytes_eq u reserved_uri) as (λ b. option_eq same_reason.it (if b then Some ReservedNamespace else None) (Some NameForm) ≡ false) [ true ↦ refl | false ↦ refl ]
 told_so UnboundPrefix true (Some u) = elim (bytes_eq u reserved_uri) as (λ b. option_eq same_reason.it (if b then Some ReservedNamespace else None) (Some UnboundPrefix) ≡ false) [ true ↦ refl | false ↦ refl ]
 told_so ReservedNamespace true (Some u) = elim (bytes_eq u reserved_uri) as (λ b. option_eq same_reason.it (if b then Some ReservedNamespace else None) (Some ReservedNamespace) ≡ b) [ true ↦ refl | false ↦ refl ]
 told_so r true (Some u) = elim (bytes_eq u reserved_uri) as (λ b. option_eq same_reason.it (if b then Some ReservedNamespace else None) (Some r) ≡ false) [ true ↦ refl | false ↦ refl ]
+told_so r b uri = refl
 
 pub told : (r : Reason) (bs : List Binding) (n : Spelled) → option_eq same_reason.it (refusal_as n.has_form bs n.text) (Some r) ≡ refuses r bs n
 told NameForm bs n = told_so NameForm (n.has_form n.text) (uri_of bs (prefix_part n.text))

@@ -16,10 +16,8 @@ by_tests form unbound reserved =
     if form then (if unbound then Some UnboundPrefix else (if reserved then Some ReservedNamespace else None)) else Some NameForm
 
 pub passed : (a b c : Bool) → by_tests a b c ≡ None → (a ≡ true) × (b ≡ false) × (c ≡ false)
-passed false b c h = absurd (cc)
-passed true true c h = absurd (cc)
-passed true false true h = absurd (cc)
 passed true false false h = (refl, refl, refl)
+passed b c other h = absurd (cc)
 
 there : (u : Option (List ℕ)) → is_none u ≡ false → option_map_or (λ v. bytes_eq v reserved_uri) u false ≡ false → (v : List ℕ) × (u ≡ Some v) × (v ≢ reserved_uri)
 there None h k = absurd (cc)
@@ -50,24 +48,21 @@ names_one has_form bs t m n a b =
 
 form_first : (a b c : Bool) → (by_tests a b c ≡ Some NameForm) ↔ IsTrue (not a)
 form_first false b c = (λ h. refl, λ h. refl)
-form_first true true c = (λ h. absurd (cc), λ h. absurd (cc))
 form_first true false true = (λ h. absurd (cc), λ h. absurd (cc))
-form_first true false false = (λ h. absurd (cc), λ h. absurd (cc))
+form_first true b c = (λ h. absurd (cc), λ h. absurd (cc))
 
 unbound_second : (a b c : Bool) → (by_tests a b c ≡ Some UnboundPrefix) ↔ IsTrue (a && b)
-unbound_second false b c = (λ h. absurd (cc), λ h. absurd (cc))
 unbound_second true true c = (λ h. refl, λ h. refl)
 unbound_second true false true = (λ h. absurd (cc), λ h. absurd (cc))
-unbound_second true false false = (λ h. absurd (cc), λ h. absurd (cc))
+unbound_second b c other = (λ h. absurd (cc), λ h. absurd (cc))
 
 when_reserved : (b : Bool) → ((if b then Some ReservedNamespace else None) ≡ Some ReservedNamespace) ↔ IsTrue b
 when_reserved true = (λ h. refl, λ h. refl)
 when_reserved false = (λ h. absurd (cc), λ h. absurd (cc))
 
 reserved_third : (a : Bool) (u : Option (List ℕ)) → (by_tests a (is_none u) (option_map_or (λ v. bytes_eq v reserved_uri) u false) ≡ Some ReservedNamespace) ↔ IsTrue (a && option_map_or (λ v. bytes_eq v reserved_uri) u false)
-reserved_third false u = (λ h. absurd (cc), λ h. absurd (cc))
-reserved_third true None = (λ h. absurd (cc), λ h. absurd (cc))
 reserved_third true (Some v) = when_reserved (bytes_eq v reserved_uri)
+reserved_third b u = (λ h. absurd (cc), λ h. absurd (cc))
 
 pub form_is_tested : (has_form : List ℕ → Bool) → FormIsTested has_form
 form_is_tested has_form bs t = form_first (has_form t) _ _

@@ -74,7 +74,7 @@ pub record HasAccepted (sheet : Sheet) (bs : List Binding) (d : Data) (f : Fact)
   pub there : parts.dimensions ≡ Some dimensions
   pub said : IsSaid sheet bs parts dimensions f
 
-ok_or : (r : Option Reason) (o : Option Fact) (f : Fact) → fact_or r o ≡ Ok f → o ≡ Some f
+pub ok_or : (r : Option Reason) (o : Option Fact) (f : Fact) → fact_or r o ≡ Ok f → o ≡ Some f
 ok_or None (Some g) f e = cc
 ok_or r o f e = absurd (cc)
 

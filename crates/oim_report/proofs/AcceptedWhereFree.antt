@@ -22,14 +22,11 @@ use Rattle.oim_report.proofs.AcceptedFacts.{next, ok_of}
 use Rattle.oim_report.proofs.Documents.{document_is_said, document_said, is_allowed, not_refused}
 use Rattle.oim_report.proofs.OneDocument.{says_one_document}
 
-pub one_free : (sheet : Sheet) (bs : List Binding) (d : Data) (f : Fact) → fact_outcome sheet bs d ≡ Ok f → IsFree sheet bs d
-one_free = said_is_free
-
 pub all_free : (sheet : Sheet) (bs : List Binding) (n : ℕ) (ds : List Data) (fs : List Fact) → all_or_first n (map (fact_outcome sheet bs) ds) ≡ Ok fs → AllByRecursion (IsFree sheet bs) ds
 all_free sheet bs n [] fs e = tt
 all_free sheet bs n (d ∷ ds) fs e =
     let a = next n (fact_outcome sheet bs d) (map (fact_outcome sheet bs) ds) fs e in
-    (one_free sheet bs d a.0 a.2, all_free sheet bs (n + 1) ds a.1 a.3)
+    (said_is_free sheet bs d a.0 a.2, all_free sheet bs (n + 1) ds a.1 a.3)
 
 not_above : (b : Bool) (d e : Document) → cond b (Err (at AtDocument DisallowedDuplicates)) (Ok d) ≡ Ok e → b ≡ false
 not_above true d e h = absurd (cc)
@@ -54,13 +51,10 @@ some_accepts : (sheet : Sheet) (bytes : List ℕ) (o : Option Data) (d : Documen
 some_accepts sheet bytes None d read e = absurd (cc)
 some_accepts sheet bytes (Some tree) d read e = tree_accepts sheet bytes tree d read e
 
-pub one_said : (sheet : Sheet) (bs : List Binding) (d : Data) → IsFree sheet bs d → (f : Fact) × (fact_outcome sheet bs d ≡ Ok f)
-one_said = free_is_said
-
 pub all_ok : (sheet : Sheet) (bs : List Binding) (n : ℕ) (ds : List Data) → AllByRecursion (IsFree sheet bs) ds → (fs : List Fact) × (all_or_first n (map (fact_outcome sheet bs) ds) ≡ Ok fs)
 all_ok sheet bs n [] free = ([], refl)
 all_ok sheet bs n (d ∷ ds) free =
-    let f = one_said sheet bs d free.0 in
+    let f = free_is_said sheet bs d free.0 in
     let fs = all_ok sheet bs (n + 1) ds free.1 in
     (f.0 ∷ fs.0, ap (λ o. all_or_first n (o ∷ map (fact_outcome sheet bs) ds)) f.1 ∙ ap (map_ok (λ facts. f.0 ∷ facts)) fs.1)
 

@@ -1,7 +1,7 @@
 -- A document's text denotes the members before and after `facts`, and the member `facts` with the members of all pieces.
-use Rattle.std.proofs.Common.{◌≡◌, ℕ, ◌≤◌, Bool, true, false, ◌||◌, ◌==◌, inl, inr, ◌⊎◌, List, [], ◌∷◌, ◌++◌, Some, option_map, option_and_then, refl, sym, ap, ◌∙◌, subst, arith, append_assoc, append-nil}
+use Rattle.std.proofs.Common.{◌≡◌, ℕ, ◌≤◌, true, ◌==◌, inl, inr, List, [], ◌∷◌, ◌++◌, Some, option_map, option_and_then, refl, sym, ap, ◌∙◌, subst, arith, append_assoc, append-nil}
 use Rattle.std.specs.Prelude.{codes}
-use Rattle.std.proofs.lemmas.Bool.{eqb-true}
+use Rattle.std.proofs.lemmas.Bool.{eqb-true, or_cases}
 use Rattle.json.specs.Token.{Token, begin_object, end_object, key, string}
 use Rattle.json.specs.Text.{content}
 use Rattle.json.specs.Word.{is_space}
@@ -45,14 +45,10 @@ ended = refl
 
 -- ---- white space
 
-or_true : (a b : Bool) → (a || b) ≡ true → (a ≡ true) ⊎ (b ≡ true)
-or_true true b e = inl refl
-or_true false b e = inr e
-
 each_space : (P : ℕ → Type 0) → P 32 → P 9 → P 10 → P 13 → (x : ℕ) → is_space x ≡ true → P x
-each_space P a b c d x s = elim (or_true _ (x == 13) s) as (λ w. P x) [
-  | inl s1 ↦ elim (or_true _ (x == 10) s1) as (λ w. P x) [
-    | inl s2 ↦ elim (or_true (x == 32) (x == 9) s2) as (λ w. P x) [ inl t ↦ subst P (sym (eqb-true x 32 t)) a | inr t ↦ subst P (sym (eqb-true x 9 t)) b ]
+each_space P a b c d x s = elim (or_cases _ (x == 13) s) as (λ w. P x) [
+  | inl s1 ↦ elim (or_cases _ (x == 10) s1) as (λ w. P x) [
+    | inl s2 ↦ elim (or_cases (x == 32) (x == 9) s2) as (λ w. P x) [ inl t ↦ subst P (sym (eqb-true x 32 t)) a | inr t ↦ subst P (sym (eqb-true x 9 t)) b ]
     | inr t ↦ subst P (sym (eqb-true x 10 t)) c
   ]
   | inr t ↦ subst P (sym (eqb-true x 13 t)) d

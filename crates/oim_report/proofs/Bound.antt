@@ -1,11 +1,9 @@
 -- The entries of `namespaces` are bound one after another. Since their keys ascend, no prefix is bound twice.
-use Rattle.std.proofs.Common.{◌≡◌, ℕ, List, [], ◌∷◌, ◌++◌, Bool, true, false, cond, not, ◌||◌, Option, Some, None, string_bytes, string_cmp, String, Global, Less, nat_cmp, is_eq, bytes_eq, append_assoc, append-nil, refl, sym, ap, ◌∙◌}
+use Rattle.std.proofs.Common.{◌≡◌, ℕ, List, [], ◌∷◌, ◌++◌, Bool, true, false, cond, not, ◌||◌, Option, Some, None, string_bytes, string_cmp, String, Global, Less, bytes_eq, append_assoc, append-nil, refl, sym, ap, ◌∙◌}
 use Rattle.std.specs.Option.{option_map, option_map_or, unwrap_or}
 use Rattle.std.specs.List.{find, AllByRecursion}
 use Rattle.std.specs.List.Sorted.{IsStrictlySortedBy}
 use Rattle.std.specs.Map.{keys_of}
-use Rattle.std.specs.Cmp.Lexicographic.{slice_cmp}
-use Rattle.std.proofs.lemmas.Map.Text.{is_eq-slice_cmp}
 use Rattle.oim_names.specs.QName.{is_part}
 use Rattle.oim_names.specs.Bindings.{Binding, bound, uri_of, is_refused_binding}
 use Rattle.serde_json.specs.Data.{Members, no_members, member}
@@ -13,6 +11,7 @@ use Rattle.serde_json.specs.View.{view, members_view}
 use Rattle.serde_json.proofs.Views.{Entry}
 use Rattle.oim_report.specs.Json.{any_member, given, text_of}
 use Rattle.oim_report.specs.Namespaces.{binds_nothing, bindings_in}
+use Rattle.oim_report.proofs.LastAt.{other_key}
 
 abbrev pub bound_step : List Binding → List ℕ → Option (List ℕ) → (List Binding → Option (List Binding)) → Option (List Binding)
 bound_step bs key None more = None
@@ -25,9 +24,6 @@ bound_after bs (member key d ms) = bound_step bs key (text_of (given d)) (λ mor
 
 abbrev AreFree : List Binding → List Entry → Type 0
 AreFree bs es = AllByRecursion (λ (e : Entry). uri_of bs (string_bytes e.0) ≡ None) es
-
-other_key : (k l : List ℕ) → slice_cmp nat_cmp k l ≡ Less → bytes_eq k l ≡ false
-other_key k l less = sym (is_eq-slice_cmp k l) ∙ ap is_eq less
 
 uri_of-push : (bs : List Binding) (b : Binding) (p : List ℕ) → uri_of bs p ≡ None → bytes_eq b.prefix p ≡ false → uri_of (bs ++ b ∷ []) p ≡ None
 uri_of-push [] b p free other = rw other refl

@@ -4,10 +4,8 @@ use Rattle.std.specs.Prelude.{Option, Some, None, if◌then◌else◌, is_some, 
 use Rattle.std.specs.FinMap as map
 use Rattle.std.specs.FinMap.{FinMap, get-empty, get-insert}
 use Rattle.std.specs.List.{list_any}
-use Rattle.std.specs.Ordering.{is_eq, ordering_reverse}
+use Rattle.std.specs.Ordering.{is_eq}
 use Rattle.std.specs.Result.{result_ok}
-use Rattle.std.specs.declared.cmp.Ordering.{Ordering}
-use Rattle.std.specs.declared.cmp.Ordering.TheVariants.{Less}
 use Rattle.oim_names.specs.QName.{QName, is_name}
 use Rattle.oim_names.specs.Bindings.{Binding}
 use Rattle.oim_names.specs.Expansion.{name_refusal}
@@ -18,20 +16,16 @@ use Rattle.oim_value.specs.ValueOrder.{name_cmp}
 use Rattle.oim_report.specs.Names.{comes_again, named}
 use Rattle.oim_report.proofs.Naming.{stands}
 use Rattle.oim_report.proofs.RisingNames.{name_total}
+use Rattle.oim_dims.proofs.Rising.{same_back}
 
 -- some name of the list is in the map, or is repeated in the list
 abbrev pub again_after : {K : Type 0} → FinMap name_cmp K → List QName → Bool
 again_after m ns = list_any (λ n. map.contains_key m n) ns || comes_again ns
 
-same_back : (r : Ordering) → is_eq (ordering_reverse r) ≡ is_eq r
-same_back Less = refl
-same_back r = refl
-
 turned : (m n : QName) → is_eq (name_cmp m n) ≡ is_eq (name_cmp n m)
 turned m n = ap is_eq (name_total.antisymm m n) ∙ same_back (name_cmp n m)
 
 mixed : (a b c d : Bool) → ((a || b) || (c || d)) ≡ ((a || c) || (b || d))
-mixed true b c d = refl
 mixed false true true d = refl
 mixed a b c d = refl
 

@@ -24,7 +24,8 @@ use Rattle.oim_report.specs.Sheet.{Sheet, same_concept_kind}
 use Rattle.oim_report.proofs.ComesAgain.{read_none}
 use Rattle.oim_report.proofs.Naming.{expanded}
 use Rattle.oim_report.proofs.Repeated.{repeated_some}
-use Rattle.oim_report.proofs.ShownParts.{find_filter, found_any, shown_found}
+use Rattle.oim_report.proofs.ShownParts.{find_filter, shown_found}
+use Rattle.oim_dims.proofs.FirstFound.{some_found}
 
 pub unlisted_shown : (test : List ℕ → Data → Bool) (ms : Members) → let first = find (λ m. test m.0 m.1) (defined_members ms) in
     option_map (λ m. name (a_name m.0)) (first_defined test ms) ≡ when (list_any (λ m. test m.0 m.1) (defined_members ms)) (option_map_or (λ m. name (a_name m.0)) first nothing)
@@ -32,7 +33,7 @@ unlisted_shown test ms =
     let first = find (λ m. test m.0 m.1) (defined_members ms) in
     ap (option_map (λ m. name (a_name m.0))) (find_filter (λ m. is_defined m.0) (λ m. test m.0 m.1) (entries ms))
     ∙ shown_found (λ m. name (a_name m.0)) first
-    ∙ ap (λ b. when b (option_map_or (λ m. name (a_name m.0)) first nothing)) (found_any (λ m. test m.0 m.1) (defined_members ms))
+    ∙ ap (λ b. when b (option_map_or (λ m. name (a_name m.0)) first nothing)) (some_found (λ m. test m.0 m.1) (defined_members ms))
 
 pub either_shown : (o p : Option (List ℕ × Data)) (a b : Bool) (f g : List ℕ × Data → Shown) → is_some o ≡ a → is_some p ≡ b → option_or (option_map f o) (option_map g p) ≡ when (a || b) (option_map_or f o (option_map_or g p nothing))
 either_shown None None false false f g h k = refl
@@ -51,7 +52,7 @@ module _ (sheet : Sheet) (bs : List Binding) (ms : Members) where
       ≡ when (list_any misfit (defined_members ms) || comes_again (filter_map (λ m. named bs m.0) (defined_members ms))) (option_map_or entry (find misfit (defined_members ms)) (option_map_or two_of (repeated bs [] (defined_members ms)) nothing))
   misfit_shown =
       ap (λ o. option_or (option_map entry o) (option_map two_of (repeated bs [] (defined_members ms)))) (find_filter (λ m. is_defined m.0) misfit (entries ms))
-      ∙ either_shown (find misfit (defined_members ms)) (repeated bs [] (defined_members ms)) _ _ entry two_of (found_any misfit (defined_members ms)) (repeated_some bs (defined_members ms))
+      ∙ either_shown (find misfit (defined_members ms)) (repeated bs [] (defined_members ms)) _ _ entry two_of (some_found misfit (defined_members ms)) (repeated_some bs (defined_members ms))
 
 and_true : (b : Bool) → b ≡ (b && true)
 and_true true = refl

@@ -148,14 +148,8 @@ feature_same tree = ap (λ gs. is_none (said_level gs)) (declared_same (bindings
 flat : (a b c d e f g : Bool)
     → or_refusal (if a then Some MemberForm else (if b then Some UnknownMember else (if c then Some DocumentType else None))) (or_refusal (if d then Some Namespace else (if e then Some BaseUrl else (if f then Some TaxonomyUrl else (if g then Some Feature else None)))) None)
     ≡ (if a then Some MemberForm else (if b then Some UnknownMember else (if c then Some DocumentType else (if d then Some Namespace else (if e then Some BaseUrl else (if f then Some TaxonomyUrl else (if g then Some Feature else None)))))))
-flat true b c d e f g = refl
-flat false true c d e f g = refl
-flat false false true d e f g = refl
-flat false false false true e f g = refl
-flat false false false false true f g = refl
-flat false false false false false true g = refl
 flat false false false false false false true = refl
-flat false false false false false false false = refl
+flat b c other d e f g = refl
 
 abbrev pub grouped_refusal : Data → Option Reason
 grouped_refusal tree = first_refusal (shape_refusal tree ∷ info_refusal tree ∷ [])

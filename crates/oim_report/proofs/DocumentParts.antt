@@ -1,5 +1,6 @@
 -- The tests of a document's parts, one entry or reference at a time.
 use Rattle.std.proofs.Common.{◌≡◌, ◌≢◌, ◌⊎◌, ◌↔◌, inl, inr, ℕ, List, [], Bool, true, false, ◌||◌, ◌&&◌, not, Result, Ok, Err, refl, sym, ap, ◌∙◌}
+use Rattle.std.proofs.Math.Bool.{or-false}
 use Rattle.std.specs.Prelude.{Option, Some, None, IsTrue, IfErr, bytes_eq, is_none, option_and_then, option_map}
 use Rattle.std.specs.Option.{option_flatten, option_map_or, unwrap_or}
 use Rattle.std.specs.Result.{result_ok}
@@ -27,12 +28,8 @@ pub or_true : (b : Bool) → true ≡ (b || true)
 or_true true = refl
 or_true false = refl
 
-pub or_false : (b : Bool) → (b || false) ≡ b
-or_false true = refl
-or_false false = refl
-
 pub with_text : (key : List ℕ) (d : Data) (u : List ℕ) → text_of (given d) ≡ Some u → is_refused_binding [] key u ≡ binds_nothing key d
-with_text key d u is = or_false (not (is_part key) || bytes_eq u []) ∙ ap (λ o. not (is_part key) || option_map_or (λ t. bytes_eq t []) o true) (sym is)
+with_text key d u is = or-false (not (is_part key) || bytes_eq u []) ∙ ap (λ o. not (is_part key) || option_map_or (λ t. bytes_eq t []) o true) (sym is)
 
 pub without_text : (key : List ℕ) (d : Data) → text_of (given d) ≡ None → true ≡ binds_nothing key d
 without_text key d is = or_true (not (is_part key)) ∙ ap (λ o. not (is_part key) || option_map_or (λ t. bytes_eq t []) o true) (sym is)

@@ -31,6 +31,7 @@ use Rattle.oim_report.proofs.AcceptedFacts.{next}
 use Rattle.oim_report.proofs.AcceptedWhereFree.{accepted_where_free}
 use Rattle.oim_report.proofs.AnsweredLeast.{answered_is_least}
 use Rattle.oim_report.proofs.LeastOf.{first_told}
+use Rattle.oim_report.proofs.Accepted.{ok_or}
 
 object_first : (sheet : Sheet) (bs : List Binding) (d : Data) → first (told (holds sheet bs d)) ≡ result_err (fact_outcome sheet bs d)
 object_first sheet bs d = first_told (holds sheet bs d) ∙ answered_is_least sheet bs d
@@ -79,15 +80,11 @@ map_none : (place : Place) (rs : List Reason) → first rs ≡ None → first_of
 map_none place [] h = refl
 map_none place (s ∷ rs) h = absurd (cc)
 
-said_of : (r : Option Reason) (o : Option Fact) (f : Fact) → fact_or r o ≡ Ok f → o ≡ Some f
-said_of None (Some g) f e = cc
-said_of r o f e = absurd (cc)
-
 facts_are : (sheet : Sheet) (bs : List Binding) (n : ℕ) (ds : List Data) (fs : List Fact) → all_or_first n (map (fact_outcome sheet bs) ds) ≡ Ok fs → filter_map (λ d. option_and_then (said_fact sheet bs) (fact_parts d)) ds ≡ fs
 facts_are sheet bs n [] fs e = cc
 facts_are sheet bs n (d ∷ ds) fs e =
     let a = next n (fact_outcome sheet bs d) (map (fact_outcome sheet bs) ds) fs e in
-    let here = said_of (least (holds sheet bs d)) (option_and_then (said_fact sheet bs) (fact_parts d)) a.0 a.2 in
+    let here = ok_or (least (holds sheet bs d)) (option_and_then (said_fact sheet bs) (fact_parts d)) a.0 a.2 in
     (λ i. cons_option (here i) (facts_are sheet bs (n + 1) ds a.1 a.3 i)) ∙ a.4
 
 one_level : (b : Bool) (d : Document) → first_of (if b then at AtDocument DisallowedDuplicates ∷ [] else []) ≡ result_err (if b then Err (at AtDocument DisallowedDuplicates) else Ok d)

@@ -202,7 +202,6 @@ IsKeyed o = ⊥
 placed_alike : (t : Token) (c : Bool) (k : Place → List Token) → IsKeyed (place_token fresh t c k) → place_token after_comma t c k ≡ place_token fresh t c k
 placed_alike end_object c k h = absurd h
 placed_alike end_array c k h = absurd h
-placed_alike (string s) true k h = refl
 placed_alike t c k h = refl
 
 pub behind_comma : (ls : List Lexeme) → IsKeyed (punctuate fresh ls) → punctuate after_comma ls ≡ punctuate fresh ls

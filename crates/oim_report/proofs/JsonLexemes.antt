@@ -11,7 +11,7 @@ use Rattle.json.specs.Word.{is_operator, is_space, word}
 use Rattle.json.specs.Lex.{Lexeme, token, Class, quote, backslash, operator, space, other, class, operator_lexeme, string_token, Mode, between, in_word, in_string, in_escape, lex_byte, lex}
 use Rattle.json.specs.Align.{is_good}
 use Rattle.oim_report.specs.code.Pieces.{Closed}
-use Rattle.oim_report.proofs.JsonStrings.{turn, run, is_between, mode, Keeps, keeps-content, stays, hex_stays, all_hex, is_found}
+use Rattle.oim_report.proofs.JsonStrings.{turn, run, is_between, mode, Keeps, keeps-content, stays, hex_stays, all_hex, is_found, cases}
 use Rattle.oim_report.proofs.JsonWords.{is_end, each_end, word-front}
 
 -- ---- the end of a string
@@ -125,10 +125,6 @@ record Stops (xs : List ℕ) : Type 0 where
   at : xs ≡ p ++ y ∷ r
   is : is_end y ≡ true
   lexed : (z : List ℕ) → lex in_word (p ++ y ∷ z) ≡ lex between (y ∷ z)
-
-cases : (t : Bool) (P : Type 0) → (t ≡ true → P) → (t ≡ false → P) → P
-cases true P f g = f refl
-cases false P f g = g refl
 
 passed : (q b o s : Bool) (x : ℕ) (xs : List ℕ) (k : Mode → List Lexeme) → (o || s) ≡ false
     → lex_byte in_word (cond q quote (cond b backslash (cond o operator (cond s space other)))) x xs k ≡ k in_word

@@ -1,9 +1,9 @@
 -- The text of an http or https URL parses as that URL. A kept text stays the same if it is kept again without a base URL.
 -- The kept text of an accepted reference is accepted, and the kept text of a UTF-8 reference is UTF-8.
-use Rattle.std.proofs.Common.{◌≡◌, ℕ, ◌||◌, ◌⊎◌, inl, inr, ⊎_elim, Bool, true, false, not, List, codes, bytes_eq, Option, Some, None, Ok, Err, refl, sym, ap, ◌∙◌, subst}
+use Rattle.std.proofs.Common.{◌≡◌, ℕ, ◌⊎◌, ⊎_elim, Bool, true, false, not, List, codes, bytes_eq, Option, Some, None, Ok, Err, refl, sym, ap, ◌∙◌, subst}
 use Rattle.std.specs.Option.{option_map_or}
 use Rattle.std.specs.Str.{is_utf8, IsUtf8}
-use Rattle.std.proofs.lemmas.Bool.{cond-true, cond-false, cases_Bool, and_parts, and_from, cond_both}
+use Rattle.std.proofs.lemmas.Bool.{cond-true, cond-false, cases_Bool, and_parts, and_from, cond_both, or_cases, not-false}
 use Rattle.std.proofs.lemmas.Slice.Eq.{bytes_eq-Decides}
 use Rattle.std.proofs.lemmas.Str.{is_utf8-from_IsUtf8}
 use Rattle.url.specs.Parser.{Parsed, parse_url}
@@ -12,6 +12,7 @@ use Rattle.url.specs.Scheme.{scheme_type, default_port}
 use Rattle.url.specs.declared.scheme.SchemeType.TheVariants.{SpecialNotFile}
 use Rattle.url.proofs.Theorems.{parse_url-serialize_special}
 use Rattle.oim_report.specs.Kept.{is_web, web_url, is_web_text, web_text, kept_by, kept, is_within_limit, is_text_within_limit, is_reference_refused, KeptIsKept, KeptIsAccepted, KeptIsUtf8}
+use Rattle.oim_names.proofs.Bytes.{bytes_eq-refl}
 
 http_kind : scheme_type (codes "http") ≡ SpecialNotFile
 unfolding scheme_type default_port
@@ -21,19 +22,12 @@ https_kind : scheme_type (codes "https") ≡ SpecialNotFile
 unfolding scheme_type default_port
 https_kind = refl
 
-by_either : (a b : Bool) → (a || b) ≡ true → (a ≡ true) ⊎ (b ≡ true)
-by_either true b h = inl refl
-by_either false b h = inr h
-
 web_kind : (url : Parts) → is_web url ≡ true → kind_of url ≡ SpecialNotFile
 web_kind url h =
     ⊎_elim
     (λ http. ap scheme_type ((bytes_eq-Decides url.scheme (codes "http")).0 http) ∙ http_kind)
     (λ https. ap scheme_type ((bytes_eq-Decides url.scheme (codes "https")).0 https) ∙ https_kind)
-    (by_either (bytes_eq url.scheme (codes "http")) (bytes_eq url.scheme (codes "https")) h)
-
-same_bytes : (xs : List ℕ) → bytes_eq xs xs ≡ true
-same_bytes xs = (bytes_eq-Decides xs xs).1 refl
+    (or_cases (bytes_eq url.scheme (codes "http")) (bytes_eq url.scheme (codes "https")) h)
 
 pub web_text-parsed : (url : Parts) → IsValid url → is_web url ≡ true → parse_url None (serialize url) ≡ Ok url
 web_text-parsed url valid web = parse_url-serialize_special url None valid (web_kind url web)
@@ -43,7 +37,7 @@ web_text-valid url valid utf8 web =
     let reads : web_url (parse_url None (serialize url)) ≡ Some url =
     ap web_url (web_text-parsed url valid web) ∙ cond-true _ _ _ web in
     let same : option_map_or (λ u. bytes_eq (serialize u) (serialize url)) (web_url (parse_url None (serialize url))) false ≡ true =
-    ap (λ o. option_map_or (λ u. bytes_eq (serialize u) (serialize url)) o false) reads ∙ same_bytes (serialize url) in
+    ap (λ o. option_map_or (λ u. bytes_eq (serialize u) (serialize url)) o false) reads ∙ bytes_eq-refl (serialize url) in
     cond-true _ _ _ (and_from _ _ (is_utf8-from_IsUtf8 (serialize url) utf8) same)
 
 -- parsing returned an http or https URL with this text
@@ -92,13 +86,9 @@ by_again (Err e) (Some base) reference text reads h = web_again (web_url (parse_
 pub kept_again : KeptIsKept
 kept_again base reference text h = by_again (parse_url None reference) base reference text refl h
 
-not_false : (b : Bool) → not b ≡ false → b ≡ true
-not_false true h = refl
-not_false false h = cc
-
 pub kept_limit : (base : Option Parts) (reference text : List ℕ) → is_reference_refused base reference ≡ false → kept base reference ≡ Some text → is_within_limit text ≡ true
 kept_limit base reference text accepted h =
-    let both = and_parts (is_within_limit reference) (is_text_within_limit (kept base reference)) (not_false _ accepted) in
+    let both = and_parts (is_within_limit reference) (is_text_within_limit (kept base reference)) (not-false _ accepted) in
     sym (ap is_text_within_limit h) ∙ both.1
 
 pub accepted_itself : (text : List ℕ) → kept None text ≡ Some text → is_within_limit text ≡ true → is_reference_refused None text ≡ false

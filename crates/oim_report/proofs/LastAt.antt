@@ -35,7 +35,7 @@ colon_known known key d colon = ap (λ b. not b && not (list_any (λ k. bytes_eq
 pub text_other : (name key t : List ℕ) → t ≡ key → t ≢ name → bytes_eq name key ≡ false
 text_other name key t is differ = bytes_not_eq name key (λ same. differ (is ∙ sym same))
 
-other_key : (name key : List ℕ) → slice_cmp nat_cmp name key ≡ Less → bytes_eq name key ≡ false
+pub other_key : (name key : List ℕ) → slice_cmp nat_cmp name key ≡ Less → bytes_eq name key ≡ false
 other_key name key less = sym (is_eq-slice_cmp name key) ∙ ap is_eq less
 
 last_past : (name : List ℕ) (found : Option Data) (ms : Members) → IsBefore name ms → last_at name found ms ≡ found

@@ -4,7 +4,7 @@ use Rattle.std.specs.Prelude.{◌↔◌, ◌==◌, ◌&&◌, Option, Some, None,
 use Rattle.std.specs.Option.{option_map_or}
 use Rattle.std.specs.List.{filter, find, list_any}
 use Rattle.std.specs.List.Sorted.{IsStrictlyIncreasing}
-use Rattle.std.proofs.lemmas.Bool.{or_parts}
+use Rattle.std.proofs.lemmas.Bool.{or_parts, and_parts, or_from}
 use Rattle.std.proofs.lemmas.List.Elements.{All-contains, filter_passes}
 use Rattle.std.proofs.lemmas.List.Kept.{IsStrictlyIncreasing-filter}
 use Rattle.std.proofs.lemmas.Bool.Decides.{nat_tests}
@@ -34,10 +34,6 @@ each_stands : (r : Reason) → nth reasons (number r) ≡ Some r
 each_stands OutOfMemory = refl
 each_stands r = refl
 
-heads : (a b : Bool) → (a && b) ≡ true → (a ≡ true) × (b ≡ true)
-heads true b h = (refl, h)
-heads false b h = absurd (cc)
-
 by_test : (b : Bool) (x r : Reason) (later : Option Reason) → cond b (Some x) later ≡ Some r → ((b ≡ true) × (x ≡ r)) ⊎ ((b ≡ false) × (later ≡ Some r))
 by_test true x r later e = inl (refl, cc)
 by_test false x r later e = inr (refl, e)
@@ -63,13 +59,13 @@ module _ (holds : Reason → Bool) where
   found_first n [] k r s rising e at h = absurd (cc)
   found_first n (x ∷ xs) zero r s rising e at h =
       let same : x ≡ s = cc in
-      let here = head_number n x (heads (number x == n) (rises (n + 1) xs) rising).0 in
+      let here = head_number n x (and_parts (number x == n) (rises (n + 1) xs) rising).0 in
       ⊎_elim
       (λ f. let is : number r ≡ n = sym (ap number f.1) ∙ here in omega arith)
       (λ f. let no : true ≡ false = sym h ∙ sym (ap holds same) ∙ f.0 in absurd (cc))
       (by_test (holds x) x r (find holds xs) e)
   found_first n (x ∷ xs) (suc k) r s rising e at h =
-      let both = heads (number x == n) (rises (n + 1) xs) rising in
+      let both = and_parts (number x == n) (rises (n + 1) xs) rising in
       let here = head_number n x both.0 in
       ⊎_elim
       (λ f. let is : number r ≡ n = sym (ap number f.1) ∙ here in omega arith)
@@ -140,15 +136,12 @@ none_of h [] s none at = let lt : at.0 < 0 = at.1 in absurd (omega arith)
 none_of h (x ∷ xs) s none (zero, lt, is) = sym (ap h is) ∙ (or_parts (h x) (list_any h xs) none).0
 none_of h (x ∷ xs) s none (suc k, lt, is) = none_of h xs s (or_parts (h x) (list_any h xs) none).1 (k, omega arith, is)
 
-both_false : (a b : Bool) → a ≡ false → b ≡ false → (a || b) ≡ false
-both_false a b h k = λ i. h i || k i
-
 deeper : (x : Reason) (xs : List Reason) (r : Reason) → Contains xs r → Contains (x ∷ xs) r
 deeper x xs r at = (suc at.0, omega (arith, at.1), at.2)
 
 any_none : (h : Reason → Bool) (xs : List Reason) → ((s : Reason) → Contains xs s → h s ≡ false) → list_any h xs ≡ false
 any_none h [] none = refl
-any_none h (x ∷ xs) none = both_false (h x) (list_any h xs) (none x (0, omega arith, refl)) (any_none h xs (λ s at. none s (deeper x xs s at)))
+any_none h (x ∷ xs) none = or_from (h x) (list_any h xs) (none x (0, omega arith, refl)) (any_none h xs (λ s at. none s (deeper x xs s at)))
 
 front_kept : (b : Bool) (x r : Reason) (xs : List Reason) → b ≡ true → x ≡ r → Contains (cond b (x ∷ xs) xs) r
 front_kept true x r xs h same = (0, omega arith, same)
@@ -173,8 +166,8 @@ filtered p (x ∷ xs) = mapped p (p (number x)) x xs _ (filtered p xs)
 
 at_place : (n : ℕ) (rs : List Reason) (k : ℕ) → rises n rs ≡ true → k < length (map number rs) → slice_index (map number rs) k ≡ n + k
 at_place n [] k rising lt = absurd (omega arith)
-at_place n (x ∷ xs) zero rising lt = let here = head_number n x (heads (number x == n) (rises (n + 1) xs) rising).0 in omega arith
-at_place n (x ∷ xs) (suc k) rising lt = let there = at_place (n + 1) xs k (heads (number x == n) (rises (n + 1) xs) rising).1 (omega arith) in omega arith
+at_place n (x ∷ xs) zero rising lt = let here = head_number n x (and_parts (number x == n) (rises (n + 1) xs) rising).0 in omega arith
+at_place n (x ∷ xs) (suc k) rising lt = let there = at_place (n + 1) xs k (and_parts (number x == n) (rises (n + 1) xs) rising).1 (omega arith) in omega arith
 
 numbers_rise : IsStrictlyIncreasing (map number reasons)
 numbers_rise k lt =

@@ -5,20 +5,16 @@ use Rattle.std.specs.Cmp.{tied_itself}
 use Rattle.std.proofs.lemmas.Bool.{and_parts, cases_Bool}
 use Rattle.std.proofs.lemmas.List.Elements.{All-nil, All-cons, All-head, All-tail}
 use Rattle.std.specs.Ordering.{is_lt, ordering_reverse}
-use Rattle.std.specs.declared.cmp.Ordering.{Ordering}
 use Rattle.std.specs.declared.cmp.Ordering.TheVariants.{Less, Equal, Greater}
 use Rattle.oim_names.specs.QName.{QName, exact_name}
 use Rattle.oim_names.specs.contracts.name.NameOrd.TheImpl.Laws.{total-law as name_total}
 use Rattle.oim_value.specs.ValueOrder.{name_cmp}
 use Rattle.oim_dims.specs.declared.member.Member.{Member}
 use Rattle.oim_dims.specs.DimensionSet.{is_below, rises, with_member}
+use Rattle.oim_dims.proofs.Places.{less_is}
 
 abbrev Entry : Type 0
 Entry = QName × Member
-
-pub less_is : (o : Ordering) → is_lt o ≡ true → o ≡ Less
-less_is Less h = refl
-less_is o h = cc
 
 one_way : (a b : QName) → a ≢ b → is_lt (name_cmp a b) ≡ false → is_lt (name_cmp b a) ≡ true
 one_way a b other h =

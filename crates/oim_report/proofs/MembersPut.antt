@@ -14,8 +14,8 @@ use Rattle.oim_report.specs.Pieces.{put_all}
 use Rattle.oim_report.specs.PlainJson.{IsBefore}
 use Rattle.oim_report.specs.code.TapeParts.{Ascends}
 use Rattle.oim_report.proofs.JoinedMembers.{plus}
-use Rattle.oim_report.proofs.PieceTrees.{then_some}
 use Rattle.oim_report.proofs.PutMembers.{before_all, ascends_put}
+use Rattle.oim_report.proofs.Accepted.{and_then_some}
 
 abbrev cmp : List ℕ → List ℕ → Ordering
 cmp k l = slice_cmp nat_cmp k l
@@ -100,7 +100,7 @@ lacks_before : (k : List ℕ) (ms : Members) → IsBefore k ms → Lacks k ms
 lacks_before k no_members h = tt
 lacks_before k (member l d ms) h = (differs k l h.0, lacks_before k ms h.1)
 
-put_first : (k : List ℕ) (d : Data) (ms : Members) → IsBefore k ms → put k d ms ≡ member k d ms
+pub put_first : (k : List ℕ) (d : Data) (ms : Members) → IsBefore k ms → put k d ms ≡ member k d ms
 put_first k d no_members h = refl
 put_first k d (member l e ms) h = put_less k l d e ms h.0
 
@@ -127,14 +127,14 @@ put_onto k d (member l e ms) onto h =
 
 pub rising_found : (ms : j.Members) (old found : Members) → of_members ms old ≡ Some found → Ascends old → Ascends found
 rising_found j.no_members old found e h = let same : old ≡ found = Prim.cc in subst Ascends same h
-rising_found (j.member k v ms) old found e h = let t = then_some _ (of_json v) found e in rising_found ms (put k t.0 old) found t.2 (ascends_put k t.0 old h)
+rising_found (j.member k v ms) old found e h = let t = and_then_some _ (of_json v) found e in rising_found ms (put k t.0 old) found t.2 (ascends_put k t.0 old h)
 
 -- ---- the members of a text, added to other members
 
 of_members_onto : (ms : j.Members) (old found onto : Members) → Ascends old → of_members ms old ≡ Some found → of_members ms (put_all old onto) ≡ Some (put_all found onto)
 of_members_onto j.no_members old found onto h e = let same : old ≡ found = Prim.cc in ap (λ l. Some (put_all l onto)) same
 of_members_onto (j.member k v ms) old found onto h e =
-    let t = then_some _ (of_json v) found e in
+    let t = and_then_some _ (of_json v) found e in
     ap (option_and_then (λ d. of_members ms (put k d (put_all old onto)))) t.1 ∙ ap (of_members ms) (sym (put_onto k t.0 old onto h)) ∙ of_members_onto ms (put k t.0 old) found onto (ascends_put k t.0 old h) t.2
 
 pub found_onto : (ms : j.Members) (found onto : Members) → of_members ms no_members ≡ Some found → of_members ms onto ≡ Some (put_all found onto)

@@ -3,12 +3,13 @@ use Rattle.std.proofs.Common.{◌≡◌, zero, suc, Bool, true, false, cond, not
 use Rattle.std.specs.List.{list_all}
 use Rattle.std.specs.Cmp.{Equal-is, both_ways, tied_back}
 use Rattle.std.specs.Ordering.{is_eq, is_le}
-use Rattle.std.proofs.lemmas.Bool.{false≢true, and_parts, and_from, not-false}
+use Rattle.std.proofs.lemmas.Bool.{and_parts, and_from, not-false}
 use Rattle.std.proofs.lemmas.Bool.Decides.{Decides-by_and}
 use Rattle.std.proofs.lemmas.List.Folds.{list_all-append}
 use Rattle.std.proofs.lemmas.List.Kept.{AllPairs-cons}
 use Rattle.std.proofs.lemmas.Map.Keys.{IsDistinct-from_apart, apart_from_distinct, IsDistinct-IsPermutation}
 use Rattle.std.proofs.lemmas.List.Sorted.{IsPermutation-sym}
+use Rattle.std.proofs.Math.Bool.{or-true}
 use Rattle.oim_value.specs.Level.{level_cmp}
 use Rattle.oim_value.specs.ValueOrder.{value_cmp}
 use Rattle.oim_value.specs.declared.level.Level.{Level}
@@ -18,7 +19,7 @@ use Rattle.oim_value.proofs.ValueOrders.{value_cmp_exact, value_cmp_total}
 use Rattle.oim_dims.specs.declared.fact.Fact.{Fact}
 use Rattle.oim_report.specs.Duplicates.{allows, allows_each, allows_values, are_duplicates, level_of, values_meet, LevelIgnoresOrder, LevelIsStrictest}
 use Rattle.oim_dims.proofs.Orders.{dimensions_cmp_total}
-use Rattle.oim_report.proofs.ValuesMeet.{values_meet_self, values_meet_turns}
+use Rattle.oim_report.proofs.ValuesMeet.{values_meet_self, values_meet_turns, never}
 
 -- ---- a test of all pairs of facts
 
@@ -102,9 +103,6 @@ either : (a b c : Bool) → (b ≡ true → c ≡ true) → (a || b) ≡ true �
 either true b c f h = refl
 either false b c f h = f h
 
-nothing : {P : Type 0} → false ≡ true → P
-nothing h = absurd (false≢true h)
-
 equal_meet : (v w : Value) → is_eq (value_cmp v w) ≡ true → values_meet v w ≡ true
 equal_meet v w h = subst (λ x. values_meet v x ≡ true) (value_cmp_exact v w ((Equal-is _).0 h)) (values_meet_self v)
 
@@ -114,17 +112,13 @@ weaker_pairs l m weaker fs h =
     allowed_each m fs (λ i j d under within. let f : Fact = get_or fs i d in let g : Fact = get_or fs j d in either (not (are_duplicates f g)) (allows_values l f.value g.value) (allows_values m f.value g.value) (weaker f.value g.value) (pairs i j d under within))
 
 pub unique_are_complete : (fs : List Fact) → allows_each Unique fs ≡ true → allows_each Complete fs ≡ true
-unique_are_complete = weaker_pairs Unique Complete (λ v w h. nothing h)
+unique_are_complete = weaker_pairs Unique Complete (λ v w h. never h)
 
 pub complete_are_consistent : (fs : List Fact) → allows_each Complete fs ≡ true → allows_each Consistent fs ≡ true
 complete_are_consistent = weaker_pairs Complete Consistent equal_meet
 
 pub all_are_allowed : (fs : List Fact) → allows_each AllLevel fs ≡ true
-all_are_allowed fs = allowed_each AllLevel fs (λ i j d under within. let f : Fact = get_or fs i d in let g : Fact = get_or fs j d in or_true (not (are_duplicates f g)))
-  where
-    or_true : (a : Bool) → (a || true) ≡ true
-    or_true true = refl
-    or_true false = refl
+all_are_allowed fs = allowed_each AllLevel fs (λ i j d under within. let f : Fact = get_or fs i d in let g : Fact = get_or fs j d in or-true (not (are_duplicates f g)))
 
 -- whether a level allows the facts, by the results of the three tests
 abbrev pub test_at : Level → Bool → Bool → Bool → Bool
@@ -133,37 +127,17 @@ test_at Complete u c s = c
 test_at Consistent u c s = s
 test_at AllLevel u c s = true
 
+each_strictest : (l : Level) → (is_le (level_cmp Unique l) ≡ test_at l true true true) × (is_le (level_cmp Complete l) ≡ test_at l false true true) × (is_le (level_cmp Consistent l) ≡ test_at l false false true) × (is_le (level_cmp AllLevel l) ≡ test_at l false false false)
+each_strictest Unique = (refl, refl, refl, refl)
+each_strictest x = (refl, refl, refl, refl)
+
 strictest_passes : (l : Level) (u c s : Bool) → (u ≡ true → c ≡ true) → (c ≡ true → s ≡ true) → is_le (level_cmp (strictest u c s) l) ≡ test_at l u c s
-strictest_passes l true true true p q = strictest_unique l
-  where
-    strictest_unique : (l : Level) → is_le (level_cmp Unique l) ≡ test_at l true true true
-    strictest_unique Unique = refl
-    strictest_unique Complete = refl
-    strictest_unique Consistent = refl
-    strictest_unique AllLevel = refl
-strictest_passes l true false s p q = nothing (p refl)
-strictest_passes l false true true p q = strictest_complete l
-  where
-    strictest_complete : (l : Level) → is_le (level_cmp Complete l) ≡ test_at l false true true
-    strictest_complete Unique = refl
-    strictest_complete Complete = refl
-    strictest_complete Consistent = refl
-    strictest_complete AllLevel = refl
-strictest_passes l false false true p q = strictest_consistent l
-  where
-    strictest_consistent : (l : Level) → is_le (level_cmp Consistent l) ≡ test_at l false false true
-    strictest_consistent Unique = refl
-    strictest_consistent Complete = refl
-    strictest_consistent Consistent = refl
-    strictest_consistent AllLevel = refl
-strictest_passes l false false false p q = strictest_all l
-  where
-    strictest_all : (l : Level) → is_le (level_cmp AllLevel l) ≡ test_at l false false false
-    strictest_all Unique = refl
-    strictest_all Complete = refl
-    strictest_all Consistent = refl
-    strictest_all AllLevel = refl
-strictest_passes l u true false p q = nothing (q refl)
+strictest_passes l true true true p q = (each_strictest l).0
+strictest_passes l true false s p q = never (p refl)
+strictest_passes l false true true p q = (each_strictest l).1
+strictest_passes l false false true p q = (each_strictest l).2
+strictest_passes l false false false p q = (each_strictest l).3
+strictest_passes l u true false p q = never (q refl)
 
 test_at_is : (l : Level) (fs : List Fact) → test_at l (allows_each Unique fs) (allows_each Complete fs) (allows_each Consistent fs) ≡ allows_each l fs
 test_at_is AllLevel fs = sym (all_are_allowed fs)
@@ -182,13 +156,8 @@ level_is_strictest l fs = (
 -- ---- one more fact
 
 regrouped : (a b c d : Bool) → ((a && (b && true)) && (c && d)) ≡ ((a && c) && (b && d))
-regrouped true true c d = refl
 regrouped true false true d = refl
 regrouped a b c d = refl
-
-and_true : (a : Bool) → (a && true) ≡ a
-and_true true = refl
-and_true false = refl
 
 pub allows_each-push : (l : Level) (fs : List Fact) (g : Fact) → allows_each l (fs ++ g ∷ []) ≡ (allows_each l fs && list_all (λ f. allows l f g) fs)
 allows_each-push l [] g = refl

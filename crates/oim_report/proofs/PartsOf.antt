@@ -5,6 +5,7 @@ use Rattle.std.specs.Borrow.{Bor}
 use Rattle.std.specs.List.Sorted.{IsStrictlySortedBy}
 use Rattle.std.specs.Map.{keys_of}
 use Rattle.std.specs.Str.{IsUtf8, is_utf8}
+use Rattle.std.proofs.Math.Bool.{or-false, or-true}
 use Rattle.serde_json.specs.Data.{Data, Members, no_members, member}
 use Rattle.serde_json.specs.Find.{as_object}
 use Rattle.serde_json.specs.View.{view, members_view}
@@ -17,14 +18,6 @@ use Rattle.oim_report.specs.Parts.{DimensionParts, FactParts, core_keys, fact_ke
 use Rattle.oim_report.specs.code.SeenParts.{seen_defined}
 use Rattle.oim_report.proofs.DefinedParts.{push_defined}
 use Rattle.oim_report.proofs.LastAt.{last_at, last_other, last_is, colon_other, colon_known, entries_ascend}
-
-or_true : (b : Bool) → (b || true) ≡ true
-or_true true = refl
-or_true false = refl
-
-or_false : (b : Bool) → (b || false) ≡ b
-or_false true = refl
-or_false false = refl
 
 abbrev pub lent : Option (Bor Value) → Option Data
 lent = option_map (λ v. view v.now)
@@ -78,7 +71,7 @@ dimensions_unknown c e p u l n ds unknown key d ms plain nc ne np nu nl nn = λ 
   language = given_of (last_other (codes "language") l key d ms nl i);
   note = given_of (last_other (codes "noteId") n key d ms nn i);
   defined = ap (λ b. ds ++ cond (b && is_utf8 key) ((key, given d) ∷ defined_in ms) (defined_in ms)) (sym plain) i;
-  unknown = (or_true (any_member (is_unknown core_keys) ms) ∙ sym (λ j. ((not (plain j) && not (nc j || (ne j || (np j || (nu j || (nl j || (nn j || false))))))) || any_member (is_unknown core_keys) ms) || unknown)) i;
+  unknown = (or-true (any_member (is_unknown core_keys) ms) ∙ sym (λ j. ((not (plain j) && not (nc j || (ne j || (np j || (nu j || (nl j || (nn j || false))))))) || any_member (is_unknown core_keys) ms) || unknown)) i;
 }
 
 pub dimensions_whole : (es : List Entry) (c e p u l n : Option Data) (ds : List (List ℕ × Given)) (unknown : Bool) → IsStrictlySortedBy string_cmp (keys_of es)
@@ -97,7 +90,7 @@ dimensions_whole es c e p u l n ds unknown sorted so_far =
       language = given_of (last_is (codes "language") ms rises i);
       note = given_of (last_is (codes "noteId") ms rises i);
       defined = defined_in ms;
-      unknown = or_false (any_member (is_unknown core_keys) ms) i;
+      unknown = or-false (any_member (is_unknown core_keys) ms) i;
     })
 
 abbrev pub fact_found : (v p ds ls : Option Data) → Bool → FactParts
@@ -130,7 +123,7 @@ fact_unknown v p ds ls unknown key d ms plain nv np nd nl = λ i. fact_found
     (last_other (codes "decimals") p key d ms np i)
     (last_other (codes "dimensions") ds key d ms nd i)
     (last_other (codes "links") ls key d ms nl i)
-    ((or_true (any_member (is_unknown fact_keys) ms) ∙ sym (λ j. ((not (plain j) && not (nv j || (np j || (nd j || (nl j || false))))) || any_member (is_unknown fact_keys) ms) || unknown)) i)
+    ((or-true (any_member (is_unknown fact_keys) ms) ∙ sym (λ j. ((not (plain j) && not (nv j || (np j || (nd j || (nl j || false))))) || any_member (is_unknown fact_keys) ms) || unknown)) i)
 
 pub fact_whole : (es : List Entry) (v p ds ls : Option Data) (unknown : Bool) → IsStrictlySortedBy string_cmp (keys_of es)
     → fact_after v p ds ls unknown no_members ≡ fact_after None None None None false (members_view es)
@@ -139,4 +132,4 @@ fact_whole es v p ds ls unknown sorted so_far =
     let ms = members_view es in
     let rises = entries_ascend es sorted in
     so_far
-    ∙ (λ i. fact_found (last_is (codes "value") ms rises i) (last_is (codes "decimals") ms rises i) (last_is (codes "dimensions") ms rises i) (last_is (codes "links") ms rises i) (or_false (any_member (is_unknown fact_keys) ms) i))
+    ∙ (λ i. fact_found (last_is (codes "value") ms rises i) (last_is (codes "decimals") ms rises i) (last_is (codes "dimensions") ms rises i) (last_is (codes "links") ms rises i) (or-false (any_member (is_unknown fact_keys) ms) i))

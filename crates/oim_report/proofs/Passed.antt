@@ -2,7 +2,7 @@
 use Rattle.std.proofs.Common.{◌≡◌, ℕ, ◌<◌, ◌≤◌, ◌+◌, Bool, true, false, not, ◌&&◌, List, [], ◌∷◌, ◌++◌, append_assoc, append-nil, length, drop, get_or, refl, sym, ap, subst, ◌∙◌, All, Option, Some, slice_get, ◌||◌}
 use Rattle.std.specs.List.{list_all, list_any}
 use Rattle.std.specs.Ordering.{is_le, is_lt}
-use Rattle.std.proofs.lemmas.Bool.{false≢true}
+use Rattle.std.proofs.lemmas.Bool.{false≢true, and_left}
 use Rattle.std.proofs.lemmas.List.{drop_all}
 use Rattle.std.proofs.lemmas.List.Elements.{All-head, All-tail}
 use Rattle.std.proofs.lemmas.List.Folds.{list_all-append}
@@ -95,13 +95,9 @@ unique_is_within = elim [ Unique ↦ refl | Complete ↦ refl | Consistent ↦ r
 allowed_within : (limit level : Level) (fs : List Fact) → level ≡ level_of fs → allows_each limit fs ≡ not (is_lt (level_cmp limit level))
 allowed_within limit level fs is = sym (passes_is limit fs) ∙ within_limit limit (level_of fs) ∙ ap (λ l. not (is_lt (level_cmp limit l))) (sym is)
 
-second_false : (a b : Bool) → a ≡ true → (a && b) ≡ false → b ≡ false
+pub second_false : (a b : Bool) → a ≡ true → (a && b) ≡ false → b ≡ false
 second_false true b h both = both
 second_false false b h both = absurd (false≢true h)
-
-left_false : (a b : Bool) → a ≡ false → (a && b) ≡ false
-left_false false b h = refl
-left_false true b h = absurd (false≢true (sym h))
 
 -- if a level forbids f beside one of the facts at some indices, `are_apart` holds for one of these indices and f's index
 pub one_apart : (l : Level) (facts : List Fact) (place : ℕ) (f : Fact) → slice_get facts place ≡ Some f → (places : List ℕ) → All (λ p. p < length facts) places → list_all (λ g. allows l g f) (facts_at facts places) ≡ false → list_any (λ one. are_apart l facts one place) places ≡ true
@@ -135,7 +131,7 @@ passed_above facts order rest i limit last f shared later level found sorted her
     let all : list_all (λ g. allows limit g f) (facts_at facts order) ≡ false =
     ap (list_all (λ g. allows limit g f)) passed.are
     ∙ list_all-append (λ g. allows limit g f) earlier (facts_at facts (drop i rest))
-    ∙ left_false _ _ apart in
+    ∙ and_left _ _ apart in
     one_apart limit facts (get_or rest i 0) f (slice_get-get_or facts (get_or rest i 0) f within ∙ ap Some (sym is)) order (places_within facts order sorted) all
 
 -- the level `All` allows any two facts

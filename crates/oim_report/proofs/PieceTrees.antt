@@ -1,5 +1,5 @@
 -- How `serde_json` reads the text of an array that contains one object.
-use Rattle.std.proofs.Common.{◌≡◌, ℕ, List, [], Option, Some, None, option_map, option_and_then, refl, ap, ◌∙◌}
+use Rattle.std.proofs.Common.{◌≡◌, ℕ, List, [], Option, Some, option_and_then, refl, ap, ◌∙◌}
 use Rattle.json.specs.Token.{Token}
 use Rattle.json.specs.Lex.{tokens}
 use Rattle.json.specs.Json as j
@@ -10,6 +10,7 @@ use Rattle.serde_json.specs.Read.{of_json, of_items, of_members, number_of, max_
 use Rattle.oim_report.specs.Pieces.{alone, one_data, HasMember}
 use Rattle.oim_report.specs.code.TapeParts.{one}
 use Rattle.oim_report.proofs.JoinedMembers.{Reads, HasSome}
+use Rattle.oim_report.proofs.Accepted.{map_some, and_then_some}
 
 -- `serde_json` reads the text as JSON members, and their data are `found`
 pub record ReadAs (a : List ℕ) (found : d.Members) : Type 0 where
@@ -17,30 +18,22 @@ pub record ReadAs (a : List ℕ) (found : d.Members) : Type 0 where
   pub reads : Reads max_depth a ms
   pub gives : of_members ms d.no_members ≡ Some found
 
-pub mapped_some : {A B : Type 0} (f : A → B) (o : Option A) (b : B) → option_map f o ≡ Some b → (a : A) × (o ≡ Some a) × (f a ≡ b)
-mapped_some f None b e = absurd (Prim.cc)
-mapped_some f (Some a) b e = (a, refl, Prim.cc)
-
-pub then_some : {A B : Type 0} (f : A → Option B) (o : Option A) (b : B) → option_and_then f o ≡ Some b → (a : A) × (o ≡ Some a) × (f a ≡ Some b)
-then_some f None b e = absurd (Prim.cc)
-then_some f (Some a) b e = (a, refl, e)
-
 number_only : (s : List ℕ) (x : Data) → of_json (j.number s) ≡ Some x → (n : d.Num) × (d.number n ≡ x)
-number_only s x e = let m = mapped_some d.number (number_of s) x e in (m.0, m.2)
+number_only s x e = let m = map_some d.number (number_of s) x e in (m.0, m.2)
 
 no_more : (vs : Items) → of_items vs ≡ Some d.no_items → vs ≡ j.no_items
 no_more j.no_items e = refl
 no_more (j.item v vs) e =
-    let t = then_some _ (of_json v) d.no_items e in
-    let m = mapped_some (d.item t.0) (of_items vs) d.no_items t.2 in
+    let t = and_then_some _ (of_json v) d.no_items e in
+    let m = map_some (d.item t.0) (of_items vs) d.no_items t.2 in
     let is : d.item t.0 m.0 ≡ d.no_items = m.2 in
     absurd (Prim.cc)
 
 of_object : (v : Json) (found : d.Members) → of_json v ≡ Some (d.object found) → (ms : Members) × (v ≡ j.object ms) × (of_members ms d.no_members ≡ Some found)
 of_object (j.number s) found e = let n = number_only s _ e in let is : d.number n.0 ≡ d.object found = n.1 in absurd (Prim.cc)
-of_object (j.array vs) found e = let m = mapped_some d.array (of_items vs) _ e in let is : d.array m.0 ≡ d.object found = m.2 in absurd (Prim.cc)
+of_object (j.array vs) found e = let m = map_some d.array (of_items vs) _ e in let is : d.array m.0 ≡ d.object found = m.2 in absurd (Prim.cc)
 of_object (j.object ms) found e =
-    let m = mapped_some d.object (of_members ms d.no_members) _ e in
+    let m = map_some d.object (of_members ms d.no_members) _ e in
     let is : d.object m.0 ≡ d.object found = m.2 in
     let same : m.0 ≡ found = Prim.cc in
     (ms, refl, m.1 ∙ ap (λ f. Some f) same)
@@ -49,8 +42,8 @@ of_object v found e = absurd (Prim.cc)
 of_one : (vs : Items) (found : d.Members) → of_items vs ≡ Some (d.item (d.object found) d.no_items) → (ms : Members) × (vs ≡ j.item (j.object ms) j.no_items) × (of_members ms d.no_members ≡ Some found)
 of_one j.no_items found e = absurd (Prim.cc)
 of_one (j.item v vs) found e =
-    let t = then_some _ (of_json v) _ e in
-    let m = mapped_some (d.item t.0) (of_items vs) _ t.2 in
+    let t = and_then_some _ (of_json v) _ e in
+    let m = map_some (d.item t.0) (of_items vs) _ t.2 in
     let is : d.item t.0 m.0 ≡ d.item (d.object found) d.no_items = m.2 in
     let first : t.0 ≡ d.object found = Prim.cc in
     let rest : m.0 ≡ d.no_items = Prim.cc in
@@ -61,12 +54,12 @@ of_one (j.item v vs) found e =
 of_array : (v : Json) (found : d.Members) → of_json v ≡ Some (one_data found) → (ms : Members) × (v ≡ one ms) × (of_members ms d.no_members ≡ Some found)
 of_array (j.number s) found e = let n = number_only s _ e in let is : d.number n.0 ≡ one_data found = n.1 in absurd (Prim.cc)
 of_array (j.array vs) found e =
-    let m = mapped_some d.array (of_items vs) _ e in
+    let m = map_some d.array (of_items vs) _ e in
     let is : d.array m.0 ≡ one_data found = m.2 in
     let same : m.0 ≡ d.item (d.object found) d.no_items = Prim.cc in
     let o = of_one vs found (m.1 ∙ ap (λ x. Some x) same) in
     (o.0, ap j.array o.1, o.2)
-of_array (j.object ms) found e = let m = mapped_some d.object (of_members ms d.no_members) _ e in let is : d.object m.0 ≡ one_data found = m.2 in absurd (Prim.cc)
+of_array (j.object ms) found e = let m = map_some d.object (of_members ms d.no_members) _ e in let is : d.object m.0 ≡ one_data found = m.2 in absurd (Prim.cc)
 of_array v found e = absurd (Prim.cc)
 
 whole_some : (o : Option (Json × List Token)) (x : Data) → option_and_then of_json (option_and_then (λ p. if_last p.0 p.1) o) ≡ Some x → (v : Json) × (o ≡ Some (v, [])) × (of_json v ≡ Some x)

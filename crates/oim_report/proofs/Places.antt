@@ -49,7 +49,7 @@ reordered facts d places order =
 pub level_at_order : (facts : List Fact) (d : Fact) (places : List ℕ) → IsOrderOf facts places → level_of facts ≡ level_of (facts_at facts places)
 level_at_order facts d places order = level_ignores_order facts (facts_at facts places) (reordered facts d places order)
 
-turned : (r : Ordering) → is_lt r ≡ false → is_gt (ordering_reverse r) ≡ false
+pub turned : (r : Ordering) → is_lt r ≡ false → is_gt (ordering_reverse r) ≡ false
 turned Less h = h
 turned r h = refl
 

@@ -31,8 +31,8 @@ use Rattle.oim_report.specs.PlainJson.{IsWhole, IsBefore, IsPlain, MembersArePla
 use Rattle.oim_report.specs.ReadBack.{SpellsMember, SpellsValue, FactObjectIsPlain}
 use Rattle.oim_report.proofs.PutMembers.{before_all, before_put}
 use Rattle.oim_report.proofs.Spelled.{spelled_utf8}
-use Rattle.oim_report.proofs.WrittenTexts.{plain_utf8, period_utf8}
-use Rattle.oim_report.proofs.WrittenParts.{entity_texts, language_texts, unit_texts}
+use Rattle.oim_report.proofs.WrittenTexts.{plain_utf8}
+use Rattle.oim_report.proofs.WrittenParts.{HasTexts, has_texts}
 
 record IsKept (d : Data) (n : ℕ) : Type 0 where
   plain : IsPlain d
@@ -92,15 +92,7 @@ defined_kept spelled (e ∷ es) ms w h =
     let we = All-head (IsWritten spelled) e es w in
     kept_put (spelled e.0) (member_data spelled e.1) (with_defined spelled es ms) 0 we.key we.member (defined_kept spelled es ms (All-tail (IsWritten spelled) e es w) h)
 
-record HasTexts (spelled : QName → List ℕ) (d : DimensionSet) : Type 0 where
-  concept : IsUtf8 (spelled d.concept)
-  entity : IfSome (option_spelled spelled d.entity) IsUtf8
-  language : IfSome d.language IsUtf8
-  period : IfSome (period_text d.period) IsUtf8
-  unit : IfSome (option_unit_text spelled d.unit) IsUtf8
-  members : All (IsWritten spelled) d.members
-
-dimensions_kept : (spelled : QName → List ℕ) (d : DimensionSet) → HasTexts spelled d → AreKept (dimension_members spelled d) 0
+dimensions_kept : (spelled : QName → List ℕ) (d : DimensionSet) → HasTexts (IsWritten spelled) spelled d → AreKept (dimension_members spelled d) 0
 dimensions_kept spelled d h =
     defined_kept spelled d.members _ h.members
     (kept_text (codes "entity") (option_spelled spelled d.entity) _ 0 (IsUtf8-are_ascii _ refl) h.entity
@@ -125,23 +117,12 @@ decimals_kept d h = record { plain = few_whole d h; utf8 = tt; shallow = omega a
 
 with_decimals_kept : (spelled : QName → List ℕ) (kind : ConceptKind) (v : Value) (ms : Members) → ValueFits kind v → AreKept ms 1 → AreKept (with_decimals spelled v ms) 1
 with_decimals_kept spelled Numeric (Number units (Some d)) ms fits h = kept_put (codes "decimals") (number (of_integer d)) ms 1 (IsUtf8-are_ascii _ refl) (decimals_kept d fits.1) h
-with_decimals_kept spelled Text (Number units (Some d)) ms fits h = absurd fits
-with_decimals_kept spelled Name (Number units (Some d)) ms fits h = absurd fits
+with_decimals_kept spelled x (Number units (Some d)) ms fits h = absurd fits
 with_decimals_kept spelled kind v ms fits h = h
 
 pub fact_plain : FactObjectIsPlain
 fact_plain sheet bs spelled f fits s =
-    let texts : HasTexts spelled f.dimensions = record {
-      concept = spelled_utf8 bs spelled f.dimensions.concept s.concept fits.concept.utf8;
-      entity = entity_texts bs spelled f.dimensions.entity fits.entity s.entity;
-      language = language_texts fits.kind f.dimensions.language fits.language;
-      period = period_utf8 f.dimensions.period fits.set.period;
-      unit = unit_texts bs spelled fits.kind f.dimensions.unit fits.unit s.unit;
-      members = λ k d within. record {
-        key = spelled_utf8 bs spelled _ (s.members k d within).name (fits.members k d within).name.utf8;
-        member = member_kept bs spelled (fits.members k d within).kind _ (fits.members k d within).member (s.members k d within).member;
-      };
-    } in
+    let texts = has_texts (IsWritten spelled) sheet bs spelled f fits s (λ e fit says. record { key = spelled_utf8 bs spelled e.0 says.name fit.name.utf8; member = member_kept bs spelled fit.kind e.1 fit.member says.member }) in
     let ds = dimensions_kept spelled f.dimensions texts in
     let of_dimensions : IsKept (object (dimension_members spelled f.dimensions)) 1 = record { plain = ds.plain; utf8 = ds.utf8; shallow = omega (arith, ds.shallow) } in
     let of_value : AreKept (put (codes "value") (value_data spelled f.value) no_members) 1 = kept_put (codes "value") (value_data spelled f.value) no_members 1 (IsUtf8-are_ascii _ refl) (value_kept bs spelled fits.kind f.value fits.value s.value) (none_kept 1) in

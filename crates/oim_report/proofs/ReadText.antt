@@ -90,9 +90,8 @@ mutual
 mutual
   numbers : (d : Data) → IsPlain d → tree.HasNumbers (outline d)
   numbers (number (unsigned n)) h = IsNumber-decimal n h
-  numbers (number (negative (pos n))) h = absurd h
   numbers (number (negative (negsuc n))) h = IsNumber-signed_decimal (negsuc n) h
-  numbers (number (float x)) h = absurd h
+  numbers (number x) h = absurd h
   numbers (array ds) h = items_numbers ds h
   numbers (object ms) h = members_numbers ms h
   numbers d h = tt

@@ -18,14 +18,12 @@ abbrev pub answers : Option Reason → Reason → Bool
 answers o r = option_eq same_reason.it o (Some r)
 
 ordered : (before same : Bool) (p q : Period) → answers (result_err (if before then Err PeriodOrder else (if same then Ok p else Ok q))) PeriodOrder ≡ before
-ordered true same p q = refl
 ordered false true p q = refl
-ordered false false p q = refl
+ordered b same p q = refl
 
 formed : (before same : Bool) (p q : Period) → answers (result_err (if before then Err PeriodOrder else (if same then Ok p else Ok q))) PeriodForm ≡ false
-formed true same p q = refl
 formed false true p q = refl
-formed false false p q = refl
+formed b same p q = refl
 
 form_between : (start end : Option ℤ) → answers (result_err (from_to start end)) PeriodForm ≡ (is_none start || is_none end)
 form_between (Some s) (Some e) = formed (int_lt e s) (int_eq s e) (Instant s) (Duration s e)
@@ -42,9 +40,8 @@ pub period_order : (t : List ℕ) → answers (result_err (period_of t)) PeriodO
 period_order t = order_between (moment_of (start_part t)) (moment_of (end_part t))
 
 number_so : (number short : Bool) → (answers (if not number then Some NumberForm else (if not short then Some NumberDigits else None)) NumberForm ≡ not number) × (answers (if not number then Some NumberForm else (if not short then Some NumberDigits else None)) NumberDigits ≡ (number && not short))
-number_so false short = (refl, refl)
 number_so true false = (refl, refl)
-number_so true true = (refl, refl)
+number_so b short = (refl, refl)
 
 pub number_form : (t : List ℕ) → answers (number_refusal t) NumberForm ≡ not (is_number t)
 number_form t = (number_so (is_number t) (is_short t)).0

@@ -18,9 +18,9 @@ use Rattle.oim_report.specs.Json.{json, values}
 use Rattle.oim_report.specs.Refusal.{map_ok}
 use Rattle.oim_report.specs.Sheet.{Sheet}
 use Rattle.oim_report.specs.Holds.{document_holds, document_refusal}
-use Rattle.oim_report.proofs.AnsweredLeast.{refused_is_least}
+use Rattle.oim_report.proofs.AnsweredLeast.{refused_is_least, free_is_said, said_is_free}
 use Rattle.oim_report.proofs.LeastOf.{least_is, none_is}
-use Rattle.oim_report.proofs.AcceptedWhereFree.{all_free, all_ok, one_free, one_said}
+use Rattle.oim_report.proofs.AcceptedWhereFree.{all_free, all_ok}
 use Rattle.oim_report.proofs.Documents.{document_is_said}
 use Rattle.oim_report.proofs.OneDocument.{says_one_document}
 
@@ -34,7 +34,7 @@ by_first : (sheet : Sheet) (bs : List Binding) (n : ℕ) (d : Data) (ds : List D
 by_first sheet bs n d ds r (Ok f) is later e =
     let l = later (err_of (λ facts. f ∷ facts) _ r e) in
     let place : n + 1 + length l.before ≡ n + length (d ∷ l.before) = omega arith in
-    record { before = d ∷ l.before; object = l.object; after = l.after; reason = l.reason; are = ap (λ x. d ∷ x) l.are; free = (one_free sheet bs d f is, l.free); refused = l.refused; answer = l.answer ∙ ap (λ k. at (AtFact k) l.reason) place }
+    record { before = d ∷ l.before; object = l.object; after = l.after; reason = l.reason; are = ap (λ x. d ∷ x) l.are; free = (said_is_free sheet bs d f is, l.free); refused = l.refused; answer = l.answer ∙ ap (λ k. at (AtFact k) l.reason) place }
 by_first sheet bs n d ds r (Err reason) is later e =
     let same : at (AtFact n) reason ≡ r = cc in
     let place : n ≡ n + 0 = omega arith in
@@ -49,7 +49,7 @@ behind_free sheet bs n [] one after reason free e =
     let place : n ≡ n + 0 = omega arith in
     ap (λ o. all_or_first n (o ∷ map (fact_outcome sheet bs) after)) e ∙ ap (λ k. Err (at (AtFact k) reason)) place
 behind_free sheet bs n (d ∷ ds) one after reason free e =
-    let f = one_said sheet bs d free.0 in
+    let f = free_is_said sheet bs d free.0 in
     let place : n + 1 + length ds ≡ n + length (d ∷ ds) = omega arith in
     ap (λ o. all_or_first n (o ∷ map (fact_outcome sheet bs) (ds ++ one ∷ after))) f.1
     ∙ ap (map_ok (λ facts. f.0 ∷ facts)) (behind_free sheet bs (n + 1) ds one after reason free.1 e)

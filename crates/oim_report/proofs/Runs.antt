@@ -6,8 +6,9 @@ use Rattle.std.specs.Cmp.{IsTotalOrder, alike_right, tied_itself}
 use Rattle.std.specs.Ordering.{is_eq, is_gt, ord_max, ordering_then}
 use Rattle.std.specs.declared.cmp.Ordering.{Ordering}
 use Rattle.std.specs.declared.cmp.Ordering.TheVariants.{Less, Equal, Greater}
-use Rattle.std.proofs.lemmas.Bool.{false≢true, and_parts, and_from, not-true}
+use Rattle.std.proofs.lemmas.Bool.{and_parts, and_from, not-true}
 use Rattle.std.proofs.lemmas.List.Folds.{list_all-append}
+use Rattle.std.proofs.Math.Bool.{and-false, and-true}
 use Rattle.oim_value.specs.Level.{level_cmp}
 use Rattle.oim_value.specs.ValueOrder.{value_cmp}
 use Rattle.oim_value.specs.declared.interval.Interval.{Interval}
@@ -21,17 +22,14 @@ use Rattle.oim_report.specs.code.Beside.{both_common, both_meet, interval_at, le
 use Rattle.oim_report.specs.Duplicates.{allows, allows_each, allows_values, are_duplicates, level_of}
 use Rattle.oim_dims.proofs.Orders.{dimensions_cmp_total, fact_cmp_exact}
 use Rattle.oim_report.proofs.Pairs.{allows_each-push, complete_are_consistent, level_of_is, strictest, unique_are_complete}
-use Rattle.oim_report.proofs.ValuesMeet.{both_meet-both_common, lesser_meets, values_meet_self}
+use Rattle.oim_report.proofs.ValuesMeet.{both_meet-both_common, lesser_meets, values_meet_self, never}
 
 abbrev dims : Fact → Fact → Ordering
 dims f g = dimensions_cmp f.dimensions g.dimensions
 
 -- ---- orders
 
-gone : {P : Type 0} → false ≡ true → P
-gone h = absurd (false≢true h)
-
-first_up : (a b : Ordering) → is_gt (ordering_then a b) ≡ false → is_gt a ≡ false
+pub first_up : (a b : Ordering) → is_gt (ordering_then a b) ≡ false → is_gt a ≡ false
 first_up Greater b h = h
 first_up a b h = refl
 
@@ -39,15 +37,15 @@ second_up : (a b : Ordering) → a ≡ Equal → is_gt (ordering_then a b) ≡ f
 second_up Equal b e h = h
 second_up a b e h = cc
 
-less_from : (a : Ordering) → is_gt a ≡ false → is_eq a ≡ false → a ≡ Less
+pub less_from : (a : Ordering) → is_gt a ≡ false → is_eq a ≡ false → a ≡ Less
 less_from Less up other = refl
-less_from Equal up other = gone (sym other)
-less_from Greater up other = gone (sym up)
+less_from Equal up other = never (sym other)
+less_from Greater up other = never (sym up)
 
-up_cases : {P : Type 0} (a : Ordering) → is_gt a ≡ false → (a ≡ Less → P) → (a ≡ Equal → P) → P
+pub up_cases : {P : Type 0} (a : Ordering) → is_gt a ≡ false → (a ≡ Less → P) → (a ≡ Equal → P) → P
 up_cases Less up less equal = less refl
 up_cases Equal up less equal = equal refl
-up_cases Greater up less equal = gone (sym up)
+up_cases Greater up less equal = never (sym up)
 
 up_then_less : {K : Type 0} {R : K → K → Ordering} → IsTotalOrder R → (x y z : K) → is_gt (R x y) ≡ false → R y z ≡ Less → R x z ≡ Less
 up_then_less {K} {R} o x y z up less = up_cases (R x y) up (λ e. o.trans x y z e less) (λ e. o.congr x y z e ∙ less)
@@ -84,20 +82,12 @@ pub record Knows (before : List Fact) (last : Fact) (shared : Option Interval) :
   pub below : list_all (λ f. not (is_gt (dims f last))) (before ++ last ∷ []) ≡ true
   pub sharing : (h : Fact) → dims last h ≡ Equal → value_cmp last.value h.value ≡ Less → list_all (λ f. allows Consistent f h) (before ++ last ∷ []) ≡ both_meet shared (interval_at h.value)
 
-and_true : (a : Bool) → (a && true) ≡ a
-and_true true = refl
-and_true false = refl
-
-and_false : (a : Bool) → (a && false) ≡ false
-and_false true = refl
-and_false false = refl
-
 each_from : {X : Type 0} (p q : X → Bool) → ((x : X) → p x ≡ true → q x ≡ true) → (xs : List X) → list_all p xs ≡ true → list_all q xs ≡ true
 each_from p q f [] h = refl
 each_from p q f (x ∷ xs) h = let both = and_parts (p x) (list_all p xs) h in and_from (q x) (list_all q xs) (f x both.0) (each_from p q f xs both.1)
 
 each_push : {X : Type 0} (p : X → Bool) (xs : List X) (x : X) → list_all p (xs ++ x ∷ []) ≡ (list_all p xs && p x)
-each_push p xs x = list_all-append p xs (x ∷ []) ∙ ap (λ b. list_all p xs && b) (and_true (p x))
+each_push p xs x = list_all-append p xs (x ∷ []) ∙ ap (λ b. list_all p xs && b) (and-true (p x))
 
 apart_allowed : (l : Level) (f g : Fact) → dims f g ≡ Less → allows l f g ≡ true
 apart_allowed l f g h = ap (λ (o : Ordering). not (is_eq o) || allows_values l f.value g.value) h
@@ -127,7 +117,7 @@ still_below fs last f below up =
 pub knows_first : (f : Fact) → Knows [] f (interval_at f.value)
 knows_first f = record {
   below = ap (λ o. not (is_gt o) && true) (tied_itself dimensions_cmp_total f.dimensions);
-  sharing = λ h same less. and_true (allows Consistent f h) ∙ lesser_allowed f h same less;
+  sharing = λ h same less. and-true (allows Consistent f h) ∙ lesser_allowed f h same less;
 }
 
 pub knows_other : (before : List Fact) (last f : Fact) (shared : Option Interval) → Knows before last shared → dims last f ≡ Less → Knows (before ++ last ∷ []) f (interval_at f.value)
@@ -169,12 +159,12 @@ level_other before last f shared known less =
     level_grown fs f ∙ three (free Unique) (free Complete) (free Consistent) ∙ sym (level_of_is fs)
   where
     free : (l : Level) → (allows_each l (before ++ last ∷ []) && list_all (λ g. allows l g f) (before ++ last ∷ [])) ≡ allows_each l (before ++ last ∷ [])
-    free l = ap (λ b. allows_each l (before ++ last ∷ []) && b) (apart_each l (before ++ last ∷ []) last f known.below less) ∙ and_true (allows_each l (before ++ last ∷ []))
+    free l = ap (λ b. allows_each l (before ++ last ∷ []) && b) (apart_each l (before ++ last ∷ []) last f known.below less) ∙ and-true (allows_each l (before ++ last ∷ []))
 
 refused_at_end : (l : Level) (before : List Fact) (last f : Fact) → allows l last f ≡ false → (allows_each l (before ++ last ∷ []) && list_all (λ g. allows l g f) (before ++ last ∷ [])) ≡ false
 refused_at_end l before last f h =
-    ap (λ b. allows_each l (before ++ last ∷ []) && b) (each_push (λ g. allows l g f) before last ∙ ap (λ b. list_all (λ g. allows l g f) before && b) h ∙ and_false _)
-    ∙ and_false _
+    ap (λ b. allows_each l (before ++ last ∷ []) && b) (each_push (λ g. allows l g f) before last ∙ ap (λ b. list_all (λ g. allows l g f) before && b) h ∙ and-false _)
+    ∙ and-false _
 
 again : (l : Level) (before : List Fact) (last : Fact) → allows l last last ≡ true → (allows_each l (before ++ last ∷ []) && list_all (λ g. allows l g last) (before ++ last ∷ [])) ≡ allows_each l (before ++ last ∷ [])
 again l before last h = absorbed _ _ (λ each. each_push (λ g. allows l g last) before last ∙ and_from _ _ (and_parts (allows_each l before) _ (sym (allows_each-push l before last) ∙ each)).1 h)
@@ -184,7 +174,7 @@ again l before last h = absorbed _ _ (λ each. each_push (λ g. allows l g last)
     absorbed false b f = refl
 
 repeated : (u c s : Bool) → (u ≡ true → c ≡ true) → strictest false c s ≡ ord_max level_cmp (strictest u c s) Complete
-repeated true false s p = gone (p refl)
+repeated true false s p = never (p refl)
 repeated false false true p = refl
 repeated u c s p = refl
 
@@ -197,9 +187,9 @@ differing false false true true p q = refl
 differing false false true false p q = refl
 differing false false false true p q = refl
 differing false false false false p q = refl
-differing true true false m p q = gone (q refl)
-differing false true false m p q = gone (q refl)
-differing true false s m p q = gone (p refl)
+differing true true false m p q = never (q refl)
+differing false true false m p q = never (q refl)
+differing true false s m p q = never (p refl)
 
 level_repeated : (before : List Fact) (last : Fact) (shared : Option Interval) → level_of ((before ++ last ∷ []) ++ last ∷ []) ≡ ord_max level_cmp (level_of (before ++ last ∷ [])) (level_beside last.value shared last.value)
 level_repeated before last shared =

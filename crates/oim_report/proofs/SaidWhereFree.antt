@@ -4,7 +4,7 @@ use Rattle.std.specs.Prelude.{Option, Some, None, codes, if◌then◌else◌, is
 use Rattle.std.specs.Option.{option_map_or, option_to_list}
 use Rattle.std.specs.List.{filter_map, flat_map, list_any}
 use Rattle.std.specs.FinMap as map_of
-use Rattle.std.proofs.lemmas.Bool.{or_parts}
+use Rattle.std.proofs.lemmas.Bool.{or_parts, and_right}
 use Rattle.oim_names.specs.Bindings.{Binding}
 use Rattle.oim_names.specs.Expansion.{Spelled, a_name, an_entity}
 use Rattle.oim_names.specs.declared.reason.Reason.{Reason}
@@ -32,6 +32,7 @@ use Rattle.oim_report.proofs.FreeParts.{ConceptFree, ConceptSaid, DecimalsFree, 
 use Rattle.oim_report.proofs.LeastOf.{none_is}
 use Rattle.oim_report.proofs.NameRefusals.{AreFree, are_free, names-parts, names_append, none_refused}
 use Rattle.oim_report.proofs.ValueWords.{absent_same, defined_same, no_text_same, no_value_same, no_whole_same, seen_member, text_same, there_same, whole_of, whole_same}
+use Rattle.oim_report.proofs.Passed.{second_false}
 
 -- ---- the parts of an object that denotes a fact
 
@@ -82,14 +83,6 @@ parts_said sheet bs p ds xs same c free =
     (record { dimensions = d; value = v.0 }, with_value sheet bs c.kind p ds d v.0 c.listed (together sheet bs c.kind ds d each) value)
 
 -- ---- tests
-
-and_false : (a b : Bool) → b ≡ false → (a && b) ≡ false
-and_false true b e = e
-and_false false b e = refl
-
-last_false : (a b : Bool) → a ≡ true → (a && b) ≡ false → b ≡ false
-last_false true b is e = e
-last_false false b is e = absurd (cc)
 
 is_there : (o : Option Data) (ms : Members) → option_and_then as_object o ≡ Some ms → is_none o ≡ false
 is_there None ms is = absurd (cc)
@@ -232,7 +225,7 @@ module _ (sheet : Sheet) (bs : List Binding) (fms ms : Members) where
       rows_free NameForm = none_refused_name.form
       rows_free UnboundPrefix = none_refused_name.prefix
       rows_free ReservedNamespace = none_refused_name.namespace
-      rows_free MissingConcept = and_false (is_some (option_and_then as_object (get_member (codes "dimensions") fms))) (is_none (at (codes "concept"))) (absent_same (at (codes "concept")) ∙ free.concept.present)
+      rows_free MissingConcept = and_right (is_some (option_and_then as_object (get_member (codes "dimensions") fms))) (is_none (at (codes "concept"))) (absent_same (at (codes "concept")) ∙ free.concept.present)
       rows_free UnknownConcept = unknown_concept ∙ free.concept.listed
       rows_free UnknownDimension = free.members.each.known
       rows_free DimensionValue = λ i. free.members.each.fit i || free.members.once i
@@ -269,7 +262,7 @@ module _ (sheet : Sheet) (bs : List Binding) (fms ms : Members) where
 
     concept_row : ConceptFree sheet bs ds.concept
     concept_row = record {
-      present = sym (absent_same (at (codes "concept"))) ∙ last_false (is_some (option_and_then as_object (get_member (codes "dimensions") fms))) (is_none (at (codes "concept"))) (ap is_some is) (free MissingConcept);
+      present = sym (absent_same (at (codes "concept"))) ∙ second_false (is_some (option_and_then as_object (get_member (codes "dimensions") fms))) (is_none (at (codes "concept"))) (ap is_some is) (free MissingConcept);
       is_text = sym (no_text_same (at (codes "concept"))) ∙ shape.concept_is;
       names = sym concept_names ∙ each_named.0;
       listed = sym unknown_concept ∙ free UnknownConcept;

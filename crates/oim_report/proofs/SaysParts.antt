@@ -80,8 +80,7 @@ module _ (bs : List Binding) (decimals : Given) (places : Option ℤ) (v : Value
   number_says t true true form short says e =
       let is : Number (units_of t) places ≡ v = cc in
       subst (SaysValue bs Numeric (text t) decimals) is (record { denoted = short_denotes t form short; short = short }, says)
-  number_says t true false form short says e = absurd (cc)
-  number_says t false short_too form short says e = absurd (cc)
+  number_says t b short_too form short says e = absurd (cc)
 
   name_says : (t : List ℕ) → option_map AName (named bs t) ≡ Some v → SaysValue bs Name (text t) decimals v
   name_says t e =

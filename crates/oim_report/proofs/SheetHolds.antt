@@ -28,14 +28,8 @@ sheet_refusal tree = first_refusal (
 flat : (a b c d e f g : Bool)
     → or_refusal (if a then Some MemberForm else (if b then Some UnknownMember else None)) (or_refusal (if c then Some Namespace else None) (or_refusal (by_any d e f) (or_refusal (if g then Some SheetKind else None) None)))
     ≡ (if a then Some MemberForm else (if b then Some UnknownMember else (if c then Some Namespace else (if d then Some NameForm else (if e then Some UnboundPrefix else (if f then Some ReservedNamespace else (if g then Some SheetKind else None)))))))
-flat true b c d e f g = refl
-flat false true c d e f g = refl
-flat false false true d e f g = refl
-flat false false false true e f g = refl
-flat false false false false true f g = refl
-flat false false false false false true g = refl
 flat false false false false false false true = refl
-flat false false false false false false false = refl
+flat b c other d e f g = refl
 
 pub sheet_least : (tree : Data) → sheet_refusal tree ≡ least (sheet_holds tree)
 unfolding least sheet_holds

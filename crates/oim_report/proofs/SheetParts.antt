@@ -23,8 +23,7 @@ or_nothing o f found is = absurd (cc)
 
 either : (o p : Option Spelled) → option_map_or name (option_or o p) nothing ≡ first_shown (option_map name o ∷ option_map name p ∷ [])
 either None None = refl
-either None (Some n) = refl
-either (Some n) p = refl
+either o p = refl
 
 pub first_name : (test : Spelled → Bool) (tree : Data) → option_map_or name (find test (sheet_names tree)) nothing
     ≡ first_shown (option_map name (find test (key_names (sheet_concepts tree))) ∷ option_map name (find test (key_names (sheet_dimensions tree))) ∷ [])

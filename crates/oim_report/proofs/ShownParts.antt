@@ -2,7 +2,7 @@
 use Rattle.std.proofs.Common.{◌≡◌, ℕ, List, [], ◌∷◌, map, Bool, true, false, cond, not, ◌||◌, ◌&&◌, refl, sym, ap, ◌∙◌}
 use Rattle.std.specs.Prelude.{Option, Some, None, codes, if◌then◌else◌, is_some, option_and_then, option_map}
 use Rattle.std.specs.Option.{option_map_or}
-use Rattle.std.specs.List.{filter, find, list_any}
+use Rattle.std.specs.List.{filter, find}
 use Rattle.oim_names.specs.Bindings.{Binding}
 use Rattle.oim_names.specs.Expansion.{Spelled, refuses}
 use Rattle.oim_names.specs.declared.reason.Reason.{Reason}
@@ -16,14 +16,11 @@ use Rattle.oim_report.specs.Namespaces.{binds_nothing}
 use Rattle.oim_report.specs.code.Rows.{misdeclared}
 use Rattle.oim_report.proofs.DocumentHolds.{feature_same}
 use Rattle.oim_report.specs.Shown.{Shown, declares_no_level, document_part, document_shown, entry, first_item, name, nothing, value, value_or_nothing, when}
+use Rattle.oim_dims.proofs.FirstFound.{some_found}
 
 is_found : {A : Type 0} (b : Bool) (x : A) (o : Option A) → is_some (cond b (Some x) o) ≡ (b || is_some o)
 is_found true x o = refl
 is_found false x o = refl
-
-pub found_any : {A : Type 0} (p : A → Bool) (xs : List A) → is_some (find p xs) ≡ list_any p xs
-found_any p [] = refl
-found_any p (x ∷ xs) = is_found (p x) x (find p xs) ∙ ap (λ b. p x || b) (found_any p xs)
 
 pub any_found : (test : List ℕ → Data → Bool) (ms : Members) → any_member test ms ≡ is_some (find (λ m. test m.0 m.1) (entries ms))
 any_found test no_members = refl
@@ -64,7 +61,7 @@ find_map p f [] = refl
 find_map p f (x ∷ xs) = ap (cond (p (f x)) (Some (f x))) (find_map p f xs) ∙ mapped (p (f x)) f x (find (λ x. p (f x)) xs)
 
 pub name_shown : (r : Reason) (bs : List Binding) (ns : List Spelled) → let first = find (refuses r bs) ns in option_map name first ≡ when (refuses_some r bs ns) (option_map_or name first nothing)
-name_shown r bs ns = let first = find (refuses r bs) ns in shown_found name first ∙ ap (λ b. when b (option_map_or name first nothing)) (found_any (refuses r bs) ns)
+name_shown r bs ns = let first = find (refuses r bs) ns in shown_found name first ∙ ap (λ b. when b (option_map_or name first nothing)) (some_found (refuses r bs) ns)
 
 unless_hidden : {A : Type 0} (bad c : Bool) (a : A) (f : A → Option Shown) (x : Shown) → f a ≡ when c x → option_and_then f (if bad then None else Some a) ≡ when (not (bad || false) && c) x
 unless_hidden true c a f x is = refl

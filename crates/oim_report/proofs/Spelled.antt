@@ -1,6 +1,6 @@
 -- If a name satisfies `FitsName`, the text that spells it expands to it, is UTF-8 and has a colon. Different names have different
 -- texts.
-use Rattle.std.proofs.Common.{◌≡◌, ◌≢◌, ◌<◌, ℕ, suc, List, [], ◌∷◌, length, Bool, true, not, Some, refl, sym, ap, ◌∙◌, arith}
+use Rattle.std.proofs.Common.{◌≡◌, ◌≢◌, ◌<◌, ℕ, List, [], ◌∷◌, length, true, not, Some, refl, sym, ap, ◌∙◌, arith}
 use Rattle.std.specs.Prelude.{◌==◌, IsUtf8}
 use Rattle.std.specs.List.{list_all}
 use Rattle.std.specs.Char.{is_ascii_alphanumeric}
@@ -12,13 +12,13 @@ use Rattle.std.proofs.lemmas.Str.{IsUtf8-append, IsUtf8-from_ascii}
 use Rattle.std.proofs.lemmas.Str.Ascii.{IsAscii-nil, IsAscii-cons}
 use Rattle.oim_names.specs.QName.{QName, is_name_byte, is_colon, is_part, is_name, is_entity, prefix_part, local_part}
 use Rattle.oim_names.specs.Bindings.{Binding, uri_of}
-use Rattle.oim_names.specs.Expansion.{ExpandsAs, Expands, ExpandsEntity, reserved_uri}
-use Rattle.oim_names.proofs.Bytes.{bytes_not_eq}
-use Rattle.oim_names.proofs.Spelling.{prefix_part-spelled, local_part-spelled}
+use Rattle.oim_names.specs.Expansion.{Expands, ExpandsEntity}
+use Rattle.oim_names.proofs.Spelling.{prefix_part-spelled, local_part-spelled, filled}
 use Rattle.oim_report.specs.Json.{has_colon}
-use Rattle.oim_report.specs.Names.{named_as, named, entity_named}
+use Rattle.oim_report.specs.Names.{named, entity_named}
 use Rattle.oim_report.specs.FactFits.{FitsName, FitsEntity}
 use Rattle.oim_report.specs.ReadBack.{SpellsName}
+use Rattle.oim_report.proofs.Naming.{expanded}
 
 simple_byte : (c : ℕ) → is_ascii_alphanumeric c ≡ true → is_name_byte c ≡ true
 simple_byte c h = grind (arith, nat_tests)
@@ -38,15 +38,8 @@ simple_ascii (c ∷ cs) h =
     let b = and_parts (is_ascii_alphanumeric c) (list_all is_ascii_alphanumeric cs) h in
     IsAscii-cons c cs (simple_small c b.0) (simple_ascii cs b.1)
 
-pub some_number : (n : ℕ) → not (suc n == 0) ≡ true
-some_number n = grind (arith, nat_tests)
-
-some_bytes : (l : List ℕ) → l ≢ [] → not (length l == 0) ≡ true
-some_bytes [] some = absurd (some refl)
-some_bytes (c ∷ cs) some = some_number (length cs)
-
 prefix_form : (p : List ℕ) → p ≢ [] → list_all is_ascii_alphanumeric p ≡ true → is_part p ≡ true
-prefix_form p some h = and_from (list_all is_name_byte p) (not (length p == 0)) (simple_bytes p h) (some_bytes p some)
+prefix_form p some h = and_from (list_all is_name_byte p) (not (length p == 0)) (simple_bytes p h) (filled p some)
 
 module _ (bs : List Binding) (spelled : QName → List ℕ) (n : QName) (s : SpellsName bs spelled n) where
   before : is_part s.prefix ≡ true
@@ -71,7 +64,7 @@ module _ (bs : List Binding) (spelled : QName → List ℕ) (n : QName) (s : Spe
 
   pub expands_entity : FitsEntity n → ExpandsEntity bs (spelled n) n
   expands_entity fits = record {
-    form = and_from (is_part (prefix_part (spelled n))) (not (length (local_part (spelled n)) == 0)) (ap is_part its_prefix ∙ before) (ap (λ l. not (length l == 0)) its_local ∙ some_bytes n.local_part fits.some);
+    form = and_from (is_part (prefix_part (spelled n))) (not (length (local_part (spelled n)) == 0)) (ap is_part its_prefix ∙ before) (ap (λ l. not (length l == 0)) its_local ∙ filled n.local_part fits.some);
     uri = its_uri;
     allowed = fits.scheme.allowed;
     local_part = sym its_local;
@@ -84,17 +77,11 @@ module _ (bs : List Binding) (spelled : QName → List ℕ) (n : QName) (s : Spe
   pub spelled_colon : has_colon (spelled n) ≡ true
   spelled_colon = rw s.text (list_any-append is_colon s.prefix (58 ∷ n.local_part) ∙ or_right _ _ refl)
 
-pub named_back : (has_form : List ℕ → Bool) (bs : List Binding) (t : List ℕ) (n : QName) → ExpandsAs has_form bs t n → named_as has_form bs t ≡ Some n
-named_back has_form bs t n e =
-    let other = bytes_not_eq n.uri reserved_uri e.allowed in
-    let part = e.local_part in
-    rw (e.form, e.uri, other) (λ i. Some (record { uri = n.uri; local_part = sym part i }))
-
 pub name_back : (bs : List Binding) (spelled : QName → List ℕ) (n : QName) → FitsName n → SpellsName bs spelled n → named bs (spelled n) ≡ Some n
-name_back bs spelled n fits s = named_back is_name bs (spelled n) n (expands bs spelled n s fits)
+name_back bs spelled n fits s = expanded is_name bs (spelled n) n (expands bs spelled n s fits)
 
 pub entity_back : (bs : List Binding) (spelled : QName → List ℕ) (n : QName) → FitsEntity n → SpellsName bs spelled n → entity_named bs (spelled n) ≡ Some n
-entity_back bs spelled n fits s = named_back is_entity bs (spelled n) n (expands_entity bs spelled n s fits)
+entity_back bs spelled n fits s = expanded is_entity bs (spelled n) n (expands_entity bs spelled n s fits)
 
 pub spelled_apart : (bs : List Binding) (spelled : QName → List ℕ) (m n : QName) → FitsName m → FitsName n → SpellsName bs spelled m → SpellsName bs spelled n → m ≢ n → spelled m ≢ spelled n
 spelled_apart bs spelled m n fm fn sm sn other same =

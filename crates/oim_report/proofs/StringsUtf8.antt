@@ -83,7 +83,7 @@ short_ascii : (x c : ℕ) → short_escape x ≡ Some c → (x < 128) × (c < 12
 unfolding short_escape
 short_ascii x c e = (grind (arith, nat_tests, e), grind (arith, nat_tests, e))
 
-IsUtf8-one : (c : ℕ) → c < 128 → IsUtf8 (c ∷ [])
+pub IsUtf8-one : (c : ℕ) → c < 128 → IsUtf8 (c ∷ [])
 unfolding encode_utf8
 IsUtf8-one c ascii =
     let scalar : IsScalar c = grind (arith, nat_tests) in

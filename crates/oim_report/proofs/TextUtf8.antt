@@ -1,9 +1,10 @@
 -- The compact text of a plain value with UTF-8 strings and keys is UTF-8. If the value is an object at most `max_depth`
 -- levels deep, the text is read back. A plain value has no float.
-use Rattle.std.proofs.Common.{◌≡◌, ℕ, negsuc, List, [], ◌∷◌, Bool, true, false, ◌||◌, refl, ◌∙◌}
+use Rattle.std.proofs.Common.{◌≡◌, ℕ, negsuc, List, [], ◌∷◌, Bool, true, false, refl, ◌∙◌}
 use Rattle.std.specs.Prelude.{IsUtf8}
 use Rattle.std.proofs.lemmas.Str.{IsUtf8-append, IsUtf8-nil, IsUtf8-from_ascii}
 use Rattle.std.proofs.lemmas.Fmt.{IsAscii-decimal, IsAscii-signed}
+use Rattle.std.proofs.lemmas.Bool.{or_from}
 use Rattle.json.proofs.Printed.Utf8.{IsUtf8-quoted, IsUtf8-boolean, IsUtf8-are_ascii}
 use Rattle.serde_json.specs.Data.{Num, unsigned, negative, float, Data, null, boolean, number, string, array, object, Items, no_items, item, Members, no_members, member}
 use Rattle.serde_json.specs.Written.{number_text, comma_if, compact_text, items_text, members_text, has_float, items_have_float, members_have_float}
@@ -44,9 +45,6 @@ mutual
       IsUtf8-append _ _ (comma later) (IsUtf8-append _ _ (IsUtf8-quoted k u.0)
       (one 58 _ (IsUtf8-are_ascii _ refl) (IsUtf8-append _ _ (IsUtf8-compact_text d h.0 u.1) (IsUtf8-members_text true ms h.2 u.2))))
 
-or_both : (a b : Bool) → a ≡ false → b ≡ false → (a || b) ≡ false
-or_both a b h k = rw (h, k)
-
 mutual
   pub has_float-plain : (d : Data) → IsPlain d → has_float d ≡ false
   has_float-plain (number (float x)) h = absurd h
@@ -56,11 +54,11 @@ mutual
 
   items_plain : (ds : Items) → ItemsArePlain ds → items_have_float ds ≡ false
   items_plain no_items h = refl
-  items_plain (item d ds) h = or_both (has_float d) (items_have_float ds) (has_float-plain d h.0) (items_plain ds h.1)
+  items_plain (item d ds) h = or_from (has_float d) (items_have_float ds) (has_float-plain d h.0) (items_plain ds h.1)
 
   members_plain : (ms : Members) → MembersArePlain ms → members_have_float ms ≡ false
   members_plain no_members h = refl
-  members_plain (member k d ms) h = or_both (has_float d) (members_have_float ms) (has_float-plain d h.0) (members_plain ms h.2)
+  members_plain (member k d ms) h = or_from (has_float d) (members_have_float ms) (has_float-plain d h.0) (members_plain ms h.2)
 
 pub object_text_back : PlainTextReadsBack
 object_text_back ms h = passes (compact_text (object ms)) (read (compact_text (object ms))) (IsUtf8-compact_text (object ms) h.plain h.utf8) ∙ read-compact_text (object ms) h.plain h.shallow

@@ -1,10 +1,10 @@
 -- If the URIs of all bindings are namespaces, a unit that a UTF-8 text denotes satisfies `IsUnit` and fits the kind of
 -- the concept.
-use Rattle.std.proofs.Common.{◌≡◌, ◌≢◌, ℕ, zero, suc, List, [], ◌∷◌, Bool, true, false, not, ◌==◌, drop, Option, Some, None, refl, sym, subst, length, arith}
+use Rattle.std.proofs.Common.{◌≡◌, ◌≢◌, ℕ, List, [], ◌∷◌, Bool, true, false, not, ◌==◌, Option, Some, None, refl, sym, subst, length, arith}
 use Rattle.std.specs.Prelude.{All, IfSome}
 use Rattle.std.specs.List.{AllZip, list_all, list_any}
 use Rattle.std.specs.Str.{IsUtf8}
-use Rattle.std.proofs.lemmas.Bool.{and_parts, or_parts}
+use Rattle.std.proofs.lemmas.Bool.{and_parts}
 use Rattle.std.proofs.lemmas.List.Elements.{All-cons, All-head, All-tail}
 use Rattle.std.proofs.lemmas.List.Sorted.{All-permutation, length_permutation}
 use Rattle.oim_names.specs.QName.{QName, prefix_part}
@@ -13,7 +13,7 @@ use Rattle.oim_names.specs.Expansion.{Expands}
 use Rattle.std.specs.List.{before_first}
 use Rattle.oim_dims.specs.Separators.{is_slash}
 use Rattle.oim_dims.specs.Unit.{IsMeasure, IsUnit, Measures, denominator_pieces, inner, is_mark, is_piece, numerator_pieces}
-use Rattle.oim_dims.proofs.Naming.{side_some}
+use Rattle.oim_dims.proofs.Naming.{side_some, no_mark_after}
 use Rattle.oim_report.specs.declared.concept_kind.ConceptKind.{ConceptKind}
 use Rattle.oim_report.specs.declared.concept_kind.ConceptKind.TheVariants.{Numeric}
 use Rattle.oim_report.specs.FactFits.{FitsName, UnitFits}
@@ -22,11 +22,6 @@ use Rattle.oim_report.specs.Said.{said_unit}
 use Rattle.oim_report.proofs.Fitting.{AreNamespaces, IsClean, bound_uri, name_fits}
 use Rattle.oim_report.proofs.UnitSays.{HasSides, IsSide, alone, sides, unit}
 use Rattle.oim_report.proofs.Utf8Parts.{denominators_utf8, numerators_utf8}
-
-no_mark_after : (n : ℕ) (p : List ℕ) → list_any is_mark p ≡ false → list_any is_mark (drop n p) ≡ false
-no_mark_after zero p h = h
-no_mark_after (suc n) [] h = refl
-no_mark_after (suc n) (c ∷ cs) h = no_mark_after n cs (or_parts (is_mark c) (list_any is_mark cs) h).1
 
 was_false : (b : Bool) → not b ≡ true → b ≡ false
 was_false true e = absurd (cc)

@@ -1,10 +1,10 @@
 -- If a text denotes a unit that satisfies `IsUnit`, `unit_of` returns this unit. For `pure` alone, `unit_of` returns
 -- `Some None`.
-use Rattle.std.proofs.Common.{◌≡◌, ◌≢◌, ℕ, zero, suc, ◌+◌, List, [], ◌∷◌, true, false, refl, ap, ◌∙◌, arith}
+use Rattle.std.proofs.Common.{◌≡◌, ◌≢◌, ℕ, zero, suc, ◌+◌, List, [], ◌∷◌, false, refl, ap, ◌∙◌, arith}
 use Rattle.std.specs.Prelude.{Option, Some, None, IfSome, option_map}
 use Rattle.std.specs.List.{AllZip}
 use Rattle.std.specs.List.Sorted.{IsSorted, IsPermutation}
-use Rattle.std.specs.Ordering.{is_lt, is_eq, ordering_reverse}
+use Rattle.std.specs.Ordering.{is_lt, is_eq}
 use Rattle.std.specs.declared.cmp.Ordering.TheVariants.{Less, Equal, Greater}
 use Rattle.std.proofs.lemmas.Bool.{cond-true, cond-false, cond_both}
 use Rattle.std.proofs.lemmas.Cmp.{tied_itself}
@@ -18,8 +18,9 @@ use Rattle.oim_dims.specs.Unit.{Measures, NamesEach, HasMeasures, UnitOf, IsUnit
 use Rattle.oim_dims.proofs.SortedOnce.{sorted_once}
 use Rattle.oim_report.specs.Said.{all_named, in_order, side_of, unit_of, unit_with, with_name}
 use Rattle.oim_report.proofs.Naming.{expanded}
+use Rattle.oim_report.proofs.MemberOrder.{other_way}
 
-with_same : (n : QName) (ms : List QName) → IsPermutation (n ∷ ms) (with_name n ms)
+pub with_same : (n : QName) (ms : List QName) → IsPermutation (n ∷ ms) (with_name n ms)
 with_same n [] = IsPermutation-refl (n ∷ [])
 with_same n (m ∷ ms) =
     cond_both (is_lt (name_cmp m n)) (m ∷ with_name n ms) (n ∷ m ∷ ms) (IsPermutation (n ∷ m ∷ ms))
@@ -39,26 +40,18 @@ abbrev pub ordered : List QName → Type 0
 ordered [] = Unit {0}
 ordered (x ∷ xs) = from x xs
 
-not_back : (m n : QName) → is_lt (name_cmp m n) ≡ true → is_lt (name_cmp n m) ≡ false
-not_back m n less =
-    elim (name_cmp m n) as (λ r. name_cmp m n ≡ r → is_lt r ≡ true → is_lt (name_cmp n m) ≡ false) [
-      | Less ↦ λ e l. ap is_lt (name_total.antisymm n m ∙ ap ordering_reverse e)
-      | Equal ↦ λ e l. absurd (cc)
-      | Greater ↦ λ e l. absurd (cc)
-    ] refl less
-
 from_with : (x n : QName) (ms : List QName) → from x ms → is_lt (name_cmp n x) ≡ false → from x (with_name n ms)
 from_with x n [] c h = (h, tt)
 from_with x n (m ∷ ms) c h =
     cond_both (is_lt (name_cmp m n)) (m ∷ with_name n ms) (n ∷ m ∷ ms) (from x)
-    (λ after. (c.0, from_with m n ms c.1 (not_back m n after)))
+    (λ after. (c.0, from_with m n ms c.1 (other_way m n after)))
     (λ before. (h, (before, c.1)))
 
 ordered_with : (n : QName) (ms : List QName) → ordered ms → ordered (with_name n ms)
 ordered_with n [] c = tt
 ordered_with n (m ∷ ms) c =
     cond_both (is_lt (name_cmp m n)) (m ∷ with_name n ms) (n ∷ m ∷ ms) ordered
-    (λ after. from_with m n ms c (not_back m n after))
+    (λ after. from_with m n ms c (other_way m n after))
     (λ before. (before, c))
 
 pub is_ordered : (ns : List QName) → ordered (in_order ns)
@@ -74,12 +67,12 @@ pub sorted : (xs : List QName) → ordered xs → IsSorted name_cmp xs
 sorted [] c = λ k d low within. absurd (omega arith)
 sorted (x ∷ xs) c = sorted_from x xs c
 
-spelled : (bs : List Binding) (ps : List (List ℕ)) (ns : List QName) → AllZip (Expands bs) ps ns → all_named bs ps ≡ Some ns
+pub spelled : (bs : List Binding) (ps : List (List ℕ)) (ns : List QName) → AllZip (Expands bs) ps ns → all_named bs ps ≡ Some ns
 spelled bs [] [] z = refl
 spelled bs (p ∷ ps) (n ∷ ns) z = rw (expanded is_name bs p n z.0, spelled bs ps ns z.1) refl
 spelled bs ps ns z = absurd z
 
-side : (bs : List Binding) (ps : List (List ℕ)) (ns : List QName) → NamesEach bs ps ns → IsSorted name_cmp ns → side_of bs ps ≡ Some ns
+pub side : (bs : List Binding) (ps : List (List ℕ)) (ns : List QName) → NamesEach bs ps ns → IsSorted name_cmp ns → side_of bs ps ≡ Some ns
 side bs ps ns each up =
     ap (option_map in_order) (spelled bs ps each.spelled each.expands)
     ∙ ap Some (sorted_once name_cmp name_total exact_name (in_order each.spelled) ns each.spelled (order_same each.spelled) each.same (sorted (in_order each.spelled) (is_ordered each.spelled)) up)

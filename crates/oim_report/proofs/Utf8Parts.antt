@@ -1,9 +1,9 @@
 -- If a UTF-8 text is cut at ASCII characters, its parts are UTF-8.
-use Rattle.std.proofs.Common.{◌≡◌, ℕ, suc, ◌+◌, ◌-◌, ◌<◌, ◌≤◌, List, [], ◌∷◌, ◌++◌, length, get_or, take, drop, Bool, true, false, ◌==◌, ◌&&◌, cond, refl, sym, ap, subst, arith, length-append}
+use Rattle.std.proofs.Common.{◌≡◌, ℕ, ◌+◌, ◌-◌, ◌<◌, ◌≤◌, List, [], ◌∷◌, ◌++◌, length, get_or, take, drop, Bool, true, false, ◌==◌, ◌&&◌, cond, refl, sym, ap, subst, arith, length-append}
 use Rattle.std.specs.Prelude.{All}
 use Rattle.std.specs.List.{after_first, before_first, join_with_byte, list_any, position_or_len}
 use Rattle.std.specs.Str.{IsUtf8}
-use Rattle.std.proofs.lemmas.Bool.{and_parts, cases_lt}
+use Rattle.std.proofs.lemmas.Bool.{and_parts, cases_lt, eqb-true}
 use Rattle.std.proofs.lemmas.List.{drop_all, take_all}
 use Rattle.std.proofs.Common.{inl, inr}
 use Rattle.std.proofs.lemmas.Bool.Decides.{nat_tests}
@@ -13,6 +13,7 @@ use Rattle.std.proofs.lemmas.List.Sums.{passes_at_first}
 use Rattle.std.proofs.lemmas.Str.{IsUtf8-take, IsUtf8-drop, IsUtf8-between, IsUtf8-nil, IsCharBoundary-before_ascii, IsCharBoundary-after_ascii}
 use Rattle.oim_dims.specs.Separators.{is_slash}
 use Rattle.oim_dims.specs.Unit.{inner, side_pieces, numerator_pieces, denominator_pieces}
+use Rattle.oim_dims.proofs.Cuts.{drop_past}
 use Rattle.oim_names.specs.QName.{is_colon}
 
 abbrev pub OnlyAscii : (ℕ → Bool) → Type 0
@@ -42,10 +43,6 @@ front : (xs ys : List ℕ) → take (length xs) (xs ++ ys) ≡ xs
 front [] ys = refl
 front (x ∷ xs) ys = ap (λ zs. x ∷ zs) (front xs ys)
 
-back : (xs ys : List ℕ) (c : ℕ) → drop (length xs + 1) (xs ++ c ∷ ys) ≡ ys
-back [] ys c = refl
-back (x ∷ xs) ys c = let e : length (x ∷ xs) + 1 ≡ suc (length xs + 1) = omega arith in rw e (back xs ys c)
-
 seam_within : (xs ys : List ℕ) (c : ℕ) → length xs < length (xs ++ c ∷ ys)
 seam_within xs ys c = simp length-append (omega arith)
 
@@ -53,16 +50,13 @@ pub both_utf8 : (xs ys : List ℕ) (c : ℕ) → c < 128 → IsUtf8 (xs ++ c ∷
 both_utf8 xs ys c ascii utf8 =
     let low : get_or (xs ++ c ∷ ys) (length xs) 0 < 128 = rw (at_seam xs ys c) ascii in (
       subst IsUtf8 (front xs (c ∷ ys)) (IsUtf8-take (xs ++ c ∷ ys) (length xs) utf8 (IsCharBoundary-before_ascii (xs ++ c ∷ ys) (length xs) (seam_within xs ys c) low)),
-      subst IsUtf8 (back xs ys c) (IsUtf8-drop (xs ++ c ∷ ys) (length xs + 1) utf8 (IsCharBoundary-after_ascii (xs ++ c ∷ ys) (length xs) utf8 (seam_within xs ys c) low)),
+      subst IsUtf8 (drop_past xs ys c) (IsUtf8-drop (xs ++ c ∷ ys) (length xs + 1) utf8 (IsCharBoundary-after_ascii (xs ++ c ∷ ys) (length xs) utf8 (seam_within xs ys c) low)),
     )
 
 joined_utf8 : (c : ℕ) → c < 128 → (ps : List (List ℕ)) → IsUtf8 (join_with_byte c ps) → All IsUtf8 ps
 joined_utf8 c ascii [] utf8 = λ k d lt. absurd (omega (arith, lt))
 joined_utf8 c ascii (p ∷ []) utf8 = All-cons IsUtf8 p [] utf8 (λ k d lt. absurd (omega (arith, lt)))
 joined_utf8 c ascii (p ∷ q ∷ ps) utf8 = let both = both_utf8 p (join_with_byte c (q ∷ ps)) c ascii utf8 in All-cons IsUtf8 p (q ∷ ps) both.0 (joined_utf8 c ascii (q ∷ ps) both.1)
-
-same_number : (m n : ℕ) → (m == n) ≡ true → m ≡ n
-same_number m n h = grind (arith, nat_tests, h)
 
 only_slash : OnlyAscii is_slash
 only_slash c h = grind (arith, nat_tests, h)
@@ -89,7 +83,7 @@ inner_utf8 : (s : List ℕ) → IsUtf8 s → IsUtf8 (inner s)
 inner_utf8 s utf8 =
     let P : Bool → Type 0 = λ b. (get_or s 0 0 == 40 && get_or s (length s - 1) 0 == 41) ≡ b → IsUtf8 (cond b (take (length s - 1 - 1) (drop 1 s)) s) in
     elim (get_or s 0 0 == 40 && get_or s (length s - 1) 0 == 41) as P [
-      | true ↦ λ e. (let both = and_parts (get_or s 0 0 == 40) (get_or s (length s - 1) 0 == 41) e in inside_utf8 s utf8 (same_number _ _ both.0) (same_number _ _ both.1))
+      | true ↦ λ e. (let both = and_parts (get_or s 0 0 == 40) (get_or s (length s - 1) 0 == 41) e in inside_utf8 s utf8 (eqb-true _ _ both.0) (eqb-true _ _ both.1))
       | false ↦ λ e. utf8
     ] refl
 

@@ -17,10 +17,11 @@ use Rattle.oim_value.specs.Interval.{common_part, intervals_meet}
 use Rattle.oim_value.specs.ValueOrder.{name_cmp, value_cmp}
 use Rattle.oim_value.proofs.Meeting.{meets_is_reflexive, meets_is_symmetric}
 use Rattle.oim_value.proofs.ValueOrders.{value_cmp_self}
+use Rattle.oim_value.proofs.Ends.{le_from, le_to}
 use Rattle.oim_report.specs.code.Beside.{both_common, both_meet, interval_at}
 use Rattle.oim_report.specs.Duplicates.{values_meet, ValuesMeetIsMeets}
 
-never : {P : Type 0} → false ≡ true → P
+pub never : {P : Type 0} → false ≡ true → P
 never h = absurd (false≢true h)
 
 pub values_meet_is_meets : ValuesMeetIsMeets
@@ -48,12 +49,6 @@ lesser_meets (Number m d) (Number n e) h = refl
 lesser_meets (AText s) (AText t) h = sym (is_eq-slice_cmp s t) ∙ ap is_eq h
 lesser_meets (AName m) (AName n) h = ap is_eq h
 lesser_meets v w h = refl
-
-le_from : (x y : ℤ) → int_le x y ≡ true → x ≤ℤ y
-le_from x y h = grind (arith, ints)
-
-le_to : (x y : ℤ) → x ≤ℤ y → int_le x y ≡ true
-le_to x y h = grind (arith, ints)
 
 meets_each : (i j k : Interval) → intervals_meet (common_part i j) k ≡ true → (intervals_meet i k && intervals_meet j k) ≡ true
 meets_each i j k h =

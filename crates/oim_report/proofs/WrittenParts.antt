@@ -15,6 +15,7 @@ use Rattle.oim_value.specs.declared.value.Value.TheVariants.{Nil, Number, Text a
 use Rattle.oim_dims.specs.DimensionSet.{DimensionSet}
 use Rattle.oim_dims.specs.Period.{period_text}
 use Rattle.oim_dims.specs.Unit.{Measures}
+use Rattle.oim_dims.specs.declared.fact.Fact.{Fact}
 use Rattle.oim_dims.specs.declared.member.Member.{Member}
 use Rattle.oim_dims.specs.declared.member.Member.TheVariants.{Nil as NoMember, Text as MemberText, Name as MemberName}
 use Rattle.serde_json.specs.Data.{string, object, Members, no_members, put}
@@ -26,10 +27,10 @@ use Rattle.oim_report.specs.declared.dimension_kind.DimensionKind.{DimensionKind
 use Rattle.oim_report.specs.declared.dimension_kind.DimensionKind.TheVariants.{Explicit, Typed}
 use Rattle.oim_report.specs.Json.{given, given_of, has_colon, any_member, is_unknown}
 use Rattle.oim_report.specs.Parts.{core_keys, defined_in, dimension_parts, parts_of}
-use Rattle.oim_report.specs.FactFits.{EntityFits, LanguageFits, UnitFits, MemberFits, DimensionFits, ValueFits}
+use Rattle.oim_report.specs.FactFits.{EntityFits, LanguageFits, UnitFits, MemberFits, DimensionFits, ValueFits, FactFits}
 use Rattle.oim_report.specs.FactObject.{put_text, option_spelled, option_unit_text, member_data, with_defined, dimension_members, value_data, with_decimals}
 use Rattle.oim_report.specs.Sheet.{Sheet}
-use Rattle.oim_report.specs.ReadBack.{SpellsName, SpellsMeasures, SpellsMember, SpellsDimension, SpellsValue, option_given, with_given, member_given, defined_given, dimensions_given, value_given, decimals_given, FactObjectHasParts}
+use Rattle.oim_report.specs.ReadBack.{SpellsName, SpellsMeasures, SpellsMember, SpellsDimension, SpellsFact, SpellsValue, option_given, with_given, member_given, defined_given, dimensions_given, value_given, decimals_given, FactObjectHasParts}
 use Rattle.oim_report.proofs.Givens.{given_text}
 use Rattle.oim_report.proofs.Spelled.{spelled_utf8, spelled_colon}
 use Rattle.oim_report.proofs.WrittenTexts.{plain_utf8, period_utf8, language_utf8, unit_utf8}
@@ -171,15 +172,16 @@ module _ (spelled : QName → List ℕ) where
 
 -- ---- all dimensions
 
-record HasTexts (spelled : QName → List ℕ) (d : DimensionSet) : Type 0 where
-  concept : IsUtf8 (spelled d.concept)
-  entity : IfSome (option_spelled spelled d.entity) IsUtf8
-  language : IfSome d.language IsUtf8
-  period : IfSome (period_text d.period) IsUtf8
-  unit : IfSome (option_unit_text spelled d.unit) IsUtf8
-  members : All (IsWritten spelled) d.members
+-- the core dimensions have UTF-8 texts, and W holds of each taxonomy-defined one
+pub record HasTexts (W : QName × Member → Type 0) (spelled : QName → List ℕ) (d : DimensionSet) : Type 0 where
+  pub concept : IsUtf8 (spelled d.concept)
+  pub entity : IfSome (option_spelled spelled d.entity) IsUtf8
+  pub language : IfSome d.language IsUtf8
+  pub period : IfSome (period_text d.period) IsUtf8
+  pub unit : IfSome (option_unit_text spelled d.unit) IsUtf8
+  pub members : All W d.members
 
-dimensions_back : (spelled : QName → List ℕ) (d : DimensionSet) → HasTexts spelled d → dimension_parts (dimension_members spelled d) ≡ dimensions_given spelled d
+dimensions_back : (spelled : QName → List ℕ) (d : DimensionSet) → HasTexts (IsWritten spelled) spelled d → dimension_parts (dimension_members spelled d) ≡ dimensions_given spelled d
 dimensions_back spelled d h =
     let e = option_spelled spelled d.entity in
     let l = d.language in
@@ -203,15 +205,15 @@ shape : (spelled : QName → List ℕ) (v : Value) (ms : Members) → parts_of (
 shape spelled (Number units (Some (pos d))) ms = refl
 shape spelled v ms = refl
 
-pub entity_texts : (bs : List Binding) (spelled : QName → List ℕ) (n : Option QName) → EntityFits n → IfSome n (SpellsName bs spelled) → IfSome (option_spelled spelled n) IsUtf8
+entity_texts : (bs : List Binding) (spelled : QName → List ℕ) (n : Option QName) → EntityFits n → IfSome n (SpellsName bs spelled) → IfSome (option_spelled spelled n) IsUtf8
 entity_texts bs spelled None fits s = tt
 entity_texts bs spelled (Some n) fits s = spelled_utf8 bs spelled n s fits.utf8
 
-pub language_texts : (kind : ConceptKind) (l : Option (List ℕ)) → LanguageFits kind l → IfSome l IsUtf8
+language_texts : (kind : ConceptKind) (l : Option (List ℕ)) → LanguageFits kind l → IfSome l IsUtf8
 language_texts kind None fits = tt
 language_texts kind (Some l) fits = language_utf8 l fits.form
 
-pub unit_texts : (bs : List Binding) (spelled : QName → List ℕ) (kind : ConceptKind) (m : Option Measures) → UnitFits kind m → IfSome m (SpellsMeasures bs spelled) → IfSome (option_unit_text spelled m) IsUtf8
+unit_texts : (bs : List Binding) (spelled : QName → List ℕ) (kind : ConceptKind) (m : Option Measures) → UnitFits kind m → IfSome m (SpellsMeasures bs spelled) → IfSome (option_unit_text spelled m) IsUtf8
 unit_texts bs spelled kind None fits s = tt
 unit_texts bs spelled kind (Some m) fits s =
     unit_utf8 spelled m
@@ -225,16 +227,20 @@ one_written sheet bs spelled e fits s = record {
   member = member_back bs spelled fits.kind e.1 fits.member s.member;
 }
 
+pub has_texts : (W : QName × Member → Type 0) (sheet : Sheet) (bs : List Binding) (spelled : QName → List ℕ) (f : Fact) → FactFits sheet f → SpellsFact bs spelled f
+    → ((e : QName × Member) → DimensionFits sheet e → SpellsDimension bs spelled e → W e) → HasTexts W spelled f.dimensions
+has_texts W sheet bs spelled f fits s written = record {
+  concept = spelled_utf8 bs spelled f.dimensions.concept s.concept fits.concept.utf8;
+  entity = entity_texts bs spelled f.dimensions.entity fits.entity s.entity;
+  language = language_texts fits.kind f.dimensions.language fits.language;
+  period = period_utf8 f.dimensions.period fits.set.period;
+  unit = unit_texts bs spelled fits.kind f.dimensions.unit fits.unit s.unit;
+  members = λ k d within. written _ (fits.members k d within) (s.members k d within);
+}
+
 pub parts_back : FactObjectHasParts
 parts_back sheet bs spelled f fits s =
-    let texts : HasTexts spelled f.dimensions = record {
-      concept = spelled_utf8 bs spelled f.dimensions.concept s.concept fits.concept.utf8;
-      entity = entity_texts bs spelled f.dimensions.entity fits.entity s.entity;
-      language = language_texts fits.kind f.dimensions.language fits.language;
-      period = period_utf8 f.dimensions.period fits.set.period;
-      unit = unit_texts bs spelled fits.kind f.dimensions.unit fits.unit s.unit;
-      members = λ k d within. one_written sheet bs spelled _ (fits.members k d within) (s.members k d within);
-    } in
+    let texts = has_texts (IsWritten spelled) sheet bs spelled f fits s (one_written sheet bs spelled) in
     let value = value_back bs spelled fits.kind f.value fits.value s.value in
     let dimensions = dimensions_back spelled f.dimensions texts in
     ap Some (shape spelled f.value (dimension_members spelled f.dimensions) ∙ (λ i. record { value = value i; decimals = decimals_given spelled f.value; dimensions = Some (dimensions i); linked = false; misshapen = false; unknown = false }))

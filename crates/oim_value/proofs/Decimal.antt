@@ -3,11 +3,12 @@ use Rattle.std.proofs.Common.{◌≡◌, ℕ, ◌+◌, ◌*◌, ◌/◌, ◌%◌
 use Rattle.std.proofs.Math.ListN.{get_or-append}
 use Rattle.std.proofs.lemmas.List.{append-nil}
 use Rattle.std.proofs.lemmas.Fmt.{decimal_digit, decimal_step_wide, decimal_by_steps_wide}
+use Rattle.std.proofs.lemmas.Bool.{and_parts}
 use Rattle.std.specs.Char.{digit_value, is_ascii_digit}
 use Rattle.std.specs.List.{list_all}
 use Rattle.std.specs.Fmt.{decimal}
 use Rattle.std.specs.Str.Parse.{digits_value_after}
-use Rattle.oim_value.proofs.Numerals.{after_grows, both_true, digit_is, digit_small}
+use Rattle.oim_value.proofs.Numerals.{after_grows, digit_is, digit_small}
 
 lead : (n : ℕ) → n < 10 ^ 64 → (0 < length (decimal n)) × (0 < n → 48 < get_or (decimal n) 0 0)
 lead n small =
@@ -26,7 +27,7 @@ decimal_first n some small = (lead n small).1 some
 decimal_after : (n : ℕ) (ds : List ℕ) → 0 < n → list_all is_ascii_digit ds ≡ true → digits_value_after 10 n ds < 10 ^ 64 → decimal (digits_value_after 10 n ds) ≡ decimal n ++ ds
 decimal_after n [] some e small = sym (append-nil (decimal n))
 decimal_after n (c ∷ cs) some e small =
-    let parts = both_true (is_ascii_digit c) (list_all is_ascii_digit cs) e in
+    let parts = and_parts (is_ascii_digit c) (list_all is_ascii_digit cs) e in
     let m : ℕ = n * 10 + digit_value c in
     let front : m / 10 ≡ n = omega (arith, digit_small c parts.0) in
     let last : 48 + m % 10 ≡ c = omega (arith, digit_small c parts.0, digit_is c parts.0) in
@@ -39,11 +40,11 @@ decimal_after n (c ∷ cs) some e small =
 pub decimal_of_digits : (ds : List ℕ) → list_all is_ascii_digit ds ≡ true → 0 < length ds → (get_or ds 0 0 ≡ 48 → length ds ≡ 1) → digits_value_after 10 0 ds < 10 ^ 64 → decimal (digits_value_after 10 0 ds) ≡ ds
 decimal_of_digits [] e some lone small = absurd (omega arith)
 decimal_of_digits (c ∷ []) e some lone small =
-    let here = (both_true (is_ascii_digit c) true e).0 in
+    let here = (and_parts (is_ascii_digit c) true e).0 in
     let is : 48 + (0 * 10 + digit_value c) ≡ c = omega (arith, digit_is c here) in
     decimal_digit (0 * 10 + digit_value c) (omega (arith, digit_small c here)) ∙ ap (λ d. d ∷ []) is
 decimal_of_digits (c ∷ d ∷ cs) e some lone small =
-    let parts = both_true (is_ascii_digit c) (list_all is_ascii_digit (d ∷ cs)) e in
+    let parts = and_parts (is_ascii_digit c) (list_all is_ascii_digit (d ∷ cs)) e in
     let no : c ≡ 48 → ⊥ = λ z. omega (arith, lone z) in
     let is : 48 + (0 * 10 + digit_value c) ≡ c = omega (arith, digit_is c parts.0) in
     decimal_after (0 * 10 + digit_value c) (d ∷ cs) (omega (arith, no, digit_is c parts.0)) parts.1 small

@@ -15,10 +15,10 @@ magnitude : (z : ℤ) (p : ℕ) → unsigned_abs (z *ℤ pos p) ≡ unsigned_abs
 magnitude (pos n) p = refl
 magnitude (negsuc n) p = unsigned_abs-signed true (suc n * p)
 
-product_positive : (a p : ℕ) → 0 < p → 0 < suc a * p
+pub product_positive : (a p : ℕ) → 0 < p → 0 < suc a * p
 product_positive a p some = let h : p * 1 ≤ p * suc a = mul-le-mul_left p (omega arith) in grind (arith, h)
 
-no_negative : (x n : ℕ) → 0 < x → neg_ℤ (pos x) ≡ pos n → ⊥
+pub no_negative : (x n : ℕ) → 0 < x → neg_ℤ (pos x) ≡ pos n → ⊥
 no_negative zero n some e = omega arith
 no_negative (suc x) n some e = cc
 

@@ -29,7 +29,7 @@ second_true false b p = absurd (true≢false (sym p))
 pub le_from : (x y : ℤ) → int_le x y ≡ true → x ≤ℤ y
 le_from x y h = grind (arith, ints)
 
-le_to : (x y : ℤ) → x ≤ℤ y → int_le x y ≡ true
+pub le_to : (x y : ℤ) → x ≤ℤ y → int_le x y ≡ true
 le_to x y h = grind (arith, ints)
 
 -- if no interval is empty and every two meet, every low end is at most every high end
@@ -63,10 +63,10 @@ all_meet_iff_ends_meet is e points ends = (
 
 -- ---- the ends exist
 
-later : {A : Type 0} (P : A → Type 0) (x : A) (xs : List A) → Any P xs → Any P (x ∷ xs)
+pub later : {A : Type 0} (P : A → Type 0) (x : A) (xs : List A) → Any P xs → Any P (x ∷ xs)
 later P x xs a = (suc a.0, a.1, omega (arith, a.2), a.3, a.4)
 
-now : {A : Type 0} (P : A → Type 0) (x : A) (xs : List A) → P x → Any P (x ∷ xs)
+pub now : {A : Type 0} (P : A → Type 0) (x : A) (xs : List A) → P x → Any P (x ∷ xs)
 now P x xs p = (zero, x, omega arith, refl, p)
 
 weaker : {A : Type 0} (P Q : A → Type 0) (xs : List A) → ((x : A) → P x → Q x) → All P xs → All Q xs

@@ -1,5 +1,5 @@
 -- Laws of rounding intervals.
-use Rattle.std.proofs.Common.{◌≡◌, ℕ, ◌+◌, ◌-◌, ◌*◌, ◌^◌, ◌≤◌, true, ap, sym, ◌∙◌, arith}
+use Rattle.std.proofs.Common.{◌≡◌, ℕ, ◌+◌, ◌-◌, ◌*◌, ◌^◌, ◌≤◌, ap, sym, ◌∙◌, arith}
 use Rattle.std.specs.Prelude.{ℤ, pos, negsuc, neg_ℤ, ◌-ℤ◌, ◌≤ℤ◌, int_le, unsigned_abs, IsTrue}
 use Rattle.std.specs.Int.{int_max, int_min}
 use Rattle.std.proofs.lemmas.Int.{ints, clamps}
@@ -8,6 +8,7 @@ use Rattle.oim_value.specs.declared.interval.Interval.{Interval}
 use Rattle.oim_value.specs.declared.limits.TheConstants.{UNIT_PLACES}
 use Rattle.oim_value.specs.Interval.{half_width, half_zeros, intervals_meet, HalfAfterPoint, HalfBeforePoint, IntervalHasNumber, IntervalHasPoints, WithinIsNear, CommonIsAssociative, CommonIsCommutative, CommonIsIdempotent, CommonIsBoth, MeetsByCommonPoint, MeetsByCommonPart}
 use Rattle.oim_value.proofs.Numerals.{both_true}
+use Rattle.oim_value.proofs.Ends.{le_from, le_to}
 
 -- ---- half a place
 
@@ -109,19 +110,13 @@ common_is_both units a b = (
 
 -- ---- meeting
 
-int_le_is : (x y : ℤ) → int_le x y ≡ true → x ≤ℤ y
-int_le_is x y h = grind (arith, ints)
-
-int_le_from : (x y : ℤ) → x ≤ℤ y → int_le x y ≡ true
-int_le_from x y h = grind (arith, ints)
-
 pub meet_is : (a b : Interval) → IsTrue (intervals_meet a b) → (a.low ≤ℤ b.high) × (b.low ≤ℤ a.high)
 meet_is a b h =
     let both = both_true (int_le a.low b.high) (int_le b.low a.high) h in
-    (int_le_is a.low b.high both.0, int_le_is b.low a.high both.1)
+    (le_from a.low b.high both.0, le_from b.low a.high both.1)
 
 pub meet_from : (a b : Interval) → a.low ≤ℤ b.high → b.low ≤ℤ a.high → IsTrue (intervals_meet a b)
-meet_from a b p q = rw (int_le_from a.low b.high p) (int_le_from b.low a.high q)
+meet_from a b p q = rw (le_to a.low b.high p) (le_to b.low a.high q)
 
 max_at_most_min : (a b c d : ℤ) → a ≤ℤ b → c ≤ℤ d → a ≤ℤ d → c ≤ℤ b → int_max a c ≤ℤ int_min b d
 max_at_most_min a b c d p q r s = min_above b d (int_max a c) (max_below a c b p s) (max_below a c d r q)

@@ -2,7 +2,6 @@
 use Rattle.std.proofs.Common.{◌≡◌, ◌≢◌, ℕ, zero, suc, ◌+◌, ◌*◌, ◌-◌, ◌^◌, ◌/◌, ◌%◌, ◌<◌, ◌≤◌, Bool, true, false, cond, eqb, List, [], ◌∷◌, ◌++◌, length, length-append, get_or, refl, sym, ap, ◌∙◌, arith}
 use Rattle.std.specs.Prelude.{ℤ, pos, negsuc, ◌*ℤ◌, ◌<ℤ◌, unsigned_abs}
 use mathlib.Core.Bool.{false≢true}
-use Rattle.std.proofs.Math.IntN.{neg_ℤ}
 use Rattle.std.proofs.lemmas.Bool.Decides.{nat_tests}
 use Rattle.std.proofs.lemmas.Int.{ints, unsigned_abs-mul}
 use Rattle.std.proofs.lemmas.List.Folds.{list_all-append}
@@ -23,6 +22,7 @@ use Rattle.oim_value.proofs.Fractions.{value_append, value_lt, same_fraction, te
 use Rattle.oim_value.proofs.Shapes.{below_zero, unsigned-sign_text, is_negative-sign_text, no_plus-sign_text, before_first-digits, after_first-digits, has_point-text, point_some, some_point, sign_apart, has_point-unsigned, point_apart}
 use Rattle.oim_value.proofs.PlainLemmas.{decimal_digits, decimal_value, zeros_digits, zeros_value, length-with_zeros, take-without_trailing, IsAscii-with_zeros}
 use Rattle.oim_value.proofs.Units.{short_bound, signed_times, unsigned_abs-signed}
+use Rattle.oim_value.proofs.Denoted.{no_negative}
 
 -- ---- the fraction digits of r units
 
@@ -140,15 +140,10 @@ plain_is_plain m writable =
 
 -- ---- a number has no other plain text
 
-pub no_pos : (j x : ℕ) → 0 < j → neg_ℤ (pos j) ≡ pos x → ⊥
-no_pos zero x some e = omega arith
-no_pos (suc j) x some e = cc
-
 sign_of_denoted : (m : ℤ) (b : Bool) (k x : ℕ) → 0 < k → (b ≡ true → m <ℤ pos 0) → m *ℤ pos k ≡ signed b x → b ≡ below_zero m
 sign_of_denoted (pos n) true k x some below e = let h = below refl in absurd (omega (arith, ints))
-sign_of_denoted (pos n) false k x some below e = refl
-sign_of_denoted (negsuc n) true k x some below e = refl
-sign_of_denoted (negsuc n) false k x some below e = absurd (no_pos (suc n * k) x (let more : k ≤ suc n * k = grind arith in omega arith) e)
+sign_of_denoted (negsuc n) false k x some below e = absurd (no_negative (suc n * k) x (let more : k ≤ suc n * k = grind arith in omega arith) e)
+sign_of_denoted z b k x some below e = refl
 
 cond-below_zero : (m : ℤ) → cond (below_zero m) (45 ∷ []) [] ≡ sign_text m
 cond-below_zero (pos n) = refl

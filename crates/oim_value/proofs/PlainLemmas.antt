@@ -31,16 +31,15 @@ take-without_trailing [] = refl
 take-without_trailing (d ∷ ds) = take_kept d ds (without_trailing ds) (take-without_trailing ds)
 
 IsAscii-replicate : (n : ℕ) → IsAscii (replicate n 48)
-IsAscii-replicate zero i = omega arith
-IsAscii-replicate (suc n) zero = omega arith
 IsAscii-replicate (suc n) (suc i) = IsAscii-replicate n i
+IsAscii-replicate n i = omega arith
 
 pub IsAscii-with_zeros : (w n : ℕ) → n < 10 ^ 64 → IsAscii (with_leading_zeros w (decimal n))
 IsAscii-with_zeros w n h = IsAscii-append (replicate (w - length (decimal n)) 48) (decimal n) (IsAscii-replicate (w - length (decimal n))) (IsAscii-decimal_wide n h)
 
 -- ---- numerals, with zeros before them
 
-digit_of : (n : ℕ) → n < 10 → is_ascii_digit (48 + n) ≡ true
+pub digit_of : (n : ℕ) → n < 10 → is_ascii_digit (48 + n) ≡ true
 digit_of n h = grind (arith, nat_tests)
 
 push_digit : (n : ℕ) (ds : List ℕ) → list_all is_ascii_digit ds ≡ true → list_all is_ascii_digit (ds ++ (48 + n % 10) ∷ []) ≡ true

@@ -32,21 +32,10 @@ use Rattle.oim_value.proofs.ValueOrders.{value_cmp_self}
 
 pub different_meet_as_numbers : DifferentMeetAsNumbers
 different_meet_as_numbers Nil Nil other meet = absurd (other refl)
-different_meet_as_numbers Nil (Number n e) other meet = absurd meet
-different_meet_as_numbers Nil (AText t) other meet = absurd meet
-different_meet_as_numbers Nil (AName n) other meet = absurd meet
-different_meet_as_numbers (Number m d) Nil other meet = absurd meet
 different_meet_as_numbers (Number m d) (Number n e) other meet = (refl, refl)
-different_meet_as_numbers (Number m d) (AText t) other meet = absurd meet
-different_meet_as_numbers (Number m d) (AName n) other meet = absurd meet
-different_meet_as_numbers (AText s) Nil other meet = absurd meet
-different_meet_as_numbers (AText s) (Number n e) other meet = absurd meet
 different_meet_as_numbers (AText s) (AText t) other meet = absurd (other (ap AText meet))
-different_meet_as_numbers (AText s) (AName n) other meet = absurd meet
-different_meet_as_numbers (AName m) Nil other meet = absurd meet
-different_meet_as_numbers (AName m) (Number n e) other meet = absurd meet
-different_meet_as_numbers (AName m) (AText t) other meet = absurd meet
 different_meet_as_numbers (AName m) (AName n) other meet = absurd (other (ap AName meet))
+different_meet_as_numbers v w other meet = absurd meet
 
 -- ---- each value meets each later one exactly if every two members meet
 
@@ -76,10 +65,8 @@ interval_at (Number m d) = interval m d
 interval_at other = interval (pos 0) None
 
 points_at : (v : Value) → HasPoints (interval_at v)
-points_at Nil = interval_has_points (pos 0) None
 points_at (Number m d) = interval_has_points m d
-points_at (AText t) = interval_has_points (pos 0) None
-points_at (AName n) = interval_has_points (pos 0) None
+points_at v = interval_has_points (pos 0) None
 
 abbrev IsNumber : Value → Type 0
 IsNumber v = IsTrue (has_interval v)
@@ -89,21 +76,13 @@ no_number is_so not_so = absurd (true≢false (sym is_so ∙ not_so))
 
 meet_to : (x y : Value) → IsNumber x → IsNumber y → Meets x y → IsTrue (intervals_meet (interval_at x) (interval_at y))
 meet_to (Number m d) (Number n e) p q meet = meet
-meet_to Nil y p q meet = no_number p refl
-meet_to (AText t) y p q meet = no_number p refl
-meet_to (AName n) y p q meet = no_number p refl
-meet_to (Number m d) Nil p q meet = no_number q refl
-meet_to (Number m d) (AText t) p q meet = no_number q refl
-meet_to (Number m d) (AName n) p q meet = no_number q refl
+meet_to (Number m d) v p q meet = no_number q refl
+meet_to v y p q meet = no_number p refl
 
 meet_from : (x y : Value) → IsNumber x → IsNumber y → IsTrue (intervals_meet (interval_at x) (interval_at y)) → Meets x y
 meet_from (Number m d) (Number n e) p q meet = meet
-meet_from Nil y p q meet = no_number p refl
-meet_from (AText t) y p q meet = no_number p refl
-meet_from (AName n) y p q meet = no_number p refl
-meet_from (Number m d) Nil p q meet = no_number q refl
-meet_from (Number m d) (AText t) p q meet = no_number q refl
-meet_from (Number m d) (AName n) p q meet = no_number q refl
+meet_from (Number m d) v p q meet = no_number q refl
+meet_from v y p q meet = no_number p refl
 
 rest : {A : Type 0} (P : A → Type 0) (x : A) (xs : List A) → All P (x ∷ xs) → All P xs
 rest P x xs all k d lt = all (suc k) d (omega (arith, lt))
@@ -166,16 +145,12 @@ all_numbers vs two different meet zero d lt = (different_meet_as_numbers (get_or
 all_numbers vs two different meet (suc k) d lt = (different_meet_as_numbers (get_or vs 0 d) (get_or vs (suc k) d) (different 0 (suc k) d (omega arith) lt) (meet 0 (suc k) d (omega arith) lt)).1
 
 of_numbers : (v : Value) → kind_order v ≡ 1 → IsNumber v
-of_numbers Nil e = absurd (omega (arith, e))
 of_numbers (Number m d) e = refl
-of_numbers (AText t) e = absurd (omega (arith, e))
-of_numbers (AName n) e = absurd (omega (arith, e))
+of_numbers v e = absurd (omega (arith, e))
 
 kind_of_number : (v : Value) → IsNumber v → kind_order v ≡ 1
 kind_of_number (Number m d) p = refl
-kind_of_number Nil p = no_number p refl
-kind_of_number (AText t) p = no_number p refl
-kind_of_number (AName n) p = no_number p refl
+kind_of_number v p = no_number p refl
 
 kind_there : (kind : ℕ) (v : Value) → (v ≡ Nil → ⊥) → (v ≡ Nil) ⊎ (kind_order v ≡ kind) → kind_order v ≡ kind
 kind_there kind v some either = elim either [ inl e ↦ absurd (some e) | inr e ↦ e ]
@@ -214,27 +189,19 @@ first_place p vs k lt is_so = elim (cases_lt (position_or_len p vs) (length vs))
 
 high_to : (z : ℤ) (v : Value) → IsNumber v → (interval_at v).high ≡ z → has_high z v ≡ true
 high_to z (Number m d) p is = (Decides-int_eq (interval m d).high z).1 is
-high_to z Nil p is = no_number p refl
-high_to z (AText t) p is = no_number p refl
-high_to z (AName n) p is = no_number p refl
+high_to z v p is = no_number p refl
 
 high_from : (z : ℤ) (v : Value) → has_high z v ≡ true → IsNumber v × ((interval_at v).high ≡ z)
 high_from z (Number m d) h = (refl, (Decides-int_eq (interval m d).high z).0 h)
-high_from z Nil h = no_number h refl
-high_from z (AText t) h = no_number h refl
-high_from z (AName n) h = no_number h refl
+high_from z v h = no_number h refl
 
 low_to : (z : ℤ) (v : Value) → IsNumber v → (interval_at v).low ≡ z → has_low z v ≡ true
 low_to z (Number m d) p is = (Decides-int_eq (interval m d).low z).1 is
-low_to z Nil p is = no_number p refl
-low_to z (AText t) p is = no_number p refl
-low_to z (AName n) p is = no_number p refl
+low_to z v p is = no_number p refl
 
 low_from : (z : ℤ) (v : Value) → has_low z v ≡ true → IsNumber v × ((interval_at v).low ≡ z)
 low_from z (Number m d) h = (refl, (Decides-int_eq (interval m d).low z).0 h)
-low_from z Nil h = no_number h refl
-low_from z (AText t) h = no_number h refl
-low_from z (AName n) h = no_number h refl
+low_from z v h = no_number h refl
 
 pub crossed_ends_are_apart : CrossedEndsAreApart
 crossed_ends_are_apart vs e ends over =

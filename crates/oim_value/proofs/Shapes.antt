@@ -121,7 +121,7 @@ has_point_here : (ds rest : List ℕ) → has_point (ds ++ 46 ∷ rest) ≡ true
 has_point_here [] rest = refl
 has_point_here (d ∷ ds) rest = or_right (eqb d 46) (has_point (ds ++ 46 ∷ rest)) (has_point_here ds rest)
 
-with_point_some : (fs : List ℕ) → 0 < length fs → with_point fs ≡ 46 ∷ fs
+pub with_point_some : (fs : List ℕ) → 0 < length fs → with_point fs ≡ 46 ∷ fs
 with_point_some [] h = absurd (omega arith)
 with_point_some (f ∷ fs) h = refl
 

@@ -15,8 +15,9 @@ use Rattle.oim_value.specs.Plain.{with_leading_zeros, plain, integer_digits, fra
 use Rattle.oim_value.proofs.Numerals.{parts_of_numeral, digits_without_leading, digits_without_trailing, few_digits}
 use Rattle.oim_value.proofs.Fractions.{same_fraction, ten_some, below_product}
 use Rattle.oim_value.proofs.PlainLemmas.{decimal_digits, decimal_value, zeros_digits, zeros_value, length-with_zeros}
-use Rattle.oim_value.proofs.PlainLaws.{plain_is_plain, fraction_digits_are, fraction_length, fraction_value, no_pos, short_is_writable, parts_of_plain, without_trailing-without_trailing}
+use Rattle.oim_value.proofs.PlainLaws.{plain_is_plain, fraction_digits_are, fraction_length, fraction_value, short_is_writable, parts_of_plain, without_trailing-without_trailing}
 use Rattle.oim_value.proofs.Units.{denotes_from, short_signed, ten_to}
+use Rattle.oim_value.proofs.Denoted.{product_positive, no_negative}
 
 -- ---- a text denotes at most one number
 
@@ -26,13 +27,10 @@ cancel a b k some e = (same_from_place a 0 b 0 k some some (omega (arith, e))).0
 same_size : (m n : ℤ) (k : ℕ) → 0 < k → m *ℤ pos k ≡ n *ℤ pos k → unsigned_abs m ≡ unsigned_abs n
 same_size m n k some e = cancel (unsigned_abs m) (unsigned_abs n) k some (sym (unsigned_abs-mul m (pos k)) ∙ (ap unsigned_abs e ∙ unsigned_abs-mul n (pos k)))
 
-product_some : (n k : ℕ) → 0 < k → 0 < suc n * k
-product_some n k some = let more : k ≤ suc n * k = grind arith in omega arith
-
 same_factor : (m n : ℤ) (k : ℕ) → 0 < k → m *ℤ pos k ≡ n *ℤ pos k → m ≡ n
 same_factor (pos a) (pos b) k some e = ap pos (same_size (pos a) (pos b) k some e)
-same_factor (pos a) (negsuc b) k some e = absurd (no_pos (suc b * k) (a * k) (product_some b k some) (sym e))
-same_factor (negsuc a) (pos b) k some e = absurd (no_pos (suc a * k) (b * k) (product_some a k some) e)
+same_factor (pos a) (negsuc b) k some e = absurd (no_negative (suc b * k) (a * k) (product_positive b k some) (sym e))
+same_factor (negsuc a) (pos b) k some e = absurd (no_negative (suc a * k) (b * k) (product_positive a k some) e)
 same_factor (negsuc a) (negsuc b) k some e = let s : suc a ≡ suc b = same_size (negsuc a) (negsuc b) k some e in let t : a ≡ b = omega arith in ap negsuc t
 
 pub denotes_one : DenotesOne

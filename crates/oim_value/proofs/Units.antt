@@ -19,8 +19,7 @@ short_bound z h = rw h.is (size_bound h.number (UNIT_PLACES - h.places) h.few (o
 
 pub unsigned_abs-signed : (b : Bool) (n : ℕ) → unsigned_abs (signed b n) ≡ n
 unsigned_abs-signed true zero = refl
-unsigned_abs-signed true (suc n) = refl
-unsigned_abs-signed false n = refl
+unsigned_abs-signed b n = refl
 
 pub signed_times : (b : Bool) (m k n : ℕ) → m * k ≡ n → signed b m *ℤ pos k ≡ signed b n
 signed_times true zero k n e =

@@ -14,6 +14,7 @@ use Rattle.oim_value.specs.Plain.{with_leading_zeros, plain, sign_text, with_poi
 use Rattle.oim_value.proofs.Fractions.{without_trailing-nothing}
 use Rattle.oim_value.proofs.PlainLemmas.{IsAscii-with_zeros}
 use Rattle.oim_value.proofs.PlainLaws.{fraction_digits_are, fraction_value, fraction_worth, whole_small, IsAscii-cons, IsAscii-sign_text}
+use Rattle.oim_value.proofs.Shapes.{with_point_some}
 
 onto_some : (d : ℕ) (ds : List ℕ) → 0 < length ds → onto_digit d ds ≡ d ∷ ds
 onto_some d [] some = absurd (omega arith)
@@ -43,10 +44,6 @@ some_digits r some small =
     let ds : List ℕ = without_trailing (with_leading_zeros UNIT_PLACES (decimal r)) in
     not_none (length ds) r (λ none. worthless ds r none (fraction_worth r small)) some
 
-point_some : (fs : List ℕ) → 0 < length fs → with_point fs ≡ 46 ∷ fs
-point_some [] some = absurd (omega arith)
-point_some (f ∷ fs) some = refl
-
 -- the text of a number with all UNIT_PLACES decimal places
 abbrev pub all_places : ℤ → List ℕ
 all_places m = sign_text m ++ (integer_digits (unsigned_abs m) ++ 46 ∷ with_leading_zeros UNIT_PLACES (decimal (unsigned_abs m % 10 ^ UNIT_PLACES)))
@@ -65,7 +62,7 @@ plain_cut m some =
     let more : 0 < length (without_trailing (46 ∷ ds)) = rw point (omega arith) in
     ap without_trailing (sym (append_assoc (sign_text m) (integer_digits (unsigned_abs m)) (46 ∷ ds)))
     ∙ without_trailing-append front (46 ∷ ds) more
-    ∙ ap (λ t. front ++ t) (point ∙ sym (point_some (without_trailing ds) kept))
+    ∙ ap (λ t. front ++ t) (point ∙ sym (with_point_some (without_trailing ds) kept))
     ∙ append_assoc (sign_text m) (integer_digits (unsigned_abs m)) (with_point (without_trailing ds))
 
 pub all_places_ascii : (m : ℤ) → IsWritable m → IsAscii (all_places m)

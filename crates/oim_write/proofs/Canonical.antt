@@ -7,7 +7,7 @@ use Rattle.serde_json.specs.Data.{Members, member, string}
 use Rattle.serde_json.specs.Written.{comma_if, members_text}
 use Rattle.oim_value.specs.Level.{level_entry}
 use Rattle.oim_value.specs.declared.level.Level.{Level}
-use Rattle.oim_value.specs.declared.level.Level.TheVariants.{Unique, Complete, Consistent, All as AllLevel}
+use Rattle.oim_value.specs.declared.level.Level.TheVariants.{Unique}
 use Rattle.oim_dims.specs.DimensionSet.{IsDimensionSet}
 use Rattle.oim_dims.specs.FactOrder.{fact_cmp}
 use Rattle.oim_dims.specs.declared.fact.Fact.{Fact}
@@ -67,9 +67,7 @@ names-parts false level us (v ∷ vs) =
 quoted_level : (l : Level) → quoted (level_entry l).text ≡ 34 ∷ ((level_entry l).text ++ 34 ∷ [])
 unfolding escape_byte
 quoted_level Unique = refl
-quoted_level Complete = refl
-quoted_level Consistent = refl
-quoted_level AllLevel = refl
+quoted_level l = refl
 
 rejoin : (level names comma bound references facts : List ℕ) →
     (((34 ∷ (level ++ 34 ∷ [])) ++ 125 ∷ []) ++ (codes ",\"namespaces\":{" ++ (((names ++ (comma ++ bound)) ++ 125 ∷ []) ++ (codes ",\"taxonomy\":[" ++ ((references ++ 93 ∷ []) ++ 125 ∷ []))))) ++ (codes ",\"facts\":{" ++ ((facts ++ 125 ∷ []) ++ 125 ∷ []))

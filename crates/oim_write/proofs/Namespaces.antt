@@ -11,7 +11,7 @@ use Rattle.oim_dims.specs.declared.member.Member.{Member}
 use Rattle.oim_dims.specs.declared.member.Member.TheVariants.{Name as MemberName}
 use Rattle.fact_base.specs.Body.{Body}
 use Rattle.fact_base.specs.Fits.{Fits}
-use Rattle.fact_base.specs.Passed.{ConceptKind, DimensionFits, DimensionKind, EntityFits, Explicit, FactFits, FitsName, IsNamespace, MemberFits, Name, Numeric, Sheet, Text, Typed, UnitFits, ValueFits}
+use Rattle.fact_base.specs.Passed.{ConceptKind, DimensionFits, DimensionKind, EntityFits, Explicit, FactFits, FitsName, IsNamespace, MemberFits, Name, Sheet, Typed, UnitFits, ValueFits}
 use Rattle.fact_base.proofs.Members.{each_by_there, first_or_later, from_map, in_flat_map, in_one_of_both, none_there}
 use Rattle.oim_write.specs.Uris.{defined_names, dimension_names, entity_names, fact_names, unit_names, uris, value_names}
 use Rattle.oim_write.proofs.UrisOfFacts.{uris_are_set}
@@ -36,9 +36,8 @@ member_allowed Typed (MemberName m) fits e n own at = absurd fits
 member_allowed kind m fits e n own at = only e n own at
 
 value_allowed : (kind : ConceptKind) (v : Value) → ValueFits kind v → (n : QName) → Contains (value_names v) n → Allowed n
-value_allowed Numeric (AName m) fits n at = absurd fits
-value_allowed Text (AName m) fits n at = absurd fits
 value_allowed Name (AName m) fits n at = only m n fits.namespace at
+value_allowed x (AName m) fits n at = absurd fits
 value_allowed kind v fits n at = none_there n at
 
 dimensions_allowed : (sheet : Sheet) (f : Fact) → FactFits sheet f → (n : QName) → Contains (dimension_names f.dimensions) n → Allowed n

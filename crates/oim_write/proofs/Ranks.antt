@@ -1,5 +1,5 @@
 -- In a strictly ascending list, the rank of a member is its index plus one.
-use Rattle.std.proofs.Common.{◌≡◌, ℕ, zero, suc, ◌+◌, ◌<◌, ◌≤◌, List, [], ◌∷◌, length, get_or, Bool, true, false, cond, ⊎_elim, refl, sym, ap, ◌∙◌, arith}
+use Rattle.std.proofs.Common.{◌≡◌, ℕ, zero, suc, ◌+◌, ◌<◌, ◌≤◌, List, [], ◌∷◌, length, get_or, Bool, true, false, cond, ⊎_elim, sym, ap, ◌∙◌, arith}
 use Rattle.std.specs.Prelude.{count_by, nat_lt}
 use Rattle.std.specs.List.Sorted.{IsPartitionPoint, IsPartitionedBy, IsStrictlySortedBy}
 use Rattle.std.specs.declared.cmp.Ordering.{Ordering}
@@ -12,6 +12,7 @@ use Rattle.std.proofs.lemmas.Bool.Decides.{nat_tests}
 use Rattle.std.proofs.lemmas.List.{get_or_default}
 use Rattle.std.proofs.lemmas.List.Sums.{sum_by-cons}
 use Rattle.std.proofs.lemmas.Map.Keys.{Less-from_sorted}
+use Rattle.oim_dims.proofs.Places.{less_is}
 
 add_one : (n : ℕ) → suc n ≡ n + 1
 add_one n = omega arith
@@ -33,14 +34,10 @@ count_at p (x ∷ xs) (suc i) h point =
     let rest : count_by p xs ≡ i = count_at p xs i (omega arith) ((λ k d low high. point.0 (suc k) d (omega arith) (omega arith)), (λ k d low high. point.1 (suc k) d (omega arith) (omega arith))) in
     sum_by-cons (λ y. cond (p y) 1 0) x xs ∙ one_more (p x) _ _ (point.0 zero x (omega arith) (omega arith)) rest
 
-pub less : (r : Ordering) → is_lt r ≡ true → r ≡ Less
-less Less e = refl
-less r e = cc
-
 pub parted : {K : Type 0} {R : K → K → Ordering} (o : IsTotalOrder R) (xs : List K) (x : K) → IsStrictlySortedBy R xs → IsPartitionedBy (λ y. is_lt (R y x)) xs
 parted {R = R} o xs x rises i j d h below e = ⊎_elim
     (λ before. let apart : i < j = grind (arith, nat_tests) in
-    ap is_lt (o.trans (get_or xs i d) (get_or xs j d) x (Less-from_sorted R xs i j d rises apart below) (less _ e)))
+    ap is_lt (o.trans (get_or xs i d) (get_or xs j d) x (Less-from_sorted R xs i j d rises apart below) (less_is _ e)))
     (λ not_before. let same : i ≡ j = grind (arith, nat_tests) in ap (λ k. is_lt (R (get_or xs k d) x)) same ∙ e)
     (cases_Bool (nat_lt i j))
 

@@ -1,11 +1,12 @@
 -- Each name of a body's facts is spelled with a prefix that is bound to the URI of the name.
-use Rattle.std.proofs.Common.{◌≡◌, ℕ, zero, suc, ◌+◌, ◌%◌, ◌/◌, ◌<◌, List, [], ◌∷◌, ◌++◌, length, Bool, true, not, ◌==◌, Option, Some, None, refl, arith}
+use Rattle.std.proofs.Common.{◌≡◌, ℕ, zero, suc, ◌+◌, ◌%◌, ◌/◌, ◌<◌, List, [], ◌∷◌, ◌++◌, length, Bool, true, Option, Some, None, refl, arith}
 use Rattle.std.specs.Prelude.{Contains, IfSome, flat_map}
 use Rattle.std.specs.List.{list_all}
 use Rattle.std.proofs.lemmas.Bool.{and_from, and_parts}
 use Rattle.std.proofs.lemmas.Bool.Decides.{nat_tests}
 use Rattle.std.proofs.lemmas.List.Elements.{Contains-append_left, Contains-append_right}
 use Rattle.oim_names.specs.QName.{QName, is_name_byte, is_part}
+use Rattle.oim_names.proofs.Spelling.{filled_number}
 use Rattle.oim_value.specs.declared.value.Value.{Value}
 use Rattle.oim_value.specs.declared.value.Value.TheVariants.{Name as AName}
 use Rattle.oim_dims.specs.Unit.{Measures}
@@ -38,11 +39,8 @@ digits_pass p each (suc w) n = list_all-behind p (padded w (n / 10)) (48 + n % 1
 name_digit : (n : ℕ) → is_name_byte (48 + n % 10) ≡ true
 name_digit n = let small : n % 10 < 10 = omega arith in grind (arith, nat_tests)
 
-not_none : (n : ℕ) → not (suc n == 0) ≡ true
-not_none n = grind (arith, nat_tests)
-
 pub prefix_is_part : (us : List (List ℕ)) (u : List ℕ) → is_part (prefix us u) ≡ true
-prefix_is_part us u = and_from _ _ (digits_pass is_name_byte name_digit (width (length us)) (rank text_cmp u us)) (not_none _)
+prefix_is_part us u = and_from _ _ (digits_pass is_name_byte name_digit (width (length us)) (rank text_cmp u us)) (filled_number _)
 
 module _ (us : List (List ℕ)) (rises : IsSet text_cmp us) where
   spelled : (n : QName) → Contains us n.uri → SpellsName (bindings_of us) (name_text us) n

@@ -11,6 +11,7 @@ use Rattle.oim_value.specs.declared.value.Value.TheVariants.{Number}
 use Rattle.oim_dims.specs.DimensionSet.{DimensionSet, is_below, rises}
 use Rattle.oim_dims.specs.Period.{period_text}
 use Rattle.oim_dims.specs.declared.member.Member.{Member}
+use Rattle.oim_dims.proofs.Places.{less_is}
 use Rattle.fact_base.specs.Passed.{IsBefore, IsSet, dimension_members, member_data, option_spelled, option_unit_text, put_text, value_data, with_decimals, with_defined}
 use Rattle.fact_base.specs.Body.{text_cmp}
 use Rattle.fact_base.proofs.Members.{first_there, later_there}
@@ -18,7 +19,6 @@ use Rattle.oim_write.specs.Ordered.{FactsAreWrittenInOrder, decimals_member, def
 use Rattle.oim_write.specs.Tree.{name_text}
 use Rattle.oim_write.specs.Uris.{uris}
 use Rattle.oim_write.proofs.NameOrder.{names_keep_order}
-use Rattle.oim_write.proofs.Ranks.{less}
 use Rattle.oim_write.proofs.UrisOfFacts.{defined_there, uri_there, uris_rise}
 
 -- ---- one more member
@@ -39,8 +39,8 @@ text_second k l None e ms past before = refl
 text_second k l (Some t) e ms past before = put_past k l (string t) e ms past ∙ ap (member l e) (put_first k (string t) ms before)
 
 before_text : (k l : List ℕ) (o : Option (List ℕ)) (ms : Members) → text_cmp k l ≡ Less → IsBefore k ms → IsBefore k (text_member l o ms)
-before_text k l None ms less before = before
-before_text k l (Some t) ms less before = (less, before)
+before_text k l None ms less_is before = before
+before_text k l (Some t) ms less_is before = (less_is, before)
 
 -- ---- the core dimensions, before and after the taxonomy-defined ones
 
@@ -82,7 +82,7 @@ module _ (us : List (List ℕ)) where
     before_defined n [] ms here there below before = before
     before_defined n (x ∷ es) ms here there below before =
         let parts = and_parts (is_lt (name_cmp n x.0)) (is_below n es) below in
-        (names_keep_order us us_rise n x.0 here (there x (first_there x es)) (less _ parts.0), before_defined n es ms here (λ y at. there y (later_there x es y at)) parts.1 before)
+        (names_keep_order us us_rise n x.0 here (there x (first_there x es)) (less_is _ parts.0), before_defined n es ms here (λ y at. there y (later_there x es y at)) parts.1 before)
 
     defined_order : (es : List (QName × Member)) (ms : Members) → rises es ≡ true → ((x : QName × Member) → Contains es x → Contains us x.0.uri) → ((n : QName) → IsBefore (name_text us n) ms)
         → with_defined (name_text us) es ms ≡ defined_members (name_text us) es ms

@@ -1,5 +1,6 @@
-use Rattle.std.proofs.Common.{◌≡◌, inl, inr, ⊎_elim, Bool, true, false, ◌||◌, Err, rules, refl, sym, ap, ◌∙◌}
+use Rattle.std.proofs.Common.{inl, inr, ⊎_elim, Err, rules, sym, ap, ◌∙◌}
 use Rattle.std.proofs.lemmas.Result.{err_from_is_err_and}
+use Rattle.std.proofs.lemmas.Bool.{or_left, or_right}
 use Rattle.std.specs.Prelude.{option_map}
 use Rattle.serde_json.specs.View.{members_view, view}
 use Rattle.oim_report.specs.Json.{members}
@@ -8,14 +9,6 @@ use Rattle.oim_report.specs.Sheet.{key_names, said_sheet}
 use Rattle.oim_report.proofs.NameRefusals.{names-parts}
 use Rattle.oim_report.proofs.SheetHolds.{kinds_refused, sheet_least}
 use Rattle.oim_report.proofs.sheet.Sheet.from_tree.Goals as goal
-
-first : (a b : Bool) → a ≡ true → (a || b) ≡ true
-first true b h = refl
-first false b h = absurd (cc)
-
-second : (a b : Bool) → b ≡ true → (a || b) ≡ true
-second true b h = refl
-second false b h = h
 
 pub read_table-requires : goal.read_table-requires
 read_table-requires c =
@@ -43,7 +36,7 @@ returns-in_err-concepts-clause-errors c =
     let tree = view c.args.tree.now in
     let p = err_from_is_err_and c.from_residual-in_err-concepts.result c.from_residual-in_err-concepts.ensures.1 in
     rw (p.1, p.2) (⊎_elim (λ memory. inl memory)
-    (λ bad. inr (ap (λ o. unless o (said_sheet tree)) (kinds_refused tree c.in_ok-aliases.aliases _ _ _ c.in_ok-check_form.ensures c.object_at.ensures c.in_ok-aliases.ensures.bound c.object_at-listed.ensures c.object_at-defined.ensures c.in_ok-check_names.ensures (first _ _ bad.1)) ∙ ap Err (sym bad.0)))
+    (λ bad. inr (ap (λ o. unless o (said_sheet tree)) (kinds_refused tree c.in_ok-aliases.aliases _ _ _ c.in_ok-check_form.ensures c.object_at.ensures c.in_ok-aliases.ensures.bound c.object_at-listed.ensures c.object_at-defined.ensures c.in_ok-check_names.ensures (or_left _ _ bad.1)) ∙ ap Err (sym bad.0)))
     c.in_err-concepts.ensures.refused)
 
 pub returns-in_err-dimensions-clause-errors : goal.returns-in_err-dimensions-clause-errors
@@ -51,7 +44,7 @@ returns-in_err-dimensions-clause-errors c =
     let tree = view c.args.tree.now in
     let p = err_from_is_err_and c.from_residual-in_err-dimensions.result c.from_residual-in_err-dimensions.ensures.1 in
     rw (p.1, p.2) (⊎_elim (λ memory. inl memory)
-    (λ bad. inr (ap (λ o. unless o (said_sheet tree)) (kinds_refused tree c.in_ok-aliases.aliases _ _ _ c.in_ok-check_form.ensures c.object_at.ensures c.in_ok-aliases.ensures.bound c.object_at-listed.ensures c.object_at-defined.ensures c.in_ok-check_names.ensures (second _ _ bad.1)) ∙ ap Err (sym bad.0)))
+    (λ bad. inr (ap (λ o. unless o (said_sheet tree)) (kinds_refused tree c.in_ok-aliases.aliases _ _ _ c.in_ok-check_form.ensures c.object_at.ensures c.in_ok-aliases.ensures.bound c.object_at-listed.ensures c.object_at-defined.ensures c.in_ok-check_names.ensures (or_right _ _ bad.1)) ∙ ap Err (sym bad.0)))
     c.in_err-dimensions.ensures.refused)
 
 pub returns-clause-ok : goal.returns-clause-ok
