@@ -58,6 +58,7 @@ where
     }
 }
 
+// The streams are separate parameters, because each step consumes another one.
 fn run_args<F: Files, R: Read + Drop, O: Write + Drop, E: Write>(
     alloc: Global,
     files: &F,

@@ -66,6 +66,9 @@ pub(crate) struct Made {
     pub refusals: Refusals,
 }
 
+// In these functions, `out`, `needed`, `rows` and `refused` are the caller's memory, which C passes
+// separately.
+
 pub(crate) fn hand_over(
     text: &[u8],
     told: &[(u64, Refusal)],

@@ -28,7 +28,7 @@ pub(crate) fn none_read<'s>(alloc: Global, texts: usize) -> Result<Vec<Reading<'
 
 /// Adds the facts and references of the text at the index `place` to a base. The text is read only
 /// the first time, and the result is cached. If the text is refused, the base does not change, and
-/// the refusal is returned.
+/// the refusal is returned. A struct of the six parameters would serve only this call.
 ///
 /// Errors: out of memory.
 pub(crate) fn take_at<'s>(

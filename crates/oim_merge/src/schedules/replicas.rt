@@ -112,7 +112,7 @@ impl<'s> Replicas<'s> {
         Ok(())
     }
 
-    // `i` and `r` are the numbers of the replica and of the report.
+    // `i` and `r` are the numbers of the replica and of the report, as the event has them.
     fn take(
         &mut self,
         alloc: Global,
