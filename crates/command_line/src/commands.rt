@@ -14,10 +14,10 @@ use crate::inputs::Inputs;
 use crate::lines::put_text;
 use crate::request::{Request, Subcommand};
 use crate::row_format::PrintFormat;
-use oim_merge::{Refusals, consolidate_bundle, source_lines};
+use oim_merge::{Refusals, SourceLines, consolidate_bundle};
 use oim_report::Sheet;
 use oim_write::Sink;
-use row_formats::{finish_rows_last, source_rows};
+use row_formats::finish_rows_last;
 use std::alloc::Global;
 use std::io::Write;
 use std::rt::Files;
@@ -63,12 +63,10 @@ fn execute_under<'n, F: Files, E: Write, S: Sink>(
             finish_rows_last(alloc, inputs.consolidate(sheet)?, format, out)?
         }
         Subcommand::Sources(PrintFormat::Lines) => {
-            let reports = inputs.read_reports()?;
-            source_lines(alloc, sheet, reports.as_slice(), out)?
+            inputs.trace(sheet)?.finish(&SourceLines, out)?
         }
         Subcommand::Sources(PrintFormat::Rows(format)) => {
-            let reports = inputs.read_reports()?;
-            source_rows(alloc, sheet, reports.as_slice(), format, out)?
+            inputs.trace(sheet)?.finish(&format, out)?
         }
         Subcommand::Check(report) => check::run(report, sheet, inputs, out)?,
         Subcommand::Replay(replicas, events) => replay::run(replicas, events, sheet, inputs, out)?,

@@ -2,7 +2,7 @@ ghost use Rattle.std.specs.Prelude.{◌≡◌};
 
 use crate::console::Console;
 use crate::error::Error;
-use oim_merge::{Consolidation, ReadFault, StdSource, read_all};
+use oim_merge::{Consolidation, ReadFault, StdSource, TracedMerge, read_all};
 use oim_names::Reason;
 use oim_report::Sheet;
 use oim_write::Encoded;
@@ -76,6 +76,24 @@ impl<'n, F: Files, E: Write> Inputs<'n, F, E> {
         let names = self.names;
         for place in 0..names.len() {
             consolidation.add_owned(self.read_report(names[place])?)?;
+        }
+        self.console.clear();
+        Ok(())
+    }
+
+    /// Does the same as `consolidate`, and stores where each fact was reported.
+    pub(crate) fn trace<'s>(&mut self, sheet: &'s Sheet) -> Result<TracedMerge<'s>, Error<'n>> {
+        let mut merge = TracedMerge::new(self.alloc, sheet);
+        self.trace_reports(&mut merge)?;
+        Ok(merge)
+    }
+
+    fn trace_reports(&mut self, merge: &mut TracedMerge<'_>) -> Result<(), Error<'n>>
+        requires { merge.old.added.reports ≡ 0 }
+    {
+        let names = self.names;
+        for place in 0..names.len() {
+            merge.add(self.read_report(names[place])?.as_bytes())?;
         }
         self.console.clear();
         Ok(())

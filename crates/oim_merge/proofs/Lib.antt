@@ -28,6 +28,7 @@ pub mod PlacePoint
 pub mod MentionLists
 pub mod FlatLines
 pub mod SourceMentions
+pub mod Traces
 pub mod SourceLaws
 pub mod SourceTexts
 pub mod Reordered

@@ -1,5 +1,5 @@
 -- Lemmas about loops that collect mentions.
-use Rattle.std.proofs.Common.{◌≡◌, ℕ, suc, ◌+◌, List, [], ◌∷◌, ◌++◌, drop, sym, ap, ◌∙◌, append_assoc, arith}
+use Rattle.std.proofs.Common.{◌≡◌, ℕ, suc, ◌+◌, List, [], ◌∷◌, ◌++◌, length, sym, ap, ◌∙◌, append-nil, append_assoc, arith}
 use Rattle.oim_dims.specs.declared.fact.Fact.{Fact}
 use Rattle.oim_report.specs.Identifiers.{identifiers}
 use Rattle.oim_report.specs.Outcome.{outcome}
@@ -7,20 +7,17 @@ use Rattle.oim_report.specs.Sheet.{Sheet}
 use Rattle.oim_merge.specs.Sources.{mentions_from, mentions_in, mentions_of}
 use Rattle.oim_merge.specs.declared.sources.mention.Mention.{Mention}
 
--- one loop step adds the mentions in the next report
-pub mentions_more : (n : ℕ) (sheet : Sheet) (report : List ℕ) (rest reports : List (List ℕ)) (i : ℕ) (before after : List Mention) {whole : List Mention}
-    → drop i reports ≡ report ∷ rest
-    → after ≡ before ++ mentions_of n (identifiers report) (outcome sheet report)
-    → before ++ mentions_from n sheet (drop i reports) ≡ whole
-    → after ++ mentions_from (n + 1) sheet rest ≡ whole
-mentions_more n sheet report rest reports i before after here added all =
-    let these = mentions_of n (identifiers report) (outcome sheet report) in
-    let later : mentions_from (n + 1) sheet rest ≡ mentions_from (suc n) sheet rest = ap (λ k. mentions_from k sheet rest) (omega arith) in
-    ap (λ ms. ms ++ mentions_from (n + 1) sheet rest) added
-    ∙ append_assoc before these (mentions_from (n + 1) sheet rest)
-    ∙ ap (λ ms. before ++ (these ++ ms)) later
-    ∙ ap (λ rs. before ++ mentions_from n sheet rs) (sym here)
-    ∙ all
+-- the mentions in reports, followed by those in one more report
+pub mentions_push : (n : ℕ) (sheet : Sheet) (reports : List (List ℕ)) (bytes : List ℕ) → mentions_from n sheet reports ++ mentions_of (length reports + n) (identifiers bytes) (outcome sheet bytes) ≡ mentions_from n sheet (reports ++ bytes ∷ [])
+mentions_push n sheet [] bytes =
+    let same : 0 + n ≡ n = omega arith in
+    ap (λ k. mentions_of k (identifiers bytes) (outcome sheet bytes)) same ∙ sym (append-nil (mentions_of n (identifiers bytes) (outcome sheet bytes)))
+mentions_push n sheet (b ∷ bs) bytes =
+    let next : length (b ∷ bs) + n ≡ length bs + suc n = omega arith in
+    let first = mentions_of n (identifiers b) (outcome sheet b) in
+    ap (λ k. mentions_from n sheet (b ∷ bs) ++ mentions_of k (identifiers bytes) (outcome sheet bytes)) next
+    ∙ append_assoc first (mentions_from (suc n) sheet bs) (mentions_of (length bs + suc n) (identifiers bytes) (outcome sheet bytes))
+    ∙ ap (λ ms. first ++ ms) (mentions_push (suc n) sheet bs bytes)
 
 -- one loop step adds the mention in the next fact object
 pub mention_more : (n : ℕ) (i own : List ℕ) (f fact : Fact) (is left : List (List ℕ)) (fs said : List Fact) (before after : List Mention) {whole : List Mention}

@@ -3,7 +3,6 @@ use Rattle.std.proofs.Common.{◌≡◌, ℕ, suc, ◌+◌, List, ◌∷◌, ◌
 use Rattle.std.specs.Prelude.{flat_map}
 use Rattle.std.proofs.lemmas.List.Folds.{flat_map-map}
 use Rattle.oim_dims.specs.declared.fact.Fact.{Fact}
-use Rattle.oim_report.specs.Sheet.{Sheet}
 use Rattle.fact_base.specs.Contents.{Contents}
 use Rattle.oim_write.specs.Rank.{padded, width}
 use Rattle.oim_write.specs.Sink.{AppendsFront, written_of}
@@ -11,11 +10,11 @@ use Rattle.oim_write.specs.declared.write_fault.WriteFault.{WriteFault}
 use Rattle.oim_write.specs.declared.write_fault.WriteFault.TheVariants.{OutOfMemory, Device}
 use Rattle.oim_merge.specs.Mentions.{all_placed, place, placed}
 use Rattle.oim_merge.specs.code.Listing.{placed_text}
-use Rattle.oim_merge.specs.Reports.{merged}
 use Rattle.oim_merge.specs.Run.{fault_of}
-use Rattle.oim_merge.specs.SourceListing.{AppendingStops}
+use Rattle.oim_merge.specs.SourceListing.{MentionsStop, mention_texts}
 use Rattle.oim_merge.specs.declared.sources.mention.Mention.{Mention}
-use Rattle.oim_merge.specs.Sources.{SourceText, by_fact, mention_text, mentions, sources_by}
+use Rattle.oim_merge.specs.Sources.{SourceText, by_fact, mention_text}
+use Rattle.oim_merge.specs.Traced.{Traced}
 use Rattle.oim_merge.specs.declared.sources.placed_mention.PlacedMention.{PlacedMention}
 
 add_one : (n : ℕ) → n + 1 ≡ suc n
@@ -31,16 +30,16 @@ module _ (written : SourceText) where
       ∙ flat_map-map (placed_text written (length facts)) (placed facts) ms
       ∙ (λ i. flat_map (λ m. same_text facts m i) ms)
 
-  -- the texts of all mentions in these reports, by fact, are the texts of the sources
-  pub merged_sources : (sheet : Sheet) (reports : List (List ℕ)) (base : Contents) (count : ℕ) (said : List Mention) (ms : List PlacedMention) → base ≡ record { sheet = sheet; body = merged sheet reports } → count ≡ length base.body.facts →
-      said ≡ mentions sheet reports → ms ≡ all_placed base.body.facts (by_fact base.body.facts said) → flat_map (placed_text written count) ms ≡ sources_by written sheet reports
-  merged_sources sheet reports base count said ms is count_is said_is placed_are =
+  -- the texts of the placed mentions, in the order of their facts, are the texts of the mentions
+  pub texts_are : (t : Traced) (base : Contents) (count : ℕ) (ms : List PlacedMention) → base ≡ record { sheet = t.added.sheet; body = t.added.body } → count ≡ length base.body.facts →
+      ms ≡ all_placed base.body.facts (by_fact base.body.facts t.mentions) → flat_map (placed_text written count) ms ≡ mention_texts written t
+  texts_are t base count ms is count_is placed_are =
       ap (flat_map (placed_text written count)) placed_are
-      ∙ sources_are base.body.facts (by_fact base.body.facts said) count count_is
-      ∙ (λ i. flat_map (mention_text written (is i).body.facts) (by_fact (is i).body.facts (said_is i)))
+      ∙ sources_are base.body.facts (by_fact base.body.facts t.mentions) count count_is
+      ∙ (λ i. flat_map (mention_text written (is i).body.facts) (by_fact (is i).body.facts t.mentions))
 
--- if a first part of the header and the texts was appended before a fault, `AppendingStops` holds for that fault
-pub stops_at : (header : List ℕ) (written : SourceText) (sheet : Sheet) (reports : List (List ℕ)) {old new : Option (List ℕ)} (fault : WriteFault) →
-    AppendsFront old new (header ++ sources_by written sheet reports) (written_of fault) → AppendingStops header written sheet reports old new (fault_of fault)
-stops_at header written sheet reports (OutOfMemory n) front = front
-stops_at header written sheet reports (Device n) front = front
+-- if a first part of the header and the texts was appended before a fault, `MentionsStop` holds for that fault
+pub stops_at : (header : List ℕ) (written : SourceText) (t : Traced) {old new : Option (List ℕ)} (fault : WriteFault) →
+    AppendsFront old new (header ++ mention_texts written t) (written_of fault) → MentionsStop header written t old new (fault_of fault)
+stops_at header written t (OutOfMemory n) front = front
+stops_at header written t (Device n) front = front

@@ -10,6 +10,7 @@ pub mod Judged
 pub mod Listing
 pub mod Sources
 pub mod Mentions
+pub mod Traced
 pub mod SourceListing
 pub mod Checked
 pub mod Source

@@ -14,7 +14,7 @@ use crate::merged::Merged;
 use crate::reading::{read, read_with_identifiers};
 use crate::refusals::Refusals;
 use crate::sources::mention::Mention;
-use crate::sources::mentions::add_mentions;
+use crate::sources::mentions::mentions_in;
 use crate::verdicts::verdict_line::VerdictLines;
 use crate::verdicts::verdict_listing::write_verdicts;
 use fact_base::Gathering;
@@ -130,33 +130,33 @@ impl<'s> Consolidation<'s> {
         self.add_read(read)
     }
 
-    /// Does the same as `add`, and appends the mentions in the report.
+    /// Reads a report, or returns its refusal, with the mentions in it. Nothing is added.
     ///
-    /// Errors: out of memory; some of the mentions may then have been appended.
-    pub(crate) fn add_with_mentions(
+    /// Errors: out of memory.
+    pub(crate) fn read_with_mentions(
         &mut self,
         bytes: &[u8],
-        mentions: &mut Vec<Mention>,
-    ) -> Result<(), AllocError>
+    ) -> Result<(Result<Report<'s>, Refusal>, Vec<Mention>), AllocError>
         requires { self.old.reports + 1 < 2 ^ 64 }
-        ensures added { OnOk result (self.new ≡ with_report self.old bytes.now) }
-        ensures mentions { OnOk result (mentions.new.items ≡ mentions.old.items
-            ++ mentions_of (self.old.reports + 1) (identifiers bytes.now) (outcome self.old.sheet bytes.now)) }
+        ensures same { self.new ≡ self.old }
+        ensures outcome { IfOk result (λ read. IsOutcome self.old.sheet bytes.now read.0) }
+        ensures sheet { IfOk result (λ read. IfOk read.0 (λ report. report.sheet ≡ self.old.sheet)) }
+        ensures mentions { IfOk result (λ read. read.1.items
+            ≡ mentions_of (self.old.reports + 1) (identifiers bytes.now) (outcome self.old.sheet bytes.now)) }
     {
-        let read = match read_with_identifiers(&mut self.reader, bytes)? {
+        match read_with_identifiers(&mut self.reader, bytes)? {
             Ok((report, identifiers)) => {
-                let identifiers = identifiers.as_slice();
                 let number = self.reports + 1;
-                add_mentions(self.alloc, number, identifiers, report.facts(), mentions)?;
-                Ok(report)
+                let identifiers = identifiers.as_slice();
+                let mentions = mentions_in(self.alloc, number, identifiers, report.facts())?;
+                Ok((Ok(report), mentions))
             }
-            Err(refusal) => Err(refusal),
-        };
-        self.add_read(read)
+            Err(refusal) => Ok((Err(refusal), Vec::new(self.alloc))),
+        }
     }
 
-    // Adds a report that was read, or stores its refusal, and counts it.
-    fn add_read(&mut self, read: Result<Report<'_>, Refusal>) -> Result<(), AllocError>
+    /// Adds a report that was read, or stores its refusal, and counts it.
+    pub(crate) fn add_read(&mut self, read: Result<Report<'_>, Refusal>) -> Result<(), AllocError>
         requires room { self.old.reports + 1 < 2 ^ 64 }
         requires sheet { IfOk read (λ report. report.sheet ≡ self.old.sheet) }
         ensures ok { OnOk result ((bytes : List ℕ) → IsOutcome self.old.sheet bytes read.entry → self.new ≡ with_report self.old bytes) }

@@ -9,6 +9,7 @@ ghost use Rattle.oim_merge.specs.ReadBack.{CanonicalReadsBack, EarlierIsNotCanon
 ghost use Rattle.oim_merge.specs.Replicas.{EqualSetsWriteTheSame, ReplicasSayAsAfresh, ReplicasStay, WireAgrees};
 ghost use Rattle.oim_merge.specs.Run.{ReportsIgnoreOrder};
 ghost use Rattle.oim_merge.specs.Sources.{EachFactIsSaid, EachMentionIsTold, EachObjectIsMentioned, SourcesIgnoreOrder};
+ghost use Rattle.oim_merge.specs.Traced.{TracedStepsAreList};
 
 use fact_base::Base;
 
@@ -21,6 +22,11 @@ pub fn reports_ignore_order()
 /// Adding reports one at a time gives the same body and the same refusals as merging their list.
 pub fn steps_are_list()
     ensures { StepsAreList }
+{}
+
+/// Adding reports one at a time to a traced merge gives the same state as merging their list.
+pub fn traced_steps_are_list()
+    ensures { TracedStepsAreList }
 {}
 
 /// The text of a body that fits a sheet is read as the same facts and references, in order, with

@@ -7,3 +7,4 @@ pub(crate) mod placed_mention;
 pub(crate) mod source_format;
 pub(crate) mod source_line;
 pub(crate) mod source_listing;
+pub(crate) mod traced_merge;

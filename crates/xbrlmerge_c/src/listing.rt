@@ -6,11 +6,11 @@ ghost use Rattle.xbrlmerge_c.specs.Room.{room};
 ghost use Rattle.xbrlmerge_c.specs.code.Listing.{AppendsListing};
 
 use crate::output::{BAD_ENDS, Made, RefusedReport, answer};
-use crate::reports::{add_reports, are_ends, read_sheet, reports_of};
-use oim_merge::{Fault, Refusals, source_lines};
+use crate::reports::{add_reports, are_ends, read_sheet, trace_reports};
+use oim_merge::{Fault, Refusals, SourceLines};
 use oim_report::Sheet;
 use oim_write::{Sink, StdSink};
-use row_formats::{RowFormat, finish_rows, source_rows};
+use row_formats::{RowFormat, finish_rows};
 use std::alloc::Global;
 
 /// What a call lists, and in which format: lines, or JSON objects.
@@ -69,7 +69,6 @@ fn listed(
     })
 }
 
-/// Only the listing of sources needs copies of the reports, since `source_lines` takes a list.
 fn write<S: Sink>(
     alloc: Global,
     listing: Listing,
@@ -90,13 +89,9 @@ fn write<S: Sink>(
             let consolidation = add_reports(alloc, sheet, reports, ends)?;
             finish_rows(alloc, consolidation, RowFormat::Json, out)
         }
-        Listing::Sources => {
-            let reports = reports_of(alloc, reports, ends)?;
-            source_lines(alloc, sheet, reports.as_slice(), out)
-        }
+        Listing::Sources => trace_reports(alloc, sheet, reports, ends)?.finish(&SourceLines, out),
         Listing::SourcesJson => {
-            let reports = reports_of(alloc, reports, ends)?;
-            source_rows(alloc, sheet, reports.as_slice(), RowFormat::Json, out)
+            trace_reports(alloc, sheet, reports, ends)?.finish(&RowFormat::Json, out)
         }
     }
 }

@@ -1,14 +1,14 @@
 ghost use Rattle.std.specs.Prelude.{◌↔◌, IsTrue, length, ◌≡◌, IfOk, Ok, IfErr};
 ghost use Rattle.oim_merge.specs.Added.{added};
+ghost use Rattle.oim_merge.specs.Traced.{traced};
 ghost use Rattle.oim_report.specs.Sheet.{sheet_outcome};
 ghost use Rattle.xbrlmerge_c.specs.Answers.{NoRow, StopsBy};
 ghost use Rattle.xbrlmerge_c.specs.Calls.{IsSheetRefused};
 ghost use Rattle.xbrlmerge_c.specs.Ends.{AreEnds, reports_at};
 
-use oim_merge::{Consolidation, Fault};
+use oim_merge::{Consolidation, Fault, TracedMerge};
 use oim_names::Reason;
 use oim_report::Sheet;
-use oim_write::Encoded;
 use std::alloc::{AllocError, Global};
 
 pub(crate) fn are_ends(bytes: &[u8], ends: &[usize]) -> bool
@@ -22,23 +22,6 @@ pub(crate) fn are_ends(bytes: &[u8], ends: &[usize]) -> bool
         from = *end;
     }
     true
-}
-
-pub(crate) fn reports_of(
-    alloc: Global,
-    reports: &[u8],
-    ends: &[usize],
-) -> Result<Vec<Encoded>, AllocError>
-    requires { AreEnds reports.now ends.now }
-    ensures { IfOk result (λ each. each.items ≡ reports_at reports.now ends.now) }
-{
-    let mut each = Vec::with_capacity(alloc, ends.len())?;
-    let mut from = 0;
-    for end in ends {
-        each.push(Encoded::new(alloc, &reports[from..*end])?)?;
-        from = *end;
-    }
-    Ok(each)
 }
 
 pub(crate) fn add_reports<'s>(
@@ -57,6 +40,24 @@ pub(crate) fn add_reports<'s>(
         from = *end;
     }
     Ok(consolidation)
+}
+
+pub(crate) fn trace_reports<'s>(
+    alloc: Global,
+    sheet: &'s Sheet,
+    reports: &[u8],
+    ends: &[usize],
+) -> Result<TracedMerge<'s>, AllocError>
+    requires { AreEnds reports.now ends.now }
+    ensures { IfOk result (λ merge. merge ≡ traced sheet.now (reports_at reports.now ends.now)) }
+{
+    let mut merge = TracedMerge::new(alloc, sheet);
+    let mut from = 0;
+    for end in ends {
+        merge.add(&reports[from..*end])?;
+        from = *end;
+    }
+    Ok(merge)
 }
 
 pub(crate) fn read_sheet(alloc: Global, bytes: &[u8]) -> Result<Sheet, Fault>

@@ -12,7 +12,7 @@ use std::alloc::{AllocError, Global};
 
 /// The format of the lines that `source_lines` writes.
 #[derive(Clone, Copy, Debug)]
-pub(crate) struct SourceLines;
+pub struct SourceLines;
 
 impl SourceFormat for SourceLines {
     ghost use Rattle.std.specs.Prelude.{[]};

@@ -7,12 +7,11 @@ ghost use Rattle.oim_merge.specs.Run.{failures_after_run};
 ghost use Rattle.oim_merge.specs.SourceListing.{AppendingStops, AppendsSources, ListsSources, SourcesStop};
 
 use crate::fault::Fault;
-use crate::merged::Merged;
 use crate::refusals::Refusals;
-use crate::sources::mentions::{merge_with_mentions, placed_by_fact};
 use crate::sources::placed_mention::PlacedMention;
 use crate::sources::source_format::SourceFormat;
 use crate::sources::source_line::SourceLines;
+use crate::sources::traced_merge::TracedMerge;
 use oim_report::Sheet;
 use oim_write::{Encoded, Sink, SinkBuffer, WriteFault, identifier};
 use std::alloc::{AllocError, Global};
@@ -55,14 +54,11 @@ pub fn write_sources<S: Sink, F: SourceFormat>(
     ensures err { IfErr result (AppendingStops (F.header format.now) (F.source_text format.now) sheet.now reports.now (S.told out.old) (S.told out.new)) }
     ensures failures { S.failures out.new ≡ failures_after_run result (S.failures out.old) }
 {
-    let (Merged { base, refusals }, mentions) = merge_with_mentions(alloc, sheet, reports)?;
-    let mentions = placed_by_fact(alloc, &base, mentions)?;
-    write_all(alloc, base.fact_count(), mentions.as_slice(), format, out)?;
-    Ok(refusals)
+    TracedMerge::of(alloc, sheet, reports)?.finish(format, out)
 }
 
-// `count` is the number of facts in the base.
-fn write_all<S: Sink, F: SourceFormat>(
+/// Writes the header and the texts of the mentions. `count` is the number of facts in the base.
+pub(crate) fn write_all<S: Sink, F: SourceFormat>(
     alloc: Global,
     count: u128,
     mentions: &[PlacedMention],

@@ -3,7 +3,7 @@ ghost use Rattle.std.specs.Prelude.{◌≡◌, ◌+◌, ◌^◌, ◌<◌, OnOk};
 use super::BOTH;
 use super::merges::{THREE_LINES, THREE_SETS, came_to};
 use crate::tests::sinks::TOUCHING;
-use oim_merge::Consolidation;
+use oim_merge::{Consolidation, SourceLines, TracedMerge};
 use oim_report::Sheet;
 use oim_value::Level;
 use oim_write::StdSink;
@@ -18,6 +18,10 @@ use test_helpers::expecting::Expecting;
 /// A report with one of the facts of `THREE_SETS`.
 const ONE_OF_THREE: &str =
     r#"{"documentInfo":{"documentType":"https://xbrl.org/2021/xbrl-json","namespaces":{"eg":"http://example.org/t"}},"facts":{"d":{"value":"3","decimals":0,"dimensions":{"concept":"eg:B"}}}}"#;
+
+/// The source lines if the reports are an empty file, `THREE_SETS` and `ONE_OF_THREE`.
+const SIX_SOURCES: &[u8] =
+    b"f1 2 \"a\"\nf2 2 \"b\"\nf3 2 \"c\"\nf4 2 \"d\"\nf4 3 \"d\"\nf5 2 \"e\"\n";
 
 fn add(
     rt: &HostRuntime,
@@ -77,6 +81,36 @@ fn lists_once(rt: &HostRuntime, sheet: &Sheet, last: bool) -> Option<bool> {
     came_to(rt, answer, sink, THREE_LINES)
 }
 
+fn trace(rt: &HostRuntime, merge: &mut TracedMerge<'_>, report: &str) -> Result<(), AllocError>
+    requires { merge.old.added.reports + 1 < 2 ^ 64 }
+    ensures { OnOk result (merge.new.added.reports ≡ merge.old.added.reports + 1) }
+{
+    match merge.add(report.as_bytes()) {
+        Err(_) => {
+            tell_refused(rt);
+            merge.add(report.as_bytes())
+        }
+        added => added,
+    }
+}
+
+fn three_traced<'s>(rt: &HostRuntime, sheet: &'s Sheet) -> Result<TracedMerge<'s>, AllocError> {
+    let mut merge = TracedMerge::new(rt.alloc(), sheet);
+    trace(rt, &mut merge, "")?;
+    trace(rt, &mut merge, THREE_SETS)?;
+    trace(rt, &mut merge, ONE_OF_THREE)?;
+    Ok(merge)
+}
+
+fn traces_once(rt: &HostRuntime, sheet: &Sheet) -> Option<bool> {
+    let Ok(merge) = three_traced(rt, sheet) else {
+        return Some(false);
+    };
+    let mut sink = StdSink::new(Expecting::just(SIX_SOURCES));
+    let answer = merge.finish(&SourceLines, &mut sink);
+    came_to(rt, answer, sink, SIX_SOURCES)
+}
+
 fn finishes(rt: &HostRuntime, sheet: &Sheet, last: bool, text: &[u8]) -> bool {
     match finishes_once(rt, sheet, last, text) {
         None => finishes_once(rt, sheet, last, text) == Some(true),
@@ -104,5 +138,16 @@ fn reports_that_are_added_are_merged(rt: HostRuntime) -> Result<(), Fail> {
 fn reports_that_are_added_are_judged(rt: HostRuntime) -> Result<(), Fail> {
     let sheet = read_sheet(&rt, SHEET)?;
     assert!(rt; lists(&rt, &sheet, false) && lists(&rt, &sheet, true));
+    Ok(())
+}
+
+#[test]
+fn reports_that_are_added_are_traced(rt: HostRuntime) -> Result<(), Fail> {
+    let sheet = read_sheet(&rt, SHEET)?;
+    let traced = match traces_once(&rt, &sheet) {
+        None => traces_once(&rt, &sheet),
+        traced => traced,
+    };
+    assert!(rt; traced == Some(true));
     Ok(())
 }

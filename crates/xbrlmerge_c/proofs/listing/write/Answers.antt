@@ -3,9 +3,11 @@ use Rattle.std.specs.Prelude.{IfOk}
 use Rattle.oim_merge.specs.Added.{Added}
 use Rattle.oim_merge.specs.Lines.{line_text}
 use Rattle.oim_merge.specs.Listing.{Lists}
-use Rattle.oim_merge.specs.SourceListing.{ListsSources}
+use Rattle.oim_merge.specs.SourceListing.{AppendsMentions}
+use Rattle.oim_merge.specs.Sources.{source_line}
+use Rattle.oim_merge.specs.Traced.{Traced}
 use Rattle.row_formats.specs.Listing.{ListsRows}
-use Rattle.row_formats.specs.SourceRows.{ListsSourceRows}
+use Rattle.row_formats.specs.SourceRows.{source_header, source_text}
 use Rattle.row_formats.specs.declared.row_format.RowFormat.TheVariants.{Json}
 use Rattle.xbrlmerge_c.proofs.listing.write.Goals as goal
 
@@ -19,12 +21,12 @@ returns-in_ok-consolidation-in-VerdictsJson-clause-ok g c =
     let told = g.S.Sink.told in
     rw c.in-VerdictsJson.is (subst (λ (a : Added). IfOk c.finish_rows.result (ListsRows Json a.body a.refusals (told c.args.out.now) (told c.finish_rows.new.out))) c.in_ok-consolidation-in-VerdictsJson.ensures c.finish_rows.ensures.ok)
 
-pub returns-in_ok-reports-in-Sources-clause-ok : goal.returns-in_ok-reports-in-Sources-clause-ok
-returns-in_ok-reports-in-Sources-clause-ok g c =
+pub returns-in_ok-trace_reports-in-Sources-clause-ok : goal.returns-in_ok-trace_reports-in-Sources-clause-ok
+returns-in_ok-trace_reports-in-Sources-clause-ok g c =
     let told = g.S.Sink.told in
-    rw c.in-Sources.is (subst (λ reports. IfOk c.source_lines.result (ListsSources c.args.sheet.now reports (told c.args.out.now) (told c.source_lines.new.out))) (c.as_slice.ensures.value ∙ c.in_ok-reports-in-Sources.ensures) c.source_lines.ensures.ok)
+    rw c.in-Sources.is (subst (λ (t : Traced). IfOk c.finish.result (AppendsMentions [] source_line t (told c.args.out.now) (told c.finish.new.out))) c.in_ok-trace_reports-in-Sources.ensures c.finish.ensures.ok)
 
-pub returns-in_ok-reports-in-SourcesJson-clause-ok : goal.returns-in_ok-reports-in-SourcesJson-clause-ok
-returns-in_ok-reports-in-SourcesJson-clause-ok g c =
+pub returns-in_ok-trace_reports-in-SourcesJson-clause-ok : goal.returns-in_ok-trace_reports-in-SourcesJson-clause-ok
+returns-in_ok-trace_reports-in-SourcesJson-clause-ok g c =
     let told = g.S.Sink.told in
-    rw c.in-SourcesJson.is (subst (λ reports. IfOk c.source_rows.result (ListsSourceRows Json c.args.sheet.now reports (told c.args.out.now) (told c.source_rows.new.out))) (c.as_slice-in-SourcesJson.ensures.value ∙ c.in_ok-reports-in-SourcesJson.ensures) c.source_rows.ensures.ok)
+    rw c.in-SourcesJson.is (subst (λ (t : Traced). IfOk c.finish.result (AppendsMentions (source_header Json) (source_text Json) t (told c.args.out.now) (told c.finish.new.out))) c.in_ok-trace_reports-in-SourcesJson.ensures c.finish.ensures.ok)

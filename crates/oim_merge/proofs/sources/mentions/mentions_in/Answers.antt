@@ -1,7 +1,7 @@
 use Rattle.std.proofs.Common.{◌+◌, ◌∷◌, drop, sym, ap, ◌∙◌, arith}
 use Rattle.std.proofs.lemmas.List.{drop_more}
 use Rattle.oim_merge.proofs.MentionLists.{mention_more}
-use Rattle.oim_merge.proofs.sources.mentions.add_mentions.Goals as goal
+use Rattle.oim_merge.proofs.sources.mentions.mentions_in.Goals as goal
 
 pub loop-i-preserved : goal.loop-i-preserved
 loop-i-preserved c =

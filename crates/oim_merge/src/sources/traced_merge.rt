@@ -1,0 +1,108 @@
+ghost use Rattle.std.specs.Prelude.{◌≡◌, ◌+◌, ◌-◌, ◌^◌, ◌<◌, IfOk, IfErr, OnOk, OnErr};
+ghost use Rattle.oim_merge.specs.Run.{failures_after_run};
+ghost use Rattle.oim_merge.specs.SourceListing.{AppendsMentions, MentionsStop};
+ghost use Rattle.oim_merge.specs.Traced.{traced, untraced, with_traced};
+
+use crate::consolidation::Consolidation;
+use crate::fault::Fault;
+use crate::merged::Merged;
+use crate::refusals::Refusals;
+use crate::sources::mention::Mention;
+use crate::sources::mentions::placed_by_fact;
+use crate::sources::source_format::SourceFormat;
+use crate::sources::source_listing::write_all;
+use oim_report::Sheet;
+use oim_write::{Encoded, Sink};
+use std::alloc::{AllocError, Global};
+use std::marker::Model;
+
+/// Merges reports one at a time, as a `Consolidation` does, and stores a mention for each fact
+/// object of the accepted reports. The reports themselves are not stored.
+#[derive(Drop)]
+pub struct TracedMerge<'s> {
+    consolidation: Consolidation<'s>,
+    mentions: Vec<Mention>,
+}
+
+impl<'s> Model for TracedMerge<'s> {
+    ghost use Rattle.std.specs.Coded.{codes};
+    ghost use Rattle.oim_report.specs.code.SheetCode.{sheet_code};
+    ghost use Rattle.oim_merge.specs.Traced.{Traced};
+    ghost use Rattle.oim_merge.specs.code.Traces.{AreTraced};
+
+    ghost Value = { Traced };
+
+    ghost coded = { Prim.hlevel (codes, sheet_code) };
+
+    ghost view = { λ m. record { added = m.consolidation; mentions = m.mentions.items } };
+
+    ghost invariant = { λ m. AreTraced m.consolidation m.mentions.items };
+}
+
+impl<'s> TracedMerge<'s> {
+    /// Starts a merge without reports. Reports are read under the sheet. Later calls request memory
+    /// from `alloc`.
+    pub fn new(alloc: Global, sheet: &'s Sheet) -> TracedMerge<'s>
+        ensures { result ≡ untraced sheet.now }
+    {
+        TracedMerge {
+            consolidation: Consolidation::new(alloc, sheet),
+            mentions: Vec::new(alloc),
+        }
+    }
+
+    pub(crate) fn of(
+        alloc: Global,
+        sheet: &'s Sheet,
+        reports: &[Encoded],
+    ) -> Result<TracedMerge<'s>, AllocError>
+        ensures { IfOk result (λ merge. merge ≡ traced sheet.now reports.now) }
+    {
+        let mut merge = TracedMerge::new(alloc, sheet);
+        for report in reports {
+            merge.add(report.as_bytes())?;
+        }
+        Ok(merge)
+    }
+
+    /// Reads one more report under the sheet and adds its facts, references and mentions, or stores
+    /// its refusal with the number of the report, from 1.
+    ///
+    /// Errors: out of memory; then nothing changes, and the report can be added again.
+    pub fn add(&mut self, bytes: &[u8]) -> Result<(), AllocError>
+        requires { self.old.added.reports + 1 < 2 ^ 64 }
+        ensures ok { OnOk result (self.new ≡ with_traced self.old bytes.now) }
+        ensures err { OnErr result (self.new ≡ self.old) }
+    {
+        let (read, mut mentions) = self.consolidation.read_with_mentions(bytes)?;
+        self.mentions.reserve(mentions.len())?;
+        self.consolidation.add_read(read)?;
+        // The capacity is reserved, so appending cannot fail once the report is added.
+        self.mentions.append(&mut mentions)
+    }
+
+    /// Appends one text for each mention to the sink, in this format and after its header. The
+    /// texts are sorted by fact, report and identifier. Returns the refusals.
+    ///
+    /// Errors: `Device` if the sink failed; `OutOfMemory`.
+    pub fn finish<S: Sink, F: SourceFormat>(
+        self,
+        format: &F,
+        out: &mut S,
+    ) -> Result<Refusals, Fault>
+        requires { S.failures out.old < 2 ^ 64 - 1 }
+        ensures ok { IfOk result (AppendsMentions (F.header format.now) (F.source_text format.now) self.entry (S.told out.old) (S.told out.new)) }
+        ensures err { IfErr result (MentionsStop (F.header format.now) (F.source_text format.now) self.entry (S.told out.old) (S.told out.new)) }
+        ensures failures { S.failures out.new ≡ failures_after_run result (S.failures out.old) }
+    {
+        let TracedMerge {
+            consolidation,
+            mentions,
+        } = self;
+        let alloc = *mentions.allocator();
+        let Merged { base, refusals } = consolidation.into_merged()?;
+        let mentions = placed_by_fact(alloc, &base, mentions)?;
+        write_all(alloc, base.fact_count(), mentions.as_slice(), format, out)?;
+        Ok(refusals)
+    }
+}
