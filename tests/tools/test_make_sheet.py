@@ -121,7 +121,7 @@ class BadInputs(ToolTest):
     def test_no_xml_and_no_schema(self):
         self.check_refused(3, "not well-formed", self.write("a.xsd", "{}"))
         self.check_refused(3, "unclosed token", self.write("b.xsd", SCHEMA[:30]))
-        self.check_refused(3, "not a schema", self.write("c.xsd", "<a/>"))
+        self.check_refused(3, "not a schema: name the package", self.write("c.xsd", "<a/>"))
         self.check_refused(3, "nowhere.xsd", self.place("nowhere.xsd"))
         self.check_refused(3, "no element found", TOY, self.write("d.xsd", ""))
         lines = self.check_refused(3, "xsd", TOY, self.write("e.xsd", "no XML"), self.write("f.xsd", "nor this"))

@@ -79,7 +79,9 @@ class SchemaVisitor(Visitor):
         target = element.get("targetNamespace")
         self.target = None if target is None else sys.intern(target)
         self.namespace = self.wanted if self.target is None else self.target
-        if element.name != (XS, "schema") or self.wanted not in (None, self.namespace):
+        if element.name != (XS, "schema"):
+            raise ValueError("it is not a schema: name the package, the folder or a schema of the taxonomy")
+        if self.wanted not in (None, self.namespace):
             raise ValueError(f"it is not a schema of the namespace {shortened(self.wanted or '')}")
 
     def open_part(self, element: Element, namespace: str) -> None:
