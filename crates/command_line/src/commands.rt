@@ -17,7 +17,6 @@ use crate::row_format::PrintFormat;
 use oim_merge::{Refusals, SourceLines, consolidate_bundle};
 use oim_report::Sheet;
 use oim_write::Sink;
-use row_formats::finish_rows_last;
 use std::alloc::Global;
 use std::io::Write;
 use std::rt::Files;
@@ -53,14 +52,15 @@ fn execute_under<'n, F: Files, E: Write, S: Sink>(
 ) -> Result<Success, Error<'n>>
     requires { S.failures out.old < 2 ^ 64 - 1 }
 {
-    let alloc = inputs.alloc;
     Ok(Success::Refusals(match subcommand {
         Subcommand::Merge(allow) => inputs.consolidate(sheet)?.finish_last(allow, out)?,
         Subcommand::Verdicts(PrintFormat::Lines) => {
             inputs.consolidate(sheet)?.finish_lines_last(out)?
         }
         Subcommand::Verdicts(PrintFormat::Rows(format)) => {
-            finish_rows_last(alloc, inputs.consolidate(sheet)?, format, out)?
+            inputs
+                .consolidate(sheet)?
+                .finish_verdicts_last(&format, out)?
         }
         Subcommand::Sources(PrintFormat::Lines) => {
             inputs.trace(sheet)?.finish(&SourceLines, out)?

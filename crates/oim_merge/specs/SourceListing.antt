@@ -26,17 +26,9 @@ module _ (header : List ℕ) (written : SourceText) (t : Traced) where
   MentionsStop old new (TooLoose row told) = ⊥
   MentionsStop old new (SheetFault reason) = ⊥
 
-module _ (header : List ℕ) (written : SourceText) (sheet : Sheet) (reports : List (List ℕ)) where
-  -- the header and the sources in the accepted reports were appended, and the refusals of the other reports were returned
-  abbrev pub AppendsSources : Option (List ℕ) → Option (List ℕ) → List (ℕ × Refusal) → Type 0
-  AppendsSources = AppendsMentions header written (traced sheet reports)
-
-  abbrev pub AppendingStops : Option (List ℕ) → Option (List ℕ) → Fault → Type 0
-  AppendingStops = MentionsStop header written (traced sheet reports)
-
 -- the source lines of the accepted reports were appended, and the refusals of the other reports were returned
 abbrev pub ListsSources : Sheet → List (List ℕ) → Option (List ℕ) → Option (List ℕ) → List (ℕ × Refusal) → Type 0
-ListsSources = AppendsSources [] source_line
+ListsSources sheet reports = AppendsMentions [] source_line (traced sheet reports)
 
 abbrev pub SourcesStop : Sheet → List (List ℕ) → Option (List ℕ) → Option (List ℕ) → Fault → Type 0
-SourcesStop = AppendingStops [] source_line
+SourcesStop sheet reports = MentionsStop [] source_line (traced sheet reports)

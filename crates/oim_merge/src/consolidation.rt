@@ -15,6 +15,7 @@ use crate::reading::{read, read_with_identifiers};
 use crate::refusals::Refusals;
 use crate::sources::mention::Mention;
 use crate::sources::mentions::mentions_in;
+use crate::verdicts::verdict_format::VerdictFormat;
 use crate::verdicts::verdict_line::VerdictLines;
 use crate::verdicts::verdict_listing::write_verdicts;
 use fact_base::Gathering;
@@ -216,9 +217,7 @@ impl<'s> Consolidation<'s> {
         ensures err { IfErr result (ListStops [] line_text self.entry.body (S.told out.old) (S.told out.new)) }
         ensures failures { S.failures out.new ≡ failures_after_run result (S.failures out.old) }
     {
-        let alloc = self.alloc;
-        let Merged { base, refusals } = self.into_merged()?;
-        write_verdicts(alloc, &base, refusals, &VerdictLines, out)
+        self.finish_verdicts(&VerdictLines, out)
     }
 
     /// Does the same as `finish_lines`, but does not free the facts (see `finish_last`).
@@ -230,9 +229,43 @@ impl<'s> Consolidation<'s> {
         ensures err { IfErr result (ListStops [] line_text self.entry.body (S.told out.old) (S.told out.new)) }
         ensures failures { S.failures out.new ≡ failures_after_run result (S.failures out.old) }
     {
+        self.finish_verdicts_last(&VerdictLines, out)
+    }
+
+    /// Does the same as `finish_lines` in another format, which may begin with a header.
+    ///
+    /// Errors: the same as `finish_lines`.
+    pub fn finish_verdicts<S: Sink, F: VerdictFormat>(
+        self,
+        format: &F,
+        out: &mut S,
+    ) -> Result<Refusals, Fault>
+        requires { S.failures out.old < 2 ^ 64 - 1 }
+        ensures ok { IfOk result (Lists (F.header format.now) (F.row_text format.now) self.entry.body self.entry.refusals (S.told out.old) (S.told out.new)) }
+        ensures err { IfErr result (ListStops (F.header format.now) (F.row_text format.now) self.entry.body (S.told out.old) (S.told out.new)) }
+        ensures failures { S.failures out.new ≡ failures_after_run result (S.failures out.old) }
+    {
         let alloc = self.alloc;
         let Merged { base, refusals } = self.into_merged()?;
-        let written = write_verdicts(alloc, &base, refusals, &VerdictLines, out);
+        write_verdicts(alloc, &base, refusals, format, out)
+    }
+
+    /// Does the same as `finish_verdicts`, but does not free the facts (see `finish_last`).
+    ///
+    /// Errors: the same as `finish_lines`.
+    pub fn finish_verdicts_last<S: Sink, F: VerdictFormat>(
+        self,
+        format: &F,
+        out: &mut S,
+    ) -> Result<Refusals, Fault>
+        requires { S.failures out.old < 2 ^ 64 - 1 }
+        ensures ok { IfOk result (Lists (F.header format.now) (F.row_text format.now) self.entry.body self.entry.refusals (S.told out.old) (S.told out.new)) }
+        ensures err { IfErr result (ListStops (F.header format.now) (F.row_text format.now) self.entry.body (S.told out.old) (S.told out.new)) }
+        ensures failures { S.failures out.new ≡ failures_after_run result (S.failures out.old) }
+    {
+        let alloc = self.alloc;
+        let Merged { base, refusals } = self.into_merged()?;
+        let written = write_verdicts(alloc, &base, refusals, format, out);
         mem::forget(base);
         written
     }

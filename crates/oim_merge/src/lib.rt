@@ -33,11 +33,11 @@ pub use identifiers::Identifiers;
 pub use sources::placed_mention::PlacedMention;
 pub use sources::source_format::SourceFormat;
 pub use sources::source_line::SourceLines;
-pub use sources::source_listing::{source_lines, write_sources};
+pub use sources::source_listing::source_lines;
 pub use sources::traced_merge::TracedMerge;
 pub use verdicts::judged_row::JudgedRow;
 pub use verdicts::verdict_format::VerdictFormat;
-pub use verdicts::verdict_listing::{verdict_lines, write_verdicts};
+pub use verdicts::verdict_listing::verdict_lines;
 // replicas
 pub use schedules::event::Event;
 pub use schedules::events::Events;

@@ -2,6 +2,5 @@ pub mod Spelled
 pub mod JsonRows
 pub mod CsvRows
 pub mod Rows
-pub mod Listing
 pub mod SourceRows
 pub mod code

@@ -1,13 +1,10 @@
 -- The sources of facts in a format, one row for each fact object (own). In bytes, a line end is 10.
-use Rattle.std.specs.Prelude.{ℕ, Bool, true, false, List, [], ◌∷◌, ◌++◌, codes, Option}
+use Rattle.std.specs.Prelude.{ℕ, Bool, true, false, List, [], ◌∷◌, ◌++◌, codes}
 use Rattle.std.specs.Fmt.{decimal}
 use Rattle.serde_json.specs.Data.{Data, unsigned, number, string, object, no_members, member}
 use Rattle.serde_json.specs.Written.{compact_text}
 use Rattle.fact_base.specs.Passed.{Sheet}
-use Rattle.oim_report.specs.declared.refusal.Refusal.{Refusal}
-use Rattle.oim_merge.specs.SourceListing.{AppendingStops, AppendsSources}
 use Rattle.oim_merge.specs.Sources.{SourceText, sources_by}
-use Rattle.oim_merge.specs.declared.fault.Fault.{Fault}
 use Rattle.row_formats.specs.CsvRows.{guarded, record_text}
 use Rattle.row_formats.specs.declared.row_format.RowFormat.{RowFormat}
 use Rattle.row_formats.specs.declared.row_format.RowFormat.TheVariants.{Json, Csv, SpreadsheetCsv}
@@ -42,13 +39,3 @@ source_header SpreadsheetCsv = record_text source_columns
 -- the header and the rows of all fact objects in accepted reports, in the order of facts, then reports, then identifiers
 abbrev pub sources_in : RowFormat → Sheet → List (List ℕ) → List ℕ
 sources_in format sheet reports = source_header format ++ sources_by (source_text format) sheet reports
-
--- ---- the state after a call
-
--- the header and the rows of the accepted reports were appended, and the refusals of the other reports were returned
-abbrev pub ListsSourceRows : RowFormat → Sheet → List (List ℕ) → Option (List ℕ) → Option (List ℕ) → List (ℕ × Refusal) → Type 0
-ListsSourceRows format = AppendsSources (source_header format) (source_text format)
-
--- after a fault, a first part of the header and the rows was appended; the fault contains the number of these bytes, which saturates
-abbrev pub SourceRowsStop : RowFormat → Sheet → List (List ℕ) → Option (List ℕ) → Option (List ℕ) → Fault → Type 0
-SourceRowsStop format = AppendingStops (source_header format) (source_text format)

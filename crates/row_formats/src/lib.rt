@@ -13,5 +13,3 @@ mod source_row;
 mod verdict_listing;
 
 pub use row_format::RowFormat;
-pub use source_listing::source_rows;
-pub use verdict_listing::{finish_rows, finish_rows_last, verdict_rows};

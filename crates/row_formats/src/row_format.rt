@@ -1,4 +1,5 @@
-/// A format of verdicts and sources for other programs.
+/// A format of verdicts and sources for other programs (own). In each format, a row has a number
+/// (from 1), a verdict, dimensions, facts and, if it has several facts, evidence.
 #[derive(Clone, Copy, Debug, PartialEq, Eq)]
 pub enum RowFormat {
     /// One JSON object per line.

@@ -146,7 +146,7 @@ pub extern "C" fn xbrlmerge_sources(
     Listing::Sources.list(alloc, sheet, reports, ends, out, needed, refusals, refused)
 }
 
-/// Writes one JSON object for each row, one per line, as `row_formats::verdict_rows` does.
+/// Writes one JSON object for each row, one per line, as `verdicts --format json` does.
 /// Otherwise the call is like `xbrlmerge_verdicts`.
 #[unsafe(no_mangle)]
 pub extern "C" fn xbrlmerge_verdicts_json(
@@ -165,8 +165,8 @@ pub extern "C" fn xbrlmerge_verdicts_json(
     Listing::VerdictsJson.list(alloc, sheet, reports, ends, out, needed, refusals, refused)
 }
 
-/// Writes a JSON object for each source of a fact, one per line, as `row_formats::source_rows`
-/// does. Otherwise the call is like `xbrlmerge_verdicts`.
+/// Writes a JSON object for each source of a fact, one per line, as `sources --format json` does.
+/// Otherwise the call is like `xbrlmerge_verdicts`.
 #[unsafe(no_mangle)]
 pub extern "C" fn xbrlmerge_sources_json(
     alloc: Global,

@@ -10,7 +10,7 @@ use crate::reports::{add_reports, are_ends, read_sheet, trace_reports};
 use oim_merge::{Fault, Refusals, SourceLines};
 use oim_report::Sheet;
 use oim_write::{Sink, StdSink};
-use row_formats::{RowFormat, finish_rows};
+use row_formats::RowFormat;
 use std::alloc::Global;
 
 /// What a call lists, and in which format: lines, or JSON objects.
@@ -85,11 +85,10 @@ fn write<S: Sink>(
 {
     match listing {
         Listing::Verdicts => add_reports(alloc, sheet, reports, ends)?.finish_lines(out),
-        Listing::VerdictsJson => {
-            let consolidation = add_reports(alloc, sheet, reports, ends)?;
-            finish_rows(alloc, consolidation, RowFormat::Json, out)
-        }
         Listing::Sources => trace_reports(alloc, sheet, reports, ends)?.finish(&SourceLines, out),
+        Listing::VerdictsJson => {
+            add_reports(alloc, sheet, reports, ends)?.finish_verdicts(&RowFormat::Json, out)
+        }
         Listing::SourcesJson => {
             trace_reports(alloc, sheet, reports, ends)?.finish(&RowFormat::Json, out)
         }

@@ -1,13 +1,13 @@
 ghost use Rattle.std.specs.Prelude.{◌-◌, ◌^◌, ◌<◌};
 
-use oim_merge::{Consolidation, Fault, Refusals};
+use oim_merge::{Consolidation, Fault, Refusals, TracedMerge};
 use oim_report::Sheet;
 use oim_write::{Encoded, Sink, StdSink};
-use row_formats::{RowFormat, finish_rows, finish_rows_last, source_rows, verdict_rows};
+use row_formats::RowFormat;
 use std::alloc::{AllocError, Global};
 use test_helpers::asked_again::{SHEET, tell_refused};
 
-// Compares the output of the calls of `row_formats` with output written by hand. The rows have
+// Compares rows in the formats of `row_formats` with rows written by hand. The rows have
 // every verdict and every kind of value. After a refused request for memory, the call is repeated.
 
 const FIRST: &[u8] =
@@ -44,8 +44,7 @@ const SOURCES_SPREADSHEET: &[u8] =
 #[derive(Clone, Copy)]
 enum Call {
     Verdicts,
-    Added,
-    AddedLast,
+    LastVerdicts,
     Sources,
 }
 
@@ -65,25 +64,19 @@ fn added<'s>(alloc: Global, sheet: &'s Sheet) -> Result<Consolidation<'s>, Alloc
     Ok(consolidation)
 }
 
-fn of_reports<S: Sink>(
+fn sources<S: Sink>(
     alloc: Global,
     sheet: &Sheet,
-    call: Call,
     format: RowFormat,
     sink: &mut S,
 ) -> Result<Refusals, Fault>
     requires { S.failures sink.old < 2 ^ 64 - 1 }
 {
-    let Ok(reports) = reports(alloc) else {
-        return Err(Fault::OutOfMemory(0));
-    };
-    match call {
-        Call::Sources => source_rows(alloc, sheet, &reports, format, sink),
-        _ => verdict_rows(alloc, sheet, &reports, format, sink),
-    }
+    let reports = reports(alloc)?;
+    TracedMerge::of(alloc, sheet, &reports)?.finish(&format, sink)
 }
 
-fn of_added<S: Sink>(
+fn verdicts<S: Sink>(
     alloc: Global,
     sheet: &Sheet,
     call: Call,
@@ -92,12 +85,10 @@ fn of_added<S: Sink>(
 ) -> Result<Refusals, Fault>
     requires { S.failures sink.old < 2 ^ 64 - 1 }
 {
-    let Ok(consolidation) = added(alloc, sheet) else {
-        return Err(Fault::OutOfMemory(0));
-    };
+    let consolidation = added(alloc, sheet)?;
     match call {
-        Call::AddedLast => finish_rows_last(alloc, consolidation, format, sink),
-        _ => finish_rows(alloc, consolidation, format, sink),
+        Call::LastVerdicts => consolidation.finish_verdicts_last(&format, sink),
+        _ => consolidation.finish_verdicts(&format, sink),
     }
 }
 
@@ -113,8 +104,8 @@ fn asked<S: Sink>(
         return Err(Fault::OutOfMemory(0));
     };
     match call {
-        Call::Verdicts | Call::Sources => of_reports(alloc, &sheet, call, format, sink),
-        Call::Added | Call::AddedLast => of_added(alloc, &sheet, call, format, sink),
+        Call::Sources => sources(alloc, &sheet, format, sink),
+        _ => verdicts(alloc, &sheet, call, format, sink),
     }
 }
 
@@ -136,10 +127,9 @@ fn holds(rt: &HostRuntime, call: Call, format: RowFormat, wanted: &[u8]) -> bool
     answer == Ok(true)
 }
 
-const ROWS: [(Call, RowFormat, &[u8]); 6] = [
+const ROWS: [(Call, RowFormat, &[u8]); 5] = [
     (Call::Verdicts, RowFormat::Json, VERDICTS_JSON),
-    (Call::Added, RowFormat::Json, VERDICTS_JSON),
-    (Call::AddedLast, RowFormat::Json, VERDICTS_JSON),
+    (Call::LastVerdicts, RowFormat::Json, VERDICTS_JSON),
     (Call::Sources, RowFormat::Json, SOURCES_JSON),
     (Call::Verdicts, RowFormat::Csv, VERDICTS_CSV),
     // no cell of a spreadsheet is a formula

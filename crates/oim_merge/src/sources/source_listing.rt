@@ -4,7 +4,7 @@ ghost use Rattle.oim_write.specs.Sink.{AppendsFront, failures_after_write, writt
 ghost use Rattle.oim_write.specs.SinkBuffer.{Breaks, Passes};
 ghost use Rattle.oim_merge.specs.code.Listing.{placed_text};
 ghost use Rattle.oim_merge.specs.Run.{failures_after_run};
-ghost use Rattle.oim_merge.specs.SourceListing.{AppendingStops, AppendsSources, ListsSources, SourcesStop};
+ghost use Rattle.oim_merge.specs.SourceListing.{ListsSources, SourcesStop};
 
 use crate::fault::Fault;
 use crate::refusals::Refusals;
@@ -36,25 +36,7 @@ pub fn source_lines<S: Sink>(
     ensures err { IfErr result (SourcesStop sheet.now reports.now (S.told out.old) (S.told out.new)) }
     ensures failures { S.failures out.new ≡ failures_after_run result (S.failures out.old) }
 {
-    write_sources(alloc, sheet, reports, &SourceLines, out)
-}
-
-/// Does the same as `source_lines` in another format, which may begin with a header.
-///
-/// Errors: the same as `source_lines`.
-pub fn write_sources<S: Sink, F: SourceFormat>(
-    alloc: Global,
-    sheet: &Sheet,
-    reports: &[Encoded],
-    format: &F,
-    out: &mut S,
-) -> Result<Refusals, Fault>
-    requires { S.failures out.old < 2 ^ 64 - 1 }
-    ensures ok { IfOk result (AppendsSources (F.header format.now) (F.source_text format.now) sheet.now reports.now (S.told out.old) (S.told out.new)) }
-    ensures err { IfErr result (AppendingStops (F.header format.now) (F.source_text format.now) sheet.now reports.now (S.told out.old) (S.told out.new)) }
-    ensures failures { S.failures out.new ≡ failures_after_run result (S.failures out.old) }
-{
-    TracedMerge::of(alloc, sheet, reports)?.finish(format, out)
+    TracedMerge::of(alloc, sheet, reports)?.finish(&SourceLines, out)
 }
 
 /// Writes the header and the texts of the mentions. `count` is the number of facts in the base.

@@ -51,7 +51,10 @@ impl<'s> TracedMerge<'s> {
         }
     }
 
-    pub(crate) fn of(
+    /// Reads and adds the reports, in order.
+    ///
+    /// Errors: out of memory.
+    pub fn of(
         alloc: Global,
         sheet: &'s Sheet,
         reports: &[Encoded],

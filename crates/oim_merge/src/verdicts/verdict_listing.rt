@@ -40,7 +40,7 @@ pub fn verdict_lines<S: Sink>(
 /// unchanged.
 ///
 /// Errors: `Device` if the sink failed; `OutOfMemory`.
-pub fn write_verdicts<S: Sink, F: VerdictFormat>(
+pub(crate) fn write_verdicts<S: Sink, F: VerdictFormat>(
     alloc: Global,
     base: &Base<'_>,
     refusals: Refusals,

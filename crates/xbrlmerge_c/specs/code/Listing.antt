@@ -2,10 +2,12 @@
 use Rattle.std.specs.Prelude.{ℕ, List, Option}
 use Rattle.oim_report.specs.Sheet.{Sheet}
 use Rattle.oim_report.specs.declared.refusal.Refusal.{Refusal}
-use Rattle.oim_merge.specs.Listing.{ListsVerdicts}
-use Rattle.oim_merge.specs.SourceListing.{ListsSources}
-use Rattle.row_formats.specs.Listing.{ListsVerdictRows}
-use Rattle.row_formats.specs.SourceRows.{ListsSourceRows}
+use Rattle.oim_merge.specs.Listing.{Lists, ListsVerdicts}
+use Rattle.oim_merge.specs.Reports.{merged, refused}
+use Rattle.oim_merge.specs.SourceListing.{AppendsMentions, ListsSources}
+use Rattle.oim_merge.specs.Traced.{traced}
+use Rattle.row_formats.specs.Rows.{header, row_text}
+use Rattle.row_formats.specs.SourceRows.{source_header, source_text}
 use Rattle.row_formats.specs.declared.row_format.RowFormat.TheVariants.{Json}
 use Rattle.xbrlmerge_c.specs.declared.listing.Listing.{Listing}
 use Rattle.xbrlmerge_c.specs.declared.listing.Listing.TheVariants.{Sources, SourcesJson, Verdicts, VerdictsJson}
@@ -14,5 +16,5 @@ use Rattle.xbrlmerge_c.specs.declared.listing.Listing.TheVariants.{Sources, Sour
 abbrev pub AppendsListing : Listing → Sheet → List (List ℕ) → Option (List ℕ) → Option (List ℕ) → List (ℕ × Refusal) → Type 0
 AppendsListing Verdicts = ListsVerdicts
 AppendsListing Sources = ListsSources
-AppendsListing VerdictsJson = ListsVerdictRows Json
-AppendsListing SourcesJson = ListsSourceRows Json
+AppendsListing VerdictsJson = λ sheet reports. Lists (header Json) (row_text Json) (merged sheet reports) (refused sheet reports)
+AppendsListing SourcesJson = λ sheet reports. AppendsMentions (source_header Json) (source_text Json) (traced sheet reports)
