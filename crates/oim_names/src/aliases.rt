@@ -1,8 +1,8 @@
-ghost use Rattle.std.specs.Prelude.{◌≡◌, ◌≢◌, ◌↔◌, [], ◌++◌, ◌∷◌, ◌⊎◌, IsTrue, IfOk, IfErr, IfSome, OnOk, OnErr};
+ghost use Rattle.std.specs.Prelude.{◌≡◌, ◌≢◌, ◌↔◌, ◌<◌, [], ◌++◌, ◌∷◌, ◌⊎◌, length, IsTrue, IfOk, IfErr, IfSome, OnOk, OnErr};
 ghost use Rattle.std.specs.Option.{option_copied};
 ghost use Rattle.std.specs.Result.{result_err};
 ghost use Rattle.oim_names.specs.QName.{is_part};
-ghost use Rattle.oim_names.specs.Bindings.{AreBindings, uri_of, prefix_of, bound, is_refused_binding};
+ghost use Rattle.oim_names.specs.Bindings.{AreBindings, uri_at, uri_of, prefix_of, bound, is_refused_binding};
 ghost use Rattle.oim_names.specs.Expansion.{Expands, ExpandsEntity, entity_refusal, name_refusal, prefix_refusal, reserved_uri};
 
 use crate::binding::Binding;
@@ -116,9 +116,22 @@ impl Aliases {
         ensures found { option_copied result ≡ uri_of self.now prefix.now }
         ensures filled { IfSome result (λ uri. uri.now ≢ []) }
     {
-        match self.bindings.get(self.cache.place(prefix)) {
-            Some(known) if known.prefix() == prefix => Some(known.uri_text()),
-            _ => self.uris.get(prefix),
+        match self.place(prefix) {
+            Some(place) => Some(self.bindings[place].uri_text()),
+            None => self.uris.get(prefix),
+        }
+    }
+
+    /// Returns the index of the binding of the prefix, if the cache has it. Names whose prefixes
+    /// have one index have one URI, which need not be compared.
+    pub fn place(&self, prefix: &str) -> Option<usize>
+        ensures within { IfSome result (λ place. place < length self.now) }
+        ensures uri { IfSome result (λ place. uri_at self.now place ≡ uri_of self.now prefix.now) }
+    {
+        let place = self.cache.place(prefix);
+        match self.bindings.get(place) {
+            Some(known) if known.prefix() == prefix => Some(place),
+            _ => None,
         }
     }
 

@@ -1,8 +1,12 @@
--- Facts with equal dimensions compare as their values do.
-use Rattle.std.proofs.Common.{◌≡◌, ℕ, ◌+◌, ◌<◌, List, [], ◌∷◌, ◌++◌, Option, Some, None, map, slice_get, get_or, length, take, option_map, sym, ap, ◌∙◌}
+-- Facts with equal dimensions compare as their values do, and facts whose concepts have one URI as the local parts, if these differ.
+use Rattle.std.proofs.Common.{◌≡◌, ℕ, ◌+◌, ◌<◌, List, [], ◌∷◌, ◌++◌, Option, Some, None, map, slice_get, get_or, length, take, option_map, refl, sym, ap, ◌∙◌}
 use Rattle.std.specs.Cmp.{tied_itself}
 use Rattle.std.specs.Option.{unwrap_or}
-use Rattle.std.specs.Ordering.{ordering_then}
+use Rattle.std.specs.Ordering.{nat_cmp, ordering_then}
+use Rattle.std.specs.Cmp.Lexicographic.{slice_cmp}
+use Rattle.std.specs.declared.cmp.Ordering.{Ordering}
+use Rattle.std.specs.declared.cmp.Ordering.TheVariants.{Less, Equal, Greater}
+use Rattle.std.proofs.lemmas.Cmp.{nat_list_cmp_total}
 use Rattle.std.proofs.lemmas.List.{map-append, take_more}
 use Rattle.std.proofs.lemmas.Option.{slice_get-get_or, slice_get-map}
 use Rattle.oim_dims.proofs.Orders.{dimensions_cmp_total}
@@ -25,6 +29,19 @@ by_value facts starts i j f g h same first second =
     let dimensions : f.dimensions ≡ g.dimensions = ap (λ d. unwrap_or (unwrap_or d None) f.dimensions) both in
     let tied = ap (dimensions_cmp f.dimensions) (sym dimensions) ∙ tied_itself dimensions_cmp_total f.dimensions in
     sym (ap (λ o. ordering_then o (value_cmp f.value g.value)) tied)
+
+decided : (o a b : Ordering) → (o ≡ Equal → ⊥) → o ≡ ordering_then (ordering_then o a) b
+decided Less a b unequal = refl
+decided Equal a b unequal = absurd (unequal refl)
+decided Greater a b unequal = refl
+
+after : (u l r v o : Ordering) → u ≡ Equal → o ≡ l → (o ≡ Equal → ⊥) → o ≡ ordering_then (ordering_then (ordering_then u l) r) v
+after u l r v o tied local unequal = decided o r v unequal ∙ (λ i. ordering_then (ordering_then (ordering_then (sym tied i) (local i)) r) v)
+
+pub by_local : (f g : Fact) (o : Ordering) → f.dimensions.concept.uri ≡ g.dimensions.concept.uri → o ≡ slice_cmp nat_cmp f.dimensions.concept.local_part g.dimensions.concept.local_part → (o ≡ Equal → ⊥) → o ≡ fact_cmp f g
+by_local f g o same local unequal =
+    let tied : slice_cmp nat_cmp f.dimensions.concept.uri g.dimensions.concept.uri ≡ Equal = ap (slice_cmp nat_cmp f.dimensions.concept.uri) (sym same) ∙ tied_itself nat_list_cmp_total f.dimensions.concept.uri in
+    after _ _ _ (value_cmp f.value g.value) o tied local unequal
 
 pub own : (facts : List Fact) (i : ℕ) (f : Fact) → i < length facts → f ≡ get_or facts i f → dimensions_at facts i ≡ Some f.dimensions
 own facts i f within at = ap (option_map (λ (x : Fact). x.dimensions)) (slice_get-get_or facts i f within ∙ ap (λ x. Some x) (sym at))

@@ -1,5 +1,5 @@
 -- Facts that were found in a text, sorted by their identifiers.
-use Rattle.std.proofs.Common.{◌≡◌, ℕ, ◌+◌, ◌<◌, List, [], ◌∷◌, ◌++◌, length, get_or, drop, map, Bool, true, false, cond, Option, Some, None, Ok, String, Global, string_bytes, refl, sym, ap, ◌∙◌, subst, arith, append_assoc}
+use Rattle.std.proofs.Common.{◌≡◌, ℕ, suc, ◌+◌, ◌<◌, List, [], ◌∷◌, ◌++◌, length, get_or, drop, map, Bool, true, false, cond, Option, Some, None, Ok, String, Global, string_bytes, refl, sym, ap, ◌∙◌, subst, arith, append_assoc, append-nil}
 use Rattle.std.specs.Prelude.{IfSome}
 use Rattle.std.specs.Ordering.{nat_cmp, match_ordering, is_lt}
 use Rattle.std.specs.String.{string_cmp}
@@ -7,7 +7,7 @@ use Rattle.std.specs.Cmp.Lexicographic.{slice_cmp}
 use Rattle.std.specs.BTreeMap.{insert_entry}
 use Rattle.std.specs.declared.cmp.Ordering.{Ordering}
 use Rattle.std.specs.declared.cmp.Ordering.TheVariants.{Less, Equal, Greater}
-use Rattle.std.proofs.lemmas.List.{drop_more, length-append}
+use Rattle.std.proofs.lemmas.List.{drop_more, length-append, length-map, map-append}
 use Rattle.std.proofs.lemmas.Bool.{false≢true}
 use Rattle.oim_names.specs.Bindings.{Binding}
 use Rattle.oim_dims.specs.declared.fact.Fact.{Fact}
@@ -86,21 +86,27 @@ module _ (sheet : Sheet) (bs : List Binding) where
       → AreFound sheet bs (append ms (member k d no_members)) (ss ++ s ∷ []) (fs ++ f ∷ [])
   found_one ms ss fs k d s f h e o = found_append ms (member k d no_members) ss (s ∷ []) fs (f ∷ []) h (e, o, tt)
 
-  -- ---- facts stored by identifier
+  found_length : (ms : Members) (ss : List (String Global)) (fs : List Fact) → AreFound sheet bs ms ss fs → length fs ≡ length ss
+  found_length no_members [] [] h = refl
+  found_length (member l d ms) (s ∷ ss) (f ∷ fs) h = ap suc (found_length ms ss fs h.2)
+  found_length ms ss fs h = absurd h
 
-  abbrev pub AreKept : Members → List (String Global × Fact) → Type 0
-  AreKept ms es = AreFound sheet bs ms (map (λ e. e.0) es) (map (λ e. e.1) es)
+  -- ---- facts stored by identifier, each as the part `fact` of a value
 
-  pub kept_put : (k : List ℕ) (d : Data) (s : String Global) (f : Fact) (ms : Members) (es : List (String Global × Fact)) → string_bytes s ≡ k → fact_outcome sheet bs d ≡ Ok f → AreKept ms es → AreKept (put k d ms) (insert_entry string_cmp es s f)
-  kept_put k d s f no_members [] e o h = (e, o, tt)
-  kept_put k d s f (member l y ms) (x ∷ es) e o h =
-      let here = ap (λ z. slice_cmp nat_cmp z (string_bytes x.0)) e ∙ ap (slice_cmp nat_cmp k) h.0 in
-      elim (slice_cmp nat_cmp k l) as (λ p. slice_cmp nat_cmp k l ≡ p → AreKept (match_ordering p (member k d (member l y ms)) (member l d ms) (member l y (put k d ms))) (insert_entry string_cmp (x ∷ es) s f)) [
-        | Less ↦ λ p. subst (λ q. AreKept (member k d (member l y ms)) (match_ordering q ((s, f) ∷ x ∷ es) ((x.0, f) ∷ es) (x ∷ insert_entry string_cmp es s f))) (sym (here ∙ p)) (e, o, h)
-        | Equal ↦ λ p. subst (λ q. AreKept (member l d ms) (match_ordering q ((s, f) ∷ x ∷ es) ((x.0, f) ∷ es) (x ∷ insert_entry string_cmp es s f))) (sym (here ∙ p)) (h.0, o, h.2)
-        | Greater ↦ λ p. subst (λ q. AreKept (member l y (put k d ms)) (match_ordering q ((s, f) ∷ x ∷ es) ((x.0, f) ∷ es) (x ∷ insert_entry string_cmp es s f))) (sym (here ∙ p)) (h.0, h.1, kept_put k d s f ms es e o h.2)
-      ] refl
-  kept_put k d s f ms es e o h = absurd h
+  module _ {V : Type 0} (fact : V → Fact) where
+    abbrev pub AreKept : Members → List (String Global × V) → Type 0
+    AreKept ms es = AreFound sheet bs ms (map (λ e. e.0) es) (map (λ e. fact e.1) es)
+
+    pub kept_put : (k : List ℕ) (d : Data) (s : String Global) (v : V) (ms : Members) (es : List (String Global × V)) → string_bytes s ≡ k → fact_outcome sheet bs d ≡ Ok (fact v) → AreKept ms es → AreKept (put k d ms) (insert_entry string_cmp es s v)
+    kept_put k d s v no_members [] e o h = (e, o, tt)
+    kept_put k d s v (member l y ms) (x ∷ es) e o h =
+        let here = ap (λ z. slice_cmp nat_cmp z (string_bytes x.0)) e ∙ ap (slice_cmp nat_cmp k) h.0 in
+        elim (slice_cmp nat_cmp k l) as (λ p. slice_cmp nat_cmp k l ≡ p → AreKept (match_ordering p (member k d (member l y ms)) (member l d ms) (member l y (put k d ms))) (insert_entry string_cmp (x ∷ es) s v)) [
+          | Less ↦ λ p. subst (λ q. AreKept (member k d (member l y ms)) (match_ordering q ((s, v) ∷ x ∷ es) ((x.0, v) ∷ es) (x ∷ insert_entry string_cmp es s v))) (sym (here ∙ p)) (e, o, h)
+          | Equal ↦ λ p. subst (λ q. AreKept (member l d ms) (match_ordering q ((s, v) ∷ x ∷ es) ((x.0, v) ∷ es) (x ∷ insert_entry string_cmp es s v))) (sym (here ∙ p)) (h.0, o, h.2)
+          | Greater ↦ λ p. subst (λ q. AreKept (member l y (put k d ms)) (match_ordering q ((s, v) ∷ x ∷ es) ((x.0, v) ∷ es) (x ∷ insert_entry string_cmp es s v))) (sym (here ∙ p)) (h.0, h.1, kept_put k d s v ms es e o h.2)
+        ] refl
+    kept_put k d s v ms es e o h = absurd h
 
 -- ---- the steps of the loops
 
@@ -121,35 +127,35 @@ weaker (Some x) P Q h f = f x h
 pub at_index : {X : Type 0} (xs : List X) (i : ℕ) (x : X) → i < length xs → x ≡ get_or xs i x → drop i xs ≡ x ∷ drop (i + 1) xs
 at_index xs i x l e = drop_more xs i x l ∙ ap (λ y. y ∷ drop (i + 1) xs) (sym e)
 
--- ---- facts that are stored one after another
+-- ---- values that are stored one after another
 
-abbrev pub put_entries : List (String Global) → List Fact → List (String Global × Fact) → List (String Global × Fact)
-put_entries (s ∷ ss) (f ∷ fs) es = put_entries ss fs (insert_entry string_cmp es s f)
-put_entries o fs es = es
+abbrev pub put_entries : {V : Type 0} → List (String Global) → List V → List (String Global × V) → List (String Global × V)
+put_entries (s ∷ ss) (v ∷ vs) es = put_entries ss vs (insert_entry string_cmp es s v)
+put_entries o vs es = es
 
-pub put_one_more : (ss : List (String Global)) (fs : List Fact) (s : String Global) (f : Fact) (es : List (String Global × Fact)) → length fs ≡ length ss → put_entries (ss ++ s ∷ []) (fs ++ f ∷ []) es ≡ insert_entry string_cmp (put_entries ss fs es) s f
-put_one_more [] [] s f es l = refl
-put_one_more (t ∷ ss) (g ∷ fs) s f es l = put_one_more ss fs s f (insert_entry string_cmp es t g) (omega (arith, l))
-put_one_more ss fs s f es l = absurd (omega (arith, l))
+pub put_one_more : {V : Type 0} (ss : List (String Global)) (vs : List V) (s : String Global) (v : V) (es : List (String Global × V)) → length vs ≡ length ss → put_entries (ss ++ s ∷ []) (vs ++ v ∷ []) es ≡ insert_entry string_cmp (put_entries ss vs es) s v
+put_one_more [] [] s v es l = refl
+put_one_more (t ∷ ss) (w ∷ vs) s v es l = put_one_more ss vs s v (insert_entry string_cmp es t w) (omega (arith, l))
+put_one_more ss vs s v es l = absurd (omega (arith, l))
 
-put_enough : (ss : List (String Global)) (fs rest : List Fact) (es : List (String Global × Fact)) → length fs ≡ length ss → put_entries ss (fs ++ rest) es ≡ put_entries ss fs es
-put_enough [] [] rest es l = refl
-put_enough (t ∷ ss) (g ∷ fs) rest es l = put_enough ss fs rest (insert_entry string_cmp es t g) (omega (arith, l))
-put_enough ss fs rest es l = absurd (omega (arith, l))
+kept_all : {V : Type 0} (fact : V → Fact) (sheet : Sheet) (bs : List Binding) (ms now : Members) (ss : List (String Global)) (vs : List V) (es : List (String Global × V)) → AreFound sheet bs ms ss (map fact vs) → AreKept sheet bs fact now es → AreKept sheet bs fact (put_all ms now) (put_entries ss vs es)
+kept_all fact sheet bs no_members now [] vs es h k = k
+kept_all fact sheet bs (member l d ms) now (s ∷ ss) (v ∷ vs) es h k = kept_all fact sheet bs ms (put l d now) ss vs (insert_entry string_cmp es s v) h.2 (kept_put sheet bs fact l d s v now es h.0 h.1 k)
+kept_all fact sheet bs ms now ss vs es h k = absurd h
 
-kept_all : (sheet : Sheet) (bs : List Binding) (ms now : Members) (ss : List (String Global)) (fs : List Fact) (es : List (String Global × Fact)) → AreFound sheet bs ms ss fs → AreKept sheet bs now es → AreKept sheet bs (put_all ms now) (put_entries ss fs es)
-kept_all sheet bs no_members now [] fs es h k = k
-kept_all sheet bs (member l d ms) now (s ∷ ss) (f ∷ fs) es h k = kept_all sheet bs ms (put l d now) ss fs (insert_entry string_cmp es s f) h.2 (kept_put sheet bs l d s f now es h.0 h.1 k)
-kept_all sheet bs ms now ss fs es h k = absurd h
+none_left : {X : Type 0} (xs front rest : List X) (n : ℕ) → xs ≡ front ++ rest → length xs ≡ n → length front ≡ n → xs ≡ front
+none_left xs front [] n e l k = e ∙ append-nil front
+none_left xs front (y ∷ ys) n e l k = absurd (let long = ap length e ∙ length-append front (y ∷ ys) in omega (arith, l, k, long))
 
-pub all_kept : (sheet : Sheet) (bs : List Binding) (ms : Members) (ss : List (String Global)) (fs taken rest : List Fact) (es : List (String Global × Fact)) → AreFound sheet bs ms ss fs → fs ≡ taken ++ rest → length taken ≡ length ss → es ≡ put_entries ss taken []
-    → AreKept sheet bs (put_all ms no_members) es
-all_kept sheet bs ms ss fs taken rest es h e l k =
-    let same : put_entries ss fs [] ≡ es = ap (λ gs. put_entries ss gs []) e ∙ put_enough ss taken rest [] l ∙ sym k in
-    subst (AreKept sheet bs (put_all ms no_members)) same (kept_all sheet bs ms no_members ss fs [] h tt)
+pub all_kept : {V : Type 0} (fact : V → Fact) (sheet : Sheet) (bs : List Binding) (ms : Members) (ss : List (String Global)) (fs rest : List Fact) (taken : List V) (es : List (String Global × V)) → AreFound sheet bs ms ss fs → fs ≡ map fact taken ++ rest → length taken ≡ length ss → es ≡ put_entries ss taken []
+    → AreKept sheet bs fact (put_all ms no_members) es
+all_kept fact sheet bs ms ss fs rest taken es h e l k =
+    let all = none_left fs (map fact taken) rest (length ss) e (found_length sheet bs ms ss fs h) (length-map taken fact ∙ l) in
+    subst (AreKept sheet bs fact (put_all ms no_members)) (sym k) (kept_all fact sheet bs ms no_members ss taken [] (subst (AreFound sheet bs ms ss) all h) tt)
 
-pub taken_one : (fs taken left : List Fact) (old : List Fact) (f : Fact) → fs ≡ taken ++ old → old ≡ f ∷ left → fs ≡ (taken ++ f ∷ []) ++ left
-taken_one fs taken left old f e o = e ∙ ap (λ l. taken ++ l) o ∙ sym (append_assoc taken (f ∷ []) left)
+pub taken_one : {X V : Type 0} (part : V → X) (xs left old : List X) (taken : List V) (v : V) → xs ≡ map part taken ++ old → old ≡ part v ∷ left → xs ≡ map part (taken ++ v ∷ []) ++ left
+taken_one part xs left old taken v e o =
+    e ∙ ap (λ l. map part taken ++ l) o ∙ sym (append_assoc (map part taken) (part v ∷ []) left) ∙ ap (λ l. l ++ left) (sym (map-append part taken (v ∷ [])))
 
-pub longer : (taken : List Fact) (ss : List (String Global)) (f : Fact) (s : String Global) → length taken ≡ length ss → length (taken ++ f ∷ []) ≡ length (ss ++ s ∷ [])
-longer taken ss f s l = length-append taken (f ∷ []) ∙ ap (λ n. n + 1) l ∙ sym (length-append ss (s ∷ []))
+pub longer : {V : Type 0} (taken : List V) (ss : List (String Global)) (v : V) (s : String Global) → length taken ≡ length ss → length (taken ++ v ∷ []) ≡ length (ss ++ s ∷ [])
+longer taken ss v s l = length-append taken (v ∷ []) ∙ ap (λ n. n + 1) l ∙ sym (length-append ss (s ∷ []))

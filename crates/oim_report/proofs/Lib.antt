@@ -17,6 +17,7 @@ pub mod Bound
 pub mod References
 pub mod Declared
 pub mod Ties
+pub mod UriPlaces
 pub mod ValuesMeet
 pub mod Pairs
 pub mod Runs

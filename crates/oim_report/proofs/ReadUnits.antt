@@ -1,6 +1,6 @@
 -- A written unit is read back.
-use Rattle.std.proofs.Common.{◌≡◌, ◌≢◌, ℕ, ◌+◌, List, [], ◌∷◌, ◌++◌, length, true, false, not, cond, Some, None, refl, ap, ◌∙◌, arith}
-use Rattle.std.specs.Prelude.{option_and_then, option_map, ◌==◌, ⊤}
+use Rattle.std.proofs.Common.{◌≡◌, ◌≢◌, ℕ, List, [], ◌∷◌, ◌++◌, length, true, false, not, cond, Some, None, refl, ap, ◌∙◌, arith}
+use Rattle.std.specs.Prelude.{option_and_then, option_map, ◌==◌}
 use Rattle.std.specs.Char.{is_ascii_alphanumeric}
 use Rattle.std.specs.List.{list_all, list_any}
 use Rattle.std.specs.Ordering.{is_eq}

@@ -15,3 +15,4 @@ pub mod SheetCode
 pub mod TapeParts
 pub mod TextCache
 pub mod TextCaches
+pub mod UriPlaces

@@ -1,22 +1,31 @@
-ghost use Rattle.std.specs.Prelude.{◌≡◌, IfOk, IsTrue, slice_get};
+ghost use Rattle.std.specs.Prelude.{◌≡◌, ℕ, Some, IfOk, IsTrue, slice_get};
+ghost use Rattle.oim_dims.specs.FactOrder.{fact_cmp};
 ghost use Rattle.oim_report.specs.Report.{IsOrderOf, place_cmp};
 ghost use Rattle.oim_report.specs.code.DimensionRuns.{HaveDimensionsOf};
+ghost use Rattle.oim_report.specs.code.UriPlaces.{ShareUris};
 
 use oim_dims::Fact;
 use std::alloc::{AllocError, Global};
 use std::cmp::Ordering;
 
-/// Returns the indices of the facts, in ascending order of the facts.
-pub(crate) fn order_of(alloc: Global, facts: &[Fact]) -> Result<Vec<usize>, AllocError>
-    ensures { IfOk result (λ places. IsOrderOf facts.now places.items) }
+/// Returns the indices of the facts, in ascending order of the facts. `places` may be shorter than
+/// the list of facts. Where it has the same index for two facts, their concepts have one URI, which
+/// is then not compared.
+pub(crate) fn order_of(
+    alloc: Global,
+    facts: &[Fact],
+    places: &[Option<usize>],
+) -> Result<Vec<usize>, AllocError>
+    requires { ShareUris facts.now places.now }
+    ensures { IfOk result (λ order. IsOrderOf facts.now order.items) }
 {
     // `collect` is not used: if its request for memory is refused, it requests a smaller amount
-    let mut places: Vec<usize> = Vec::with_capacity(alloc, facts.len())?;
-    places.extend(0..facts.len())?;
+    let mut order: Vec<usize> = Vec::with_capacity(alloc, facts.len())?;
+    order.extend(0..facts.len())?;
     let starts = run_starts(alloc, facts)?;
     let starts = starts.as_slice();
-    places.sort_unstable_by(|i, j| compared(facts, starts, *i, *j));
-    Ok(places)
+    order.sort_unstable_by(|i, j| compared(facts, starts, places, *i, *j));
+    Ok(order)
 }
 
 // Returns, for each fact, the index of the first fact in its run of adjacent facts with equal
@@ -34,14 +43,42 @@ fn run_starts(alloc: Global, facts: &[Fact]) -> Result<Vec<usize>, AllocError>
     Ok(starts)
 }
 
-// Compares only the values of facts in one run, which is faster.
-fn compared(facts: &[Fact], starts: &[usize], i: usize, j: usize) -> Ordering
-    requires { HaveDimensionsOf facts.now starts.now }
+// Compares only the values of facts in one run, and no URIs of concepts in one namespace.
+fn compared(
+    facts: &[Fact],
+    starts: &[usize],
+    places: &[Option<usize>],
+    i: usize,
+    j: usize,
+) -> Ordering
+    requires starts { HaveDimensionsOf facts.now starts.now }
+    requires places { ShareUris facts.now places.now }
     ensures { result ≡ place_cmp facts.now i j }
 {
     match (facts.get(i), facts.get(j)) {
         (Some(one), Some(other)) if same_at(starts, i, j) => one.value.cmp(&other.value),
+        (Some(one), Some(other)) if share_uri(places, i, j) => compared_in_namespace(one, other),
         _ => facts.get(i).cmp(&facts.get(j)),
+    }
+}
+
+fn compared_in_namespace(one: &Fact, other: &Fact) -> Ordering
+    requires { one.now.dimensions.concept.uri ≡ other.now.dimensions.concept.uri }
+    ensures { result ≡ fact_cmp one.now other.now }
+{
+    let (name, next) = (one.dimensions.concept(), other.dimensions.concept());
+    match name.local().cmp(next.local()) {
+        Ordering::Equal => one.cmp(other),
+        unequal => unequal,
+    }
+}
+
+fn share_uri(places: &[Option<usize>], i: usize, j: usize) -> bool
+    ensures { IsTrue result → (p : ℕ) × (slice_get places.now i ≡ Some (Some p)) × (slice_get places.now j ≡ Some (Some p)) }
+{
+    match (places.get(i), places.get(j)) {
+        (Some(Some(one)), Some(Some(other))) => one == other,
+        _ => false,
     }
 }
 

@@ -137,7 +137,7 @@ impl<'s> ReportReader<'s> {
         let info = read_info(alloc, tree)?;
         self.facts.turn_to(info.aliases);
         let facts = read_facts(alloc, &mut self.facts, tree)?;
-        let order = order_of(alloc, facts.as_slice())?;
+        let order = order_of(alloc, facts.as_slice(), &[])?;
         if is_above(info.level, facts.as_slice(), order.as_slice()) {
             return Err(Refusal::from(Reason::DisallowedDuplicates));
         }
@@ -167,8 +167,12 @@ impl<'s> ReportReader<'s> {
             PIECE_BYTES,
         );
         self.buffers.free_if_large(alloc);
-        let FoundFacts { identifiers, facts } = found?;
-        let order = order_of(alloc, facts.as_slice()).ok()?;
+        let FoundFacts {
+            identifiers,
+            facts,
+            places,
+        } = found?;
+        let order = order_of(alloc, facts.as_slice(), places.as_slice()).ok()?;
         if is_above(info.level, facts.as_slice(), order.as_slice()) {
             return None;
         }

@@ -4,6 +4,7 @@ ghost use Rattle.std.specs.String.{string_cmp};
 ghost use Rattle.oim_names.specs.Bindings.{Binding};
 ghost use Rattle.serde_json.specs.Data.{Members, no_members};
 ghost use Rattle.oim_report.specs.code.FoundFacts.{AreFound, rise_after};
+ghost use Rattle.oim_report.specs.code.UriPlaces.{AreUriPlaces};
 ghost use Rattle.oim_report.specs.Pieces.{put_all};
 ghost use Rattle.oim_report.specs.Sheet.{Sheet as ASheet};
 
@@ -12,26 +13,31 @@ use std::alloc::Global;
 use std::collections::BTreeMap;
 
 /// The facts of one or more pieces, with their identifiers, in the order of the text. Identifiers
-/// may be repeated.
+/// may be repeated. For each fact, `places` has what `FactReader::uri_place` returned.
 #[derive(Drop)]
 pub(crate) struct FoundFacts {
     pub(crate) identifiers: Vec<String>,
     pub(crate) facts: Vec<Fact>,
+    pub(crate) places: Vec<Option<usize>>,
 }
+
+// A fact with its entry in `places`.
+type PlacedFact = (Fact, Option<usize>);
 
 impl FoundFacts {
     /// Sorts the facts by their identifiers in byte order. If an identifier is repeated, only its
     /// last fact is kept. The result is `None` if a request for memory is refused.
     pub(crate) fn in_order(self, alloc: Global) -> Option<FoundFacts>
-        ensures { IfSome result (λ f. (sheet : ASheet) (bs : List Binding) (ms : Members) →
+        ensures found { IfSome result (λ f. (sheet : ASheet) (bs : List Binding) (ms : Members) →
             AreFound sheet bs ms self.identifiers.items self.facts.items →
             AreFound sheet bs (put_all ms no_members) f.identifiers.items f.facts.items) }
+        ensures places { IfSome result (λ f. (bs : List Binding) →
+            AreUriPlaces bs self.facts.items self.places.items → AreUriPlaces bs f.facts.items f.places.items) }
     {
-        let FoundFacts { identifiers, facts } = self;
-        if rise(identifiers.as_slice()) {
-            return Some(FoundFacts { identifiers, facts });
+        if rise(self.identifiers.as_slice()) {
+            return Some(self);
         }
-        let found = by_identifier(alloc, identifiers, facts)?;
+        let found = by_identifier(alloc, self)?;
         found_in(alloc, found)
     }
 }
@@ -52,19 +58,19 @@ fn rise(identifiers: &[String]) -> bool
     true
 }
 
-fn by_identifier(
-    alloc: Global,
-    identifiers: Vec<String>,
-    facts: Vec<Fact>,
-) -> Option<BTreeMap<String, Fact>>
-    ensures { IfSome result (λ m. (sheet : ASheet) (bs : List Binding) (ms : Members) →
-        AreFound sheet bs ms identifiers.items facts.items →
-        AreFound sheet bs (put_all ms no_members) (map (λ e. e.0) m.entries) (map (λ e. e.1) m.entries)) }
+fn by_identifier(alloc: Global, read: FoundFacts) -> Option<BTreeMap<String, PlacedFact>>
+    ensures found { IfSome result (λ m. (sheet : ASheet) (bs : List Binding) (ms : Members) →
+        AreFound sheet bs ms read.identifiers.items read.facts.items →
+        AreFound sheet bs (put_all ms no_members) (map (λ e. e.0) m.entries) (map (λ e. e.1.0) m.entries)) }
+    ensures places { IfSome result (λ m. (bs : List Binding) →
+        AreUriPlaces bs read.facts.items read.places.items →
+        AreUriPlaces bs (map (λ e. e.1.0) m.entries) (map (λ e. e.1.1) m.entries)) }
 {
     let mut found = BTreeMap::new(alloc);
-    let mut left = facts.into_iter();
-    for identifier in identifiers {
-        let fact = left.next()?;
+    let mut facts = read.facts.into_iter();
+    let mut places = read.places.into_iter();
+    for identifier in read.identifiers {
+        let fact = (facts.next()?, places.next()?);
         if !put(&mut found, identifier, fact) {
             return None;
         }
@@ -72,21 +78,28 @@ fn by_identifier(
     Some(found)
 }
 
-fn put(found: &mut BTreeMap<String, Fact>, identifier: String, fact: Fact) -> bool
+fn put(found: &mut BTreeMap<String, PlacedFact>, identifier: String, fact: PlacedFact) -> bool
     ensures { result ≡ true → found.new.entries ≡ insert_entry string_cmp found.old.entries identifier fact }
 {
     found.insert(identifier, fact).is_ok()
 }
 
-fn found_in(alloc: Global, found: BTreeMap<String, Fact>) -> Option<FoundFacts>
+fn found_in(alloc: Global, found: BTreeMap<String, PlacedFact>) -> Option<FoundFacts>
     ensures { IfSome result (λ f. (f.identifiers.items ≡ map (λ e. e.0) found.entries)
-        × (f.facts.items ≡ map (λ e. e.1) found.entries)) }
+        × (f.facts.items ≡ map (λ e. e.1.0) found.entries)
+        × (f.places.items ≡ map (λ e. e.1.1) found.entries)) }
 {
     let mut identifiers = Vec::with_capacity(alloc, found.len()).ok()?;
     let mut facts = Vec::with_capacity(alloc, found.len()).ok()?;
-    for (identifier, fact) in found {
+    let mut places = Vec::with_capacity(alloc, found.len()).ok()?;
+    for (identifier, (fact, place)) in found {
         identifiers.push(identifier).ok()?;
         facts.push(fact).ok()?;
+        places.push(place).ok()?;
     }
-    Some(FoundFacts { identifiers, facts })
+    Some(FoundFacts {
+        identifiers,
+        facts,
+        places,
+    })
 }

@@ -1,8 +1,11 @@
 ghost use Rattle.std.specs.Prelude.{◌≡◌, ◌⊎◌, [], Ok, Err, Some, None, IsTrue, IfOk, IfErr, IfSome, OnOk, option_map};
 ghost use Rattle.serde_json.specs.Data.{Data};
 ghost use Rattle.serde_json.specs.View.{view};
+ghost use Rattle.oim_names.specs.Bindings.{uri_at};
+ghost use Rattle.oim_names.specs.QName.{QName};
 ghost use Rattle.oim_report.specs.code.JsonMember.{seen};
 ghost use Rattle.oim_report.specs.code.TextCache.{concept_with};
+ghost use Rattle.oim_report.specs.code.UriPlaces.{concept_in};
 ghost use Rattle.oim_report.specs.code.SeenParts.{seen_defined, seen_dimensions, seen_parts};
 ghost use Rattle.oim_report.specs.Outcome.{fact_outcome};
 ghost use Rattle.oim_report.specs.Said.{concept_kind, dimension_kind, fact_of, said_concept, said_dimensions, said_member, said_members};
@@ -11,6 +14,7 @@ ghost use Rattle.oim_report.specs.Parts.{fact_parts};
 
 use crate::concept_kind::ConceptKind;
 use crate::dimension_kind::DimensionKind;
+use crate::document::features::split;
 use crate::fact::cached::cached_name;
 use crate::fact::core_dimensions::{read_entity, read_language, read_period, read_unit};
 use crate::fact::fact_form::well_formed;
@@ -144,11 +148,24 @@ impl<'s> FactReader<'s> {
         ensures same { self.new ≡ self.old }
         ensures ok { IfOk result (λ f. (d : Data) → fact_parts d ≡ Some (seen_parts parts.now)
             → fact_outcome self.old.sheet self.old.aliases d ≡ Ok f) }
+        ensures concept { IfOk result (λ f. concept_in self.old.aliases (seen_parts parts.now)
+            ≡ Some f.dimensions.concept) }
     {
         let Some(dimensions) = well_formed(parts) else {
             return Err(Reason::MemberForm);
         };
         self.read_content(parts, dimensions)
+    }
+
+    /// Returns the index of the binding of the concept's prefix, if the aliases have it in their
+    /// cache. Facts with one index have concepts in one namespace.
+    pub(crate) fn uri_place(&self, parts: &FactParts<'_>) -> Option<usize>
+        ensures { IfSome result (λ place. (q : QName) → concept_in self.now.aliases (seen_parts parts.now) ≡ Some q
+            → uri_at self.now.aliases place ≡ Some q.uri) }
+    {
+        let concept = parts.dimensions.as_ref()?.concept;
+        let (prefix, _local) = split(concept.text()?);
+        self.aliases.place(prefix)
     }
 
     fn read_content(

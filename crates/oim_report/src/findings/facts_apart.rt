@@ -58,7 +58,7 @@ fn apart_under(
     reader.turn_to(aliases);
     match read_facts(alloc, &mut reader, tree) {
         Ok(facts) => {
-            let order = order_of(alloc, facts.as_slice())?;
+            let order = order_of(alloc, facts.as_slice(), &[])?;
             Ok(first_apart(facts.as_slice(), order.as_slice(), level))
         }
         Err(refusal) if refusal.reason == Reason::OutOfMemory => Err(AllocError),

@@ -7,6 +7,7 @@ ghost use Rattle.serde_json.specs.Data.{no_members};
 ghost use Rattle.oim_report.specs.Pieces.{put_all, HasMember, IsPiece};
 ghost use Rattle.oim_report.specs.code.FoundFacts.{AreFound};
 ghost use Rattle.oim_report.specs.code.TapeParts.{AreData, one};
+ghost use Rattle.oim_report.specs.code.UriPlaces.{AreUriPlaces};
 
 use crate::document::found_facts::FoundFacts;
 use crate::fact::fact_parts::FactParts;
@@ -27,6 +28,7 @@ pub(crate) fn read_piece_facts(
     ensures same { reader.new ≡ reader.old }
     ensures found { IfSome result (λ f. (ms : tree.Members) × IsPiece piece.now (put_all ms no_members)
         × AreFound reader.old.sheet reader.old.aliases ms f.identifiers.items f.facts.items) }
+    ensures places { IfSome result (λ f. AreUriPlaces reader.old.aliases f.facts.items f.places.items) }
 {
     if !ends_with_brace(piece) {
         return None;
@@ -58,16 +60,23 @@ fn read_members(
     ensures found { (vs : spec.Members) → InMembers members.entry vs
         → IfSome result (λ f. (ms : tree.Members) × AreData vs ms × HasMember ms
         × AreFound reader.old.sheet reader.old.aliases ms f.identifiers.items f.facts.items) }
+    ensures places { IfSome result (λ f. AreUriPlaces reader.old.aliases f.facts.items f.places.items) }
 {
     let mut identifiers = Vec::new(alloc);
     let mut facts = Vec::new(alloc);
+    let mut places = Vec::new(alloc);
     while let Some((key, object)) = members.next() {
         let parts = FactParts::of_element(alloc, &object)?;
+        places.push(reader.uri_place(&parts)).ok()?;
         facts.push(reader.read_parts(&parts).ok()?).ok()?;
         identifiers.push(String::from_str(alloc, key).ok()?).ok()?;
     }
     if facts.is_empty() {
         return None;
     }
-    Some(FoundFacts { identifiers, facts })
+    Some(FoundFacts {
+        identifiers,
+        facts,
+        places,
+    })
 }

@@ -30,7 +30,7 @@ returns-in-Some-Some c =
     let first : slice_get facts c.args.i ≡ Some w.one.now = sym (looked_up facts c.args.i c.get.result c.get.ensures.lookup.3) ∙ ap (option_map (λ x. x.now)) w.is-0 in
     let second : slice_get facts c.args.j ≡ Some w.other.now = sym (looked_up facts c.args.j c.get-2.result c.get-2.ensures.lookup.3) ∙ ap (option_map (λ x. x.now)) w.is-1 in
     c.cmp.ensures ∙ values_agree w.one.now.value w.other.now.value
-    ∙ by_value facts c.args.starts.now c.args.i c.args.j w.one.now w.other.now c.requires (c.same_at.ensures c.if-same_at.true) first second
+    ∙ by_value facts c.args.starts.now c.args.i c.args.j w.one.now w.other.now c.requires.starts (c.same_at.ensures c.if-same_at.true) first second
     ∙ (λ k. option_cmp fact_cmp (sym first k) (sym second k))
 
 pub returns-in_default : goal.returns-in_default

@@ -12,7 +12,7 @@ pub returns : goal.returns
 returns c =
     let n : ℕ = length c.args.facts.now in
     let added = items_from_extend {E = ℕ} (Ok tt) c.in_ok-extend.ensures.ran (YieldsList-from_range 0 n n refl (omega arith)) in
-    let items : c.extend.new.self.items ≡ range_with_len 0 n = added.0 ∙ ap (λ is. is ++ range_with_len 0 n) c.in_ok-places.ensures.items in
+    let items : c.extend.new.self.items ≡ range_with_len 0 n = added.0 ∙ ap (λ is. is ++ range_with_len 0 n) c.in_ok-order.ensures.items in
     record {
       each_once = subst (λ (is : List ℕ). IsPermutation is c.sort_unstable_by.new.self.items) items c.sort_unstable_by.ensures.permutation;
       rising = c.sort_unstable_by.ensures.sorted (λ i j. is_lt (place_cmp c.args.facts.now i j)) (place_cmp_ranks c.args.facts.now) (always_returns_same _ _ _ (λ a r g called. (ap is_lt (search rules), search rules)));

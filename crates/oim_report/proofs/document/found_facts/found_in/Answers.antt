@@ -1,4 +1,5 @@
-use Rattle.std.proofs.Common.{rules, ◌≡◌, ◌++◌, ◌∷◌, List, [], map, sym, ap, ◌∙◌, append-nil, append_assoc}
+use Rattle.std.proofs.Common.{rules, ◌≡◌, ◌++◌, ◌∷◌, ℕ, List, [], Option, String, Global, map, sym, ap, ◌∙◌, append-nil, append_assoc}
+use Rattle.oim_dims.specs.declared.fact.Fact.{Fact}
 use Rattle.oim_report.proofs.document.found_facts.found_in.Goals as goal
 
 one_on : {A B : Type 0} (f : A → B) (xs ys more : List B) (e : A) (es rest : List A) → more ≡ xs ++ f e ∷ [] → es ≡ e ∷ rest → xs ++ map f es ≡ ys → more ++ map f rest ≡ ys
@@ -12,19 +13,24 @@ loop-identifier-init c =
     let identifiers : c.in_ok-identifiers.identifiers.items ≡ [] = search rules in
     let facts : c.in_ok-facts.facts.items ≡ [] = search rules in
     let es = c.into_iter-identifier-iterator.result in
-    (ap (λ l. l ++ map (λ e. e.0) es) identifiers, ap (λ l. l ++ map (λ e. e.1) es) facts)
+    let places : c.in_ok-places.places.items ≡ [] = search rules in
+    (ap (λ l. l ++ map (λ e. e.0) es) identifiers, ap (λ l. l ++ map (λ e. e.1.0) es) facts, ap (λ l. l ++ map (λ e. e.1.1) es) places)
 
 pub loop-identifier-preserved : goal.loop-identifier-preserved
 loop-identifier-preserved c =
     let l = c.loop-identifier in
     let pushed : c.push.new.self.items ≡ l.identifiers.items ++ c.in-Some.identifier ∷ [] = search rules in
-    let added : c.push-in-loop-identifier.new.self.items ≡ l.facts.items ++ c.in-Some.fact ∷ [] = search rules in (
-      one_on (λ e. e.0) _ _ _ (c.in-Some.identifier, c.in-Some.fact) _ c.next.new.self pushed c.in-Some.ensures.steps l.invariant.0,
-      one_on (λ e. e.1) _ _ _ (c.in-Some.identifier, c.in-Some.fact) _ c.next.new.self added c.in-Some.ensures.steps l.invariant.1,
+    let added : c.push-in-loop-identifier.new.self.items ≡ l.facts.items ++ c.in-Some.fact ∷ [] = search rules in
+    let placed : c.push-in-loop-identifier-2.new.self.items ≡ l.places.items ++ c.in-Some.place ∷ [] = search rules in
+    let e : String Global × (Fact × Option ℕ) = (c.in-Some.identifier, (c.in-Some.fact, c.in-Some.place)) in (
+      one_on (λ e. e.0) _ _ _ e _ c.next.new.self pushed c.in-Some.ensures.steps l.invariant.0,
+      one_on (λ e. e.1.0) _ _ _ e _ c.next.new.self added c.in-Some.ensures.steps l.invariant.1,
+      one_on (λ e. e.1.1) _ _ _ e _ c.next.new.self placed c.in-Some.ensures.steps l.invariant.2,
     )
 
 pub returns : goal.returns
 returns c =
     let l = c.loop-identifier in
     let es = c.into_iter-identifier-iterator.ensures.into_iter_gives.0 in
-    (all_on (λ e. e.0) _ _ _ c.in-None.ensures.steps.0 l.invariant.0 ∙ ap (map (λ e. e.0)) es, all_on (λ e. e.1) _ _ _ c.in-None.ensures.steps.0 l.invariant.1 ∙ ap (map (λ e. e.1)) es)
+    let end = c.in-None.ensures.steps.0 in
+    (all_on (λ e. e.0) _ _ _ end l.invariant.0 ∙ ap (map (λ e. e.0)) es, all_on (λ e. e.1.0) _ _ _ end l.invariant.1 ∙ ap (map (λ e. e.1.0)) es, all_on (λ e. e.1.1) _ _ _ end l.invariant.2 ∙ ap (map (λ e. e.1.1)) es)

@@ -5,4 +5,5 @@ use Rattle.oim_report.proofs.document.found_facts.found_in.Given as goal
 abbrev pub invariant-loop-identifier : goal.invariant-loop-identifier
 invariant-loop-identifier l =
     (l.identifiers.items ++ map (λ e. e.0) l.identifier-iterator ≡ map (λ e. e.0) l.initial.identifier-iterator)
-    × (l.facts.items ++ map (λ e. e.1) l.identifier-iterator ≡ map (λ e. e.1) l.initial.identifier-iterator)
+    × (l.facts.items ++ map (λ e. e.1.0) l.identifier-iterator ≡ map (λ e. e.1.0) l.initial.identifier-iterator)
+    × (l.places.items ++ map (λ e. e.1.1) l.identifier-iterator ≡ map (λ e. e.1.1) l.initial.identifier-iterator)

@@ -15,6 +15,8 @@ use Rattle.oim_report.proofs.Documents.{bindings_are_namespaces}
 use Rattle.oim_report.proofs.DocumentInPieces.{taken, facts_same, whole_outcome}
 use Rattle.oim_report.proofs.FoundInOrder.{found_said, keys_found}
 use Rattle.oim_report.proofs.KeptReferences.{references_kept}
+use Rattle.oim_report.specs.code.UriPlaces.{ShareUris}
+use Rattle.oim_report.proofs.UriPlaces.{share_uris}
 use Rattle.oim_report.proofs.report_reader.ReportReader.read_in_pieces.Goals as goal
 
 pub new-report-requires-clause-facts : goal.new-report-requires-clause-facts
@@ -49,7 +51,7 @@ returns-clause-ok c =
     let references = taken c.read_info.result c.in_ok-info.info (λ info. references_said tree ≡ Some info.references.items) c.read_info.ensures.references c.in_ok-info.ensures.value in
     let level = taken c.read_info.result c.in_ok-info.info (λ info. level_said tree ≡ Some info.level) c.read_info.ensures.level c.in_ok-info.ensures.value in
     let turned = ap (λ (s : Scope). facts_said s.sheet s.aliases said.0) c.turn_to.ensures ∙ ap (λ bs. facts_said sheet bs said.0) aliases in
-    let above : is_lt (level_cmp c.in_ok-info.info.level (level_of c.in_ok-identifiers.field-0.facts.items)) ≡ false = ap (λ fs. is_lt (level_cmp c.in_ok-info.info.level (level_of fs))) (sym c.as_slice-2.ensures.value) ∙ sym c.is_above.ensures ∙ c.if-is_above.false in
+    let above : is_lt (level_cmp c.in_ok-info.info.level (level_of c.in_ok-identifiers.field-0.facts.items)) ≡ false = ap (λ fs. is_lt (level_cmp c.in_ok-info.info.level (level_of fs))) (sym c.as_slice-3.ensures.value) ∙ sym c.is_above.ensures ∙ c.if-is_above.false in
     ap (λ s. outcome s c.args.bytes.now) (sym c.self.view_is)
     ∙ whole_outcome sheet c.args.bytes.now tree o.0 said.0 c.in_ok-identifiers.field-0.facts.items c.in_ok-info.info.references.items c.in_ok-info.info.level o.1 (o.2 said.0 said.1)
     accepted (sym turned ∙ read) references level above
@@ -62,3 +64,9 @@ returns-clause-identifiers c =
     ap (option_map tree_identifiers) (o.2 said.0 said.1)
     ∙ ap (λ ms. Some (identifiers_in (entries ms))) (facts_same o.0 said.0)
     ∙ ap (λ ks. Some ks) (keys_found c.turn_to.new.self.sheet c.turn_to.new.self.aliases said.0 _ _ said.2)
+
+pub order_of-requires : goal.order_of-requires
+order_of-requires c =
+    let f = c.in_ok-identifiers.field-0 in
+    let shared = share_uris c.turn_to.new.self.aliases f.facts.items f.places.items c.in_ok-identifiers.ensures.places in
+    subst (λ fs. ShareUris fs c.as_slice-2.result.now) (sym c.as_slice.ensures.value) (subst (ShareUris f.facts.items) (sym c.as_slice-2.ensures.value) shared)

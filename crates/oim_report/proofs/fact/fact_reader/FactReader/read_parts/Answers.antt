@@ -10,6 +10,7 @@ use Rattle.oim_report.specs.Said.{fact_of}
 use Rattle.oim_report.specs.Sheet.{Sheet}
 use Rattle.oim_report.specs.code.SeenParts.{seen_dimensions, seen_parts}
 use Rattle.oim_report.proofs.SaidWhereFree.{said_outcome}
+use Rattle.oim_report.proofs.UriPlaces.{concept_read}
 use Rattle.oim_report.proofs.fact.fact_reader.FactReader.read_parts.Goals as goal
 
 as_said : (sheet : Sheet) (bs : List Binding) (p : FactParts) (ds : DimensionParts) (read : Result Fact Reason) → HasForm p ds → IfOk read (λ f. fact_of sheet bs p ds ≡ Some f)
@@ -19,3 +20,6 @@ as_said sheet bs p ds (Err r) form said = tt
 
 pub returns-clause-ok : goal.returns-clause-ok
 returns-clause-ok c = as_said c.args.self.now.sheet c.args.self.now.aliases (seen_parts c.args.parts.now) (seen_dimensions c.in-Some.dimensions.now) c.read_content.result c.in-Some.ensures c.read_content.ensures.said
+
+pub returns-clause-concept : goal.returns-clause-concept
+returns-clause-concept c = concept_read c.args.self.now.sheet c.args.self.now.aliases (seen_parts c.args.parts.now) (seen_dimensions c.in-Some.dimensions.now) c.read_content.result c.in-Some.ensures c.read_content.ensures.said
