@@ -20,3 +20,4 @@ pub mod Gathers
 pub mod Derived
 pub mod Walks
 pub mod Passed
+pub mod Swaps

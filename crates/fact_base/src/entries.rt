@@ -38,7 +38,7 @@ pub(crate) fn entries_from(
     requires { IsOrderOf facts.items order.items }
     ensures { IfOk result (AreEntriesOf facts.items) }
 {
-    let sorted = in_order(facts, order)?;
+    let sorted = in_order(facts, order);
     entries_in_order(alloc, sorted)
 }
 

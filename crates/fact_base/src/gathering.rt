@@ -114,7 +114,7 @@ impl<'s> Gathering<'s> {
         self.settle()?;
         let references = copies_of(self.alloc, report.taxonomy(), 0)?;
         let (facts, order) = report.into_facts();
-        let facts = in_order(facts, order)?;
+        let facts = in_order(facts, order);
         self.append(facts, references)
     }
 

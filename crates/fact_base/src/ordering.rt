@@ -1,5 +1,4 @@
-ghost use Rattle.std.specs.Prelude.{◌≡◌, ◌<◌, length, IfOk, OnOk, OnErr};
-ghost use Rattle.std.specs.List.{All};
+ghost use Rattle.std.specs.Prelude.{◌≡◌, OnOk, OnErr};
 ghost use Rattle.std.specs.List.Sorted.{IsPermutation, IsSorted};
 ghost use Rattle.oim_dims.specs.FactOrder.{fact_cmp};
 ghost use Rattle.oim_report.specs.Report.{IsOrderOf};
@@ -9,35 +8,26 @@ use oim_dims::Fact;
 use oim_names::Key;
 use std::alloc::AllocError;
 
-/// Returns the facts in order. Swaps move them without copying. The order after the swaps is not
-/// proved, so a sort follows: it finds the facts sorted, and only compares each with the next.
-pub(crate) fn in_order(mut facts: Vec<Fact>, order: Vec<usize>) -> Result<Vec<Fact>, AllocError>
+/// Returns the facts in order. Swaps move them without copying or comparing them.
+pub(crate) fn in_order(mut facts: Vec<Fact>, order: Vec<usize>) -> Vec<Fact>
     requires { IsOrderOf facts.items order.items }
-    ensures moved { IfOk result (λ sorted. IsPermutation facts.items sorted.items) }
-    ensures sorted { IfOk result (λ sorted. IsSorted fact_cmp sorted.items) }
+    ensures moved { IsPermutation facts.items result.items }
+    ensures sorted { IsSorted fact_cmp result.items }
 {
+    // The fact that belongs at index `k` is at index `places[k]`.
     let mut places = order;
-    for i in 0..facts.len() {
-        let place = place_now(&places, i);
-        facts.swap(i, place);
-        places[i] = place;
+    let mut i = 0;
+    while i < places.len() {
+        let place = places[i];
+        if place == i {
+            i += 1;
+        } else {
+            // The fact that belongs at `place` goes there. The one that leaves belongs at `i`.
+            facts.swap(place, places[place]);
+            places.swap(i, place);
+        }
     }
-    facts.sort()?;
-    Ok(facts)
-}
-
-// Returns the current index of the fact that belongs at index `i`. Its original index is
-// `places[i]`. Each earlier step `j` swapped the fact then at index `j` to the index `places[j]`.
-fn place_now(places: &[usize], i: usize) -> usize
-    requires here { i < length places.now }
-    requires within { All (λ place. place < length places.now) places.now }
-    ensures { result < length places.now }
-{
-    let mut place = places[i];
-    while place < i {
-        place = places[place].max(place + 1);
-    }
-    place
+    facts
 }
 
 /// If half the number of items, rounded down, exceeds `settled`, sorts them, removes repeats and

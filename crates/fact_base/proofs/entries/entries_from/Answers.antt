@@ -3,4 +3,4 @@ use Rattle.std.proofs.lemmas.Result.{IfOk-weaker}
 use Rattle.fact_base.proofs.entries.entries_from.Goals as goal
 
 pub returns : goal.returns
-returns c = IfOk-weaker c.entries_in_order.result _ _ (λ entries are. all_moved c.args.facts.items c.in_ok-sorted.sorted.items entries c.in_ok-sorted.ensures.moved are) c.entries_in_order.ensures
+returns c = IfOk-weaker c.entries_in_order.result _ _ (λ entries are. all_moved c.args.facts.items c.in_order-sorted.result.items entries c.in_order-sorted.ensures.moved are) c.entries_in_order.ensures

@@ -1,37 +1,49 @@
-use Rattle.std.proofs.Common.{◌≡◌, ◌<◌, All, length, set, sym, subst, ◌∙◌, arith}
-use Rattle.std.proofs.lemmas.List.{length-set}
-use Rattle.std.proofs.lemmas.List.Elements.{All-set}
-use Rattle.std.proofs.lemmas.List.FromFn.{length-range_with_len}
-use Rattle.std.proofs.lemmas.List.Sorted.{IsPermutation-refl, IsPermutation-swap, IsPermutation-trans, length_permutation}
-use Rattle.oim_report.proofs.Places.{places_within}
-use Rattle.fact_base.proofs.Gathers.{derived_sorted}
+use Rattle.std.proofs.Common.{arith}
+use Rattle.fact_base.proofs.Swaps.{as_many, fewer_misplaced, moved_sorted, none_moved, one_moved, place_within, stay_placed}
 use Rattle.fact_base.proofs.ordering.in_order.Goals as goal
 
 pub loop-i-init : goal.loop-i-init
-loop-i-init c =
-    let facts = c.args.facts.items in
-    let order = c.args.order.items in
-    let long : length order ≡ length facts = length_permutation _ order c.requires.each_once ∙ length-range_with_len 0 (length facts) in
-    record {
-      moved = IsPermutation-refl facts;
-      long = long;
-      within = subst (λ n. All (λ place. place < n) order) (sym long) (places_within facts order c.requires);
-    }
+loop-i-init c = record {
+  moved = none_moved c.args.facts.items c.args.order.items;
+  placed = λ k below. absurd (omega (arith, below));
+}
+
+pub index-requires : goal.index-requires
+index-requires c =
+    let l = c.loop-i in
+    omega (arith, place_within c.requires l.invariant.moved l.i c.index-place.result.now (omega arith) c.index-place.ensures)
+
+pub swap-requires-clause-i_in_bounds : goal.swap-requires-clause-i_in_bounds
+swap-requires-clause-i_in_bounds c =
+    let l = c.loop-i in
+    omega (arith, as_many c.requires l.invariant.moved, place_within c.requires l.invariant.moved l.i c.index-place.result.now (omega arith) c.index-place.ensures)
+
+pub swap-requires-clause-j_in_bounds : goal.swap-requires-clause-j_in_bounds
+swap-requires-clause-j_in_bounds c =
+    let l = c.loop-i in
+    let within = place_within c.requires l.invariant.moved l.i c.index-place.result.now (omega arith) c.index-place.ensures in
+    omega (arith, as_many c.requires l.invariant.moved, place_within c.requires l.invariant.moved c.index-place.result.now c.index.result.now within c.index.ensures)
+
+pub swap-requires-else-place-i-clause-j_in_bounds : goal.swap-requires-else-place-i-clause-j_in_bounds
+swap-requires-else-place-i-clause-j_in_bounds c =
+    let l = c.loop-i in
+    omega (arith, place_within c.requires l.invariant.moved l.i c.index-place.result.now (omega arith) c.index-place.ensures)
+
+pub loop-i-smaller : goal.loop-i-smaller
+loop-i-smaller c =
+    let l = c.loop-i in
+    let less = fewer_misplaced c.requires l.invariant.moved l.i c.index-place.result.now (omega arith) c.index-place.ensures c.swap-else-place-i.new.self.items c.if-place-i.false c.swap-else-place-i.ensures.items in
+    omega (arith, less)
 
 pub loop-i-preserved : goal.loop-i-preserved
 loop-i-preserved c =
     let l = c.loop-i in
-    let place = c.place_now-place.result in
-    let long = length-set l.places.items l.i place in
-    let count = length_permutation c.args.facts.items l.facts.items l.invariant.moved in
+    let place = c.index-place.result.now in
+    let places = c.swap-else-place-i.new.self.items in
     record {
-      moved = IsPermutation-trans c.args.facts.items l.facts.items c.swap.new.self.items l.invariant.moved (IsPermutation-swap l.facts.items c.swap.new.self.items l.i place (omega (arith, count, l.invariant.long)) (omega (arith, count, l.invariant.long)) c.swap.ensures.items);
-      long = long ∙ l.invariant.long;
-      within = subst (λ n. All (λ p. p < n) (set l.places.items l.i place)) (sym long) (All-set (λ p. p < length l.places.items) l.places.items l.i place (omega arith) l.invariant.within);
+      moved = one_moved c.requires l.invariant.moved l.i place (omega arith) c.index-place.ensures c.index.result.now c.swap.new.self.items places c.if-place-i.false c.index.ensures c.swap.ensures.items c.swap-else-place-i.ensures.items;
+      placed = stay_placed c.requires l.invariant.moved l.i place (omega arith) c.index-place.ensures places c.if-place-i.false c.swap-else-place-i.ensures.items l.invariant.placed;
     }
 
-pub returns-clause-moved : goal.returns-clause-moved
-returns-clause-moved c = IsPermutation-trans c.args.facts.items c.loop-i.facts.items c.sort.new.self.items c.loop-i.invariant.moved c.sort.ensures.permutation
-
 pub returns-clause-sorted : goal.returns-clause-sorted
-returns-clause-sorted c = derived_sorted c.sort.new.self.items c.in_ok-sort.ensures.sorted
+returns-clause-sorted c = moved_sorted c.requires c.loop-i.invariant.moved (λ k within. c.loop-i.invariant.placed k (omega (arith, within)))

@@ -1,10 +1,13 @@
-use Rattle.std.proofs.Common.{◌≡◌, ◌<◌, All, IsPermutation, length}
+use Rattle.std.proofs.Common.{◌≡◌, ℕ, ◌+◌, ◌-◌, ◌<◌, get_or, length}
+use Rattle.fact_base.proofs.Swaps.{Moved, misplaced}
 use Rattle.fact_base.proofs.ordering.in_order.Given as goal
 
--- the facts are a permutation of the initial facts, and `places` has one index for each, in range
+-- swaps moved the facts, and each fact that belongs before `i` is at its index
 abbrev pub invariant-loop-i : goal.invariant-loop-i
 invariant-loop-i l = record {
-  moved : IsPermutation l.fn.facts.items l.facts.items;
-  long : length l.places.items ≡ length l.fn.facts.items;
-  within : All (λ place. place < length l.places.items) l.places.items;
+  moved : Moved l.fn.facts.items l.fn.order.items l.facts.items l.places.items;
+  placed : (k : ℕ) → k < l.i → get_or l.places.items k 0 ≡ k;
 }
+
+abbrev pub decreases-loop-i : goal.decreases-loop-i
+decreases-loop-i l = length l.places.items - l.i + misplaced 0 l.places.items

@@ -12,9 +12,9 @@ use Rattle.fact_base.proofs.gathering.Gathering.gather.Goals as goal
 pub append-requires : goal.append-requires
 append-requires c =
     let d = c.args.report.document in
-    let facts = c.in_ok-facts.facts.items in
+    let facts = c.in_order-facts.result.items in
     let references = c.in_ok-references.references.items in
-    let same = subst (SameMembers facts) c.into_facts-facts.ensures.facts (same_moved c.into_facts-facts.result.0.items facts c.in_ok-facts.ensures.moved) in
+    let same = subst (SameMembers facts) c.into_facts-facts.ensures.facts (same_moved c.into_facts-facts.result.0.items facts c.in_order-facts.ensures.moved) in
     let is = gathered_document facts references d same (c.in_ok-references.ensures ∙ c.taxonomy.ensures) in
     let sheet = c.requires ∙ ap (λ (b : Contents). b.sheet) (sym c.settle.ensures) in
     subst (Fits c.settle.new.self.sheet) (sym is) (subst (λ s. Fits s (body (d ∷ []))) sheet (document_fits c.args.report.sheet d c.known.ensures.facts c.known.ensures.references))
@@ -22,9 +22,9 @@ append-requires c =
 pub returns-clause-ok : goal.returns-clause-ok
 returns-clause-ok c =
     let d = c.args.report.document in
-    let facts = c.in_ok-facts.facts.items in
+    let facts = c.in_order-facts.result.items in
     let references = c.in_ok-references.references.items in
-    let same = subst (SameMembers facts) c.into_facts-facts.ensures.facts (same_moved c.into_facts-facts.result.0.items facts c.in_ok-facts.ensures.moved) in
+    let same = subst (SameMembers facts) c.into_facts-facts.ensures.facts (same_moved c.into_facts-facts.result.0.items facts c.in_order-facts.ensures.moved) in
     let is = gathered_document facts references d same (c.in_ok-references.ensures ∙ c.taxonomy.ensures) in
     on_ok_weaker c.append.result (λ with.
     with
