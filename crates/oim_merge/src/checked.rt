@@ -1,5 +1,5 @@
-ghost use Rattle.std.specs.Prelude.{◌≡◌, ◌⊎◌, ◌↔◌, Err, Ok, IfOk, IfErr, IsTrue};
-ghost use Rattle.std.specs.Ordering.{is_lt};
+ghost use Rattle.std.specs.Prelude.{◌≡◌, ◌⊎◌, ◌↔◌, Err, Ok, IfOk, IfErr, IsTrue, EachIndex, not, slice_index};
+ghost use Rattle.std.specs.Ordering.{is_eq};
 ghost use Rattle.merge_laws.specs.Sorted.{IsSet};
 ghost use Rattle.oim_dims.specs.FactOrder.{fact_cmp};
 ghost use Rattle.oim_report.specs.Outcome.{at, outcome};
@@ -60,7 +60,7 @@ fn is_canonical(
     requires read { outcome sheet.now bytes.now ≡ Ok report.now.document }
     ensures { IfOk result (λ canonical. IsTrue canonical ↔ IsCanonicalOf report.now.document bytes.now) }
 {
-    if !rise(report.facts()) {
+    if !rise(report) {
         return Ok(false);
     }
     let mut base = Base::new(alloc, sheet);
@@ -69,14 +69,24 @@ fn is_canonical(
     Ok(text.as_bytes() == bytes)
 }
 
-fn rise(facts: &[Fact]) -> bool
-    ensures { IsTrue result ↔ IsSet fact_cmp facts.now }
+// Returns true if the facts ascend strictly: each is at its place in the order, and no fact equals
+// the next. Compares no facts by order, because an order compares URIs first, which may be long.
+fn rise(report: &Report<'_>) -> bool
+    ensures { IsTrue result ↔ IsSet fact_cmp report.now.document.facts }
 {
-    facts.is_sorted_by(is_below)
+    report.known();
+    count_up(report.order()) && report.facts().is_sorted_by(differ)
 }
 
-fn is_below(fact: &Fact, next: &Fact) -> bool
-    ensures { result ≡ is_lt (fact_cmp fact.now next.now) }
+// Returns true if the numbers are 0, 1, 2 and so on.
+fn count_up(numbers: &[usize]) -> bool
+    ensures { IsTrue result ↔ EachIndex numbers.now (λ k. slice_index numbers.now k ≡ k) }
 {
-    fact.cmp(next).is_lt()
+    numbers.iter().enumerate().all(|(i, number)| *number == i)
+}
+
+fn differ(fact: &Fact, next: &Fact) -> bool
+    ensures { result ≡ not (is_eq (fact_cmp fact.now next.now)) }
+{
+    fact != next
 }

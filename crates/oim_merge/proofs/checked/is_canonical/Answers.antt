@@ -1,9 +1,7 @@
-use Rattle.std.proofs.Common.{◌≡◌, [], ◌∷◌, sym, ap, subst, ◌∙◌}
+use Rattle.std.proofs.Common.{◌≡◌, [], ◌∷◌, sym, ap, ◌∙◌}
 use Rattle.std.proofs.lemmas.Bool.{false≢true}
 use Rattle.std.specs.Str.{bytes_eq}
 use Rattle.oim_names.proofs.Bytes.{bytes_eq-refl, same_bytes}
-use Rattle.merge_laws.specs.Sorted.{IsSet}
-use Rattle.oim_dims.specs.FactOrder.{fact_cmp}
 use Rattle.fact_base.specs.Body.{body, union}
 use Rattle.fact_base.specs.Contents.{Contents}
 use Rattle.fact_base.proofs.Bodies.{body_of_both}
@@ -16,7 +14,7 @@ returns-then-not-rise c = (
   λ h. absurd (false≢true h),
   λ is.
       let rises = canonical_rises c.args.sheet.now c.args.bytes.now c.args.report.now.document c.requires.read is in
-      sym c.if-not-rise.true ∙ c.rise.ensures.1 (subst (IsSet fact_cmp) (sym c.facts.ensures) rises),
+      sym c.if-not-rise.true ∙ c.rise.ensures.1 rises,
 )
 
 pub returns : goal.returns
