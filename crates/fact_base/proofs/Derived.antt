@@ -24,3 +24,6 @@ value_at_is s es = λ i. value_at (λ (x y : DimensionSet). dimensions_agree x y
 
 pub rises_too : (es : List Entry) → IsRising dimensions_cmp entry_key es → IsRising derived_dimensions.it entry_key es
 rises_too es rise = subst (λ R. IsRising R entry_key es) (λ i x y. sym (dimensions_agree x y) i) rise
+
+pub rises_as_derived : (es : List Entry) → IsRising derived_dimensions.it entry_key es → IsRising dimensions_cmp entry_key es
+rises_as_derived es rise = subst (λ R. IsRising R entry_key es) (λ i x y. dimensions_agree x y i) rise

@@ -18,6 +18,7 @@ pub mod Pushes
 pub mod Stored
 pub mod Gathers
 pub mod Derived
+pub mod Runs
 pub mod Walks
 pub mod Passed
 pub mod Swaps

@@ -11,6 +11,7 @@ mod ordering;
 mod references;
 mod row;
 mod rows;
+mod uri_runs;
 mod verdict;
 
 pub use base::Base;

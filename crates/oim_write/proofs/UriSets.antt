@@ -9,8 +9,10 @@ use Rattle.oim_names.specs.QName.{QName}
 use Rattle.oim_names.proofs.Bytes.{same_bytes}
 use Rattle.fact_base.specs.Body.{text_cmp}
 use Rattle.fact_base.specs.Passed.{IsSet}
+use Rattle.fact_base.specs.Rows.{Row}
 use Rattle.fact_base.specs.Sets.{set_of}
-use Rattle.fact_base.proofs.Members.{in_one_of_both, none_there}
+use Rattle.fact_base.specs.Shown.{HoldForUris}
+use Rattle.fact_base.proofs.Members.{first_or_later, first_there, in_one_of_both, none_there}
 use Rattle.fact_base.proofs.Sets.{set_of_is_set}
 use Rattle.fact_base.proofs.TextOrder.{text_cmp_exact, text_cmp_total}
 use Rattle.oim_write.specs.Uris.{uris_of_names}
@@ -53,6 +55,21 @@ pub gains_name : {a b c : List (List ℕ)} (ns : List QName) (i : ℕ) (n : QNam
     → Gains a (take i ns) b → Gains b (n ∷ []) c → Gains a (take (i + 1) ns) c
 gains_name {a} {b} {c} ns i n within is first second =
     subst (λ ms. Gains a ms c) (sym (take_more ns i n within ∙ ap (λ m. take i ns ++ m ∷ []) (sym is))) (gains_both first second)
+
+-- ---- the URIs of concepts that a set contains already
+
+pub gains_known : (us : List (List ℕ)) (n : QName) → Contains us n.uri → Gains us (n ∷ []) us
+gains_known us n known = record {
+  members = λ u. (λ old. inl old, ⊎_elim (λ old. old) (λ one. ⊎_elim (λ same. subst (Contains us) same known) (none_there u) (first_or_later n.uri [] u one)));
+}
+
+module _ {a b : List (List ℕ)} {ns : List QName} (gained : Gains a ns b) where
+  pub still_known : (n : ℕ) (rs : List Row) → HoldForUris (Contains a) n rs → HoldForUris (Contains b) n rs
+  still_known n rs known k d within = (gained.members _).1 (inl (known k d within))
+
+pub known_by_run : {a b : List (List ℕ)} (n : ℕ) (rs : List Row) (name : QName) (uri : List ℕ) → Gains a (name ∷ []) b → uri ≡ name.uri → HoldForUris (λ u. u ≡ uri) n rs → HoldForUris (Contains b) n rs
+known_by_run {a} {b} n rs name uri gained is run k d within =
+    subst (Contains b) (sym (run k d within ∙ is)) ((gained.members name.uri).1 (inr (first_there name.uri [])))
 
 -- ---- the set of a list of URIs
 

@@ -39,8 +39,10 @@ impl PrefixTable {
         ensures { IfOk result (λ table. table ≡ uris base.now.body.facts) }
     {
         let mut set = UriSet::new(alloc);
-        for row in base.rows() {
-            set.add_row(alloc, row)?;
+        let mut rows = base.rows();
+        let mut known = 0;
+        while let Some(row) = rows.next() {
+            known = set.add_row(alloc, row, &rows, known)?;
         }
         let uris = set.into_uris();
         let digits = width_of(uris.len() as u128);

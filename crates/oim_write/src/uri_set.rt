@@ -1,13 +1,13 @@
-ghost use Rattle.std.specs.Prelude.{◌≡◌, [], ◌∷◌, ◌++◌, Contains, flat_map, OnOk};
+ghost use Rattle.std.specs.Prelude.{◌≡◌, [], ◌∷◌, ◌++◌, Contains, flat_map, IfOk, OnOk};
 ghost use Rattle.std.specs.Bool.{OnTrue};
 ghost use Rattle.fact_base.specs.Body.{text_cmp};
 ghost use Rattle.fact_base.specs.Passed.{IsSet};
 ghost use Rattle.fact_base.specs.Sets.{set_of};
-ghost use Rattle.fact_base.specs.Shown.{shown};
-ghost use Rattle.oim_write.specs.Uris.{defined_names, dimension_names, entity_names, unit_names, value_names};
-ghost use Rattle.oim_write.specs.code.Table.{Gains, row_names};
+ghost use Rattle.fact_base.specs.Shown.{HoldForUris, rows_left, shown};
+ghost use Rattle.oim_write.specs.Uris.{defined_names, entity_names, unit_names, value_names};
+ghost use Rattle.oim_write.specs.code.Table.{Gains, other_names, row_names};
 
-use fact_base::Row;
+use fact_base::{Row, Rows};
 use oim_dims::{Dimensions, Member};
 use oim_names::{Name, PositionCache, Text};
 use oim_value::Value;
@@ -57,17 +57,50 @@ impl UriSet {
         uris
     }
 
-    pub(crate) fn add_row(&mut self, alloc: Global, row: Row<'_>) -> Result<(), AllocError>
-        ensures { OnOk result (Gains self.old (row_names (shown row.entry)) self.new) }
+    /// Adds the URIs of a row's names. `rows` has the rows after it. The set must contain the URIs of
+    /// the concepts in the next `known` rows, of which this row is the first. Returns the same number
+    /// for the rows after it.
+    pub(crate) fn add_row(
+        &mut self,
+        alloc: Global,
+        row: Row<'_>,
+        rows: &Rows<'_>,
+        known: usize,
+    ) -> Result<usize, AllocError>
+        requires { HoldForUris (Contains self.old) known (shown row ∷ rows_left rows.now) }
+        ensures gains { OnOk result (Gains self.old (row_names (shown row.entry)) self.new) }
+        ensures known { IfOk result (λ known. HoldForUris (Contains self.new) known (rows_left rows.now)) }
     {
-        self.add_dimensions(alloc, row.dimensions)?;
-        self.add_values(alloc, row.values)
+        let known = self.add_concept(alloc, row, rows, known)?;
+        self.add_others(alloc, row.dimensions)?;
+        self.add_values(alloc, row.values)?;
+        Ok(known)
     }
 
-    fn add_dimensions(&mut self, alloc: Global, dimensions: &Dimensions) -> Result<(), AllocError>
-        ensures { OnOk result (Gains self.old (dimension_names dimensions.now) self.new) }
+    // Looks up the URI only if it is not known, since it may be long.
+    fn add_concept(
+        &mut self,
+        alloc: Global,
+        row: Row<'_>,
+        rows: &Rows<'_>,
+        known: usize,
+    ) -> Result<usize, AllocError>
+        requires { HoldForUris (Contains self.old) known (shown row ∷ rows_left rows.now) }
+        ensures gains { OnOk result (Gains self.old (row.entry.dimensions.now.concept ∷ []) self.new) }
+        ensures known { IfOk result (λ known. HoldForUris (Contains self.new) known (rows_left rows.now)) }
     {
-        self.add(alloc, dimensions.concept())?;
+        if known > 0 {
+            return Ok(known - 1);
+        }
+        let concept = row.dimensions.concept();
+        self.add(alloc, concept)?;
+        Ok(rows.uri_run(concept.uri()))
+    }
+
+    // Adds the URIs of all names in the dimensions except the concept.
+    fn add_others(&mut self, alloc: Global, dimensions: &Dimensions) -> Result<(), AllocError>
+        ensures { OnOk result (Gains self.old (other_names dimensions.now) self.new) }
+    {
         self.add_entity(alloc, dimensions)?;
         self.add_unit(alloc, dimensions)?;
         self.add_members(alloc, dimensions.members())

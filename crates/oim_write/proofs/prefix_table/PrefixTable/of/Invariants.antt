@@ -1,11 +1,16 @@
-use Rattle.std.proofs.Common.{ℕ, List, []}
-use Rattle.std.specs.Prelude.{flat_map}
+use Rattle.std.proofs.Common.{ℕ, List, [], length}
+use Rattle.std.specs.Prelude.{Contains, flat_map}
 use Rattle.fact_base.specs.Rows.{rows_of}
-use Rattle.fact_base.specs.Shown.{rows_left}
+use Rattle.fact_base.specs.Shown.{HoldForUris, rows_left}
 use Rattle.oim_write.specs.code.Table.{Gains, row_names}
 use Rattle.oim_write.proofs.prefix_table.PrefixTable.of.Given as goal
 
 -- adding the URIs of the names in the remaining rows to the set gives the URIs of the names in all rows
 abbrev pub invariant-loop-row : goal.invariant-loop-row
-invariant-loop-row l =
-    (new : List (List ℕ)) → Gains l.set (flat_map row_names (rows_left l.row-iterator)) new → Gains [] (flat_map row_names (rows_of l.base.body.facts)) new
+invariant-loop-row l = record {
+  rest : (new : List (List ℕ)) → Gains l.set (flat_map row_names (rows_left l.rows)) new → Gains [] (flat_map row_names (rows_of l.base.body.facts)) new;
+  known : HoldForUris (Contains l.set) l.known (rows_left l.rows);
+}
+
+abbrev pub decreases-loop-row : goal.decreases-loop-row
+decreases-loop-row l = length (rows_left l.rows)

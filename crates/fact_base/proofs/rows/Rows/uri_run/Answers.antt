@@ -1,0 +1,13 @@
+use Rattle.std.proofs.Common.{arith}
+use Rattle.fact_base.proofs.Derived.{rises_as_derived}
+use Rattle.fact_base.proofs.Runs.{run_further}
+use Rattle.fact_base.proofs.rows.Rows.uri_run.Goals as goal
+
+pub loop-count-preserved : goal.loop-count-preserved
+loop-count-preserved c =
+    let es = c.args.self.now.entries.now in
+    record {
+      within = omega (arith, c.loop-count-test.true);
+      known = run_further es c.args.self.now.next c.saturating_sub-left.result c.loop-count.count c.args.uri.now (rises_as_derived es c.len.ensures.map.rises)
+          (omega (arith, c.saturating_sub-left.ensures, c.len.ensures.count)) (omega (arith, c.loop-count-test.true)) c.loop-count.invariant.known c.if-has_uri.ensures;
+    }

@@ -1,0 +1,22 @@
+use Rattle.std.proofs.Common.{◌∷◌, [], subst}
+use Rattle.std.specs.Prelude.{Contains}
+use Rattle.fact_base.specs.Shown.{rows_left, shown}
+use Rattle.fact_base.proofs.Runs.{first_holds, others_hold}
+use Rattle.oim_names.specs.QName.{QName}
+use Rattle.oim_write.specs.code.Table.{Gains}
+use Rattle.oim_write.proofs.UriSets.{gains_known, known_by_run}
+use Rattle.oim_write.proofs.uri_set.UriSet.add_concept.Goals as goal
+
+pub returns-then-known-gt0-clause-gains : goal.returns-then-known-gt0-clause-gains
+returns-then-known-gt0-clause-gains c =
+    gains_known c.args.self.now c.args.row.dimensions.now.concept
+    (first_holds (Contains c.args.self.now) c.args.known (shown c.args.row) (rows_left c.args.rows.now) c.if-known-gt0.true c.requires)
+
+pub returns-then-known-gt0-clause-known : goal.returns-then-known-gt0-clause-known
+returns-then-known-gt0-clause-known c = others_hold (Contains c.args.self.now) c.args.known (shown c.args.row) (rows_left c.args.rows.now) c.if-known-gt0.true c.requires
+
+pub returns-clause-gains : goal.returns-clause-gains
+returns-clause-gains c = subst (λ (n : QName). Gains c.args.self.now (n ∷ []) c.add.new.self) c.concept-concept.ensures c.in_ok-add.ensures
+
+pub returns-clause-known : goal.returns-clause-known
+returns-clause-known c = known_by_run c.uri_run.result (rows_left c.args.rows.now) c.concept-concept.result.now c.uri.result.now c.in_ok-add.ensures c.uri.ensures c.uri_run.ensures
