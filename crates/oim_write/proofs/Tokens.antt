@@ -73,6 +73,9 @@ then_decimals v ms decimals rest = Adds-is (sym (decimals_tokens v ms)) (Adds-tr
 pub then_defined : {a b c : Written} (spelled : QName → List ℕ) {es fs : List (QName × Member)} (ms : Members) → es ≡ fs → AddsMembers a b (defined_members spelled es no_members) → AddsMembers b c ms → AddsMembers a c (defined_members spelled fs ms)
 then_defined spelled {es} ms is defined rest = Adds-is (sym (defined_tokens spelled es ms) ∙ ap (λ ds. members_tokens (defined_members spelled ds ms)) is) (Adds-trans defined rest)
 
+pub whole_object : {a b c d : Written} (ms : Members) → Adds a b (begin_object ∷ []) → AddsMembers b c ms → Adds c d (end_object ∷ []) → AddsValue a d (object ms)
+whole_object ms begun members closed = Adds-is (sym (object_tokens ms)) (Adds-trans begun (Adds-trans members closed))
+
 pub closed_object : {E : Type 0} {a b c d : Written} (r : Result (Unit {0}) E) (ms : Members) → Adds a b (begin_object ∷ []) → AddsMembers b c ms → Writes r c d end_object → OnOk r (AddsValue a d (object ms))
-closed_object (Ok done) ms begun members closed = Adds-is (sym (object_tokens ms)) (Adds-trans begun (Adds-trans members (Adds-one closed)))
+closed_object (Ok done) ms begun members closed = whole_object ms begun members (Adds-one closed)
 closed_object (Err e) ms begun members closed = tt

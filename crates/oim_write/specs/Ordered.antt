@@ -33,15 +33,17 @@ module _ (spelled : QName → List ℕ) where
   defined_members [] ms = ms
   defined_members (e ∷ es) ms = member (spelled e.0) (member_data spelled e.1) (defined_members es ms)
 
-  -- all dimensions: the taxonomy-defined ones are between `language` and `period`
-  abbrev pub ordered_dimensions : DimensionSet → Members
-  ordered_dimensions d =
-      member (codes "concept") (string (spelled d.concept))
-      (text_member (codes "entity") (option_spelled spelled d.entity)
+  -- all dimensions except the concept: the taxonomy-defined ones are between `language` and `period`
+  abbrev pub other_dimensions : DimensionSet → Members
+  other_dimensions d =
+      text_member (codes "entity") (option_spelled spelled d.entity)
       (text_member (codes "language") d.language
       (defined_members d.members
       (text_member (codes "period") (period_text d.period)
-      (text_member (codes "unit") (option_unit_text spelled d.unit) no_members)))))
+      (text_member (codes "unit") (option_unit_text spelled d.unit) no_members))))
+
+  abbrev pub ordered_dimensions : DimensionSet → Members
+  ordered_dimensions d = member (codes "concept") (string (spelled d.concept)) (other_dimensions d)
 
   abbrev pub ordered_fact : Fact → Data
   ordered_fact f =

@@ -2,7 +2,7 @@ ghost use Rattle.std.specs.Prelude.{◌≡◌, OnOk, codes};
 ghost use Rattle.std.specs.Option.{option_copied};
 ghost use Rattle.serde_json.specs.Data.{object, no_members, string};
 ghost use Rattle.fact_base.specs.Passed.{member_data, option_spelled, option_unit_text, value_data};
-ghost use Rattle.oim_write.specs.Ordered.{decimals_member, defined_members, ordered_dimensions, ordered_fact, text_member};
+ghost use Rattle.oim_write.specs.Ordered.{decimals_member, defined_members, ordered_dimensions, ordered_fact, other_dimensions, text_member};
 ghost use Rattle.oim_write.specs.Tokens.{AddsMembers, AddsValue};
 
 use crate::scratch::Scratch;
@@ -13,20 +13,27 @@ use oim_names::{Name, Text};
 use oim_value::{Value, write_fixed};
 use std::alloc::AllocError;
 
-/// Writes a fact as an object (xBRL-JSON 1.0, section 3).
+/// Writes a fact as an object (xBRL-JSON 1.0, section 3). `concept` is the text of its concept, which
+/// facts with the same concept share. Dimensions and value are separate, so that nothing is copied.
 pub(crate) fn write_fact<S: Spelling>(
     json: &mut Writer,
     spelling: &S,
     scratch: &mut Scratch,
+    concept: &str,
     dimensions: &Dimensions,
     value: &Value,
 ) -> Result<(), AllocError>
+    requires { concept.now ≡ S.spelled spelling.now dimensions.now.concept }
     ensures { OnOk result (AddsValue json.old json.new (ordered_fact (S.spelled spelling.now) (record { dimensions = dimensions.now; value = value.now }))) }
 {
     json.begin_object()?;
     write_decimals(json, value)?;
     json.key("dimensions")?;
-    write_dimensions(json, spelling, scratch, dimensions)?;
+    json.begin_object()?;
+    json.key("concept")?;
+    json.string(concept)?;
+    write_others(json, spelling, scratch, dimensions)?;
+    json.end_object()?;
     json.key("value")?;
     write_value(json, spelling, scratch, value)?;
     json.end_object()
@@ -59,21 +66,33 @@ pub fn write_dimensions<S: Spelling>(
 ) -> Result<(), AllocError>
     ensures { OnOk result (AddsValue json.old json.new (object (ordered_dimensions (S.spelled spelling.now) dimensions.now))) }
 {
+    json.begin_object()?;
+    json.key("concept")?;
+    write_name(json, spelling, &mut scratch.text, dimensions.concept())?;
+    write_others(json, spelling, scratch, dimensions)?;
+    json.end_object()
+}
+
+// Writes all dimensions except the concept as members.
+fn write_others<S: Spelling>(
+    json: &mut Writer,
+    spelling: &S,
+    scratch: &mut Scratch,
+    dimensions: &Dimensions,
+) -> Result<(), AllocError>
+    ensures { OnOk result (AddsMembers json.old json.new (other_dimensions (S.spelled spelling.now) dimensions.now)) }
+{
     let Scratch {
         alloc,
         text,
         periods,
     } = scratch;
-    json.begin_object()?;
-    json.key("concept")?;
-    write_name(json, spelling, text, dimensions.concept())?;
     write_entity(json, spelling, text, dimensions.entity())?;
     write_text(json, "language", dimensions.language())?;
     write_defined(json, spelling, text, dimensions.members())?;
     let place = periods.spell(*alloc, dimensions.period())?;
     write_text(json, "period", periods.text(place))?;
-    write_unit_member(json, spelling, text, dimensions.unit())?;
-    json.end_object()
+    write_unit_member(json, spelling, text, dimensions.unit())
 }
 
 fn write_entity<S: Spelling>(

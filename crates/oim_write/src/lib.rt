@@ -2,6 +2,7 @@
 #![tactic(auto)]
 
 mod bindings;
+mod concept_texts;
 mod encoded;
 mod fact_text;
 mod labels;

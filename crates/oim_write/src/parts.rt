@@ -24,11 +24,13 @@ use std::mem;
 const TYPE_AND_FEATURE: &[u8] =
     b"{\"documentInfo\":{\"documentType\":\"https://xbrl.org/2021/xbrl-json\",\"features\":{\"xbrl:allowedDuplicates\":\"";
 
-/// The prefixes of the names in a text, and the number of digits in each identifier.
+/// The prefixes of the names in a text, the number of digits in each identifier, and the text of a
+/// row's concept.
 #[derive(Clone, Copy)]
 pub(crate) struct Labels<'t> {
     pub table: &'t PrefixTable,
     pub digits: usize,
+    pub concept: &'t str,
 }
 
 pub(crate) fn head(alloc: Global, level: Level, table: &PrefixTable) -> Result<Vec<u8>, AllocError>
@@ -113,7 +115,8 @@ pub(crate) fn append_fact(
     dimensions: &Dimensions,
     value: &Value,
 ) -> Result<(), AllocError>
-    requires { before + 1 < 2 ^ 128 }
+    requires room { before + 1 < 2 ^ 128 }
+    requires concept { labels.now.concept.now ≡ name_text labels.now.table.now dimensions.now.concept }
     ensures { OnOk result (text.new.items ≡ text.old.items
         ++ part (nat_lt 0 before) (102 ∷ padded labels.now.digits (before + 1))
         (ordered_fact (name_text labels.now.table.now) (record { dimensions = dimensions.now; value = value.now }))) }
@@ -123,7 +126,14 @@ pub(crate) fn append_fact(
     scratch.text.clear();
     push_label(&mut scratch.text, "f", labels.digits, before + 1)?;
     json.key(scratch.text.as_str())?;
-    write_fact(&mut json, labels.table, scratch, dimensions, value)?;
+    write_fact(
+        &mut json,
+        labels.table,
+        scratch,
+        labels.concept,
+        dimensions,
+        value,
+    )?;
     *text = json.into_inner();
     Ok(())
 }

@@ -71,7 +71,7 @@ impl PrefixTable {
     }
 
     // Few URIs share a class of the cache, so the cache usually has the index.
-    fn push_prefix(&self, text: &mut String, uri: &str) -> Result<(), AllocError>
+    pub(crate) fn push_prefix(&self, text: &mut String, uri: &str) -> Result<(), AllocError>
         ensures { OnOk result (string_bytes text.new ≡ string_bytes text.old ++ prefix self.now uri.now) }
     {
         let place = self.cache.place(uri);

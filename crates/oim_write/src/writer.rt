@@ -5,7 +5,9 @@ ghost use Rattle.oim_write.specs.Bytes.{canonical};
 ghost use Rattle.oim_write.specs.code.Parts.{facts_text, numbered_text, parts_text, text_parts};
 ghost use Rattle.oim_write.specs.SinkBuffer.{Breaks, Passes};
 ghost use Rattle.oim_write.specs.Sink.{AppendsFront, failures_after_write, written_of};
+ghost use Rattle.oim_write.specs.Tree.{name_text};
 
+use crate::concept_texts::ConceptTexts;
 use crate::encoded::Encoded;
 use crate::labels::width_of;
 use crate::memory_sink::MemorySink;
@@ -127,11 +129,21 @@ fn write_facts<S: Sink>(
     ensures failures { S.failures out.new ≡ failures_after_write result (S.failures out.old) }
 {
     let digits = width_of(base.fact_count());
-    let labels = Labels { table, digits };
+    let mut concepts = ConceptTexts::new(alloc);
     let mut part = Vec::new(alloc);
     let mut scratch = Scratch::new(alloc);
     let mut before = 0;
-    for row in base.rows() {
+    let mut rows = base.rows();
+    while let Some(row) = rows.next() {
+        if concepts.spell(table, row, &rows).is_err() {
+            return Err(buffer.stop(out));
+        }
+        let concept = concepts.text.as_str();
+        let labels = Labels {
+            table,
+            digits,
+            concept,
+        };
         write_row(buffer, out, &labels, before, row, &mut part, &mut scratch)?;
         before += row.values.len() as u128;
     }
@@ -150,6 +162,7 @@ fn write_row<S: Sink>(
 ) -> Result<(), WriteFault>
     requires failures { S.failures out.old < 2 ^ 64 - 1 }
     requires room { before + length row.values.now < 2 ^ 128 }
+    requires concept { labels.now.concept.now ≡ name_text labels.now.table.now row.dimensions.now.concept }
     ensures ok { OnOk result (Passes (S.told out.old) (S.told out.new) buffer.old buffer.new
         (numbered_text labels.now.table.now labels.now.digits before (facts_with row.entry.dimensions.now row.entry.values.now))) }
     ensures err { IfErr result (λ fault. Breaks (S.told out.old) (S.told out.new) buffer.old

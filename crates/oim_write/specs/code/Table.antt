@@ -5,6 +5,7 @@ use Rattle.fact_base.specs.Passed.{IsSet}
 use Rattle.fact_base.specs.Body.{text_cmp}
 use Rattle.oim_names.specs.QName.{QName}
 use Rattle.fact_base.specs.Rows.{Row}
+use Rattle.fact_base.specs.Shown.{HoldForUris}
 use Rattle.oim_write.specs.Rank.{width}
 use Rattle.oim_write.specs.Tree.{prefix}
 use Rattle.oim_dims.specs.DimensionSet.{DimensionSet}
@@ -23,6 +24,10 @@ other_names d = entity_names d.entity ++ (unit_names d.unit ++ flat_map defined_
 -- the names in a row's dimensions and values
 abbrev pub row_names : Row → List QName
 row_names r = dimension_names r.0 ++ flat_map value_names r.1
+
+-- the concepts in the first n rows have this prefix
+abbrev pub SharePrefix : List (List ℕ) → List ℕ → ℕ → List Row → Type 0
+SharePrefix us text n rs = HoldForUris (λ u. prefix us u ≡ text) n rs
 
 -- `new` contains exactly the URIs of `old` and the URIs of the names
 pub record Gains (old : List (List ℕ)) (names : List QName) (new : List (List ℕ)) : Type 0 where

@@ -1,0 +1,20 @@
+use Rattle.std.proofs.Common.{codes, ap, ◌∙◌}
+use Rattle.std.proofs.lemmas.Result.{on_ok_weaker}
+use Rattle.oim_dims.specs.Period.{period_text}
+use Rattle.serde_json.specs.Data.{no_members}
+use Rattle.fact_base.specs.Passed.{option_spelled, option_unit_text}
+use Rattle.oim_write.proofs.Tokens.{Adds-none, then_defined, then_text}
+use Rattle.oim_write.proofs.fact_text.write_others.Goals as goal
+
+pub returns : goal.returns
+returns g c =
+    let spelled = g.S.Spelling.spelled c.args.spelling.now in
+    let period = c.text.ensures c.period.result ∙ ap period_text (c.in_ok-place.ensures.is c.period.result ∙ c.period.ensures) in
+    on_ok_weaker c.write_unit_member.result
+    (λ unit.
+    then_text (codes "entity") _ (ap (option_spelled spelled) c.entity.ensures) c.in_ok-write_entity.ensures
+    (then_text (codes "language") _ c.language.ensures c.in_ok-write_text.ensures
+    (then_defined spelled _ c.members.ensures.members c.in_ok-write_defined.ensures
+    (then_text (codes "period") _ period c.in_ok-write_text-2.ensures
+    (then_text (codes "unit") no_members (ap (option_unit_text spelled) c.unit.ensures) unit Adds-none)))))
+    c.write_unit_member.ensures
