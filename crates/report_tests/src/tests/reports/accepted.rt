@@ -1,6 +1,6 @@
 use super::{
-    BOUND, Declares, FACTS, HasLevel, Keeps, NO_FACTS, SHEET, Sorts, Table, features, hold,
-    read_sheet, references,
+    BOUND, Declares, END, FACT, FACTS, HasLevel, Keeps, NO_FACTS, SHEET, Sorts, Table, features,
+    hold, read_sheet, references, table_holds,
 };
 use oim_value::Level::{All, Complete, Consistent, Unique};
 use std::test::Fail;
@@ -203,5 +203,27 @@ fn reports_say_what_is_written(rt: HostRuntime) -> Result<(), Fail> {
     assert!(rt; hold(&rt, &sheet, TABLES)?);
     assert!(rt; hold(&rt, &sheet, features::TABLES)?);
     assert!(rt; hold(&rt, &sheet, references::TABLES)?);
+    Ok(())
+}
+
+const TWO_NAMESPACES: &str =
+    r#"{"namespaces":{"eg":"http://example.org/t","x":"http://example.org/u"},"concepts":{"eg:B":"text","eg:C":"text","x:A":"text"}}"#;
+
+// The prefixes `eg` and `zz` have one URI.
+const CONCEPTS: Table = Table {
+    start: FACT,
+    rows: &[(
+        Sorts(&["C", "B", "B", "A"], &[2, 1, 0, 3]),
+        &[
+            r#"{"value":"","dimensions":{"concept":"x:A"}},"a":{"value":"","dimensions":{"concept":"eg:C"}},"b":{"value":"1","dimensions":{"concept":"eg:B"}},"c":{"value":"0","dimensions":{"concept":"zz:B"}}"#,
+        ],
+    )],
+    end: END,
+};
+
+#[test]
+fn facts_of_two_namespaces_are_in_order(rt: HostRuntime) -> Result<(), Fail> {
+    let sheet = read_sheet(&rt, TWO_NAMESPACES)?;
+    assert!(rt; table_holds(&rt, &sheet, &CONCEPTS)?);
     Ok(())
 }
