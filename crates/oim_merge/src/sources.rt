@@ -4,6 +4,7 @@ pub(crate) mod fact_list;
 pub(crate) mod mention;
 pub(crate) mod mentions;
 pub(crate) mod placed_mention;
+pub(crate) mod run;
 pub(crate) mod source_format;
 pub(crate) mod source_line;
 pub(crate) mod source_listing;

@@ -1,6 +1,5 @@
 -- The state of a traced merge comes from some list of reports (own).
 use Rattle.std.specs.Prelude.{◌≡◌, ℕ, List}
-use Rattle.oim_report.specs.Sheet.{Sheet}
 use Rattle.oim_merge.specs.Added.{Added, added}
 use Rattle.oim_merge.specs.Sources.{mentions}
 use Rattle.oim_merge.specs.declared.sources.mention.Mention.{Mention}

@@ -1,10 +1,13 @@
-ghost use Rattle.std.specs.Prelude.{◌≡◌, ◌++◌, map, count_by, IfOk, OnOk};
+ghost use Rattle.std.specs.Prelude.{◌≡◌, ◌<◌, ◌++◌, length, map, count_by, IfOk, OnOk};
+ghost use Rattle.std.specs.Bool.{OnTrue};
+ghost use Rattle.std.specs.List.{HoldsAt};
 ghost use Rattle.std.specs.Ordering.{is_lt};
 ghost use Rattle.fact_base.specs.Entries.{facts_with};
 ghost use Rattle.merge_laws.specs.Sorted.{IsSet};
 ghost use Rattle.oim_dims.specs.FactOrder.{fact_cmp};
 ghost use Rattle.oim_merge.specs.code.Listing.{lent};
 
+use crate::sources::run::Run;
 use fact_base::{Base, Row};
 use oim_dims::{Dimensions, Fact};
 use oim_value::Value;
@@ -44,14 +47,35 @@ fn add_row<'b>(facts: &mut Vec<LentFact<'b>>, row: Row<'b>) -> Result<(), AllocE
     Ok(())
 }
 
-pub(crate) fn place_of(facts: &[LentFact<'_>], fact: &Fact) -> usize
+/// Returns the number of facts that are less than this one.
+///
+/// A URI may be long, and most facts of a report have one. So the fact is first looked for in the run
+/// without a comparison of URIs. If the fact at the index that is found equals it, this is the
+/// number, and the URI was read once.
+pub(crate) fn place_of(facts: &[LentFact<'_>], run: &mut Run, fact: &Fact) -> usize
     requires { IsSet fact_cmp (map lent facts.now) }
     ensures { result ≡ count_by (λ f. is_lt (fact_cmp f fact.now)) (map lent facts.now) }
 {
-    facts.partition_point(|one| is_before(one, fact))
+    let guess = run.find(facts, fact);
+    if is_at(facts, guess, fact) {
+        return guess;
+    }
+    let place = facts.partition_point(|one| is_less(one, fact));
+    run.learn(facts, place);
+    place
 }
 
-fn is_before(one: &LentFact<'_>, fact: &Fact) -> bool
+fn is_at(facts: &[LentFact<'_>], place: usize, fact: &Fact) -> bool
+    ensures within { OnTrue result (place < length facts.now) }
+    ensures same { OnTrue result (HoldsAt (λ one. lent one ≡ fact.now) facts.now place) }
+{
+    match facts.get(place) {
+        Some(one) => *one.dimensions == fact.dimensions && *one.value == fact.value,
+        None => false,
+    }
+}
+
+fn is_less(one: &LentFact<'_>, fact: &Fact) -> bool
     ensures { result ≡ is_lt (fact_cmp (lent one.now) fact.now) }
 {
     match one.dimensions.cmp(&fact.dimensions) {

@@ -8,6 +8,7 @@ ghost use Rattle.oim_merge.specs.code.Listing.{lent};
 use crate::sources::fact_list::{LentFact, facts_of, place_of};
 use crate::sources::mention::Mention;
 use crate::sources::placed_mention::PlacedMention;
+use crate::sources::run::Run;
 use fact_base::Base;
 use oim_dims::Fact;
 use oim_names::{Copied, Text};
@@ -66,9 +67,10 @@ fn placed(
     ensures { IfOk result (λ ms. ms.items ≡ all_placed (map lent facts.now) mentions.items) }
 {
     let mut placed = Vec::with_capacity(alloc, mentions.len())?;
+    let mut run = Run::new();
     for mention in mentions {
         placed.push(PlacedMention {
-            place: place_of(facts, &mention.fact),
+            place: place_of(facts, &mut run, &mention.fact),
             report: mention.report,
             identifier: mention.identifier,
         })?;

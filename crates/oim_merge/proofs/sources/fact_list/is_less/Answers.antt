@@ -3,7 +3,7 @@ use Rattle.std.specs.Ordering.{is_lt, ordering_then}
 use Rattle.oim_dims.proofs.Orders.{dimensions_agree}
 use Rattle.oim_value.proofs.ValueOrders.{values_agree}
 use Rattle.oim_value.specs.ValueOrder.{value_cmp}
-use Rattle.oim_merge.proofs.sources.fact_list.is_before.Goals as goal
+use Rattle.oim_merge.proofs.sources.fact_list.is_less.Goals as goal
 
 pub returns-in-Less : goal.returns-in-Less
 returns-in-Less c =
