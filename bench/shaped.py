@@ -150,13 +150,46 @@ def bytes_of_a_uri_of_many_names(n):
     return merging(*long_uri(2_000, n))
 
 
+def names_and_bytes_of_a_uri(n):
+    """n names that share a URI of about 20 n bytes. If each name cost a comparison of URIs, four times n would cost sixteen
+    times as much."""
+    return merging(*long_uri(n, 20 * n))
+
+
+def names_and_bytes_of_a_uri_in_no_order(n):
+    """The same names; neither their facts nor the identifiers are in order."""
+    a_sheet, a_report = long_uri(n, 20 * n)
+    facts = list(a_report["facts"].items())
+    random.Random(1).shuffle(facts)
+    return merging(a_sheet, {**a_report, "facts": dict(zip((identifier for identifier, _ in reversed(facts)), (one for _, one in facts)))})
+
+
+def check_of_names_and_bytes_of_a_uri(n):
+    words, files = names_and_bytes_of_a_uri(n)
+    return ["check", *words[1:]], files
+
+
+def sources_of_names_of_a_long_uri(n):
+    words, files = names_of_a_long_uri(n)
+    return ["sources", *words[1:]], files
+
+
+def sources_of_bytes_of_a_uri(n):
+    words, files = bytes_of_a_uri_of_many_names(n)
+    return ["sources", *words[1:]], files
+
+
+def take_of_names_and_bytes_of_a_uri(n):
+    a_sheet, a_report = long_uri(n, 20 * n)
+    words, files = replaying(1, ["take 1 1"], a_report)
+    return words, {**files, "sheet.json": a_sheet}
+
+
 def names_of_a_long_uri_in_a_sheet(n):
     return merging(long_uri(n, 50_000)[0], report({}))
 
 
 def names_and_bytes_of_a_uri_in_a_sheet(n):
-    """n names that share a URI of about 20 n bytes. If each name cost a comparison of URIs, four times n would cost sixteen
-    times as much."""
     return merging(long_uri(n, 20 * n)[0], report({}))
 
 
@@ -370,6 +403,12 @@ SHAPES = {
     measures_beside_a_long_uri: 1_000,
     names_of_a_long_uri: 2_000,
     bytes_of_a_uri_of_many_names: 50_000,
+    names_and_bytes_of_a_uri: 2_000,
+    names_and_bytes_of_a_uri_in_no_order: 2_000,
+    check_of_names_and_bytes_of_a_uri: 2_000,
+    sources_of_names_of_a_long_uri: 2_000,
+    sources_of_bytes_of_a_uri: 50_000,
+    take_of_names_and_bytes_of_a_uri: 2_000,
     names_of_a_long_uri_in_a_sheet: 2_000,
     names_and_bytes_of_a_uri_in_a_sheet: 2_000,
     text_of_one_value: 100_000,
