@@ -1,13 +1,12 @@
 ghost use Rattle.std.specs.Prelude.{◌≡◌, ◌≢◌, ◌↔◌, ◌<◌, [], ◌++◌, ◌∷◌, ◌⊎◌, length, IsTrue, IfOk, IfErr, IfSome, OnOk, OnErr};
 ghost use Rattle.std.specs.Option.{option_copied};
 ghost use Rattle.std.specs.Result.{result_err};
-ghost use Rattle.oim_names.specs.QName.{is_part};
+ghost use Rattle.std.specs.List.{list_all};
+ghost use Rattle.oim_names.specs.QName.{is_name_byte, is_part, prefix_part, local_part};
 ghost use Rattle.oim_names.specs.Bindings.{AreBindings, uri_at, uri_of, prefix_of, bound, is_refused_binding};
 ghost use Rattle.oim_names.specs.Expansion.{Expands, ExpandsEntity, entity_refusal, name_refusal, prefix_refusal, reserved_uri};
 
-use crate::binding::Binding;
 use crate::copied::Copied;
-use crate::form::{is_part, split};
 use crate::name::Name;
 use crate::position_cache::PositionCache;
 use crate::reason::Reason;
@@ -149,7 +148,7 @@ impl Aliases {
     {
         self.bindings
             .iter()
-            .find(|binding| binding.uri() == uri)
+            .find(|binding| binding.uri_text().as_str() == uri)
             .map(|binding| binding.prefix())
     }
 
@@ -287,4 +286,69 @@ fn named(alloc: Global, uri: &Text, local: &str) -> Result<Name, AllocError>
     ensures { IfOk result (λ name. name ≡ record { uri = uri.now; local_part = local.now }) }
 {
     Ok(Name::new(uri.copied(alloc)?, Text::new(alloc, local)?))
+}
+
+#[derive(Debug, Drop, PartialEq)]
+struct Binding {
+    prefix: Text,
+    uri: Text,
+}
+
+impl Model for Binding {
+    ghost use Rattle.oim_names.specs.Bindings.{Binding as Bound};
+
+    ghost Value = { Bound };
+
+    ghost view = { λ b. record { prefix = b.prefix; uri = b.uri } };
+
+    ghost inverse = { λ b. record { prefix = b.prefix; uri = b.uri } };
+}
+
+impl Binding {
+    fn new(alloc: Global, prefix: &str, uri: &str) -> Result<Binding, AllocError>
+        ensures prefix { IfOk result (λ b. b.prefix ≡ prefix.now) }
+        ensures uri { IfOk result (λ b. b.uri ≡ uri.now) }
+    {
+        Ok(Binding {
+            prefix: Text::new(alloc, prefix)?,
+            uri: Text::new(alloc, uri)?,
+        })
+    }
+
+    fn prefix(&self) -> &str
+        ensures { result.now ≡ self.now.prefix }
+    {
+        self.prefix.as_str()
+    }
+
+    fn uri_text(&self) -> &Text
+        ensures { result.now ≡ self.now.uri }
+    {
+        &self.uri
+    }
+}
+
+fn is_name_byte(c: u8) -> bool
+    ensures { result ≡ is_name_byte c }
+{
+    c > b':' || !matches!(c, b'\t' | b'\n' | b'\r' | b' ' | b':')
+}
+
+fn are_name_bytes(text: &[u8]) -> bool
+    ensures { result ≡ list_all is_name_byte text.now }
+{
+    text.iter().all(|c| is_name_byte(*c))
+}
+
+fn is_part(text: &[u8]) -> bool
+    ensures { result ≡ is_part text.now }
+{
+    are_name_bytes(text) && !text.is_empty()
+}
+
+fn split(text: &str) -> (&str, &str)
+    ensures prefix { result.0.now ≡ prefix_part text.now }
+    ensures local { result.1.now ≡ local_part text.now }
+{
+    text.split_once(':').unwrap_or((text, ""))
 }

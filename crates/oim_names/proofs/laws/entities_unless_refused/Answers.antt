@@ -2,8 +2,5 @@ use Rattle.oim_names.specs.QName.{is_entity}
 use Rattle.oim_names.proofs.Refusals.{names_unless_refused, names_one}
 use Rattle.oim_names.proofs.laws.entities_unless_refused.Goals as goal
 
-pub returns-clause-exactly : goal.returns-clause-exactly
-returns-clause-exactly c = names_unless_refused is_entity
-
-pub returns-clause-one : goal.returns-clause-one
-returns-clause-one c = names_one is_entity
+pub returns : goal.returns
+returns c = record { exactly = names_unless_refused is_entity; one = names_one is_entity }
