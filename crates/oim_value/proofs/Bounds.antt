@@ -1,25 +1,15 @@
 -- The ends of a short number's interval are bounded.
-use Rattle.std.proofs.Common.{ℕ, ◌+◌, ◌-◌, ◌*◌, ◌^◌, ◌<◌, ◌≤◌, arith}
+use Rattle.std.proofs.Common.{ℕ, ◌+◌, ◌-◌, ◌^◌, ◌<◌, ◌≤◌, arith}
 use Rattle.std.specs.Prelude.{ℤ, pos, neg_ℤ, ◌-ℤ◌, ◌+ℤ◌, unsigned_abs, Option, Some, None}
-use Rattle.std.proofs.Math.Nat.{pow-le-pow_right, mul-le-mul_left}
+use Rattle.std.proofs.Math.Nat.{mul-le-mul_left}
 use Rattle.std.proofs.lemmas.Bool.{leb-true}
 use Rattle.std.proofs.lemmas.Int.{ints}
 use Rattle.oim_value.specs.declared.limits.TheConstants.{MOST_DECIMALS, MOST_DIGITS, UNIT_PLACES}
 use Rattle.oim_value.specs.Bounds.{IntervalEndsAreBounded}
 use Rattle.oim_value.specs.Decimals.{AreDecimals}
 use Rattle.oim_value.specs.Interval.{half_width, half_zeros}
-use Rattle.oim_value.specs.Number.{IsShort}
 use Rattle.oim_value.proofs.Intervals.{near_from, near_is}
-use Rattle.oim_value.proofs.Units.{ten_to}
-
-below_all : (n e : ℕ) → n < 10 ^ MOST_DIGITS → e ≤ UNIT_PLACES → n * 10 ^ e < 10 ^ (MOST_DIGITS + UNIT_PLACES)
-below_all n e few within =
-    let p : 10 ^ e ≤ 10 ^ UNIT_PLACES = pow-le-pow_right (omega arith) within in
-    let q : n * 10 ^ e ≤ n * 10 ^ UNIT_PLACES = mul-le-mul_left n p in
-    omega arith
-
-kept_below : (z : ℤ) → IsShort z → unsigned_abs z < 10 ^ (MOST_DIGITS + UNIT_PLACES)
-kept_below z h = rw h.is (below_all h.number (UNIT_PLACES - h.places) h.few (omega arith))
+use Rattle.oim_value.proofs.Units.{ten_to, short_bound}
 
 most_zeros : (d : ℤ) → unsigned_abs d ≤ unsigned_abs MOST_DECIMALS → half_zeros d ≤ half_zeros (neg_ℤ MOST_DECIMALS)
 most_zeros d few =
@@ -50,7 +40,7 @@ pub interval_ends_are_bounded : IntervalEndsAreBounded
 interval_ends_are_bounded units decimals short are =
     let all : ℕ = 10 ^ (MOST_DIGITS + UNIT_PLACES) in
     let most : ℕ = half_width (Some (neg_ℤ MOST_DECIMALS)) in
-    let near : unsigned_abs units ≤ all - 1 = omega (arith, kept_below units short) in
+    let near : unsigned_abs units ≤ all - 1 = omega (arith, short_bound units short) in
     let width : half_width decimals ≤ most = most_width decimals are in
     record {
       low = strictly _ all most (omega arith) (below_by units (half_width decimals) (all - 1) most near width);

@@ -1,30 +1,17 @@
 -- The ends of several intervals.
 use Rattle.std.proofs.Common.{◌≡◌, ℕ, zero, suc, ◌<◌, Bool, true, false, cond, List, [], ◌∷◌, length, get_or, refl, sym, ap, subst, ◌∙◌, arith, inl, inr}
-use mathlib.Core.Bool.{true≢false}
-use Rattle.std.specs.Prelude.{◌⊎◌, ℤ, ◌≤ℤ◌, int_le, int_lt, ◌&&◌}
+use Rattle.std.specs.Prelude.{◌⊎◌, ℤ, ◌≤ℤ◌, int_le, int_lt}
 use Rattle.std.specs.Int.{int_max, int_min}
 use Rattle.std.specs.List.{All, Any}
-use Rattle.std.proofs.lemmas.Bool.{cases_lt}
+use Rattle.std.proofs.lemmas.Bool.{cases_lt, and_parts, and_from}
 use Rattle.std.proofs.lemmas.Int.{ints, clamps}
 use Rattle.std.proofs.lemmas.List.{get_or_default}
-use Rattle.std.proofs.lemmas.List.Elements.{All-cons, All-nil}
+use Rattle.std.proofs.lemmas.List.Elements.{All-cons, All-nil, All-weaker}
 use Rattle.oim_value.specs.Interval.{HasPoints, IsWithin, common_part}
 use Rattle.oim_value.specs.declared.interval.Interval.{Interval}
 use Rattle.oim_value.specs.Ends.{AreEnds, EachTwoMeet, AllMeetIffEndsMeet, EndsExist, EndsAreOne, WithinEndsIsWithinEach, EndsAreCommonInterval}
 
 -- ---- every two intervals meet
-
-both : (a b : Bool) → a ≡ true → b ≡ true → (a && b) ≡ true
-both true b p q = q
-both false b p q = p
-
-first_true : (a b : Bool) → (a && b) ≡ true → a ≡ true
-first_true true b p = refl
-first_true false b p = p
-
-pub second_true : (a b : Bool) → (a && b) ≡ true → b ≡ true
-second_true true b p = p
-second_true false b p = absurd (true≢false (sym p))
 
 pub le_from : (x y : ℤ) → int_le x y ≡ true → x ≤ℤ y
 le_from x y h = grind (arith, ints)
@@ -35,9 +22,9 @@ le_to x y h = grind (arith, ints)
 -- if no interval is empty and every two meet, every low end is at most every high end
 crossed : (is : List Interval) (d : Interval) → All HasPoints is → EachTwoMeet is → (i j : ℕ) → i < length is → j < length is → (get_or is i d).low ≤ℤ (get_or is j d).high
 crossed is d points meet i j li lj = elim (cases_lt i j) [
-  | inl under ↦ le_from _ _ (first_true (int_le (get_or is i d).low (get_or is j d).high) (int_le (get_or is j d).low (get_or is i d).high) (meet i j d under lj))
+  | inl under ↦ le_from _ _ (and_parts (int_le (get_or is i d).low (get_or is j d).high) (int_le (get_or is j d).low (get_or is i d).high) (meet i j d under lj)).0
   | inr over ↦ elim (cases_lt j i) [
-    | inl above ↦ le_from _ _ (second_true (int_le (get_or is j d).low (get_or is i d).high) (int_le (get_or is i d).low (get_or is j d).high) (meet j i d above li))
+    | inl above ↦ le_from _ _ (and_parts (int_le (get_or is j d).low (get_or is i d).high) (int_le (get_or is i d).low (get_or is j d).high) (meet j i d above li)).1
     | inr same ↦ let is_same : i ≡ j = omega (arith, over, same) in subst (λ k. (get_or is i d).low ≤ℤ (get_or is k d).high) is_same (points i d li)
   ]
 ]
@@ -56,7 +43,7 @@ all_meet_iff_ends_meet is e points ends = (
       subst (λ z. e.low ≤ℤ z) high (subst (λ z. z ≤ℤ (get_or is b.0 d).high) low (crossed is d points meet a.0 b.0 a.2 b.2)),
   λ le i j d under within.
       let li : i < length is = omega (arith, under, within) in
-      both _ _
+      and_from _ _
       (le_to _ _ (chain (ends.low_greatest i d li) le (ends.high_least j d within)))
       (le_to _ _ (chain (ends.low_greatest j d within) le (ends.high_least i d li))),
 )
@@ -68,9 +55,6 @@ later P x xs a = (suc a.0, a.1, omega (arith, a.2), a.3, a.4)
 
 pub now : {A : Type 0} (P : A → Type 0) (x : A) (xs : List A) → P x → Any P (x ∷ xs)
 now P x xs p = (zero, x, omega arith, refl, p)
-
-weaker : {A : Type 0} (P Q : A → Type 0) (xs : List A) → ((x : A) → P x → Q x) → All P xs → All Q xs
-weaker P Q xs f all k d lt = f (get_or xs k d) (all k d lt)
 
 pub ends_of_one : (i : Interval) → AreEnds i (i ∷ [])
 ends_of_one i = record {
@@ -95,9 +79,9 @@ which_min x y = elim (int_lt y x) as (λ b. (cond b y x ≡ x) ⊎ (cond b y x �
 pub ends_of_more : (i e : Interval) (is : List Interval) → AreEnds e is → AreEnds (common_part i e) (i ∷ is)
 ends_of_more i e is ends = record {
   low_reached = reached (λ j. j.low) i is (int_max i.low e.low) e.low (which_max i.low e.low) ends.low_reached;
-  low_greatest = All-cons (λ j. j.low ≤ℤ int_max i.low e.low) i is (omega (arith, ints, clamps)) (weaker (λ j. j.low ≤ℤ e.low) (λ j. j.low ≤ℤ int_max i.low e.low) is (λ j p. omega (arith, ints, clamps, p)) ends.low_greatest);
+  low_greatest = All-cons (λ j. j.low ≤ℤ int_max i.low e.low) i is (omega (arith, ints, clamps)) (All-weaker (λ j. j.low ≤ℤ e.low) (λ j. j.low ≤ℤ int_max i.low e.low) (λ j p. omega (arith, ints, clamps, p)) is ends.low_greatest);
   high_reached = reached (λ j. j.high) i is (int_min i.high e.high) e.high (which_min i.high e.high) ends.high_reached;
-  high_least = All-cons (λ j. int_min i.high e.high ≤ℤ j.high) i is (omega (arith, ints, clamps)) (weaker (λ j. e.high ≤ℤ j.high) (λ j. int_min i.high e.high ≤ℤ j.high) is (λ j p. omega (arith, ints, clamps, p)) ends.high_least);
+  high_least = All-cons (λ j. int_min i.high e.high ≤ℤ j.high) i is (omega (arith, ints, clamps)) (All-weaker (λ j. e.high ≤ℤ j.high) (λ j. int_min i.high e.high ≤ℤ j.high) (λ j p. omega (arith, ints, clamps, p)) is ends.high_least);
 }
 
 pub ends_exist : EndsExist

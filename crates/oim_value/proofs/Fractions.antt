@@ -6,7 +6,8 @@ use Rattle.std.specs.Char.{digit_value, is_ascii_digit}
 use Rattle.std.specs.List.{list_all}
 use Rattle.std.specs.Str.Parse.{digits_value_after}
 use Rattle.oim_value.specs.Number.{onto_digit, without_trailing}
-use Rattle.oim_value.proofs.Numerals.{after_append, after_lt, both_true, digit_is}
+use Rattle.oim_value.proofs.Numerals.{after_append, after_lt, digit_is}
+use Rattle.std.proofs.lemmas.Bool.{and_parts}
 
 step_after : (v w n d p q : ℕ) → v ≡ (n * 10 + d) * p + w → q ≡ p * 10 → v ≡ n * q + (d * p + w)
 step_after v w n d p q h e = rw (h, e) (grind arith)
@@ -48,7 +49,7 @@ no_first (suc d) p w some h = absurd (omega arith)
 pub without_trailing-nothing : (ds : List ℕ) → list_all is_ascii_digit ds ≡ true → digits_value_after 10 0 ds ≡ 0 → without_trailing ds ≡ []
 without_trailing-nothing [] e h = refl
 without_trailing-nothing (d ∷ ds) e h =
-    let parts = both_true (is_ascii_digit d) (list_all is_ascii_digit ds) e in
+    let parts = and_parts (is_ascii_digit d) (list_all is_ascii_digit ds) e in
     let none = no_first (digit_value d) (10 ^ length ds) (digits_value_after 10 0 ds) (ten_some (length ds)) (sym (value_cons d ds) ∙ h) in
     let zero_digit : d ≡ 48 = omega (arith, digit_is d parts.0, none.0) in
     rw (without_trailing-nothing ds parts.1 none.1, zero_digit)
@@ -61,8 +62,8 @@ same_fraction [] [] dx dy h = refl
 same_fraction [] (y ∷ ys) dx dy h = sym (without_trailing-nothing (y ∷ ys) dy (omega (arith, h)))
 same_fraction (x ∷ xs) [] dx dy h = without_trailing-nothing (x ∷ xs) dx (omega (arith, h))
 same_fraction (x ∷ xs) (y ∷ ys) dx dy h =
-    let px = both_true (is_ascii_digit x) (list_all is_ascii_digit xs) dx in
-    let py = both_true (is_ascii_digit y) (list_all is_ascii_digit ys) dy in
+    let px = and_parts (is_ascii_digit x) (list_all is_ascii_digit xs) dx in
+    let py = and_parts (is_ascii_digit y) (list_all is_ascii_digit ys) dy in
     let vx : ℕ = digits_value_after 10 0 xs in
     let vy : ℕ = digits_value_after 10 0 ys in
     let p : ℕ = 10 ^ length xs in

@@ -7,7 +7,7 @@ use Rattle.std.proofs.lemmas.Nat.{pow-add}
 use Rattle.oim_value.specs.declared.interval.Interval.{Interval}
 use Rattle.oim_value.specs.declared.limits.TheConstants.{UNIT_PLACES}
 use Rattle.oim_value.specs.Interval.{half_width, half_zeros, intervals_meet, HalfAfterPoint, HalfBeforePoint, IntervalHasNumber, IntervalHasPoints, WithinIsNear, CommonIsAssociative, CommonIsCommutative, CommonIsIdempotent, CommonIsBoth, MeetsByCommonPoint, MeetsByCommonPart}
-use Rattle.oim_value.proofs.Numerals.{both_true}
+use Rattle.std.proofs.lemmas.Bool.{and_parts}
 use Rattle.oim_value.proofs.Ends.{le_from, le_to}
 
 -- ---- half a place
@@ -112,7 +112,7 @@ common_is_both units a b = (
 
 pub meet_is : (a b : Interval) → IsTrue (intervals_meet a b) → (a.low ≤ℤ b.high) × (b.low ≤ℤ a.high)
 meet_is a b h =
-    let both = both_true (int_le a.low b.high) (int_le b.low a.high) h in
+    let both = and_parts (int_le a.low b.high) (int_le b.low a.high) h in
     (le_from a.low b.high both.0, le_from b.low a.high both.1)
 
 pub meet_from : (a b : Interval) → a.low ≤ℤ b.high → b.low ≤ℤ a.high → IsTrue (intervals_meet a b)

@@ -1,7 +1,8 @@
 -- The numbers that digits denote.
-use Rattle.std.proofs.Common.{◌≡◌, ℕ, ◌+◌, ◌*◌, ◌^◌, ◌<◌, ◌≤◌, Bool, true, false, cond, eqb, List, [], ◌∷◌, ◌++◌, length, get_or, take, drop, length-append, refl, sym, ap, ◌∙◌, arith}
+use Rattle.std.proofs.Common.{◌≡◌, ℕ, ◌+◌, ◌*◌, ◌^◌, ◌<◌, ◌≤◌, Bool, true, false, cond, eqb, List, [], ◌∷◌, ◌++◌, length, get_or, take, drop, length-append, refl, sym, ap, ◌∙◌, arith, suc, subst}
 use Rattle.std.specs.Prelude.{nat_lt}
-use mathlib.Core.Bool.{◌&&◌, false≢true}
+use mathlib.Core.Bool.{◌&&◌}
+use Rattle.std.proofs.lemmas.Bool.{and_parts, eqb-true}
 use Rattle.std.proofs.lemmas.Bool.Decides.{nat_tests}
 use Rattle.std.proofs.lemmas.Nat.{pow-add}
 use Rattle.std.proofs.Math.Nat.{pow-suc, pow-le-pow_right, mul-le-mul_left}
@@ -21,13 +22,6 @@ after_grows n (d ∷ ds) = omega (arith, after_grows (n * 10 + digit_value d) ds
 pub after_append : (n : ℕ) (xs ys : List ℕ) → digits_value_after 10 n (xs ++ ys) ≡ digits_value_after 10 (digits_value_after 10 n xs) ys
 after_append n [] ys = refl
 after_append n (x ∷ xs) ys = after_append (n * 10 + digit_value x) xs ys
-
-pub both_true : (a b : Bool) → (a && b) ≡ true → (a ≡ true) × (b ≡ true)
-both_true true b e = (refl, e)
-both_true false b e = absurd (false≢true e)
-
-pub is_zero : (c : ℕ) → eqb c 48 ≡ true → c ≡ 48
-is_zero c e = grind (arith, nat_tests)
 
 pub digit_small : (c : ℕ) → is_ascii_digit c ≡ true → digit_value c < 10
 digit_small c e = grind (arith, nat_tests)
@@ -50,7 +44,7 @@ regroup v w a p k h places = rw (← places) (grind (arith, ap (λ x. k * x) h))
 pub after_lt : (n : ℕ) (ds : List ℕ) → list_all is_ascii_digit ds ≡ true → digits_value_after 10 n ds < (n + 1) * 10 ^ length ds
 after_lt n [] e = omega arith
 after_lt n (d ∷ ds) e =
-    let h = both_true (is_ascii_digit d) (list_all is_ascii_digit ds) e in
+    let h = and_parts (is_ascii_digit d) (list_all is_ascii_digit ds) e in
     let small : digit_value d < 10 = digit_small d h.0 in
     let rest : digits_value_after 10 (n * 10 + digit_value d) ds < (n * 10 + digit_value d + 1) * 10 ^ length ds = after_lt (n * 10 + digit_value d) ds h.1 in
     step_lt _ n _ _ _ small rest (pow-suc 10 (length ds))
@@ -59,13 +53,17 @@ pub digit_is : (c : ℕ) → is_ascii_digit c ≡ true → digit_value c + 48 �
 digit_is c e = grind (arith, nat_tests)
 
 pub digit_here : (i : ℕ) (s : List ℕ) → i < length s → list_all is_ascii_digit (drop i s) ≡ true → digit_value (get_or s i 0) + 48 ≡ get_or s i 0
-digit_here i s h e = digit_is (get_or s i 0) (both_true _ _ (rw (drop-cons s i 0 h) at e)).0
+digit_here i s h e = digit_is (get_or s i 0) (and_parts _ _ (rw (drop-cons s i 0 h) at e)).0
+
+-- one more digit does not make the number larger than all digits make it
+pub next_le : (n i m : ℕ) (s : List ℕ) → i < length s → digits_value_after 10 n (drop i s) ≡ m → n * 10 + digit_value (get_or s i 0) ≤ m
+next_le n i m s h e = subst (λ k. n * 10 + digit_value (get_or s i 0) ≤ k) (sym (ap (digits_value_after 10 n) (drop-cons s i 0 h)) ∙ e) (after_grows (n * 10 + digit_value (get_or s i 0)) (drop (suc i) s))
 
 pub digits_without_leading : (ds : List ℕ) → list_all is_ascii_digit ds ≡ true → list_all is_ascii_digit (without_leading ds) ≡ true
 digits_without_leading [] e = refl
 digits_without_leading (d ∷ ds) e =
     elim (eqb d 48) as (λ b. list_all is_ascii_digit (cond b (without_leading ds) (d ∷ ds)) ≡ true) [
-      | true ↦ digits_without_leading ds (both_true _ _ e).1
+      | true ↦ digits_without_leading ds (and_parts _ _ e).1
       | false ↦ e
     ]
 
@@ -75,13 +73,13 @@ digits_onto c (d ∷ ds) e f = ap (λ b. b && list_all is_ascii_digit (d ∷ ds)
 
 pub digits_without_trailing : (ds : List ℕ) → list_all is_ascii_digit ds ≡ true → list_all is_ascii_digit (without_trailing ds) ≡ true
 digits_without_trailing [] e = refl
-digits_without_trailing (d ∷ ds) e = digits_onto d (without_trailing ds) (both_true _ _ e).0 (digits_without_trailing ds (both_true _ _ e).1)
+digits_without_trailing (d ∷ ds) e = digits_onto d (without_trailing ds) (and_parts _ _ e).0 (digits_without_trailing ds (and_parts _ _ e).1)
 
 pub value_without_leading : (ds : List ℕ) → digits_value_after 10 0 (without_leading ds) ≡ digits_value_after 10 0 ds
 value_without_leading [] = refl
 value_without_leading (d ∷ ds) =
     elim (eqb d 48) as (λ b. eqb d 48 ≡ b → digits_value_after 10 0 (cond b (without_leading ds) (d ∷ ds)) ≡ digits_value_after 10 0 (d ∷ ds)) [
-      | true ↦ λ e. value_without_leading ds ∙ ap (λ c. digits_value_after 10 (0 * 10 + digit_value c) ds) (sym (is_zero d e))
+      | true ↦ λ e. value_without_leading ds ∙ ap (λ c. digits_value_after 10 (0 * 10 + digit_value c) ds) (sym (eqb-true d 48 e))
       | false ↦ λ e. refl
     ] refl
 
@@ -89,7 +87,7 @@ value_without_leading (d ∷ ds) =
 value_onto : (n c : ℕ) (cs ws : List ℕ) → digits_value_after 10 (n * 10 + digit_value c) cs * 10 ^ length ws ≡ digits_value_after 10 (n * 10 + digit_value c) ws * 10 ^ length cs → digits_value_after 10 n (c ∷ cs) * 10 ^ length (onto_digit c ws) ≡ digits_value_after 10 n (onto_digit c ws) * 10 ^ length (c ∷ cs)
 value_onto n c cs [] h =
     elim (eqb c 48) as (λ b. eqb c 48 ≡ b → digits_value_after 10 n (c ∷ cs) * 10 ^ length (cond b [] (c ∷ [])) ≡ digits_value_after 10 n (cond b [] (c ∷ [])) * 10 ^ length (c ∷ cs)) [
-      | true ↦ λ e. step_zero _ n _ _ _ h (ap digit_value (is_zero c e)) (pow-suc 10 (length cs))
+      | true ↦ λ e. step_zero _ n _ _ _ h (ap digit_value (eqb-true c 48 e)) (pow-suc 10 (length cs))
       | false ↦ λ e. step_digit _ _ _ _ h (pow-suc 10 (length cs))
     ] refl
 value_onto n c cs (w ∷ ws) h = step_more _ _ _ _ _ _ h (pow-suc 10 (length cs)) (pow-suc 10 (length (w ∷ ws)))
@@ -114,7 +112,7 @@ pub no_trailing_zero_at : (ds : List ℕ) (i : ℕ) → i < length ds → eqb (g
 no_trailing_zero_at ds i h e = ap without_trailing (take_more ds i 0 h) ∙ (without_trailing_other (take i ds) (get_or ds i 0) e ∙ sym (take_more ds i 0 h))
 
 pub parts_of_numeral : (xs ys : List ℕ) → is_numeral (xs ++ ys) ≡ true → (list_all is_ascii_digit xs ≡ true) × (list_all is_ascii_digit ys ≡ true)
-parts_of_numeral xs ys e = both_true _ _ (rw (list_all-append is_ascii_digit xs ys) at (both_true (nat_lt 0 (length (xs ++ ys))) (list_all is_ascii_digit (xs ++ ys)) e).1)
+parts_of_numeral xs ys e = and_parts _ _ (rw (list_all-append is_ascii_digit xs ys) at (and_parts (nat_lt 0 (length (xs ++ ys))) (list_all is_ascii_digit (xs ++ ys)) e).1)
 
 pub few_digits : (xs ys : List ℕ) → list_all is_ascii_digit xs ≡ true → list_all is_ascii_digit ys ≡ true → length xs + length ys ≤ MOST_DIGITS → digits_value_after 10 0 (xs ++ ys) < 10 ^ MOST_DIGITS
 few_digits xs ys dx dy few =

@@ -9,7 +9,7 @@ use Rattle.std.specs.declared.cmp.Ordering.TheVariants.{Less, Equal}
 use Rattle.std.proofs.lemmas.List.Kept.{AllPairs-cons}
 use Rattle.std.proofs.lemmas.Map.Keys.{sorted_tail}
 use Rattle.std.proofs.lemmas.Map.Views.{All-after_first}
-use Rattle.std.proofs.lemmas.Bool.{cases_lt}
+use Rattle.std.proofs.lemmas.Bool.{cases_lt, and_parts}
 use Rattle.std.proofs.lemmas.Bool.Decides.{Decides-int_eq}
 use Rattle.std.proofs.lemmas.Int.{ints}
 use Rattle.std.proofs.lemmas.List.{get_or_default, get_or-map, length-map}
@@ -23,10 +23,11 @@ use Rattle.oim_value.specs.Interval.{HasPoints, interval, intervals_meet}
 use Rattle.oim_value.specs.Meets.{Meets}
 use Rattle.oim_value.specs.SeveralMeet.{EachTwoMeetByMembers, AreDifferent, AreNilOrOfKind, EachTwoValuesMeet, MeetBetween, DifferentMeetAsNumbers, DifferentMeetBetweenEnds, has_low, has_high, place_of_greatest_low, place_of_least_high, CrossedEndsAreApart}
 use Rattle.oim_value.specs.ValueOrder.{kind_order, value_cmp}
-use Rattle.oim_value.proofs.Ends.{all_meet_iff_ends_meet, ends_exist, le_from, second_true}
+use Rattle.oim_value.proofs.Ends.{all_meet_iff_ends_meet, ends_exist, le_from}
 use Rattle.oim_value.proofs.Intervals.{interval_has_points}
 use Rattle.oim_value.proofs.Meeting.{meets_is_reflexive, meets_is_symmetric}
 use Rattle.oim_value.proofs.ValueOrders.{value_cmp_self}
+use Rattle.std.proofs.lemmas.List.Elements.{All-head, All-tail}
 
 -- ---- different values that meet are numbers
 
@@ -84,18 +85,12 @@ meet_from (Number m d) (Number n e) p q meet = meet
 meet_from (Number m d) v p q meet = no_number q refl
 meet_from v y p q meet = no_number p refl
 
-rest : {A : Type 0} (P : A → Type 0) (x : A) (xs : List A) → All P (x ∷ xs) → All P xs
-rest P x xs all k d lt = all (suc k) d (omega (arith, lt))
-
-first : {A : Type 0} (P : A → Type 0) (x : A) (xs : List A) → All P (x ∷ xs) → P x
-first P x xs all = all zero x (omega arith)
-
 intervals_are : (vs : List Value) → All IsNumber vs → intervals_of vs ≡ map interval_at vs
 intervals_are [] all = refl
-intervals_are (Number m d ∷ vs) all = ap (λ is. interval m d ∷ is) (intervals_are vs (rest IsNumber (Number m d) vs all))
-intervals_are (Nil ∷ vs) all = no_number (first IsNumber Nil vs all) refl
-intervals_are (AText t ∷ vs) all = no_number (first IsNumber (AText t) vs all) refl
-intervals_are (AName n ∷ vs) all = no_number (first IsNumber (AName n) vs all) refl
+intervals_are (Number m d ∷ vs) all = ap (λ is. interval m d ∷ is) (intervals_are vs (All-tail IsNumber (Number m d) vs all))
+intervals_are (Nil ∷ vs) all = no_number (All-head IsNumber Nil vs all) refl
+intervals_are (AText t ∷ vs) all = no_number (All-head IsNumber (AText t) vs all) refl
+intervals_are (AName n ∷ vs) all = no_number (All-head IsNumber (AName n) vs all) refl
 
 all_points : (vs : List Value) → All HasPoints (map interval_at vs)
 all_points vs k d lt = subst HasPoints (sym (get_or-map interval_at vs k Nil d (omega (arith, lt, length-map vs interval_at)))) (points_at (get_or vs k Nil))
@@ -221,7 +216,7 @@ crossed_ends_are_apart vs e ends over =
       apart = λ meet.
           let a : Interval = interval_at (get_or vs i Nil) in
           let b : Interval = interval_at (get_or vs j Nil) in
-          let under = le_from b.low a.high (second_true (int_le a.low b.high) (int_le b.low a.high) (meet_to (get_or vs i Nil) (get_or vs j Nil) high.0 low.0 meet)) in
+          let under = le_from b.low a.high (and_parts (int_le a.low b.high) (int_le b.low a.high) (meet_to (get_or vs i Nil) (get_or vs j Nil) high.0 low.0 meet)).1 in
           absurd (omega (arith, ints, under, high.1, low.1, over));
     }
 

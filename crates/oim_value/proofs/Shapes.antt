@@ -2,7 +2,7 @@
 use Rattle.std.proofs.Common.{◌≡◌, ◌≢◌, ℕ, ◌+◌, ◌<◌, Bool, true, false, cond, eqb, List, [], ◌∷◌, ◌++◌, length, get_or, take, drop, refl, sym, ap, ◌∙◌, arith, inl, inr}
 use Rattle.std.specs.Prelude.{ℤ, pos, negsuc}
 use mathlib.Core.Bool.{◌||◌, false≢true}
-use Rattle.std.proofs.lemmas.Bool.{cases_lt}
+use Rattle.std.proofs.lemmas.Bool.{cases_lt, and_parts, or_right}
 use Rattle.std.proofs.lemmas.Bool.Decides.{nat_tests}
 use Rattle.std.proofs.lemmas.List.{append-nil, take_at, drop_at, take_all, drop_all, drop-drop}
 use Rattle.std.proofs.lemmas.List.Sums.{split_at_first, passes_at_first}
@@ -10,7 +10,6 @@ use Rattle.std.specs.Char.{is_ascii_digit}
 use Rattle.std.specs.List.{list_all, before_first, after_first, position_or_len}
 use Rattle.oim_value.specs.Number.{is_negative, is_point, unsigned}
 use Rattle.oim_value.specs.Plain.{has_point, sign_text, with_point}
-use Rattle.oim_value.proofs.Numerals.{both_true}
 
 digit_no_plus : (d : ℕ) → is_ascii_digit d ≡ true → eqb d 43 ≡ false
 digit_no_plus d e = grind (arith, nat_tests)
@@ -29,11 +28,11 @@ below_zero (negsuc n) = true
 
 pub unsigned-digits : (ds rest : List ℕ) → 0 < length ds → list_all is_ascii_digit ds ≡ true → unsigned (ds ++ rest) ≡ ds ++ rest
 unsigned-digits [] rest some e = absurd (omega arith)
-unsigned-digits (d ∷ ds) rest some e = let here = (both_true (is_ascii_digit d) (list_all is_ascii_digit ds) e).0 in rw (digit_no_plus d here, digit_no_minus d here)
+unsigned-digits (d ∷ ds) rest some e = let here = (and_parts (is_ascii_digit d) (list_all is_ascii_digit ds) e).0 in rw (digit_no_plus d here, digit_no_minus d here)
 
 pub is_negative-digits : (ds rest : List ℕ) → 0 < length ds → list_all is_ascii_digit ds ≡ true → is_negative (ds ++ rest) ≡ false
 is_negative-digits [] rest some e = absurd (omega arith)
-is_negative-digits (d ∷ ds) rest some e = digit_no_minus d (both_true (is_ascii_digit d) (list_all is_ascii_digit ds) e).0
+is_negative-digits (d ∷ ds) rest some e = digit_no_minus d (and_parts (is_ascii_digit d) (list_all is_ascii_digit ds) e).0
 
 pub unsigned-sign_text : (m : ℤ) (ds rest : List ℕ) → 0 < length ds → list_all is_ascii_digit ds ≡ true → unsigned (sign_text m ++ (ds ++ rest)) ≡ ds ++ rest
 unsigned-sign_text (pos n) ds rest some e = unsigned-digits ds rest some e
@@ -45,7 +44,7 @@ is_negative-sign_text (negsuc n) ds rest some e = refl
 
 first_no_plus : (ds rest : List ℕ) → 0 < length ds → list_all is_ascii_digit ds ≡ true → get_or (ds ++ rest) 0 0 ≢ 43
 first_no_plus [] rest some e = absurd (omega arith)
-first_no_plus (d ∷ ds) rest some e = let no = digit_no_plus d (both_true (is_ascii_digit d) (list_all is_ascii_digit ds) e).0 in λ h. grind (arith, nat_tests)
+first_no_plus (d ∷ ds) rest some e = let no = digit_no_plus d (and_parts (is_ascii_digit d) (list_all is_ascii_digit ds) e).0 in λ h. grind (arith, nat_tests)
 
 pub no_plus-sign_text : (m : ℤ) (ds rest : List ℕ) → 0 < length ds → list_all is_ascii_digit ds ≡ true → get_or (sign_text m ++ (ds ++ rest)) 0 0 ≢ 43
 no_plus-sign_text (pos n) ds rest some e = first_no_plus ds rest some e
@@ -54,7 +53,7 @@ no_plus-sign_text (negsuc n) ds rest some e = λ h. omega arith
 position_digits : (ds rest : List ℕ) → list_all is_ascii_digit ds ≡ true → position_or_len is_point rest ≡ 0 → position_or_len is_point (ds ++ rest) ≡ length ds
 position_digits [] rest e stop = stop
 position_digits (d ∷ ds) rest e stop =
-    let parts = both_true (is_ascii_digit d) (list_all is_ascii_digit ds) e in
+    let parts = and_parts (is_ascii_digit d) (list_all is_ascii_digit ds) e in
     rw (digit_no_point d parts.0) (omega (arith, position_digits ds rest parts.1 stop))
 
 position-with_point : (fs : List ℕ) → position_or_len is_point (with_point fs) ≡ 0
@@ -76,7 +75,7 @@ after_first-digits ds fs e =
 has_point-digits : (ds rest : List ℕ) → list_all is_ascii_digit ds ≡ true → has_point (ds ++ rest) ≡ has_point rest
 has_point-digits [] rest e = refl
 has_point-digits (d ∷ ds) rest e =
-    let parts = both_true (is_ascii_digit d) (list_all is_ascii_digit ds) e in
+    let parts = and_parts (is_ascii_digit d) (list_all is_ascii_digit ds) e in
     rw (digit_no_point d parts.0) (has_point-digits ds rest parts.1)
 
 has_point-sign_text : (m : ℤ) (rest : List ℕ) → has_point (sign_text m ++ rest) ≡ has_point rest
@@ -104,10 +103,6 @@ sign_apart (c ∷ cs) h =
       | true ↦ λ e. let minus : c ≡ 45 = grind (arith, nat_tests) in ap (λ d. d ∷ cs) minus
       | false ↦ λ e. refl
     ] refl)
-
-or_right : (a b : Bool) → b ≡ true → a || b ≡ true
-or_right true b h = refl
-or_right false b h = h
 
 pub has_point-unsigned : (t : List ℕ) → has_point (unsigned t) ≡ true → has_point t ≡ true
 has_point-unsigned [] h = h

@@ -8,13 +8,13 @@ use Rattle.oim_value.specs.declared.limits.TheConstants.{MOST_DIGITS, UNIT_PLACE
 use Rattle.oim_value.proofs.Numerals.{whole_value}
 use Rattle.oim_value.specs.Number.{signed, integer_part, fraction_part, is_negative, is_number, without_leading, without_trailing, Denotes, IsShort}
 
-pub size_bound : (n e : ℕ) → n < 10 ^ MOST_DIGITS → e ≤ UNIT_PLACES → n * 10 ^ e ≤ 10 ^ (MOST_DIGITS + UNIT_PLACES)
+pub size_bound : (n e : ℕ) → n < 10 ^ MOST_DIGITS → e ≤ UNIT_PLACES → n * 10 ^ e < 10 ^ (MOST_DIGITS + UNIT_PLACES)
 size_bound n e few within =
     let p : 10 ^ e ≤ 10 ^ UNIT_PLACES = pow-le-pow_right (omega arith) within in
     let q : n * 10 ^ e ≤ n * 10 ^ UNIT_PLACES = mul-le-mul_left n p in
     omega arith
 
-pub short_bound : (z : ℤ) → IsShort z → unsigned_abs z ≤ 10 ^ (MOST_DIGITS + UNIT_PLACES)
+pub short_bound : (z : ℤ) → IsShort z → unsigned_abs z < 10 ^ (MOST_DIGITS + UNIT_PLACES)
 short_bound z h = rw h.is (size_bound h.number (UNIT_PLACES - h.places) h.few (omega arith))
 
 pub unsigned_abs-signed : (b : Bool) (n : ℕ) → unsigned_abs (signed b n) ≡ n

@@ -4,13 +4,12 @@ ghost use Rattle.std.specs.List.{list_all};
 ghost use Rattle.std.specs.Char.{is_ascii_digit};
 ghost use Rattle.std.specs.Str.Parse.{digits_value_after};
 ghost use Rattle.oim_value.specs.Number.{Denotes, IsShort, number_refusal, signed};
-ghost use Rattle.oim_value.specs.Plain.{plain};
+ghost use Rattle.oim_value.specs.Plain.{plain, sign_text};
 
 use crate::digits::{
     append_digits, are_digits, skip_leading_zeros, skip_trailing_zeros, split_point, split_sign,
 };
 use crate::limits::{MOST_DIGITS, UNIT_PLACES};
-use crate::plain::write_units;
 use oim_names::{Reason, Text};
 use std::alloc::{AllocError, Global};
 use std::marker::Model;
@@ -109,4 +108,35 @@ pub fn write_fixed(alloc: Global, value: Fixed) -> Result<Text, AllocError>
     ensures { IfOk result (λ text. text ≡ plain value) }
 {
     write_units(alloc, value.units())
+}
+
+/// Returns the only plain text of a number in units of 10^-`UNIT_PLACES`. The text has `-` for a
+/// negative number, then the integer digits without leading zeros (`0` if the integer part is
+/// zero). If the number is not whole, a point and the fraction digits without trailing zeros
+/// follow.
+///
+/// Errors: out of memory.
+pub fn write_units(alloc: Global, units: i128) -> Result<Text, AllocError>
+    ensures { IfOk result (λ text. text ≡ plain units) }
+{
+    let size = units.unsigned_abs();
+    let sign = sign_of(units);
+    let integer = size / 10u128.pow(UNIT_PLACES);
+    let rest = size % 10u128.pow(UNIT_PLACES);
+    if rest == 0 {
+        let whole = Text::from_string(alloc, format!(in alloc; "{sign}{integer}")?)?;
+        return Ok(whole);
+    }
+    let width = UNIT_PLACES as usize;
+    let mut text = format!(in alloc; "{sign}{integer}.{rest:0width$}")?;
+    let kept = skip_trailing_zeros(text.as_bytes()).len();
+    text.truncate(kept);
+    let cut = Text::from_string(alloc, text)?;
+    Ok(cut)
+}
+
+fn sign_of(units: i128) -> &'static str
+    ensures { result.now ≡ sign_text units }
+{
+    if units < 0 { "-" } else { "" }
 }

@@ -17,4 +17,4 @@ pub returns-clause-value : goal.returns-clause-value
 returns-clause-value c = rw (c.from.ensures, c.pow.ensures) (omega (arith, ints, size_bound c.args.number c.args.zeros c.requires.few c.requires.zeros))
 
 pub returns-clause-bound : goal.returns-clause-bound
-returns-clause-bound c = size_bound c.args.number c.args.zeros c.requires.few c.requires.zeros
+returns-clause-bound c = omega (arith, size_bound c.args.number c.args.zeros c.requires.few c.requires.zeros)

@@ -11,7 +11,7 @@ use Rattle.oim_value.specs.Plain.{integer_digits, plain, sign_text}
 use Rattle.oim_value.proofs.PlainLaws.{fitting_is_writable}
 use Rattle.oim_value.proofs.PlainLemmas.{padded_integral-zeros, take-without_trailing}
 use Rattle.oim_value.proofs.Written.{all_places, all_places_ascii, plain_cut, plain_whole}
-use Rattle.oim_value.proofs.plain.write_units.Goals as goal
+use Rattle.oim_value.proofs.fixed.write_units.Goals as goal
 
 whole_text : (m : ℤ) (t sign : List ℕ) (size : ℕ) → size ≡ unsigned_abs m → sign ≡ sign_text m → size % 10 ^ UNIT_PLACES ≡ 0 → t ≡ sign ++ decimal (size / 10 ^ UNIT_PLACES) → t ≡ plain m
 whole_text m t sign size e f none text = text ∙ (λ i. f i ++ integer_digits (e i)) ∙ plain_whole m (rw (← e) none)
