@@ -11,7 +11,7 @@ use mathlib.Core.Bool.{true≢false}
 use Rattle.merge_laws.specs.code.Insertions.{found_at, new_item, new_value, shared_value, place_of}
 use Rattle.merge_laws.specs.Sorted.{IsRising, item_at, has_key, entry_key}
 use Rattle.merge_laws.specs.Union.{with_item}
-use Rattle.merge_laws.specs.code.Items.{Below, none_below, turned_less, turned_greater}
+use Rattle.merge_laws.specs.code.Items.{Below, below_less, none_below, turned_less, turned_greater}
 
 -- the result of a search shows whether the list has the key, and the index of the key or of its insertion
 pub tells_ok : (b : Bool) (p i : ℕ) → ◌≡◌ {A = Result ℕ ℕ} (Ok i) (cond b (Ok p) (Err p)) → (b ≡ true) × (p ≡ i)
@@ -37,11 +37,7 @@ module _ {K E : Type 0} {R : K → K → Ordering} (key : E → K) (o : IsTotalO
 
   pub below_rest : (k : K) (e : E) (es : List E) → IsRising R key (e ∷ es) → R k (key e) ≡ Less → Below key o k (e ∷ es)
   unfolding IsStrictlySortedBy
-  below_rest k e es h p = (p, further es h.0)
-    where
-      further : (fs : List E) → Below key o (key e) fs → Below key o k fs
-      further [] b = tt
-      further (f ∷ fs) b = (o.trans k (key e) (key f) p b.0, further fs b.1)
+  below_rest k e es h p = (p, below_less key o k (key e) es p h.0)
 
   pub rest_rises : (e : E) (es : List E) → IsRising R key (e ∷ es) → IsRising R key es
   unfolding IsStrictlySortedBy
@@ -96,10 +92,6 @@ module _ {K E : Type 0} {R : K → K → Ordering} (key : E → K) (o : IsTotalO
     put_in es new x y i at same is =
         let told = tells_err (has_key R key (key x) es) (place_of R key (key x) es) i at in
         is ∙ (λ n. insert es (sym told.1 n) (same n)) ∙ placed x es told.0
-
-  pub nothing_rises : IsRising R key []
-  unfolding IsStrictlySortedBy
-  nothing_rises = tt
 
   pub item_found : (k : K) (es : List E) (i : ℕ) (d : E) → IsRising R key es → Ok i ≡ found_at R key k es → item_at R key k es ≡ Some (get_or es i d)
   item_found k es i d h at =

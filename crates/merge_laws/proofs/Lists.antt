@@ -1,5 +1,5 @@
 -- Lists that are split before their last item, and parts of ascending lists.
-use Rattle.std.proofs.Common.{◌≡◌, ℕ, zero, suc, ◌+◌, ◌<◌, ◌≤◌, get_or, List, [], ◌∷◌, ◌++◌, append-nil, take, length, Option, Some, None, refl, sym, ap, subst, ◌∙◌, arith}
+use Rattle.std.proofs.Common.{◌≡◌, ℕ, ◌+◌, ◌<◌, get_or, List, [], ◌∷◌, ◌++◌, append-nil, take, length, Option, Some, None, refl, sym, ap, subst, ◌∙◌}
 use Rattle.std.specs.Prelude.{reverse}
 use Rattle.std.specs.Option.{option_or}
 use Rattle.std.specs.List.{AllByRecursion, flat_map}
@@ -46,12 +46,6 @@ flat_map_more f xs i x within is =
 
 pub flat_map_next : {A B : Type 0} (f : A → List B) (xs : List A) (n m : ℕ) (x : A) → n < length xs → x ≡ get_or xs n x → m ≡ n + 1 → flat_map f (take n xs) ++ f x ≡ flat_map f (take m xs)
 flat_map_next f xs n m x within is next = sym (flat_map_more f xs n x within is) ∙ ap (λ i. flat_map f (take i xs)) (sym next)
-
-pub whole : {A : Type 0} (xs : List A) (i : ℕ) → length xs ≤ i → take i xs ≡ xs
-whole [] zero le = refl
-whole [] (suc i) le = refl
-whole (x ∷ xs) zero le = absurd (omega (arith, le))
-whole (x ∷ xs) (suc i) le = ap (λ s. x ∷ s) (whole xs i (omega (arith, le)))
 
 pub or_none : {A : Type 0} (a : Option A) → option_or a None ≡ a
 or_none None = refl

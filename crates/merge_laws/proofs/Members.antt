@@ -17,6 +17,7 @@ use Rattle.merge_laws.specs.Sorted.{item_at, has_key, itself, entry_key, value_a
 use Rattle.merge_laws.specs.code.SummaryLaws.{summary_associates, summary_commutes, summary_idempotent}
 use Rattle.merge_laws.specs.Union.{merged_entries, map_with, map_union, set_with, set_union}
 use Rattle.merge_laws.proofs.Both.{set_tells_item}
+use Rattle.std.proofs.lemmas.List.Elements.{All-from_recursion, recursion_from_All}
 
 same_tests : (a b : Bool) → (a ≡ true → b ≡ true) → (b ≡ true → a ≡ true) → a ≡ b
 same_tests true b f g = sym (f refl)
@@ -50,13 +51,10 @@ module _ {K : Type 0} {R : K → K → Ordering} (o : IsTotalOrder R) (exact : (
   map_is_its_values V es fs g h same = same_items entry_key o es fs g h (λ k. entry_there k es ∙ ap (λ (a : Option V). option_map (λ v. (k, v)) a) (same k) ∙ sym (entry_there k fs))
 
 pub all_by_place : {A : Type 0} (P : A → Type 0) (xs : List A) → AllByRecursion P xs → All P xs
-all_by_place P [] h k d lt = absurd (omega (arith, lt))
-all_by_place P (x ∷ xs) h zero d lt = h.0
-all_by_place P (x ∷ xs) h (suc k) d lt = all_by_place P xs h.1 k d (omega (arith, lt))
+all_by_place = All-from_recursion
 
 pub all_in_turn : {A : Type 0} (P : A → Type 0) (xs : List A) → All P xs → AllByRecursion P xs
-all_in_turn P [] h = tt
-all_in_turn P (x ∷ xs) h = (h zero x (omega arith), all_in_turn P xs (λ k d lt. h (suc k) d (omega (arith, lt))))
+all_in_turn = recursion_from_All
 
 -- if merging keeps a property, `put` and the union of two maps keep it for all entries
 module _ {K V : Type 0} {R : K → K → Ordering} (exact : (x y : K) → R x y ≡ Equal → x ≡ y) (merged : V → V → V) (P : K → V → Type 0) (closed : (k : K) (v w : V) → P k v → P k w → P k (merged v w)) where

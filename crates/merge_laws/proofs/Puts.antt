@@ -31,7 +31,3 @@ module _ {K V : Type 0} {R : K → K → Ordering} (o : IsTotalOrder R) (P : V �
   pub merged_there : {A B : Type 0} (r : Result A B) (es : List (K × V)) (k : K) (v m : V) (i : ℕ) (x : K × V) → ((v w : V) → P v → P w → P (merged v w)) → IsMap R P es → P v → Ok i ≡ found_at R entry_key k es → i < length es → x ≡ get_or es i x → OnOk r (m ≡ merged x.1 v) → OnErr r (m ≡ x.1) → IsMap R P (set es i (x.0, m))
   merged_there (Ok a) es k v m i x closed h p at within read made kept = subst (IsMap R P) (sym (put_there es k v m i x h.rises at read made)) (put_map closed es k v h p)
   merged_there (Err e) es k v m i x closed h p at within read made kept = subst (IsMap R P) (sym (put_back es m i x within read kept)) h
-
-pub on_ok : {A B : Type 0} {P Q : Type 0} (r : Result A B) → (P → Q) → OnOk r P → OnOk r Q
-on_ok (Ok a) f p = f p
-on_ok (Err e) f p = tt

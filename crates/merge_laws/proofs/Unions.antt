@@ -9,8 +9,8 @@ use Rattle.merge_laws.specs.code.Insertions.{inserted, new_items, new_values, wi
 use Rattle.merge_laws.specs.Sorted.{IsRising, IsSet, IsMap, item_at, itself, entry_key}
 use Rattle.merge_laws.specs.Union.{either_or_both, older, merged_entries, set_union, map_union}
 use Rattle.merge_laws.specs.code.Items.{same_items, rises_union, item_at-union}
-use Rattle.merge_laws.specs.code.UnionLaws.{set_closed, set_commutes, map_closed, map_commutes}
-use Rattle.merge_laws.proofs.Edits.{nothing_rises}
+use Rattle.merge_laws.specs.code.UnionLaws.{set_closed, map_closed, map_commutes}
+use Rattle.merge_laws.proofs.Rising.{none_rise}
 use Rattle.merge_laws.proofs.Taking.{takes_all}
 use Rattle.merge_laws.proofs.Values.{revalued, IsRevalued, revalues_all}
 
@@ -24,10 +24,6 @@ module _ {K : Type 0} {R : K → K → Ordering} (o : IsTotalOrder R) where
       let taken = takes_all itself o xs ys g h in
       same_items itself o _ _ taken.rises (rises_union itself o older (λ _ _. refl) xs ys g) (λ q.
       taken.at q ∙ older_or (item_at R itself q xs) (item_at R itself q ys) ∙ sym (item_at-union itself o older (λ _ _. refl) q xs ys g h))
-
-  pub set_of_other : ((x y : K) → R x y ≡ Equal → x ≡ y) → (xs ys : List K) → length xs ≡ 0 → IsSet R ys → set_union R xs ys ≡ ys
-  set_of_other exact [] ys none h = set_commutes o exact [] ys (nothing_rises itself o) h
-  set_of_other exact (x ∷ xs) ys none h = absurd (omega (arith, none))
 
   -- after a call that merges ys into the set xs, the items are a set, whether or not memory was refused
   pub set_stays : {A B : Type 0} (r : Result A B) (xs ys zs : List K) → IsSet R xs → IsSet R ys → OnOk r (zs ≡ set_union R xs ys) → OnErr r (zs ≡ xs) → IsSet R zs
@@ -61,5 +57,5 @@ module _ {K V : Type 0} {R : K → K → Ordering} (o : IsTotalOrder R) (merged 
   map_stays P closed (Err e) es fs gs g h made kept = subst (IsMap R P) (sym kept) g
 
   pub map_of_other : (P : V → Type 0) → ((x y : K) → R x y ≡ Equal → x ≡ y) → ((v w : V) → P v → P w → merged v w ≡ merged w v) → (es fs : List (K × V)) → length es ≡ 0 → IsMap R P fs → map_union R merged es fs ≡ fs
-  map_of_other P exact law [] fs none h = map_commutes o P merged exact law [] fs (record { rises = nothing_rises entry_key o; values = tt }) h
+  map_of_other P exact law [] fs none h = map_commutes o P merged exact law [] fs (record { rises = none_rise R entry_key; values = tt }) h
   map_of_other P exact law (e ∷ es) fs none h = absurd (omega (arith, none))

@@ -1,12 +1,9 @@
 //! Merges whose results do not depend on the order, grouping or repetition of the values.
 #![tactic(auto)]
 
-mod changes;
-mod few;
 mod insertion;
 pub mod laws;
 mod merge;
-mod pair;
 mod search;
 mod sorted_map;
 mod sorted_set;

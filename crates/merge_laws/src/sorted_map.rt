@@ -1,12 +1,14 @@
-ghost use Rattle.std.specs.Prelude.{◌≡◌, [], length, slice_get, IfOk, OnOk, OnErr};
+ghost use Rattle.std.specs.Prelude.{◌≡◌, ◌<◌, ◌≤◌, ◌++◌, [], length, reverse, slice_get, vec_len, vec_capacity, IfOk, OnOk, OnErr};
 ghost use Rattle.std.specs.Option.{option_copied, option_map};
-ghost use Rattle.std.specs.List.{AllByRecursion};
+ghost use Rattle.std.specs.List.{AllByRecursion, AllWithin};
+ghost use Rattle.std.specs.declared.cmp.Ordering.TheVariants.{Less as Below};
+ghost use Rattle.merge_laws.specs.code.Insertions.{IsFirstLeast, inserted, new_item, new_items, new_value, new_values, with_values, place_of};
 ghost use Rattle.merge_laws.specs.Sorted.{IsMap, IsRising, entry_key, value_at};
 ghost use Rattle.merge_laws.specs.Union.{map_union, map_with};
 
-use crate::changes::{changes_by, changes_of};
+use crate::insertion::{insert_all, room_for};
 use crate::merge::Merge;
-use crate::search::find;
+use crate::search::{find, find_from};
 use oim_names::{Copied, Key, copies_of};
 use std::alloc::{AllocError, Global};
 use std::marker::Model;
@@ -33,9 +35,7 @@ impl<K: Key, V: Merge> SortedMap<K, V> {
     pub fn new(alloc: Global) -> Self
         ensures { result ≡ [] }
     {
-        SortedMap {
-            entries: Vec::new(alloc),
-        }
+        SortedMap::of_rising(Vec::new(alloc))
     }
 
     /// Returns the map of the entries, which must be in the order of their keys, each key once.
@@ -130,8 +130,7 @@ fn know_values<K, V: Merge>(entries: &[(K, V)])
     }
 }
 
-/// A merged map has the keys of both maps. Values of shared keys are merged in a copy, so that
-/// nothing changes if memory is refused.
+/// A merged map has the keys of both maps. The other map is copied first.
 impl<K: Key, V: Merge> Merge for SortedMap<K, V> {
     ghost use Rattle.merge_laws.specs.Sorted.{IsMap};
     ghost use Rattle.merge_laws.specs.Union.{map_union};
@@ -150,11 +149,97 @@ impl<K: Key, V: Merge> Merge for SortedMap<K, V> {
     ghost idempotent = { map_idempotent K.total V.is_known V.merged V.idempotent };
 
     fn merge(&mut self, alloc: Global, other: &Self) -> Result<(), AllocError> {
-        let changes = changes_by(alloc, self.entries.as_slice(), other.entries.as_slice())?;
-        changes.make(&mut self.entries)
+        self.absorb(other.copied(alloc)?)
     }
 
     fn known(&self) {
         let _entries = &self.entries;
+    }
+}
+
+/// The changes to a map when another map is merged into it.
+#[derive(Drop)]
+struct Changes<K: Drop, V: Drop> {
+    /// The merged values of the keys that both maps have, each with the index of its key.
+    values: Vec<(usize, V)>,
+    /// The entries with new keys, each with the index in the old entries at which it is inserted.
+    new_entries: Vec<(usize, (K, V))>,
+}
+
+// The other entries are consumed, so that none of them is copied.
+fn changes_of<K: Key, V: Merge>(
+    alloc: Global,
+    entries: &[(K, V)],
+    others: Vec<(K, V)>,
+) -> Result<Changes<K, V>, AllocError>
+    requires entries { IsRising K.cmp entry_key entries.now }
+    requires others { IsRising K.cmp entry_key others.items }
+    ensures values { IfOk result (λ changes. changes.values.items ≡ new_values K.cmp V.merged entries.now others.items) }
+    ensures new_entries { IfOk result (λ changes. changes.new_entries.items ≡ new_items K.cmp entry_key entries.now others.items) }
+{
+    let mut changes = Changes {
+        values: Vec::new(alloc),
+        new_entries: Vec::new(alloc),
+    };
+    let mut from = 0;
+    for other in others {
+        from = changes.take(alloc, entries, other, from)?;
+    }
+    Ok(changes)
+}
+
+impl<K: Key, V: Merge> Changes<K, V> {
+    fn take(
+        &mut self,
+        alloc: Global,
+        entries: &[(K, V)],
+        other: (K, V),
+        from: usize,
+    ) -> Result<usize, AllocError>
+        requires rises { IsRising K.cmp entry_key entries.now }
+        requires within { from ≤ length entries.now }
+        requires below { AllWithin (λ e. K.cmp e.0 other.0 ≡ Below) entries.now 0 from }
+        ensures values { OnOk result (self.new.values.items ≡ self.old.values.items ++ new_value K.cmp V.merged entries.now other) }
+        ensures new_entries { OnOk result (self.new.new_entries.items ≡ self.old.new_entries.items ++ new_item K.cmp entry_key entries.now other) }
+        ensures place { IfOk result (λ place. place ≡ place_of K.cmp entry_key other.0 entries.now) }
+    {
+        let (key, mut value) = other;
+        match find_from(entries, &key, from) {
+            Ok(place) => {
+                let own = &entries[place].1;
+                own.known();
+                value.known();
+                value.merge(alloc, own)?;
+                self.values.push((place, value))?;
+                Ok(place)
+            }
+            Err(place) => {
+                self.new_entries.push((place, (key, value)))?;
+                Ok(place)
+            }
+        }
+    }
+
+    fn make(self, entries: &mut Vec<(K, V)>) -> Result<(), AllocError>
+        requires values { AllByRecursion (λ c. c.0 < vec_len entries.old) self.values.items }
+        requires new_entries { IsFirstLeast (vec_len entries.old) self.new_entries.items }
+        ensures ok { OnOk result (entries.new.items ≡ inserted (with_values entries.old.items self.values.items) (reverse self.new_entries.items)) }
+        ensures err { OnErr result (entries.new.items ≡ entries.old.items) }
+    {
+        let above = room_for(entries, self.new_entries.as_slice())?;
+        set_values(entries, self.values);
+        insert_all(entries, self.new_entries, above);
+        Ok(())
+    }
+}
+
+fn set_values<K: Drop, V: Drop>(entries: &mut Vec<(K, V)>, values: Vec<(usize, V)>)
+    requires { AllByRecursion (λ c. c.0 < vec_len entries.old) values.items }
+    ensures items { entries.new.items ≡ with_values entries.old.items values.items }
+    ensures len { vec_len entries.new ≡ vec_len entries.old }
+    ensures room { vec_capacity entries.new ≡ vec_capacity entries.old }
+{
+    for (place, value) in values {
+        entries[place].1 = value;
     }
 }

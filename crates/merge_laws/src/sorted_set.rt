@@ -1,12 +1,13 @@
-ghost use Rattle.std.specs.Prelude.{◌≡◌, [], ◌∷◌, not, IfOk, OnOk, OnErr};
-ghost use Rattle.merge_laws.specs.code.Insertions.{new_items};
+ghost use Rattle.std.specs.Prelude.{◌≡◌, ◌≤◌, [], ◌∷◌, length, not, reverse, IfOk, OnOk, OnErr};
+ghost use Rattle.std.specs.List.{insert};
+ghost use Rattle.merge_laws.specs.code.Insertions.{IsFirstLeast, inserted, new_items};
 ghost use Rattle.merge_laws.specs.Sorted.{IsSet, has_key, itself};
 ghost use Rattle.merge_laws.specs.Union.{set_union, set_with};
 
-use crate::few::Few;
+use crate::insertion::insert_new;
 use crate::merge::Merge;
 use crate::search::{find, find_from};
-use oim_names::{Copied, Key};
+use oim_names::{Copied, Key, copies_of};
 use std::alloc::{AllocError, Global};
 use std::marker::Model;
 
@@ -74,21 +75,15 @@ impl<T: Key> SortedSet<T> {
         }
     }
 
-    /// Merges the other set into this one, as `merge` does, but consumes the other set. New items
-    /// are moved, not copied.
+    /// Merges the other set into this one, as `merge` does, and drops the other set.
     ///
     /// Errors: out of memory; the set is then unchanged, and the other set is lost.
     pub fn absorb(&mut self, other: Self) -> Result<(), AllocError>
         ensures ok { OnOk result (self.new ≡ set_union T.cmp self.old other) }
         ensures err { OnErr result (self.new ≡ self.old) }
     {
-        if self.items.as_slice().is_empty() {
-            self.items = other.items;
-            return Ok(());
-        }
-        let others = other.items.into_list()?;
-        let moved = new_of(self.items.allocator(), self.items.as_slice(), others)?;
-        self.items.insert_new(moved)
+        let alloc = self.items.allocator();
+        self.merge(alloc, &other)
     }
 
     /// Returns the items in order, each once.
@@ -131,25 +126,6 @@ fn new_among<T: Key>(
     Ok(news)
 }
 
-fn new_of<T: Key>(alloc: Global, items: &[T], others: Vec<T>) -> Result<Vec<(usize, T)>, AllocError>
-    requires items { IsSet T.cmp items.now }
-    requires others { IsSet T.cmp others.items }
-    ensures { IfOk result (λ news. news.items ≡ new_items T.cmp itself items.now others.items) }
-{
-    let mut news = Vec::new(alloc);
-    let mut from = 0;
-    for other in others {
-        match find_from(items, &other, from) {
-            Ok(found) => from = found,
-            Err(place) => {
-                news.push((place, other))?;
-                from = place;
-            }
-        }
-    }
-    Ok(news)
-}
-
 /// Merging two sets gives their union.
 impl<T: Key> Merge for SortedSet<T> {
     ghost use Rattle.merge_laws.specs.Sorted.{IsSet};
@@ -175,5 +151,101 @@ impl<T: Key> Merge for SortedSet<T> {
 
     fn known(&self) {
         let _items = &self.items;
+    }
+}
+
+/// A list that can store a single item without heap memory. Contracts see only the items.
+#[derive(Drop)]
+struct Few<T: Key> {
+    room: Room<T>,
+}
+
+#[derive(Drop)]
+enum Room<T: Key> {
+    One(Global, [T; 1]),
+    Many(Vec<T>),
+}
+
+impl<T: Key> Model for Few<T> {
+    ghost use Rattle.std.specs.Prelude.{List};
+    ghost use Rattle.merge_laws.specs.code.Few.{items_of};
+
+    ghost Value = { List T };
+
+    ghost view = { λ a. items_of a.room };
+}
+
+impl<T: Key> Few<T> {
+    fn one(alloc: Global, item: T) -> Self
+        ensures { result ≡ item ∷ [] }
+    {
+        Few {
+            room: Room::One(alloc, [item]),
+        }
+    }
+
+    fn many(items: Vec<T>) -> Self
+        ensures { result ≡ items.items }
+    {
+        Few {
+            room: Room::Many(items),
+        }
+    }
+
+    fn as_slice(&self) -> &[T]
+        ensures { result.now ≡ self.now }
+    {
+        match &self.room {
+            Room::One(_alloc, item) => &item[..],
+            Room::Many(items) => items.as_slice(),
+        }
+    }
+
+    fn allocator(&self) -> Global {
+        match &self.room {
+            Room::One(alloc, _item) => *alloc,
+            Room::Many(items) => *items.allocator(),
+        }
+    }
+
+    fn insert(&mut self, place: usize, item: T) -> Result<(), AllocError>
+        requires { place ≤ length self.old }
+        ensures ok { OnOk result (self.new ≡ insert self.old place item) }
+        ensures err { OnErr result (self.new ≡ self.old) }
+    {
+        if let Room::Many(items) = &mut self.room {
+            items.insert(place, item)?;
+            return Ok(());
+        }
+        let mut items = copies_of(self.allocator(), self.as_slice(), 1)?;
+        items.insert(place, item)?;
+        self.room = Room::Many(items);
+        Ok(())
+    }
+
+    fn insert_new(&mut self, news: Vec<(usize, T)>) -> Result<(), AllocError>
+        requires { IsFirstLeast (length self.old) news.items }
+        ensures ok { OnOk result (self.new ≡ inserted self.old (reverse news.items)) }
+        ensures err { OnErr result (self.new ≡ self.old) }
+    {
+        if news.is_empty() {
+            return Ok(());
+        }
+        if let Room::Many(items) = &mut self.room {
+            return insert_new(items, news);
+        }
+        let mut items = copies_of(self.allocator(), self.as_slice(), news.len())?;
+        insert_new(&mut items, news)?;
+        self.room = Room::Many(items);
+        Ok(())
+    }
+}
+
+impl<T: Key> Copied for Few<T> {
+    fn copied(&self, alloc: Global) -> Result<Self, AllocError> {
+        Ok(match &self.room {
+            Room::One(_alloc, [item]) => Few::one(alloc, item.copied(alloc)?),
+            Room::Many(items) => Few::many(copies_of(alloc, items.as_slice(), 0)?),
+        })
     }
 }

@@ -5,11 +5,11 @@ use Rattle.merge_laws.specs.code.Insertions.{IsFirstLeast, inserted, new_items, 
 use Rattle.merge_laws.specs.Sorted.{entry_key}
 use Rattle.merge_laws.specs.Union.{map_union}
 use Rattle.std.proofs.lemmas.Bool.Decides.{nat_tests}
-use Rattle.merge_laws.proofs.Puts.{on_ok}
 use Rattle.merge_laws.proofs.Taking.{first_least}
 use Rattle.merge_laws.proofs.Unions.{map_of_other, map_stays, map_taken}
 use Rattle.merge_laws.proofs.Values.{values_within}
 use Rattle.merge_laws.proofs.sorted_map.SortedMap.absorb.Goals as goal
+use Rattle.std.proofs.lemmas.Result.{on_ok_weaker}
 
 pub make-requires-clause-values : goal.make-requires-clause-values
 make-requires-clause-values g c =
@@ -30,7 +30,7 @@ made g c =
     let fs = c.other.inside.entries.items in
     let values = c.in_ok-moved.ensures.values ∙ (λ i. new_values g.K.Ord.cmp g.V.Merge.merged (c.as_slice.ensures.value i) c.other.inside.entries.items) in
     let news = c.in_ok-moved.ensures.new_entries ∙ (λ i. new_items g.K.Ord.cmp entry_key (c.as_slice.ensures.value i) c.other.inside.entries.items) in
-    on_ok c.make.result (λ done.
+    on_ok_weaker c.make.result (λ done.
     done
     ∙ (λ i. inserted (with_values es (values i)) (reverse (news i)))
     ∙ map_taken g.met.K.Ord.total g.V.Merge.merged es fs c.self.invariant.rises c.other.invariant.rises) c.make.ensures.ok
@@ -39,7 +39,7 @@ pub invariant_of-self-2 : goal.invariant_of-self-2
 invariant_of-self-2 g c = map_stays g.met.K.Ord.total g.V.Merge.merged g.V.Merge.is_known g.met.V.Merge.closed c.make.result c.self.inside.entries.items c.other.inside.entries.items c.make.new.entries.items c.self.invariant c.other.invariant (made g c) c.make.ensures.err
 
 pub returns-clause-ok : goal.returns-clause-ok
-returns-clause-ok g c = on_ok c.make.result (λ done. done ∙ (λ i. map_union g.K.Ord.cmp g.V.Merge.merged (c.self.view_is i) (c.other.view_is i))) (made g c)
+returns-clause-ok g c = on_ok_weaker c.make.result (λ done. done ∙ (λ i. map_union g.K.Ord.cmp g.V.Merge.merged (c.self.view_is i) (c.other.view_is i))) (made g c)
 
 pub invariant_of-self : goal.invariant_of-self
 invariant_of-self g c = c.other.invariant

@@ -3,8 +3,9 @@ use Rattle.merge_laws.specs.code.Insertions.{found_at}
 use Rattle.merge_laws.specs.Sorted.{IsMap, entry_key}
 use Rattle.merge_laws.specs.Union.{map_with, merged_entries}
 use Rattle.merge_laws.proofs.Edits.{put_in}
-use Rattle.merge_laws.proofs.Puts.{put_there, put_map, merged_there, on_ok}
+use Rattle.merge_laws.proofs.Puts.{put_there, put_map, merged_there}
 use Rattle.merge_laws.proofs.sorted_map.SortedMap.put.Goals as goal
+use Rattle.std.proofs.lemmas.Result.{on_ok_weaker}
 
 pub invariant_of-self : goal.invariant_of-self
 invariant_of-self g c =
@@ -16,7 +17,7 @@ invariant_of-self g c =
 pub returns-in-Ok-clause-ok : goal.returns-in-Ok-clause-ok
 returns-in-Ok-clause-ok g c =
     let at : Ok c.in-Ok.place ≡ found_at g.K.Ord.cmp entry_key c.args.key.now c.self.inside.entries.items = rw (← c.as_slice.ensures.value) c.in-Ok.ensures.place in
-    on_ok c.merge.result (λ made.
+    on_ok_weaker c.merge.result (λ made.
     put_there g.met.K.Ord.total g.V.Merge.is_known g.V.Merge.merged c.self.inside.entries.items c.args.key.now c.args.value.now c.merge.new.self c.in-Ok.place c.index_mut.result.now c.self.invariant.rises at c.index_mut.ensures.value made
     ∙ ap (map_with g.K.Ord.cmp g.V.Merge.merged c.args.key.now c.args.value.now) c.self.view_is) c.merge.ensures.ok
 

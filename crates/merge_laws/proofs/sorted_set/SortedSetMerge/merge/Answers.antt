@@ -3,10 +3,10 @@ use Rattle.std.specs.Prelude.{reverse}
 use Rattle.merge_laws.specs.code.Insertions.{IsFirstLeast, inserted, new_items}
 use Rattle.merge_laws.specs.Sorted.{itself}
 use Rattle.merge_laws.specs.Union.{set_union}
-use Rattle.merge_laws.proofs.Puts.{on_ok}
 use Rattle.merge_laws.proofs.Taking.{first_least}
 use Rattle.merge_laws.proofs.Unions.{set_stays, set_taken}
 use Rattle.merge_laws.proofs.sorted_set.SortedSetMerge.merge.Goals as goal
+use Rattle.std.proofs.lemmas.Result.{on_ok_weaker}
 
 pub insert_new-requires : goal.insert_new-requires
 insert_new-requires g c =
@@ -14,7 +14,7 @@ insert_new-requires g c =
     (search rules, subst (IsFirstLeast (length c.self.inside.items)) (sym news) (first_least itself g.met.T.Ord.total (length c.self.inside.items) c.self.inside.items c.other.inside.items c.other.invariant))
 
 made : (g : _) (c : goal.After-insert_new g) → OnOk c.insert_new.result (c.insert_new.new.self ≡ set_union g.T.Ord.cmp c.self.inside.items c.other.inside.items)
-made g c = on_ok c.insert_new.result (λ done.
+made g c = on_ok_weaker c.insert_new.result (λ done.
     done
     ∙ (λ i. inserted c.self.inside.items (reverse (c.in_ok-news.ensures i)))
     ∙ (λ i. inserted c.self.inside.items (reverse (new_items g.T.Ord.cmp itself (c.as_slice.ensures i) (c.as_slice-2.ensures i))))
@@ -24,4 +24,4 @@ pub invariant_of-self : goal.invariant_of-self
 invariant_of-self g c = set_stays g.met.T.Ord.total c.insert_new.result c.self.inside.items c.other.inside.items c.insert_new.new.self c.self.invariant c.other.invariant (made g c) c.insert_new.ensures.err
 
 pub returns-clause-ok : goal.returns-clause-ok
-returns-clause-ok g c = on_ok c.insert_new.result (λ done. done ∙ (λ i. set_union g.T.Ord.cmp (c.self.view_is i) (c.other.view_is i))) (made g c)
+returns-clause-ok g c = on_ok_weaker c.insert_new.result (λ done. done ∙ (λ i. set_union g.T.Ord.cmp (c.self.view_is i) (c.other.view_is i))) (made g c)

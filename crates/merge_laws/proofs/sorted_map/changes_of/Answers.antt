@@ -1,12 +1,12 @@
 use Rattle.std.proofs.Common.{◌≤◌, ◌++◌, get_or, length, sym, ap, subst, ◌∙◌, arith}
 use Rattle.std.proofs.lemmas.Iterator.Adapters.{YieldsList-from_vec}
 use Rattle.std.proofs.lemmas.Iterator.Consumers.{YieldsList-turn, YieldsList-end}
-use Rattle.std.proofs.lemmas.List.{length_push}
+use Rattle.std.proofs.lemmas.List.{length_push, take_all}
 use Rattle.merge_laws.specs.code.Insertions.{new_item, new_items, new_value, new_values}
 use Rattle.merge_laws.specs.Sorted.{entry_key}
-use Rattle.merge_laws.proofs.Lists.{flat_map_next, whole}
+use Rattle.merge_laws.proofs.Lists.{flat_map_next}
 use Rattle.merge_laws.proofs.Places.{passed_more, place_bound}
-use Rattle.merge_laws.proofs.changes.changes_of.Goals as goal
+use Rattle.merge_laws.proofs.sorted_map.changes_of.Goals as goal
 
 pub take-requires-clause-within : goal.take-requires-clause-within
 take-requires-clause-within g c = c.loop-other.invariant.within
@@ -41,10 +41,10 @@ pub returns-clause-values : goal.returns-clause-values
 returns-clause-values g c =
     let fs = c.args.others.items in
     let end = YieldsList-end (YieldsList-from_vec {s = c.into_iter-other-iterator.result} fs (cc) (omega arith)) c.loop-other.yielded c.loop-other.other-iterator c.loop-other.yielded_by c.next.result c.next.new.self c.in-None.is c.next.ensures.steps in
-    c.loop-other.invariant.values ∙ ap (new_values g.K.Ord.cmp g.V.Merge.merged c.args.entries.now) (whole fs _ (omega (arith, end.1)))
+    c.loop-other.invariant.values ∙ ap (new_values g.K.Ord.cmp g.V.Merge.merged c.args.entries.now) (take_all _ fs (omega (arith, end.1)))
 
 pub returns-clause-new_entries : goal.returns-clause-new_entries
 returns-clause-new_entries g c =
     let fs = c.args.others.items in
     let end = YieldsList-end (YieldsList-from_vec {s = c.into_iter-other-iterator.result} fs (cc) (omega arith)) c.loop-other.yielded c.loop-other.other-iterator c.loop-other.yielded_by c.next.result c.next.new.self c.in-None.is c.next.ensures.steps in
-    c.loop-other.invariant.new_entries ∙ ap (new_items g.K.Ord.cmp entry_key c.args.entries.now) (whole fs _ (omega (arith, end.1)))
+    c.loop-other.invariant.new_entries ∙ ap (new_items g.K.Ord.cmp entry_key c.args.entries.now) (take_all _ fs (omega (arith, end.1)))

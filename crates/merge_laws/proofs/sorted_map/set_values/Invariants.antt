@@ -1,6 +1,6 @@
 use Rattle.std.proofs.Common.{◌≡◌, vec_len, vec_capacity}
 use Rattle.merge_laws.specs.code.Insertions.{with_values}
-use Rattle.merge_laws.proofs.changes.set_values.Given as goal
+use Rattle.merge_laws.proofs.sorted_map.set_values.Given as goal
 
 abbrev pub invariant-loop-place : goal.invariant-loop-place
 invariant-loop-place g l = record {

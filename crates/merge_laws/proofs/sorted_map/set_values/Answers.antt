@@ -1,7 +1,7 @@
 use Rattle.std.proofs.Common.{sym, ap, ◌∙◌}
 use Rattle.merge_laws.specs.code.Insertions.{with_value}
 use Rattle.merge_laws.proofs.Values.{with_more, set_is_value}
-use Rattle.merge_laws.proofs.changes.set_values.Goals as goal
+use Rattle.merge_laws.proofs.sorted_map.set_values.Goals as goal
 
 pub loop-place-preserved : goal.loop-place-preserved
 loop-place-preserved g c = record {

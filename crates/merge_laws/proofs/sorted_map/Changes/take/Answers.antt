@@ -1,6 +1,6 @@
 use Rattle.std.proofs.Common.{◌∷◌, ◌++◌, [], get_or, sym, ap, ◌∙◌}
 use Rattle.merge_laws.proofs.Edits.{value_shared}
-use Rattle.merge_laws.proofs.changes.Changes.take.Goals as goal
+use Rattle.merge_laws.proofs.sorted_map.Changes.take.Goals as goal
 
 pub returns-in_ok-push-in-Ok-clause-values : goal.returns-in_ok-push-in-Ok-clause-values
 returns-in_ok-push-in-Ok-clause-values g c =
