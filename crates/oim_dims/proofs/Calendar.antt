@@ -14,6 +14,7 @@ use Rattle.jiff_core.specs.Calendar.{days_in_month, day_count, days_from_civil, 
 use Rattle.jiff_core.proofs.MarchLemmas.{day_count-early}
 use Rattle.jiff_core.proofs.CalendarLemmas.{day_count-lt_year, day_count-last_of_year, days_in_year_bounds, days_from_civil-day_count, day_count_bounds, day_count-day_of_year, day_count-lt_month, day_count-day, days_in_month_bounds, day_count-epoch}
 use Rattle.jiff_core.proofs.SignedLemmas.{signed_arith}
+use Rattle.oim_value.proofs.Ends.{le_to}
 
 pub first_day : day_count (pos 1) 1 1 ≡ 3_652_791
 first_day = day_count-early (pos 1) 10000 1 1 refl (omega arith) (omega arith) (omega arith)
@@ -40,9 +41,6 @@ date_is date y m d h few_y few_m few_d =
 pub is_real : (y m d : ℕ) → 1 ≤ y → IsCivilDate (pos y) m d → (nat_le 1 y && is_in_range 1 12 m && is_in_range 1 (days_in_month (pos y) m) d) ≡ true
 is_real y m d low h = grind (arith, nat_tests)
 
-pub le_true : (a b : ℤ) → a ≤ℤ b → int_le a b ≡ true
-le_true a b h = grind (arith, ints)
-
 le_false : (a b : ℤ) → b <ℤ a → int_le a b ≡ false
 le_false a b h = grind (arith, ints)
 
@@ -66,7 +64,7 @@ pub year_is : (y m d : ℕ) → 1 ≤ y → IsCivilDate (pos y) m d → year_of 
 unfolding year_of
 year_is y m d low h =
     greatest_is _ 9999 y (omega (arith, signed_arith, h.0)) low
-    (le_true _ _ (no_later (pos y) (pos y) 1 1 m d (omega (arith, day_count-day_of_year (pos y) m d h.2.0))))
+    (le_to _ _ (no_later (pos y) (pos y) 1 1 m d (omega (arith, day_count-day_of_year (pos y) m d h.2.0))))
     (λ j more within. le_false _ _ (earlier (pos y) (pos j) m d 1 1 (day_count-lt_year (pos y) m d (pos j) 1 1 h (omega arith) (omega (arith, signed_arith)))))
 
 pub month_is : (y m d : ℕ) → 1 ≤ y → IsCivilDate (pos y) m d → month_of (days_from_civil (pos y) m d) ≡ m
@@ -74,7 +72,7 @@ unfolding month_of
 month_is y m d low h =
     rw (year_is y m d low h)
     (greatest_is _ 12 m h.1.1 h.1.0
-    (le_true _ _ (no_later (pos y) (pos y) m 1 m d (omega (arith, day_count-day (pos y) m d 1 h.2.0 (omega arith)))))
+    (le_to _ _ (no_later (pos y) (pos y) m 1 m d (omega (arith, day_count-day (pos y) m d 1 h.2.0 (omega arith)))))
     (λ j more within. le_false _ _ (earlier (pos y) (pos y) m d j 1 (day_count-lt_month (pos y) m d j 1 h (omega arith) more))))
 
 pub day_is : (y m d : ℕ) → 1 ≤ y → IsCivilDate (pos y) m d → day_of (days_from_civil (pos y) m d) ≡ d
@@ -82,7 +80,7 @@ unfolding day_of
 day_is y m d low h =
     rw (year_is y m d low h, month_is y m d low h)
     (greatest_is _ 31 d (omega (arith, h.2.1, days_in_month_bounds (pos y) m)) h.2.0
-    (le_true _ _ (no_later (pos y) (pos y) m d m d (omega arith)))
+    (le_to _ _ (no_later (pos y) (pos y) m d m d (omega arith)))
     (λ j more within. le_false _ _ (earlier (pos y) (pos y) m d m j (omega (arith, day_count-day (pos y) m d j h.2.0 (omega arith))))))
 
 positive : (z : ℤ) → pos 1 ≤ℤ z → (z ≡ pos (unsigned_abs z)) × (1 ≤ unsigned_abs z)

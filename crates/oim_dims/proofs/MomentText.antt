@@ -11,9 +11,10 @@ use Rattle.jiff_core.proofs.SignedLemmas.{signed_arith}
 use Rattle.oim_dims.specs.declared.limits.TheConstants.{DAY_SECONDS, LAST_MOMENT}
 use Rattle.oim_dims.specs.Separators.{is_slash}
 use Rattle.oim_dims.specs.DateTime.{two_digits, four_digits, has_picture, has_date, has_time, day_number, second_of_day, number, moment_of, moment_text, date_text, time_text, year_of, month_of, day_of, IsMoment}
-use Rattle.oim_dims.proofs.Calendar.{is_real, le_true}
+use Rattle.oim_dims.proofs.Calendar.{is_real}
 use Rattle.oim_dims.proofs.DateOfDay.{IsDateOf, date_of_day}
 use Rattle.oim_value.proofs.PlainLemmas.{digit_of as is_digit}
+use Rattle.oim_value.proofs.Ends.{le_to}
 
 abbrev spelled : ℕ → ℕ → ℕ → ℕ → ℕ → ℕ → List ℕ
 spelled y m d h n s = four_digits y ++ 45 ∷ two_digits m ++ 45 ∷ two_digits d ++ 84 ∷ two_digits h ++ 58 ∷ two_digits n ++ 58 ∷ two_digits s
@@ -96,7 +97,7 @@ spelled_back z y m d h n s moment p =
     let real = is_real y m d p.date.first p.date.civil in
     let same : days_from_civil (pos y) m d *ℤ pos DAY_SECONDS +ℤ pos (3600 * h + 60 * n + s) ≡ z = rw (p.date.number, p.time) (euclid z) in
     let clock = clock_shows h n s p.hour_bound p.minute_bound p.second_bound in
-    let within = le_true z LAST_MOMENT moment.1 in
+    let within = le_to z LAST_MOMENT moment.1 in
     rw (picture, year, month, day, hour, minute, second, real, clock, same, within) refl
 
 pub moment_back : (z : ℤ) → IsMoment z → moment_of (moment_text z) ≡ Some z

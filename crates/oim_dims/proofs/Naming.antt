@@ -13,6 +13,7 @@ use Rattle.oim_names.specs.declared.reason.Reason.{Reason}
 use Rattle.oim_names.specs.declared.reason.Reason.TheVariants.{OutOfMemory, NameForm, UnboundPrefix, ReservedNamespace, UnitForm}
 use Rattle.oim_dims.specs.Separators.{is_star}
 use Rattle.oim_dims.specs.Unit.{is_mark, is_piece, is_unit_text, some_piece, unit_refusal, numerator_pieces, denominator_pieces, IsMeasure}
+use Rattle.std.proofs.lemmas.Slice.Zip.{AllZip-long}
 
 -- the refusal of a name in terms of its three tests
 abbrev first_of_three : Bool → Bool → Bool → Option Reason
@@ -93,21 +94,12 @@ split_some : (s : List ℕ) → 0 < length (slice_split is_star s)
 split_some [] = omega arith
 split_some (c ∷ cs) = elim (is_star c) as (λ b. 0 < length (cond b ([] ∷ slice_split is_star cs) (onto_first c (slice_split is_star cs)))) [ true ↦ omega arith | false ↦ onto_some c (slice_split is_star cs) ]
 
-long : (bs : List Binding) (ps : List (List ℕ)) (ns : List QName) → AllZip (Expands bs) ps ns → length ns ≡ length ps
-long bs [] [] z = refl
-long bs (p ∷ ps) (n ∷ ns) z = omega (arith, long bs ps ns z.1)
-long bs xs ys z = absurd z
-
 pub side_some : (bs : List Binding) (s : List ℕ) (ns ms : List QName) → AllZip (Expands bs) (slice_split is_star s) ns → length ms ≡ length ns → ms ≢ []
-side_some bs s ns ms z same e = let none : length ms ≡ 0 = ap length e in omega (arith, long bs (slice_split is_star s) ns z, split_some s)
+side_some bs s ns ms z same e = let none : length ms ≡ 0 = ap length e in omega (arith, AllZip-long (Expands bs) (slice_split is_star s) ns z, split_some s)
 
 pub alone_is : (ns : List QName) (n : QName) → length ns ≡ 1 → n ≡ get_or ns 0 n → ns ≡ n ∷ []
 alone_is (m ∷ []) n one h = ap (λ x. x ∷ []) (sym h)
 alone_is xs n one h = absurd (omega arith)
-
-pub empty_is : (ns : List QName) → length ns ≡ 0 → ns ≡ []
-empty_is [] h = refl
-empty_is (n ∷ ns) h = absurd (omega arith)
 
 pub head_is : (m n : QName) → m ∷ [] ≡ n ∷ [] → m ≡ n
 head_is m n h = cc

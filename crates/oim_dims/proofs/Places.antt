@@ -1,7 +1,7 @@
 -- The index at which a member is inserted among members in the order of names.
 use Rattle.std.proofs.Common.{◌≡◌, ◌⊎◌, inl, inr, ℕ, zero, suc, ◌<◌, Bool, true, false, List, [], ◌∷◌, ◌++◌, length, get_or, take, drop, refl, subst, sym, ap, ◌∙◌, arith}
 use Rattle.std.specs.Prelude.{if◌then◌else◌, Result, Ok, Err, OnOk, OnErr, Contains, IsTrue}
-use Rattle.std.proofs.lemmas.Bool.{and_parts}
+use Rattle.std.proofs.lemmas.Bool.{and_parts, false_from_ne_true}
 use Rattle.std.specs.List.{insert}
 use Rattle.std.specs.Ordering.{is_lt, is_eq, ordering_reverse}
 use Rattle.std.specs.declared.cmp.Ordering.{Ordering}
@@ -65,13 +65,9 @@ rises_with n m (e ∷ es) h none =
           rw (o, below_with e.0 n m es back b.0, rises_with n m es b.1 (rw o at none)) refl
     ] refl
 
-not_there : (b : Bool) → (b ≡ true → ⊥) → b ≡ false
-not_there true h = absurd (h refl)
-not_there false h = refl
-
 -- after a call that inserts a new name, the names ascend, whether or not memory was refused
 pub still_rises : {T E : Type 0} (r : Result T E) (new es : List (QName × Member)) (place : ℕ) (n : QName) (m : Member) → rises es ≡ true → (has_name n es ≡ true → ⊥) → insert es place (n, m) ≡ with_member n m es → OnOk r (new ≡ insert es place (n, m)) → OnErr r (new ≡ es) → rises new ≡ true
-still_rises (Ok x) new es place n m h none is ok err = rw (ok, is) (rises_with n m es h (not_there (has_name n es) none))
+still_rises (Ok x) new es place n m h none is ok err = rw (ok, is) (rises_with n m es h (false_from_ne_true (has_name n es) none))
 still_rises (Err e) new es place n m h none is ok err = rw err h
 
 there : (n : QName) (es : List (QName × Member)) → IsTrue (has_name n es) → (m : Member) × Contains es (n, m)
@@ -136,7 +132,7 @@ new_is_there n m (e ∷ es) =
 
 pub members_grow : MembersGrow
 members_grow n m es h none = record {
-  rises = rises_with n m es h (not_there (has_name n es) none);
+  rises = rises_with n m es h (false_from_ne_true (has_name n es) none);
   members = λ f. (
     old_or_new n m f es,
     λ known. elim known [

@@ -1,15 +1,11 @@
 -- The prefix that is found for a URI is bound to that URI.
-use Rattle.std.proofs.Common.{◌≡◌, ◌≢◌, ℕ, suc, Bool, true, false, cond, List, [], ◌∷◌, refl, sym, ap, ◌∙◌, arith}
+use Rattle.std.proofs.Common.{◌≡◌, ◌≢◌, ℕ, suc, true, false, cond, List, [], ◌∷◌, refl, sym, ap, ◌∙◌, arith}
 use Rattle.std.specs.Prelude.{Some, All, AllPairs}
 use Rattle.std.specs.Option.{option_map}
 use Rattle.std.specs.List.{find}
 use Rattle.std.specs.Str.{bytes_eq}
 use Rattle.oim_names.specs.Bindings.{Binding, uri_of, prefix_of}
-use Rattle.oim_names.proofs.Bytes.{same_bytes, bytes_eq-refl}
-
-not_same : (s t : List ℕ) (b : Bool) → bytes_eq s t ≡ b → s ≢ t → b ≡ false
-not_same s t true e ne = absurd (ne (same_bytes s t e))
-not_same s t false e ne = refl
+use Rattle.oim_names.proofs.Bytes.{same_bytes, bytes_eq-refl, bytes_not_eq}
 
 differs : (bs : List Binding) (p u k : List ℕ) → uri_of bs p ≡ Some u → All (λ b. k ≢ b.prefix) bs → k ≢ p
 differs [] p u k e each = absurd (cc)
@@ -30,6 +26,6 @@ bound_back (b ∷ bs) p u distinct e =
       | false ↦ λ other h.
           let rest = bound_back bs p u (λ i j d less within. distinct (suc i) (suc j) d (omega arith) (omega arith)) h in
           let ne : b.prefix ≢ p = differs bs p u b.prefix rest (λ j d less. distinct 0 (suc j) d (omega arith) (omega arith)) in
-          let there : bytes_eq b.prefix p ≡ false = not_same b.prefix p (bytes_eq b.prefix p) refl ne in
+          let there : bytes_eq b.prefix p ≡ false = bytes_not_eq b.prefix p ne in
           rw there rest
     ] refl e

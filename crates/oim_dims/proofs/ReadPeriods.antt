@@ -1,10 +1,9 @@
 -- The moments of a period that was read are in range, and a duration ends after its start.
-use Rattle.std.proofs.Common.{◌≡◌, ℕ, ◌<◌, ◌≤◌, Bool, true, false, List, length, refl, subst, arith, ℤ, pos, neg_ℤ, ◌<ℤ◌, ◌≤ℤ◌}
-use Rattle.std.specs.Prelude.{Option, Some, None, Result, Ok, Err, nat_le, int_le, int_lt, ◌&&◌, if◌then◌else◌, slice_range}
-use Rattle.std.proofs.lemmas.Bool.{and_parts}
+use Rattle.std.proofs.Common.{◌≡◌, ℕ, ◌<◌, ◌≤◌, Bool, true, false, List, length, refl, subst, arith, ℤ, pos, neg_ℤ, ◌<ℤ◌}
+use Rattle.std.specs.Prelude.{Option, Some, Result, Ok, Err, nat_le, int_le, int_lt, ◌&&◌, if◌then◌else◌, slice_range}
+use Rattle.std.proofs.lemmas.Bool.{and_parts, leb-true}
 use Rattle.std.specs.Int.{is_in_range}
 use Rattle.std.specs.Ordering.{int_eq}
-use Rattle.std.proofs.lemmas.Bool.Decides.{nat_tests}
 use Rattle.std.proofs.lemmas.Int.{ints}
 use Rattle.std.proofs.lemmas.List.{length-take-le}
 use Rattle.jiff_core.specs.Calendar.{IsBetween, IsCivilDate, days_in_month}
@@ -19,6 +18,8 @@ use Rattle.oim_dims.specs.Period.{from_to, start_part, end_part, IsPeriod, ReadP
 use Rattle.oim_dims.proofs.Calendar.{day_range}
 use Rattle.oim_value.proofs.Numerals.{after_lt}
 use Rattle.oim_dims.proofs.Picture.{pictured_length, pictured_digits}
+use Rattle.std.proofs.lemmas.Option.{cond_some}
+use Rattle.oim_value.proofs.Ends.{le_from}
 
 real_is : (y m d : ℕ) → y < 10_000 → (nat_le 1 y && is_in_range 1 12 m && is_in_range 1 (days_in_month (pos y) m) d) ≡ true → (1 ≤ y) × IsCivilDate (pos y) m d
 real_is y m d few h =
@@ -26,11 +27,8 @@ real_is y m d few h =
     let b = and_parts (nat_le 1 y) (is_in_range 1 12 m) a.0 in
     let c = and_parts (nat_le 1 m) (nat_le m 12) b.1 in
     let e = and_parts (nat_le 1 d) (nat_le d (days_in_month (pos y) m)) a.1 in
-    let low : 1 ≤ y = le_is 1 y b.0 in
-    (low, ((omega (arith, signed_arith), omega (arith, signed_arith)), (le_is 1 m c.0, le_is m 12 c.1), (le_is 1 d e.0, le_is d _ e.1)))
-  where
-    le_is : (j k : ℕ) → nat_le j k ≡ true → j ≤ k
-    le_is j k h = grind (arith, nat_tests)
+    let low : 1 ≤ y = leb-true 1 y b.0 in
+    (low, ((omega (arith, signed_arith), omega (arith, signed_arith)), (leb-true 1 m c.0, leb-true m 12 c.1), (leb-true 1 d e.0, leb-true d _ e.1)))
 
 four_digits_at : (t : List ℕ) → has_picture t ≡ true → year t < 10_000
 four_digits_at t h =
@@ -41,21 +39,14 @@ day_is : (t : List ℕ) → has_picture t ≡ true → has_date t ≡ true → I
 unfolding has_date day_number
 day_is t picture h = let r = real_is (year t) (month t) (day t) (four_digits_at t picture) h in day_range (year t) (month t) (day t) r.0 r.1
 
-last_is : (z : ℤ) → int_le z LAST_MOMENT ≡ true → z ≤ℤ LAST_MOMENT
-last_is z h = grind (arith, ints)
-
-not_none : (b : Bool) (y z : ℤ) → (if b then Some y else None) ≡ Some z → (b ≡ true) × (y ≡ z)
-not_none true y z h = (refl, cc)
-not_none false y z h = absurd (cc)
-
 pub read_moment_is : (t : List ℕ) (z : ℤ) → moment_of t ≡ Some z → IsMoment z
 read_moment_is t z h =
-    let e = not_none (is_date_time t) (second_at t) z h in
+    let e = cond_some (is_date_time t) (second_at t) z h in
     let a = and_parts (has_picture t && has_date t && has_time t) (int_le (second_at t) LAST_MOMENT) e.0 in
     let b = and_parts (has_picture t && has_date t) (has_time t) a.0 in
     let c = and_parts (has_picture t) (has_date t) b.0 in
     let day = day_is t c.0 c.1 in
-    let within = last_is (second_at t) a.1 in
+    let within = le_from (second_at t) LAST_MOMENT a.1 in
     let is = e.1 in
     (omega (arith, signed_arith, day.0, is), omega (arith, signed_arith, within, is))
 

@@ -18,6 +18,7 @@ use Rattle.oim_dims.specs.declared.member.Member.{Member}
 use Rattle.oim_value.specs.ValueOrder.{name_cmp}
 use Rattle.oim_dims.specs.DimensionSet.{is_below, rises, repeats, has_name}
 use Rattle.oim_dims.proofs.Places.{below_all, less_is}
+use Rattle.oim_dims.proofs.SortedOnce.{sorted_rest}
 
 abbrev Item : Type 0
 Item = QName × Member
@@ -89,14 +90,11 @@ rises_once (e ∷ es) h =
     let b = and_parts (is_below e.0 es) (rises es) h in
     or_from (has_name e.0 es) (repeats es) (below_differs e.0 es b.0) (rises_once es b.1)
 
-sorted_rest : (e : Item) (es : List Item) → IsSorted item_order (e ∷ es) → IsSorted item_order es
-sorted_rest e es h k d low within = let one : suc k + 1 ≡ suc (k + 1) = omega arith in rw one at (h (suc k) d (omega arith) (omega arith))
-
 pub once_rises : (es : List Item) → IsSorted item_order es → repeats es ≡ false → rises es ≡ true
 once_rises (e ∷ f ∷ es) sorted h =
     let b = or_parts (has_name e.0 (f ∷ es)) (repeats (f ∷ es)) h in
     elim (name_cmp e.0 f.0) as (λ o. name_cmp e.0 f.0 ≡ o → rises (e ∷ f ∷ es) ≡ true) [
-      | Less ↦ λ o. rises_behind e f es (ap is_lt o) ∙ once_rises (f ∷ es) (sorted_rest e (f ∷ es) sorted) b.1
+      | Less ↦ λ o. rises_behind e f es (ap is_lt o) ∙ once_rises (f ∷ es) (sorted_rest item_order e (f ∷ es) sorted) b.1
       | Equal ↦ λ o. absurd (let differ = (or_parts (same_name e f) (has_name e.0 es) b.0).0 in cc (rw o at differ))
       | Greater ↦ λ o.
           let back : name_cmp f.0 e.0 ≡ Less = name_total.antisymm f.0 e.0 ∙ ap ordering_reverse o in

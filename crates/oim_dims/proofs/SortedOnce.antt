@@ -22,7 +22,7 @@ first_uncounted p x xs h = not_one (p x) (sym (sum_by-cons (λ y. cond (p y) 1 0
     not_one true e = absurd (omega arith)
     not_one false e = refl
 
-sorted_rest : {X : Type 0} (R : X → X → Ordering) (x : X) (xs : List X) → IsSorted R (x ∷ xs) → IsSorted R xs
+pub sorted_rest : {X : Type 0} (R : X → X → Ordering) (x : X) (xs : List X) → IsSorted R (x ∷ xs) → IsSorted R xs
 sorted_rest R x xs h k d low within = let e : suc k + 1 ≡ suc (k + 1) = omega arith in rw e at (h (suc k) d (omega arith) (omega arith))
 
 module _ {X : Type 0} (R : X → X → Ordering) (o : IsTotalOrder R) (exact : (x y : X) → R x y ≡ Equal → x ≡ y) where

@@ -1,7 +1,7 @@
 -- The text of a unit denotes that unit.
-use Rattle.std.proofs.Common.{◌≡◌, ◌≢◌, ℕ, suc, ◌<◌, Bool, true, false, List, [], ◌∷◌, ◌++◌, length, length-append, map, refl, sym, ap, ◌∙◌, arith}
+use Rattle.std.proofs.Common.{◌≡◌, ◌≢◌, ℕ, ◌<◌, Bool, true, false, List, [], ◌∷◌, ◌++◌, length, length-append, map, refl, sym, ap, ◌∙◌, arith}
 use Rattle.std.specs.Prelude.{Some, None, All, not, ◌==◌, if◌then◌else◌}
-use Rattle.std.proofs.lemmas.Bool.{and_parts, not-true}
+use Rattle.std.proofs.lemmas.Bool.{and_parts, not-true, eqb-true}
 use Rattle.std.specs.Option.{option_map_or, unwrap_or}
 use Rattle.std.specs.List.{AllZip, list_all, list_any, slice_split, join_with_byte}
 use Rattle.std.proofs.lemmas.Bool.Decides.{nat_tests}
@@ -19,6 +19,7 @@ use Rattle.oim_dims.proofs.OneUnit.{not_refused, one_unit}
 use Rattle.oim_dims.proofs.Prefixes.{bound_back}
 use Rattle.oim_dims.proofs.Sides.{unopened, closed, one_side}
 use Rattle.oim_dims.proofs.Cuts.{cut, no_place}
+use Rattle.std.proofs.lemmas.List.{nil_from_length}
 
 plain_piece : (t : List ℕ) → is_piece t ≡ true → list_any is_mark t ≡ false
 plain_piece t h = not-true (list_any is_mark t) (and_parts (not (length t == 0)) (not (list_any is_mark t)) h).1
@@ -154,13 +155,6 @@ has_measures bs f t m np dp nz dz = record {
   denominators = rw dp (names_each bs f m.denominators dz);
 }
 
-no_names : (ns : List QName) → (length ns == 0) ≡ true → ns ≡ []
-no_names [] h = refl
-no_names (n ∷ ns) h = absurd (zero_not (length ns) h)
-  where
-    zero_not : (k : ℕ) → (suc k == 0) ≡ true → ⊥
-    zero_not k e = grind (arith, nat_tests)
-
 some_names : (ns : List QName) → ns ≢ [] → 0 < length ns
 some_names [] h = absurd (h refl)
 some_names (n ∷ ns) h = omega arith
@@ -191,7 +185,7 @@ denotes bs f m h spells =
     let dz = each_spelled bs f m.denominators spells.denominators in
     let some = some_names m.numerators h.some in
     elim (length m.denominators == 0) as (λ t. (length m.denominators == 0) ≡ t → UnitOf bs (if t then product_text f m.numerators else side_text f m.numerators ++ 47 ∷ side_text f m.denominators) (Some m)) [
-      | true ↦ λ e. let p = numerators_alone bs f m nz some (no_names m.denominators e) in (has_measures bs f _ m p.0 p.1 nz dz, h.unit)
+      | true ↦ λ e. let p = numerators_alone bs f m nz some (nil_from_length m.denominators (eqb-true (length m.denominators) 0 e)) in (has_measures bs f _ m p.0 p.1 nz dz, h.unit)
       | false ↦ λ e. let p = both_sides bs f m nz some dz (some_names_by m.denominators e) in (has_measures bs f _ m p.0 p.1 nz dz, h.unit)
     ] refl
 

@@ -1,6 +1,6 @@
 ghost use Rattle.std.specs.Prelude.{◌≡◌, ◌⊎◌, ◌↔◌, IsTrue, IfOk, IfErr};
 ghost use Rattle.std.specs.Str.{str_to_ascii_lowercase};
-ghost use Rattle.std.specs.List.{list_all, slice_split, before_first};
+ghost use Rattle.std.specs.List.{list_all, slice_split};
 ghost use Rattle.std.specs.Char.{is_ascii_alphabetic, is_ascii_alphanumeric};
 ghost use Rattle.oim_dims.specs.Language.{is_language, is_group, is_hyphen};
 
@@ -29,7 +29,8 @@ pub fn read_language(alloc: Global, text: &str) -> Result<Text, Reason>
 pub fn is_language(text: &str) -> bool
     ensures { result ≡ is_language text.now }
 {
-    are_groups(text) && are_letters(first_group(text))
+    let (first, _) = text.split_once('-').unwrap_or((text, ""));
+    are_groups(text) && are_letters(first.as_bytes())
 }
 
 fn are_groups(text: &str) -> bool
@@ -51,15 +52,6 @@ fn are_letters_or_digits(text: &[u8]) -> bool
     ensures { result ≡ list_all is_ascii_alphanumeric text.now }
 {
     text.iter().all(|c| c.is_ascii_alphanumeric())
-}
-
-fn first_group(text: &str) -> &[u8]
-    ensures { result.now ≡ before_first is_hyphen text.now }
-{
-    match text.split_once('-') {
-        Some((first, _)) => first.as_bytes(),
-        None => text.as_bytes(),
-    }
 }
 
 fn are_letters(text: &[u8]) -> bool

@@ -10,12 +10,8 @@ mod member;
 mod moment;
 mod period;
 mod sequence;
-mod shared;
 mod unit;
-mod unit_check;
-mod unit_reader;
-mod unit_sides;
-mod unit_writer;
+mod unit_text;
 
 pub use dimensions::Dimensions;
 pub use fact::Fact;
@@ -24,6 +20,6 @@ pub use member::Member;
 pub use moment::Moment;
 pub use period::{Period, read_period, write_period};
 pub use unit::Unit;
-pub use unit_check::{is_unit_text, refused_piece, unit_refusal};
-pub use unit_reader::read_unit;
-pub use unit_writer::{can_write_unit, write_unit};
+pub use unit_text::{
+    can_write_unit, is_unit_text, read_unit, refused_piece, unit_refusal, write_unit,
+};

@@ -1,14 +1,9 @@
-use Rattle.std.proofs.Common.{◌≡◌, ◌+◌, ◌*◌, ◌≤◌, ◌<◌, ◌^◌, ℕ, suc, List, [], drop, get_or, length, arith, ◌∙◌, ap, sym, subst}
-use Rattle.std.proofs.Math.Seq.{drop-cons}
+use Rattle.std.proofs.Common.{◌≡◌, ◌+◌, ◌*◌, ◌≤◌, ◌<◌, ◌^◌, ℕ, [], drop, arith}
 use Rattle.std.proofs.lemmas.List.{drop_all}
 use Rattle.std.proofs.Math.Nat.{pow-le-pow_right}
-use Rattle.std.specs.Char.{digit_value}
 use Rattle.std.specs.Str.Parse.{digits_value_after}
-use Rattle.oim_value.proofs.Numerals.{after_grows, after_lt, digit_here}
+use Rattle.oim_value.proofs.Numerals.{after_lt, digit_here, next_le}
 use Rattle.oim_dims.proofs.moment.number_of.Goals as goal
-
-next_le : (n i m : ℕ) (s : List ℕ) → i < length s → digits_value_after 10 n (drop i s) ≡ m → n * 10 + digit_value (get_or s i 0) ≤ m
-next_le n i m s h e = subst (λ k. n * 10 + digit_value (get_or s i 0) ≤ k) (sym (ap (digits_value_after 10 n) (drop-cons s i 0 h)) ∙ e) (after_grows (n * 10 + digit_value (get_or s i 0)) (drop (suc i) s))
 
 small : (k v : ℕ) → k ≤ 4 → v < (0 + 1) * 10 ^ k → v < 10000
 small k v few h = let p : 10 ^ k ≤ 10 ^ 4 = pow-le-pow_right {n = 10} (omega arith) {i = k} {j = 4} few in omega arith

@@ -1,8 +1,0 @@
-use Rattle.std.proofs.Common.{map}
-use Rattle.std.specs.List.{AllZip}
-use Rattle.oim_names.specs.Expansion.{Expands}
-use Rattle.oim_dims.proofs.unit_reader.names_of.Given as goal
-
--- the names are the expansions of the pieces so far
-abbrev pub invariant-loop-piece : goal.invariant-loop-piece
-invariant-loop-piece l = AllZip (Expands l.aliases) (map (λ x. x.now) l.yielded) l.names.items

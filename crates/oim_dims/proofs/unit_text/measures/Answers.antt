@@ -1,0 +1,19 @@
+use Rattle.std.proofs.Common.{◌≡◌, length, rules}
+use Rattle.std.proofs.lemmas.List.Sorted.{All-permutation}
+use Rattle.std.specs.List.{slice_split}
+use Rattle.oim_dims.specs.Separators.{is_star}
+use Rattle.oim_dims.specs.Unit.{IsMeasure}
+use Rattle.oim_dims.proofs.Naming.{measures_of_pieces, side_some}
+use Rattle.oim_dims.proofs.unit_text.measures.Goals as goal
+
+pub returns-clause-measures : goal.returns-clause-measures
+returns-clause-measures c =
+    let all = measures_of_pieces c.args.aliases.now (slice_split is_star c.args.side.now) c.in_ok-names.names.items c.known.ensures c.in_ok-names.ensures.names c.requires.pieces in
+    let sorted = All-permutation IsMeasure _ _ c.in_ok-sort.ensures.permutation all in
+    let made = c.new.ensures in
+    rw made sorted
+
+pub returns-clause-some : goal.returns-clause-some
+returns-clause-some c =
+    let long : length c.new.result ≡ length c.in_ok-names.names.items = search rules in
+    side_some c.args.aliases.now c.args.side.now c.in_ok-names.names.items c.new.result c.in_ok-names.ensures.names long
