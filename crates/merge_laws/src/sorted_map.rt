@@ -1,8 +1,7 @@
 ghost use Rattle.std.specs.Prelude.{◌≡◌, ◌<◌, ◌≤◌, ◌++◌, [], length, reverse, slice_get, vec_len, vec_capacity, IfOk, OnOk, OnErr};
 ghost use Rattle.std.specs.Option.{option_copied, option_map};
-ghost use Rattle.std.specs.List.{AllByRecursion, AllWithin};
-ghost use Rattle.std.specs.declared.cmp.Ordering.TheVariants.{Less as Below};
-ghost use Rattle.merge_laws.specs.code.Insertions.{IsFirstLeast, inserted, new_item, new_items, new_value, new_values, with_values, place_of};
+ghost use Rattle.std.specs.List.{AllByRecursion};
+ghost use Rattle.merge_laws.specs.code.Insertions.{IsFirstLeast, inserted, new_items, new_values, with_values};
 ghost use Rattle.merge_laws.specs.Sorted.{IsMap, IsRising, entry_key, value_at};
 ghost use Rattle.merge_laws.specs.Union.{map_union, map_with};
 
@@ -183,26 +182,6 @@ fn changes_of<K: Key, V: Merge>(
     };
     let mut from = 0;
     for other in others {
-        from = changes.take(alloc, entries, other, from)?;
-    }
-    Ok(changes)
-}
-
-impl<K: Key, V: Merge> Changes<K, V> {
-    fn take(
-        &mut self,
-        alloc: Global,
-        entries: &[(K, V)],
-        other: (K, V),
-        from: usize,
-    ) -> Result<usize, AllocError>
-        requires rises { IsRising K.cmp entry_key entries.now }
-        requires within { from ≤ length entries.now }
-        requires below { AllWithin (λ e. K.cmp e.0 other.0 ≡ Below) entries.now 0 from }
-        ensures values { OnOk result (self.new.values.items ≡ self.old.values.items ++ new_value K.cmp V.merged entries.now other) }
-        ensures new_entries { OnOk result (self.new.new_entries.items ≡ self.old.new_entries.items ++ new_item K.cmp entry_key entries.now other) }
-        ensures place { IfOk result (λ place. place ≡ place_of K.cmp entry_key other.0 entries.now) }
-    {
         let (key, mut value) = other;
         match find_from(entries, &key, from) {
             Ok(place) => {
@@ -210,16 +189,19 @@ impl<K: Key, V: Merge> Changes<K, V> {
                 own.known();
                 value.known();
                 value.merge(alloc, own)?;
-                self.values.push((place, value))?;
-                Ok(place)
+                changes.values.push((place, value))?;
+                from = place;
             }
             Err(place) => {
-                self.new_entries.push((place, (key, value)))?;
-                Ok(place)
+                changes.new_entries.push((place, (key, value)))?;
+                from = place;
             }
         }
     }
+    Ok(changes)
+}
 
+impl<K: Drop, V: Drop> Changes<K, V> {
     fn make(self, entries: &mut Vec<(K, V)>) -> Result<(), AllocError>
         requires values { AllByRecursion (λ c. c.0 < vec_len entries.old) self.values.items }
         requires new_entries { IsFirstLeast (vec_len entries.old) self.new_entries.items }
