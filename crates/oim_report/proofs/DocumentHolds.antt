@@ -1,17 +1,20 @@
 -- A test of a document's conditions in two groups finds the lowest-numbered condition that applies.
-use Rattle.std.proofs.Common.{◌≡◌, ℕ, suc, List, [], ◌∷◌, length, map, Bool, true, false, not, ◌||◌, ◌&&◌, cond, refl, sym, ap, ◌∙◌, arith}
-use Rattle.std.specs.Prelude.{Option, Some, None, bytes_eq, codes, if◌then◌else◌, is_none, is_some, nat_lt, option_and_then, option_map}
-use Rattle.std.specs.Option.{option_map_or}
+use Rattle.std.proofs.Common.{◌≡◌, ℕ, suc, List, [], ◌∷◌, length, map, Bool, true, false, not, ◌||◌, ◌&&◌, cond, refl, sym, ap, ◌∙◌, arith, ◌≢◌, ◌⊎◌, inl, inr, ◌==◌, subst, Result, Ok, Err, ◌↔◌}
+use Rattle.std.specs.Prelude.{Option, Some, None, bytes_eq, codes, if◌then◌else◌, is_none, is_some, nat_lt, option_and_then, option_map, IfOk, IfErr, IsTrue}
+use Rattle.std.specs.Option.{option_map_or, option_flatten, unwrap_or}
 use Rattle.std.specs.List.{filter, find, list_any}
 use Rattle.std.proofs.lemmas.Bool.{or_parts}
 use Rattle.std.proofs.lemmas.Bool.Decides.{nat_tests}
-use Rattle.oim_names.specs.Bindings.{Binding}
+use Rattle.std.specs.Result.{result_ok}
+use Rattle.std.proofs.Math.Bool.{or-false}
+use Rattle.url.specs.Parts.{Parts}
+use Rattle.oim_names.specs.Bindings.{Binding, is_refused_binding}
 use Rattle.oim_names.specs.declared.reason.Reason.{Reason}
-use Rattle.oim_names.specs.declared.reason.Reason.TheVariants.{MemberForm, UnknownMember, DocumentType, Namespace, BaseUrl, TaxonomyUrl, Feature}
+use Rattle.oim_names.specs.declared.reason.Reason.TheVariants.{MemberForm, UnknownMember, DocumentType, Namespace, BaseUrl, TaxonomyUrl, Feature, OutOfMemory}
+use Rattle.oim_names.specs.QName.{is_part}
 use Rattle.oim_value.specs.Level.{level_with}
 use Rattle.serde_json.specs.Find.{as_object, get}
 use Rattle.serde_json.specs.Data.{Data, Items, no_items, item, Members, no_members, member}
-use Rattle.url.specs.Parts.{Parts}
 use Rattle.oim_report.specs.Info.{accepted_reference, base_said, bindings_of, declarations, document_type, features_of, info, is_allowed_duplicates, level_said, namespaces_of, references_said, said_base, said_level, said_reference, said_references, taxonomy_of, info_keys, root_keys}
 use Rattle.oim_report.specs.Json.{Given, any_in, entries, given, given_of, is_no_array, is_no_object, is_object, is_unknown, object_at, text_of}
 use Rattle.oim_report.specs.code.Findings.{is_text}
@@ -19,6 +22,8 @@ use Rattle.oim_report.specs.Kept.{base_url, is_reference_refused, is_text_within
 use Rattle.oim_report.specs.Namespaces.{binds_nothing}
 use Rattle.oim_report.specs.Holds.{any_item, as_text, base, declared, document_holds, document_refusal, is_some_and}
 use Rattle.oim_report.specs.Least.{least}
+use Rattle.oim_report.specs.declared.refusal.Refusal.{Refusal}
+use Rattle.oim_report.specs.Faults.{or_else}
 use Rattle.oim_report.proofs.EachRefusal.{behind_test, first_holding, first_refusal, or_refusal}
 use Rattle.oim_report.proofs.ValueWords.{by_given, text_same}
 
@@ -145,11 +150,11 @@ feature_same tree = ap (λ gs. is_none (said_level gs)) (declared_same (bindings
 
 -- ---- all conditions
 
-flat : (a b c d e f g : Bool)
+flat_tests : (a b c d e f g : Bool)
     → or_refusal (if a then Some MemberForm else (if b then Some UnknownMember else (if c then Some DocumentType else None))) (or_refusal (if d then Some Namespace else (if e then Some BaseUrl else (if f then Some TaxonomyUrl else (if g then Some Feature else None)))) None)
     ≡ (if a then Some MemberForm else (if b then Some UnknownMember else (if c then Some DocumentType else (if d then Some Namespace else (if e then Some BaseUrl else (if f then Some TaxonomyUrl else (if g then Some Feature else None)))))))
-flat false false false false false false true = refl
-flat b c other d e f g = refl
+flat_tests false false false false false false true = refl
+flat_tests b c other d e f g = refl
 
 abbrev pub grouped_refusal : Data → Option Reason
 grouped_refusal tree = first_refusal (shape_refusal tree ∷ info_refusal tree ∷ [])
@@ -158,7 +163,7 @@ pub document_least : (tree : Data) → grouped_refusal tree ≡ document_refusal
 unfolding least document_holds
 document_least tree =
     let d = any_in binds_nothing (namespaces_of tree) in
-    flat (has_misshapen_part tree) (has_unknown_part tree) (has_other_type tree) d (is_none (base_said tree)) (is_none (references_said tree)) (is_none (level_said tree))
+    flat_tests (has_misshapen_part tree) (has_unknown_part tree) (has_other_type tree) d (is_none (base_said tree)) (is_none (references_said tree)) (is_none (level_said tree))
     ∙ behind_test (has_misshapen_part tree) MemberForm _ _
     (λ fits.
     ap (λ c. if has_unknown_part tree then Some UnknownMember else (if c then Some DocumentType else (if d then Some Namespace else (if is_none (base_said tree) then Some BaseUrl else (if is_none (references_said tree) then Some TaxonomyUrl else (if is_none (level_said tree) then Some Feature else None)))))) (type_same tree fits)
@@ -172,3 +177,83 @@ shape_same tree =
     sym
     (behind_test (has_misshapen_part tree) MemberForm _ _
     (λ fits. ap (λ c. if has_unknown_part tree then Some UnknownMember else (if c then Some DocumentType else None)) (type_same tree fits)))
+
+-- ---- Unless memory runs out, reading a part of a document returns the part's defined value, or refuses the part if no value is
+-- defined.
+
+pub found_is : {A : Type 0} (read : Result A Reason) (said : Option A) (other : Reason) → read ≢ Err OutOfMemory → IfOk read (λ a. said ≡ Some a) → IfErr read (λ r. (r ≡ OutOfMemory) ⊎ ((r ≡ other) × (said ≡ None))) → result_ok read ≡ said
+found_is (Ok a) said other ne ok err = sym ok
+found_is (Err r) said other ne ok (inl memory) = absurd (ne (ap Err memory))
+found_is (Err r) said other ne ok (inr refused) = sym refused.1
+
+pub none_is : {A B : Type 0} (read : Result A Reason) (said : Option B) (f : A → B) (other : Reason) → read ≢ Err OutOfMemory → IfOk read (λ a. said ≡ Some (f a)) → IfErr read (λ r. (r ≡ OutOfMemory) ⊎ ((r ≡ other) × (said ≡ None))) → is_none (result_ok read) ≡ is_none said
+none_is (Ok a) said f other ne ok err = sym (ap is_none ok)
+none_is (Err r) said f other ne ok (inl memory) = absurd (ne (ap Err memory))
+none_is (Err r) said f other ne ok (inr refused) = sym (ap is_none refused.1)
+
+pub unless_bad : {A : Type 0} (bad : Bool) (bs a : A) → (a ≡ bs) × (bad ≡ false) → (if bad then None else Some bs) ≡ Some a
+unless_bad true bs a h = absurd (cc)
+unless_bad false bs a h = ap Some (sym h.0)
+
+pub where_bad : {A : Type 0} (bad : Bool) (bs : A) (r other : Reason) → (r ≡ OutOfMemory) ⊎ ((r ≡ other) × (bad ≡ true)) → (r ≡ OutOfMemory) ⊎ ((r ≡ other) × ((if bad then None else Some bs) ≡ None))
+where_bad bad bs r other (inl memory) = inl memory
+where_bad bad bs r other (inr refused) = inr (refused.0, ap (λ b. if b then None else Some bs) refused.1)
+
+pub from_some : {A : Type 0} (o : Option A) (b : Bool) → is_some o ≡ not b → b ≡ is_none o
+from_some None false h = absurd (cc)
+from_some (Some a) true h = absurd (cc)
+from_some o b h = refl
+
+pub flat : {A : Type 0} (o : Option (Option A)) → option_flatten o ≡ unwrap_or o None
+flat None = refl
+flat (Some o) = refl
+
+pub holds_of : {A : Type 0} (read : Result A Reason) (P : A → Type 0) (a : A) → Some a ≡ result_ok read → IfOk read P → P a
+holds_of (Ok b) P a is h = let same : a ≡ b = cc in subst P (sym same) h
+holds_of (Err r) P a is h = absurd (cc)
+
+pub nothing_said : {A B : Type 0} (read : Result A Reason) (said : Option B) (other : Reason) → None ≡ result_ok read → read ≢ Err OutOfMemory → IfErr read (λ r. (r ≡ OutOfMemory) ⊎ ((r ≡ other) × (said ≡ None))) → said ≡ None
+nothing_said (Ok a) said other is ne h = absurd (cc)
+nothing_said (Err r) said other is ne (inl memory) = absurd (ne (ap Err memory))
+nothing_said (Err r) said other is ne (inr refused) = refused.1
+
+pub filled_else : (xs ys : List Refusal) → (length xs == 0) ≡ false → xs ≡ or_else xs ys
+filled_else [] ys filled = absurd (cc)
+filled_else (x ∷ xs) ys filled = refl
+
+pub is_empty : (xs : List Refusal) → (length xs == 0) ≡ true → xs ≡ []
+is_empty [] empty = refl
+is_empty (x ∷ xs) empty = absurd (grind (arith, nat_tests))
+
+-- ---- The tests of a document's parts, one entry or reference at a time.
+
+pub alone : {A : Type 0} (read : Result A Reason) (b : Bool) → ((read ≡ Err Namespace) ↔ IsTrue b) → IfErr read (λ e. (e ≡ Namespace) ⊎ (e ≡ OutOfMemory)) → read ≢ Err OutOfMemory → is_none (result_ok read) ≡ b
+alone (Ok a) true h e ne = let no : Ok a ≡ Err Namespace = h.1 refl in absurd (cc)
+alone (Ok a) false h e ne = refl
+alone (Err r) b h (inl is) ne = sym (h.0 (ap Err is))
+alone (Err r) b h (inr memory) ne = absurd (ne (ap Err memory))
+
+pub or_true : (b : Bool) → true ≡ (b || true)
+or_true true = refl
+or_true false = refl
+
+pub with_text : (key : List ℕ) (d : Data) (u : List ℕ) → text_of (given d) ≡ Some u → is_refused_binding [] key u ≡ binds_nothing key d
+with_text key d u is = or-false (not (is_part key) || bytes_eq u []) ∙ ap (λ o. not (is_part key) || option_map_or (λ t. bytes_eq t []) o true) (sym is)
+
+pub without_text : (key : List ℕ) (d : Data) → text_of (given d) ≡ None → true ≡ binds_nothing key d
+without_text key d is = or_true (not (is_part key)) ∙ ap (λ o. not (is_part key) || option_map_or (λ t. bytes_eq t []) o true) (sym is)
+
+mapped_or : (o : Option Parts) → unwrap_or (option_map Some o) None ≡ o
+mapped_or None = refl
+mapped_or (Some p) = refl
+
+base_or : (o : Option Data) → unwrap_or (said_base (given_of o)) None ≡ option_and_then base_url (option_and_then as_text o)
+base_or None = refl
+base_or (Some d) = by_given (λ g t w n. unwrap_or (said_base g) None ≡ option_and_then base_url t) refl (λ t. mapped_or (base_url t)) (λ n. refl) refl d
+
+pub flat_base : (o : Option Data) → option_flatten (said_base (given_of o)) ≡ option_and_then base_url (option_and_then as_text o)
+flat_base o = flat (said_base (given_of o)) ∙ base_or o
+
+pub hidden : (b c : Bool) → (not b && c) ≡ (not (b || false) && c)
+hidden true c = refl
+hidden false c = refl

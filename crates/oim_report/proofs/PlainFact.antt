@@ -1,38 +1,258 @@
--- The object of a written fact is plain JSON with UTF-8 strings and keys, at most two levels deep.
-use Rattle.std.proofs.Common.{◌≡◌, ℕ, ◌≤◌, List, [], ◌∷◌, codes, true, Option, Some, None, refl, ap, ◌∙◌, arith, pos, negsuc}
-use Rattle.std.specs.Prelude.{ℤ, All, IfSome, IsUtf8, unsigned_abs}
+-- If a fact fits a sheet and its names are spelled as in `SpellsFact`, its object has the parts in `parts_given`.
+use Rattle.std.proofs.Common.{◌≡◌, ◌≢◌, ℕ, List, [], ◌∷◌, codes, true, false, Option, Some, None, refl, ap, ◌∙◌, pos, ◌≤◌, arith, negsuc}
+use Rattle.std.specs.Prelude.{All, IfSome, IsUtf8, ◌&&◌, ℤ, unsigned_abs}
+use Rattle.std.specs.Option.{option_map}
+use Rattle.std.specs.Str.{is_utf8}
+use Rattle.std.proofs.lemmas.Bool.{and_from, leb-true}
+use Rattle.std.proofs.lemmas.List.Elements.{All-head, All-tail}
+use Rattle.std.proofs.lemmas.Str.{is_utf8-from_IsUtf8}
 use Rattle.std.specs.Ordering.{nat_cmp, match_ordering, ordering_reverse}
 use Rattle.std.specs.Cmp.Lexicographic.{slice_cmp}
 use Rattle.std.specs.declared.cmp.Ordering.TheVariants.{Less, Equal, Greater}
-use Rattle.std.proofs.lemmas.Bool.{leb-true}
 use Rattle.std.proofs.lemmas.Cmp.{nat_list_cmp_total}
-use Rattle.std.proofs.lemmas.List.Elements.{All-head, All-tail}
 use Rattle.json.proofs.Printed.Utf8.{IsUtf8-are_ascii}
 use Rattle.oim_names.specs.QName.{QName}
 use Rattle.oim_names.specs.Bindings.{Binding}
-use Rattle.oim_value.specs.Decimals.{is_finite_decimals}
+use Rattle.oim_names.proofs.Bytes.{other_bytes}
 use Rattle.oim_value.specs.Plain.{plain}
-use Rattle.oim_value.specs.declared.limits.TheConstants.{MOST_DECIMALS}
 use Rattle.oim_value.specs.declared.value.Value.{Value}
 use Rattle.oim_value.specs.declared.value.Value.TheVariants.{Nil, Number, Text as AText, Name as AName}
+use Rattle.oim_value.specs.Decimals.{is_finite_decimals}
+use Rattle.oim_value.specs.declared.limits.TheConstants.{MOST_DECIMALS}
 use Rattle.oim_dims.specs.DimensionSet.{DimensionSet}
 use Rattle.oim_dims.specs.Period.{period_text}
+use Rattle.oim_dims.specs.Unit.{Measures}
+use Rattle.oim_dims.specs.declared.fact.Fact.{Fact}
 use Rattle.oim_dims.specs.declared.member.Member.{Member}
 use Rattle.oim_dims.specs.declared.member.Member.TheVariants.{Nil as NoMember, Text as MemberText, Name as MemberName}
-use Rattle.serde_json.specs.Data.{Data, number, string, object, Members, no_members, member, put, depth, members_depth}
-use Rattle.serde_json.specs.Find.{of_integer}
+use Rattle.serde_json.specs.Data.{string, object, Members, no_members, put, Data, number, member, depth, members_depth}
+use Rattle.serde_json.specs.Find.{get_member, of_integer}
+use Rattle.serde_json.proofs.Views.{get_member-put_other}
 use Rattle.oim_report.specs.declared.concept_kind.ConceptKind.{ConceptKind}
 use Rattle.oim_report.specs.declared.concept_kind.ConceptKind.TheVariants.{Numeric, Text, Name}
 use Rattle.oim_report.specs.declared.dimension_kind.DimensionKind.{DimensionKind}
 use Rattle.oim_report.specs.declared.dimension_kind.DimensionKind.TheVariants.{Explicit, Typed}
-use Rattle.oim_report.specs.FactFits.{MemberFits, ValueFits}
+use Rattle.oim_report.specs.Json.{given, given_of, has_colon, any_member, is_unknown}
+use Rattle.oim_report.specs.Parts.{core_keys, defined_in, dimension_parts, parts_of}
+use Rattle.oim_report.specs.FactFits.{EntityFits, LanguageFits, UnitFits, MemberFits, DimensionFits, ValueFits, FactFits}
 use Rattle.oim_report.specs.FactObject.{put_text, option_spelled, option_unit_text, member_data, with_defined, dimension_members, value_data, with_decimals, fact_members}
+use Rattle.oim_report.specs.Sheet.{Sheet}
+use Rattle.oim_report.specs.ReadBack.{SpellsName, SpellsMeasures, SpellsMember, SpellsDimension, SpellsFact, SpellsValue, option_given, with_given, member_given, defined_given, dimensions_given, value_given, decimals_given, FactObjectHasParts, FactObjectIsPlain}
+use Rattle.oim_report.specs.code.TapeParts.{Ascends}
 use Rattle.oim_report.specs.PlainJson.{IsWhole, IsBefore, IsPlain, MembersArePlain, HasUtf8, MembersHaveUtf8}
-use Rattle.oim_report.specs.ReadBack.{SpellsMember, SpellsValue, FactObjectIsPlain}
-use Rattle.oim_report.proofs.PutMembers.{before_all, before_put}
-use Rattle.oim_report.proofs.Spelled.{spelled_utf8}
-use Rattle.oim_report.proofs.WrittenTexts.{plain_utf8}
-use Rattle.oim_report.proofs.WrittenParts.{HasTexts, has_texts}
+use Rattle.oim_report.proofs.Givens.{given_text}
+use Rattle.oim_report.proofs.WrittenTexts.{spelled_utf8, spelled_colon, plain_utf8, period_utf8, language_utf8, unit_utf8}
+use Rattle.oim_report.proofs.PutMembers.{ascends_put, defined_put, known_put, text_there, text_past, text_ascends, text_undefined, text_known, before_all, before_put}
+
+-- ---- written texts are read back unchanged
+
+option_back : (t : Option (List ℕ)) → IfSome t IsUtf8 → given_of (option_map string t) ≡ option_given t
+option_back None h = refl
+option_back (Some t) h = given_text t h
+
+member_back : (bs : List Binding) (spelled : QName → List ℕ) (kind : DimensionKind) (m : Member) → MemberFits kind m → SpellsMember bs spelled m → given (member_data spelled m) ≡ member_given spelled m
+member_back bs spelled Explicit (MemberName n) fits s = given_text (spelled n) (spelled_utf8 bs spelled n s fits.utf8)
+member_back bs spelled Typed (MemberText t) fits s = given_text t fits
+member_back bs spelled Typed NoMember fits s = refl
+member_back bs spelled kind m fits s = absurd fits
+
+value_back : (bs : List Binding) (spelled : QName → List ℕ) (kind : ConceptKind) (v : Value) → ValueFits kind v → SpellsValue bs spelled v → given (value_data spelled v) ≡ value_given spelled v
+value_back bs spelled kind Nil fits s = refl
+value_back bs spelled Numeric (Number units places) fits s = given_text (plain units) (plain_utf8 units fits.0)
+value_back bs spelled Text (AText t) fits s = given_text t fits
+value_back bs spelled Name (AName n) fits s = given_text (spelled n) (spelled_utf8 bs spelled n s fits.utf8)
+value_back bs spelled kind v fits s = absurd fits
+
+-- ---- the core dimensions
+
+module _ (entity language period unit : Option (List ℕ)) (concept : List ℕ) where
+  abbrev only_concept : Members
+  only_concept = put (codes "concept") (string concept) no_members
+
+  abbrev and_unit : Members
+  and_unit = put_text (codes "unit") unit only_concept
+
+  abbrev and_period : Members
+  and_period = put_text (codes "period") period and_unit
+
+  abbrev and_language : Members
+  and_language = put_text (codes "language") language and_period
+
+  abbrev core : Members
+  core = put_text (codes "entity") entity and_language
+
+  past_unit : (key : List ℕ) → key ≢ codes "unit" → get_member key and_unit ≡ get_member key only_concept
+  past_unit key u = text_past key (codes "unit") unit only_concept u
+
+  past_period : (key : List ℕ) → key ≢ codes "period" → key ≢ codes "unit" → get_member key and_period ≡ get_member key only_concept
+  past_period key p u = text_past key (codes "period") period and_unit p ∙ past_unit key u
+
+  past_language : (key : List ℕ) → key ≢ codes "language" → key ≢ codes "period" → key ≢ codes "unit" → get_member key and_language ≡ get_member key only_concept
+  past_language key l p u = text_past key (codes "language") language and_period l ∙ past_period key p u
+
+  past_entity : (key : List ℕ) → key ≢ codes "entity" → key ≢ codes "language" → key ≢ codes "period" → key ≢ codes "unit" → get_member key core ≡ get_member key only_concept
+  past_entity key e l p u = text_past key (codes "entity") entity and_language e ∙ past_language key l p u
+
+  at_unit : get_member (codes "unit") core ≡ option_map string unit
+  at_unit =
+      text_past (codes "unit") (codes "entity") entity and_language (other_bytes _ _ refl)
+      ∙ text_past (codes "unit") (codes "language") language and_period (other_bytes _ _ refl)
+      ∙ text_past (codes "unit") (codes "period") period and_unit (other_bytes _ _ refl)
+      ∙ text_there (codes "unit") unit only_concept refl
+
+  at_period : get_member (codes "period") core ≡ option_map string period
+  at_period =
+      text_past (codes "period") (codes "entity") entity and_language (other_bytes _ _ refl)
+      ∙ text_past (codes "period") (codes "language") language and_period (other_bytes _ _ refl)
+      ∙ text_there (codes "period") period and_unit (past_unit (codes "period") (other_bytes _ _ refl))
+
+  at_language : get_member (codes "language") core ≡ option_map string language
+  at_language =
+      text_past (codes "language") (codes "entity") entity and_language (other_bytes _ _ refl)
+      ∙ text_there (codes "language") language and_period (past_period (codes "language") (other_bytes _ _ refl) (other_bytes _ _ refl))
+
+  at_entity : get_member (codes "entity") core ≡ option_map string entity
+  at_entity = text_there (codes "entity") entity and_language (past_language (codes "entity") (other_bytes _ _ refl) (other_bytes _ _ refl) (other_bytes _ _ refl))
+
+  at_concept : get_member (codes "concept") core ≡ Some (string concept)
+  at_concept = past_entity (codes "concept") (other_bytes _ _ refl) (other_bytes _ _ refl) (other_bytes _ _ refl) (other_bytes _ _ refl)
+
+  at_note : get_member (codes "noteId") core ≡ None
+  at_note = past_entity (codes "noteId") (other_bytes _ _ refl) (other_bytes _ _ refl) (other_bytes _ _ refl) (other_bytes _ _ refl)
+
+  core_ascends : Ascends core
+  core_ascends =
+      text_ascends (codes "entity") entity and_language
+      (text_ascends (codes "language") language and_period
+      (text_ascends (codes "period") period and_unit
+      (text_ascends (codes "unit") unit only_concept
+      (tt, tt))))
+
+  core_undefined : defined_in core ≡ []
+  core_undefined =
+      text_undefined (codes "entity") entity and_language refl
+      ∙ text_undefined (codes "language") language and_period refl
+      ∙ text_undefined (codes "period") period and_unit refl
+      ∙ text_undefined (codes "unit") unit only_concept refl
+
+  core_known : any_member (is_unknown core_keys) core ≡ false
+  core_known =
+      text_known core_keys (codes "entity") entity and_language refl
+      (text_known core_keys (codes "language") language and_period refl
+      (text_known core_keys (codes "period") period and_unit refl
+      (text_known core_keys (codes "unit") unit only_concept refl refl)))
+
+-- ---- taxonomy-defined dimensions
+
+-- the texts of a dimension are UTF-8, and its key has a colon
+record IsWritten (spelled : QName → List ℕ) (e : QName × Member) : Type 0 where
+  colon : has_colon (spelled e.0) ≡ true
+  utf8 : IsUtf8 (spelled e.0)
+  member : given (member_data spelled e.1) ≡ member_given spelled e.1
+
+module _ (spelled : QName → List ℕ) where
+  past_defined : (key : List ℕ) → has_colon key ≡ false → (es : List (QName × Member)) → All (IsWritten spelled) es → (ms : Members) → get_member key (with_defined spelled es ms) ≡ get_member key ms
+  past_defined key plain [] w ms = refl
+  past_defined key plain (e ∷ es) w ms =
+      let colon = (All-head (IsWritten spelled) e es w).colon in
+      get_member-put_other key (spelled e.0) (member_data spelled e.1) (with_defined spelled es ms) (λ same. let is : has_colon key ≡ true = ap has_colon same ∙ colon in cc)
+      ∙ past_defined key plain es (All-tail (IsWritten spelled) e es w) ms
+
+  defined_ascends : (es : List (QName × Member)) (ms : Members) → Ascends ms → Ascends (with_defined spelled es ms)
+  defined_ascends [] ms h = h
+  defined_ascends (e ∷ es) ms h = ascends_put (spelled e.0) (member_data spelled e.1) (with_defined spelled es ms) (defined_ascends es ms h)
+
+  defined_back : (es : List (QName × Member)) → All (IsWritten spelled) es → (ms : Members) → Ascends ms → defined_in ms ≡ [] → defined_in (with_defined spelled es ms) ≡ defined_given spelled es
+  defined_back [] w ms h none = none
+  defined_back (e ∷ es) w ms h none =
+      let we = All-head (IsWritten spelled) e es w in
+      let key : (has_colon (spelled e.0) && is_utf8 (spelled e.0)) ≡ true = and_from (has_colon (spelled e.0)) (is_utf8 (spelled e.0)) we.colon (is_utf8-from_IsUtf8 (spelled e.0) we.utf8) in
+      defined_put (spelled e.0) (member_data spelled e.1) (with_defined spelled es ms) key (defined_ascends es ms h)
+      ∙ ap (λ g. with_given (spelled e.0) g (defined_in (with_defined spelled es ms))) we.member
+      ∙ ap (with_given (spelled e.0) (member_given spelled e.1)) (defined_back es (All-tail (IsWritten spelled) e es w) ms h none)
+
+  defined_known : (es : List (QName × Member)) → All (IsWritten spelled) es → (ms : Members) → any_member (is_unknown core_keys) ms ≡ false → any_member (is_unknown core_keys) (with_defined spelled es ms) ≡ false
+  defined_known [] w ms h = h
+  defined_known (e ∷ es) w ms h =
+      let colon = (All-head (IsWritten spelled) e es w).colon in
+      known_put core_keys (spelled e.0) (member_data spelled e.1) (with_defined spelled es ms) (rw colon refl) (defined_known es (All-tail (IsWritten spelled) e es w) ms h)
+
+-- ---- all dimensions
+
+-- the core dimensions have UTF-8 texts, and W holds of each taxonomy-defined one
+pub record HasTexts (W : QName × Member → Type 0) (spelled : QName → List ℕ) (d : DimensionSet) : Type 0 where
+  pub concept : IsUtf8 (spelled d.concept)
+  pub entity : IfSome (option_spelled spelled d.entity) IsUtf8
+  pub language : IfSome d.language IsUtf8
+  pub period : IfSome (period_text d.period) IsUtf8
+  pub unit : IfSome (option_unit_text spelled d.unit) IsUtf8
+  pub members : All W d.members
+
+dimensions_back : (spelled : QName → List ℕ) (d : DimensionSet) → HasTexts (IsWritten spelled) spelled d → dimension_parts (dimension_members spelled d) ≡ dimensions_given spelled d
+dimensions_back spelled d h =
+    let e = option_spelled spelled d.entity in
+    let l = d.language in
+    let p = period_text d.period in
+    let u = option_unit_text spelled d.unit in
+    let c = spelled d.concept in
+    let past = λ (key : List ℕ) (plain : has_colon key ≡ false). past_defined spelled key plain d.members h.members (core e l p u c) in
+    let concept = ap given_of (past (codes "concept") refl ∙ at_concept e l p u c) ∙ given_text c h.concept in
+    let entity = ap given_of (past (codes "entity") refl ∙ at_entity e l p u c) ∙ option_back e h.entity in
+    let period = ap given_of (past (codes "period") refl ∙ at_period e l p u c) ∙ option_back p h.period in
+    let unit = ap given_of (past (codes "unit") refl ∙ at_unit e l p u c) ∙ option_back u h.unit in
+    let language = ap given_of (past (codes "language") refl ∙ at_language e l p u c) ∙ option_back l h.language in
+    let note = ap given_of (past (codes "noteId") refl ∙ at_note e l p u c) in
+    let defined = defined_back spelled d.members h.members (core e l p u c) (core_ascends e l p u c) (core_undefined e l p u c) in
+    let unknown = defined_known spelled d.members h.members (core e l p u c) (core_known e l p u c) in
+    λ i. record { concept = concept i; entity = entity i; period = period i; unit = unit i; language = language i; note = note i; defined = defined i; unknown = unknown i }
+
+-- ---- the object
+
+shape : (spelled : QName → List ℕ) (v : Value) (ms : Members) → parts_of (with_decimals spelled v (put (codes "dimensions") (object ms) (put (codes "value") (value_data spelled v) no_members))) ≡ record { value = given (value_data spelled v); decimals = decimals_given spelled v; dimensions = Some (dimension_parts ms); linked = false; misshapen = false; unknown = false }
+shape spelled (Number units (Some (pos d))) ms = refl
+shape spelled v ms = refl
+
+entity_texts : (bs : List Binding) (spelled : QName → List ℕ) (n : Option QName) → EntityFits n → IfSome n (SpellsName bs spelled) → IfSome (option_spelled spelled n) IsUtf8
+entity_texts bs spelled None fits s = tt
+entity_texts bs spelled (Some n) fits s = spelled_utf8 bs spelled n s fits.utf8
+
+language_texts : (kind : ConceptKind) (l : Option (List ℕ)) → LanguageFits kind l → IfSome l IsUtf8
+language_texts kind None fits = tt
+language_texts kind (Some l) fits = language_utf8 l fits.form
+
+unit_texts : (bs : List Binding) (spelled : QName → List ℕ) (kind : ConceptKind) (m : Option Measures) → UnitFits kind m → IfSome m (SpellsMeasures bs spelled) → IfSome (option_unit_text spelled m) IsUtf8
+unit_texts bs spelled kind None fits s = tt
+unit_texts bs spelled kind (Some m) fits s =
+    unit_utf8 spelled m
+    (λ k d within. spelled_utf8 bs spelled _ (s.numerators k d within) (fits.numerators k d within).utf8)
+    (λ k d within. spelled_utf8 bs spelled _ (s.denominators k d within) (fits.denominators k d within).utf8)
+
+one_written : (sheet : Sheet) (bs : List Binding) (spelled : QName → List ℕ) (e : QName × Member) → DimensionFits sheet e → SpellsDimension bs spelled e → IsWritten spelled e
+one_written sheet bs spelled e fits s = record {
+  colon = spelled_colon bs spelled e.0 s.name;
+  utf8 = spelled_utf8 bs spelled e.0 s.name fits.name.utf8;
+  member = member_back bs spelled fits.kind e.1 fits.member s.member;
+}
+
+pub has_texts : (W : QName × Member → Type 0) (sheet : Sheet) (bs : List Binding) (spelled : QName → List ℕ) (f : Fact) → FactFits sheet f → SpellsFact bs spelled f
+    → ((e : QName × Member) → DimensionFits sheet e → SpellsDimension bs spelled e → W e) → HasTexts W spelled f.dimensions
+has_texts W sheet bs spelled f fits s written = record {
+  concept = spelled_utf8 bs spelled f.dimensions.concept s.concept fits.concept.utf8;
+  entity = entity_texts bs spelled f.dimensions.entity fits.entity s.entity;
+  language = language_texts fits.kind f.dimensions.language fits.language;
+  period = period_utf8 f.dimensions.period fits.set.period;
+  unit = unit_texts bs spelled fits.kind f.dimensions.unit fits.unit s.unit;
+  members = λ k d within. written _ (fits.members k d within) (s.members k d within);
+}
+
+pub parts_back : FactObjectHasParts
+parts_back sheet bs spelled f fits s =
+    let texts = has_texts (IsWritten spelled) sheet bs spelled f fits s (one_written sheet bs spelled) in
+    let value = value_back bs spelled fits.kind f.value fits.value s.value in
+    let dimensions = dimensions_back spelled f.dimensions texts in
+    ap Some (shape spelled f.value (dimension_members spelled f.dimensions) ∙ (λ i. record { value = value i; decimals = decimals_given spelled f.value; dimensions = Some (dimensions i); linked = false; misshapen = false; unknown = false }))
+
+-- ---- The object of a written fact is plain JSON with UTF-8 strings and keys, at most two levels deep.
 
 record IsKept (d : Data) (n : ℕ) : Type 0 where
   plain : IsPlain d
@@ -82,17 +302,17 @@ member_kept bs spelled Typed (MemberText t) fits s = text_kept t 0 fits
 member_kept bs spelled Typed NoMember fits s = record { plain = tt; utf8 = tt; shallow = omega arith }
 member_kept bs spelled kind m fits s = absurd fits
 
-record IsWritten (spelled : QName → List ℕ) (e : QName × Member) : Type 0 where
+record IsKeptDimension (spelled : QName → List ℕ) (e : QName × Member) : Type 0 where
   key : IsUtf8 (spelled e.0)
   member : IsKept (member_data spelled e.1) 0
 
-defined_kept : (spelled : QName → List ℕ) (es : List (QName × Member)) (ms : Members) → All (IsWritten spelled) es → AreKept ms 0 → AreKept (with_defined spelled es ms) 0
+defined_kept : (spelled : QName → List ℕ) (es : List (QName × Member)) (ms : Members) → All (IsKeptDimension spelled) es → AreKept ms 0 → AreKept (with_defined spelled es ms) 0
 defined_kept spelled [] ms w h = h
 defined_kept spelled (e ∷ es) ms w h =
-    let we = All-head (IsWritten spelled) e es w in
-    kept_put (spelled e.0) (member_data spelled e.1) (with_defined spelled es ms) 0 we.key we.member (defined_kept spelled es ms (All-tail (IsWritten spelled) e es w) h)
+    let we = All-head (IsKeptDimension spelled) e es w in
+    kept_put (spelled e.0) (member_data spelled e.1) (with_defined spelled es ms) 0 we.key we.member (defined_kept spelled es ms (All-tail (IsKeptDimension spelled) e es w) h)
 
-dimensions_kept : (spelled : QName → List ℕ) (d : DimensionSet) → HasTexts (IsWritten spelled) spelled d → AreKept (dimension_members spelled d) 0
+dimensions_kept : (spelled : QName → List ℕ) (d : DimensionSet) → HasTexts (IsKeptDimension spelled) spelled d → AreKept (dimension_members spelled d) 0
 dimensions_kept spelled d h =
     defined_kept spelled d.members _ h.members
     (kept_text (codes "entity") (option_spelled spelled d.entity) _ 0 (IsUtf8-are_ascii _ refl) h.entity
@@ -122,7 +342,7 @@ with_decimals_kept spelled kind v ms fits h = h
 
 pub fact_plain : FactObjectIsPlain
 fact_plain sheet bs spelled f fits s =
-    let texts = has_texts (IsWritten spelled) sheet bs spelled f fits s (λ e fit says. record { key = spelled_utf8 bs spelled e.0 says.name fit.name.utf8; member = member_kept bs spelled fit.kind e.1 fit.member says.member }) in
+    let texts = has_texts (IsKeptDimension spelled) sheet bs spelled f fits s (λ e fit says. record { key = spelled_utf8 bs spelled e.0 says.name fit.name.utf8; member = member_kept bs spelled fit.kind e.1 fit.member says.member }) in
     let ds = dimensions_kept spelled f.dimensions texts in
     let of_dimensions : IsKept (object (dimension_members spelled f.dimensions)) 1 = record { plain = ds.plain; utf8 = ds.utf8; shallow = omega (arith, ds.shallow) } in
     let of_value : AreKept (put (codes "value") (value_data spelled f.value) no_members) 1 = kept_put (codes "value") (value_data spelled f.value) no_members 1 (IsUtf8-are_ascii _ refl) (value_kept bs spelled fits.kind f.value fits.value s.value) (none_kept 1) in

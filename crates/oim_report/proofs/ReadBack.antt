@@ -1,23 +1,50 @@
 -- If a fact fits a sheet and its names are spelled as in `SpellsFact`, each of its written parts is read back.
-use Rattle.std.specs.Prelude.{◌≡◌, ℕ, List, All, IsTrue, Option, Some, IfSome}
+use Rattle.std.specs.Prelude.{All, IsTrue, IfSome, option_and_then, option_map, ◌==◌, ◌&&◌, if◌then◌else◌}
+use Rattle.std.proofs.Common.{◌≡◌, ℕ, List, Some, None, refl, sym, ap, ◌∙◌, ◌≢◌, [], ◌∷◌, ◌++◌, length, true, false, not, cond, arith, ℤ, Bool, Option}
+use Rattle.std.specs.Result.{result_ok}
+use Rattle.std.specs.Str.{str_to_ascii_lowercase}
+use Rattle.std.proofs.lemmas.Bool.{cond-true, and_parts, and_from, or_from}
+use Rattle.std.specs.Char.{is_ascii_alphanumeric}
+use Rattle.std.specs.List.{list_all, list_any}
+use Rattle.std.specs.Ordering.{is_eq}
+use Rattle.std.specs.declared.cmp.Ordering.TheVariants.{Less, Equal, Greater}
+use Rattle.std.proofs.lemmas.Bool.Decides.{nat_tests}
+use Rattle.std.proofs.lemmas.List.Folds.{list_any-append}
 use Rattle.std.specs.FinMap as map
-use Rattle.oim_names.specs.QName.{QName}
+use Rattle.oim_names.specs.QName.{QName, exact_name}
 use Rattle.oim_names.specs.Bindings.{Binding}
 use Rattle.oim_names.specs.Expansion.{Expands}
+use Rattle.oim_names.proofs.Spelling.{filled_number}
+use Rattle.oim_names.specs.declared.reason.Reason.TheVariants.{NumberForm, NumberDigits}
 use Rattle.oim_value.specs.declared.value.Value.{Value}
+use Rattle.oim_value.specs.ValueOrder.{name_cmp}
+use Rattle.oim_value.specs.Decimals.{is_finite_decimals}
+use Rattle.oim_value.specs.Number.{IsShort, is_number, is_short}
+use Rattle.oim_value.specs.Plain.{plain}
+use Rattle.oim_value.specs.Units.{units_of}
+use Rattle.oim_value.specs.declared.value.Value.TheVariants.{Nil, Number, Text as AText, Name as AName}
+use Rattle.oim_value.proofs.Denoted.{short_numbers_denote}
+use Rattle.oim_value.proofs.ShortLaws.{plain_reads_back}
 use Rattle.oim_dims.specs.DimensionSet.{rises}
 use Rattle.oim_dims.specs.Period.{IsPeriod, period_text}
-use Rattle.oim_dims.specs.Unit.{Measures, IsUnit}
+use Rattle.oim_dims.specs.Unit.{Measures, IsUnit, IsMeasure, HasMeasures, Spells, SpellsEach, is_mark, is_piece, is_unit_text, numerator_pieces, denominator_pieces, unit_text, pure_name, pure_alone}
 use Rattle.oim_dims.specs.declared.member.Member.{Member}
 use Rattle.oim_dims.specs.declared.period.Period.{Period}
+use Rattle.oim_dims.specs.Language.{is_language}
+use Rattle.oim_dims.specs.declared.period.Period.TheVariants.{Forever, Instant, Duration}
+use Rattle.oim_dims.proofs.Periods.{period_back}
+use Rattle.oim_dims.proofs.UnitText.{unit_back}
 use Rattle.oim_report.specs.declared.concept_kind.ConceptKind.{ConceptKind}
 use Rattle.oim_report.specs.Json.{text}
-use Rattle.oim_report.specs.Fact.{SaysEntity, SaysPeriod, SaysUnit, SaysLanguage, SaysMembers, SaysValue}
-use Rattle.oim_report.specs.FactFits.{FitsName, EntityFits, MeasuresFit, LanguageFits, DimensionFits, ValueFits}
+use Rattle.oim_report.specs.Fact.{SaysEntity, SaysPeriod, SaysUnit, SaysLanguage, SaysMembers, SaysValue, SaysNumber}
+use Rattle.oim_report.specs.FactFits.{FitsName, EntityFits, MeasuresFit, LanguageFits, DimensionFits, ValueFits, IsLanguageOf}
 use Rattle.oim_report.specs.FactObject.{option_spelled, option_unit_text}
-use Rattle.oim_report.specs.Said.{concept_kind, said_concept, said_entity, said_period, said_unit, said_language, said_members, said_value}
+use Rattle.oim_report.specs.Said.{concept_kind, said_concept, said_entity, said_period, said_unit, said_language, said_members, said_value, side_of, unit_with, unit_of, text_said}
 use Rattle.oim_report.specs.Sheet.{Sheet}
 use Rattle.oim_report.specs.ReadBack.{SpellsDimension, SpellsMeasures, SpellsName, SpellsValue, decimals_given, defined_given, option_given, value_given}
+use Rattle.oim_report.specs.declared.concept_kind.ConceptKind.TheVariants.{Numeric, Text, Name}
+use Rattle.oim_report.proofs.WrittenTexts.{expands, expands_entity, name_back, entity_back}
+use Rattle.oim_report.proofs.UnitSaid.{side, spelled}
 
 pub record ConceptReadsBack (sheet : Sheet) (bs : List Binding) (spelled : QName → List ℕ) (n : QName) (kind : ConceptKind) : Type 0 where
   pub says : Expands bs (spelled n) n
@@ -68,3 +95,137 @@ pub record ValueReadsBack (bs : List Binding) (spelled : QName → List ℕ) (ki
 
 abbrev pub ValuesReadBack : Type 0
 ValuesReadBack = (bs : List Binding) (spelled : QName → List ℕ) (kind : ConceptKind) (v : Value) → ValueFits kind v → SpellsValue bs spelled v → ValueReadsBack bs spelled kind v
+
+-- ---- The concept, the entity, the period and the language of a written fact are read back.
+
+pub concept_back : ConceptsReadBack
+concept_back sheet bs spelled n kind fits s listed =
+    let known : concept_kind sheet bs (text (spelled n)) ≡ Some kind = ap (option_and_then (map.get sheet.concepts)) (name_back bs spelled n fits s) ∙ listed in
+    record {
+      says = expands bs spelled n s fits;
+      said = name_back bs spelled n fits s;
+      listed = known;
+    }
+
+pub entity_part_back : EntitiesReadBack
+entity_part_back bs spelled None fits s = record { says = refl; said = refl }
+entity_part_back bs spelled (Some n) fits s = record {
+  says = (n, refl, expands_entity bs spelled n s fits);
+  said = ap (option_map Some) (entity_back bs spelled n fits s);
+}
+
+pub period_part_back : PeriodsReadBack
+period_part_back Forever h = record { says = refl; said = refl }
+period_part_back (Instant m) h = let back = period_back (Instant m) h in record { says = back; said = ap result_ok back }
+period_part_back (Duration start end) h = let back = period_back (Duration start end) h in record { says = back; said = ap result_ok back }
+
+kept_back : (kind : ConceptKind) (l : List ℕ) → IsLanguageOf kind l → said_language kind (text l) ≡ Some (Some (str_to_ascii_lowercase l)) → LanguageReadsBack kind (Some l)
+kept_back kind l fits said = record { says = (fits.form, ap Some (sym fits.lower)); said = said ∙ ap (λ t. Some (Some t)) fits.lower }
+
+pub language_back : LanguagesReadBack
+language_back kind None fits = record { says = refl; said = refl }
+language_back Numeric (Some l) fits = absurd (fits.other refl)
+language_back Text (Some l) fits = kept_back Text l fits (cond-true (is_language l) _ _ fits.form)
+language_back Name (Some l) fits = kept_back Name l fits (cond-true (is_language l) _ _ fits.form)
+
+-- ---- A written unit is read back.
+
+-- ---- the pieces of a unit's text
+
+simple_plain : (c : ℕ) → is_ascii_alphanumeric c ≡ true → is_mark c ≡ false
+simple_plain c h = grind (arith, nat_tests)
+
+simple_none : (p : List ℕ) → list_all is_ascii_alphanumeric p ≡ true → list_any is_mark p ≡ false
+simple_none [] h = refl
+simple_none (c ∷ cs) h =
+    let b = and_parts (is_ascii_alphanumeric c) (list_all is_ascii_alphanumeric cs) h in
+    or_from (is_mark c) (list_any is_mark cs) (simple_plain c b.0) (simple_none cs b.1)
+
+some_bytes : (p l : List ℕ) → not (length (p ++ 58 ∷ l) == 0) ≡ true
+some_bytes [] l = filled_number (length l)
+some_bytes (c ∷ cs) l = filled_number (length (cs ++ 58 ∷ l))
+
+piece_form : (p l : List ℕ) → list_all is_ascii_alphanumeric p ≡ true → list_any is_mark l ≡ false → is_piece (p ++ 58 ∷ l) ≡ true
+piece_form p l simple plain =
+    let none : list_any is_mark (p ++ 58 ∷ l) ≡ false = list_any-append is_mark p (58 ∷ l) ∙ or_from (list_any is_mark p) (list_any is_mark (58 ∷ l)) (simple_none p simple) plain in
+    and_from (not (length (p ++ 58 ∷ l) == 0)) (not (list_any is_mark (p ++ 58 ∷ l))) (some_bytes p l) (ap not none)
+
+spells_measure : (bs : List Binding) (spelled : QName → List ℕ) (n : QName) → FitsName n → IsMeasure n → SpellsName bs spelled n → Spells bs (spelled n) n
+spells_measure bs spelled n fits measure s = record {
+  piece = ap is_piece s.text ∙ piece_form s.prefix n.local_part s.simple measure.plain;
+  expands = expands bs spelled n s fits;
+}
+
+-- ---- the sides of a unit
+
+abbrev measures : List QName → List QName → Measures
+measures ns ds = record { numerators = ns; denominators = ds }
+
+with_back : (ns ds : List QName) → measures ns ds ≢ pure_alone → unit_with ns ds ≡ Some (measures ns ds)
+with_back (n ∷ []) [] other =
+    elim (name_cmp n pure_name) as (λ o. name_cmp n pure_name ≡ o → cond (is_eq o) None (Some (measures (n ∷ []) [])) ≡ Some (measures (n ∷ []) [])) [
+      | Less ↦ λ o. refl
+      | Equal ↦ λ o. let same : n ≡ pure_name = exact_name n pure_name o in absurd (other (λ i. measures (same i ∷ []) []))
+      | Greater ↦ λ o. refl
+    ] refl
+with_back ns ds other = refl
+
+unit_said : (bs : List Binding) (t : List ℕ) (m : Measures) → HasMeasures bs t m → IsUnit m → unit_of bs t ≡ Some (Some m)
+unit_said bs t m h is =
+    cond-true (is_unit_text t) _ _ h.form
+    ∙ ap (option_and_then (λ ns. option_map (unit_with ns) (side_of bs (denominator_pieces t)))) (side bs (numerator_pieces t) m.numerators h.numerators is.numerators)
+    ∙ ap (option_map (unit_with m.numerators)) (side bs (denominator_pieces t) m.denominators h.denominators is.denominators)
+    ∙ ap Some (with_back m.numerators m.denominators is.unit)
+
+pub unit_part_back : UnitsReadBack
+unit_part_back bs spelled kind None is fits s = record { says = refl; said = refl }
+unit_part_back bs spelled kind (Some m) is fits s =
+    let each : SpellsEach bs spelled m = record {
+      numerators = λ k d within. spells_measure bs spelled _ (fits.numerators k d within) (is.multiplied k d within) (s.numerators k d within);
+      denominators = λ k d within. spells_measure bs spelled _ (fits.denominators k d within) (is.divided k d within) (s.denominators k d within);
+    } in
+    let back = unit_back bs spelled m is each in
+    record {
+      says = back.unit;
+      said = ap (λ k. said_unit bs k (text (unit_text spelled m))) fits.numeric ∙ unit_said bs (unit_text spelled m) m back.unit.0 is;
+    }
+
+-- ---- A written value is read back, whether it is nil, a number with its decimals, a text or a name.
+
+short_of : (a b : Bool) → cond (not a) (Some NumberForm) (cond (not b) (Some NumberDigits) None) ≡ None → b ≡ true
+short_of true true h = refl
+short_of a b h = cc
+
+module _ (units : ℤ) (short : IsShort units) where
+  says : SaysNumber (plain units) units
+  says =
+      let back = plain_reads_back units short in
+      record { denoted = back.denotes; short = short_of (is_number (plain units)) (is_short (plain units)) back.accepted }
+
+  same : units_of (plain units) ≡ units
+  same = let back = plain_reads_back units short in sym ((short_numbers_denote (plain units) units back.accepted).0 back.denotes)
+
+  said : (bs : List Binding) (places : Option ℤ) → text_said bs Numeric places (plain units) ≡ Some (Number units places)
+  said bs places =
+      let form : is_number (plain units) ≡ true = says.denoted.form in
+      let few : is_short (plain units) ≡ true = says.short in
+      (λ i. if form i && few i then Some (Number (units_of (plain units)) places) else None) ∙ ap (λ u. Some (Number u places)) same
+
+pub value_part_back : ValuesReadBack
+value_part_back bs spelled kind Nil fits s = record { says = refl; said = refl }
+value_part_back bs spelled Numeric (Number units None) fits s = record {
+  says = (says units fits.0, refl);
+  said = said units fits.0 bs None;
+}
+value_part_back bs spelled Numeric (Number units (Some d)) fits s =
+    let few : is_finite_decimals d ≡ true = fits.1 in
+    record {
+      says = (says units fits.0, (few, refl));
+      said = ap (λ b. option_and_then (λ (places : Option ℤ). text_said bs Numeric places (plain units)) (if b then Some (Some d) else None)) few ∙ said units fits.0 bs (Some d);
+    }
+value_part_back bs spelled Text (AText t) fits s = record { says = refl; said = refl }
+value_part_back bs spelled Name (AName n) fits s = record {
+  says = expands bs spelled n s fits;
+  said = ap (option_map AName) (name_back bs spelled n fits s);
+}
+value_part_back bs spelled o d fits s = absurd fits

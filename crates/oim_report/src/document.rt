@@ -2,8 +2,6 @@
 //! duplicates of the facts.
 
 pub(crate) mod base;
-pub(crate) mod base_url;
-pub(crate) mod document_form;
 pub(crate) mod duplicates;
 pub(crate) mod features;
 pub(crate) mod found_facts;
@@ -12,4 +10,3 @@ pub(crate) mod info;
 pub(crate) mod json_tree;
 pub(crate) mod namespaces;
 pub(crate) mod references;
-pub(crate) mod taxonomy;

@@ -1,3 +1,5 @@
+#![tactic(auto, using(crate::proofs::StatedLaws::laws))]
+
 ghost use Rattle.std.specs.Prelude.{◌≡◌, ◌↔◌, ℕ, List, None, Some, Ok, IsTrue};
 ghost use Rattle.std.specs.Str.{is_utf8};
 ghost use Rattle.url.specs.Parser.{parse_url};

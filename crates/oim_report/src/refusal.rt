@@ -1,4 +1,5 @@
-ghost use Rattle.std.specs.Prelude.{◌≡◌, ◌≢◌};
+ghost use Rattle.std.specs.Prelude.{◌≡◌, ◌≢◌, Err, IfOk};
+ghost use Rattle.std.specs.Result.{result_ok};
 ghost use Rattle.oim_report.specs.Outcome.{at};
 ghost use Rattle.oim_report.specs.declared.place.Place.TheVariants.{Document, Fact};
 ghost use Rattle.oim_names.specs.declared.reason.Reason.TheVariants.{OutOfMemory};
@@ -56,5 +57,15 @@ impl<T: Drop> From<AllocFailed<T>> for Refusal {
 
     fn from(_: AllocFailed<T>) -> Refusal {
         Refusal::from(Reason::OutOfMemory)
+    }
+}
+
+pub(crate) fn unless_memory<T: Drop>(read: Result<T, Reason>) -> Result<Option<T>, AllocError>
+    ensures { IfOk result (λ found. (found ≡ result_ok read) × (read ≢ Err Reason.OutOfMemory)) }
+{
+    match read {
+        Ok(value) => Ok(Some(value)),
+        Err(Reason::OutOfMemory) => Err(AllocError),
+        Err(_) => Ok(None),
     }
 }

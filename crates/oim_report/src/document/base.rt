@@ -1,10 +1,15 @@
-ghost use Rattle.std.specs.Prelude.{◌≡◌, ◌⊎◌, Some, IfOk, IfErr, IsTrue};
+ghost use Rattle.std.specs.Prelude.{◌≡◌, ◌⊎◌, Some, None, IfOk, IfErr, IsTrue};
+ghost use Rattle.serde_json.specs.View.{view};
 ghost use Rattle.url.specs.Parser.{Gives, parse_url};
+ghost use Rattle.oim_report.specs.Info.{base_said};
 ghost use Rattle.oim_report.specs.Kept.{base_url, is_web};
 ghost use Rattle.oim_report.specs.code.Findings.{is_base_refused};
 
+use crate::document::json_tree::within;
+use crate::fact::json_member::JsonMember;
 use crate::limits::MOST_REFERENCE_BYTES;
 use oim_names::Reason;
+use serde_json::Value;
 use std::alloc::Global;
 use std::marker::Model;
 use url::{ParseError, ParseResult, Url};
@@ -40,9 +45,21 @@ pub(crate) fn is_web(url: &Url) -> bool
     matches!(url.scheme(), "http" | "https")
 }
 
+pub(crate) fn read_base_url(alloc: Global, tree: &Value) -> Result<Option<Base>, Reason>
+    ensures ok { IfOk result (λ base. base_said (view tree.now) ≡ Some base) }
+    ensures errors { IfErr result
+        (λ r. (r ≡ Reason.OutOfMemory) ⊎ ((r ≡ Reason.BaseUrl) × (base_said (view tree.now) ≡ None))) }
+{
+    match JsonMember::of(within(tree, "documentInfo", "baseURL")) {
+        JsonMember::Absent => Ok(None),
+        JsonMember::Text(text) => Ok(Some(read_base(alloc, text)?)),
+        _ => Err(Reason::BaseUrl),
+    }
+}
+
 /// Reads the `baseURL` of a report (xBRL-JSON 1.0), which must be an http or https URL of at most
 /// `MOST_REFERENCE_BYTES` bytes (own).
-pub(crate) fn read_base(alloc: Global, text: &str) -> Result<Base, Reason>
+fn read_base(alloc: Global, text: &str) -> Result<Base, Reason>
     ensures ok { IfOk result (λ base. base_url text.now ≡ Some base) }
     ensures errors { IfErr result
         (λ r. (r ≡ Reason.OutOfMemory) ⊎ ((r ≡ Reason.BaseUrl) × IsTrue (is_base_refused text.now))) }

@@ -68,6 +68,7 @@ pub(crate) fn level_within(limit: Level, facts: &[Fact], order: &[usize]) -> Res
 // the last earlier value. `shared` is the common part of the intervals of all earlier values, or
 // `None` if one of them is not a number. The level of all these values is the greater of the result
 // and the level of the earlier values.
+#[tactic(auto, using(crate::proofs::Ties::equal_values_tie))]
 fn level_beside(last: &Value, shared: Option<Interval>, value: &Value) -> Level
     ensures { result ≡ level_beside last.now shared value.now }
 {

@@ -1,15 +1,15 @@
 ghost use Rattle.std.specs.Prelude.{◌≡◌, ◌∷◌, [], None, IfErr, IsSome};
 ghost use Rattle.std.specs.Result.{result_ok};
 ghost use Rattle.oim_names.specs.QName.{prefix_part, local_part};
-ghost use Rattle.serde_json.specs.View.{view, members_view};
+ghost use Rattle.serde_json.specs.View.{view};
 ghost use Rattle.oim_report.specs.code.JsonMember.{seen};
-ghost use Rattle.oim_report.specs.Info.{declarations, features_of, is_allowed_duplicates, level_said, said_level};
+ghost use Rattle.oim_report.specs.Info.{declarations, features_of, is_allowed_duplicates, said_level};
 
 use crate::document::json_tree::within;
 use crate::fact::json_member::JsonMember;
 use oim_names::{Aliases, Reason};
 use oim_value::Level;
-use serde_json::{Map, Value};
+use serde_json::Value;
 
 const RESERVED: &str = "https://xbrl.org/2021";
 
@@ -20,25 +20,19 @@ pub(crate) fn read_level(aliases: &Aliases, tree: &Value) -> Result<Level, Reaso
     ensures level { result_ok result ≡ said_level (declarations aliases.now (features_of (view tree.now))) }
     ensures refused { IfErr result (λ r. r ≡ Reason.Feature) }
 {
-    match within(tree, "documentInfo", "features").and_then(Value::as_object) {
-        Some(features) => declared_level(aliases, features).ok_or(Reason::Feature),
-        None => Ok(Level::All),
-    }
-}
-
-fn declared_level(aliases: &Aliases, features: &Map<String, Value>) -> Option<Level>
-    ensures { result ≡ said_level (declarations aliases.now (members_view features.now.entries)) }
-{
     let mut declared = None;
+    let Some(features) = within(tree, "documentInfo", "features").and_then(Value::as_object) else {
+        return Ok(Level::All);
+    };
     for (key, value) in features.iter() {
         if is_allowed_duplicates(aliases, key.as_str()) {
             match only_level(declared, JsonMember::of_value(value)) {
                 Some(level) => declared = Some(level),
-                None => return None,
+                None => return Err(Reason::Feature),
             }
         }
     }
-    Some(declared.unwrap_or(Level::All))
+    Ok(declared.unwrap_or(Level::All))
 }
 
 fn only_level(before: Option<Level>, value: JsonMember<'_>) -> Option<Level>

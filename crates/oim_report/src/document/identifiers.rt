@@ -1,11 +1,11 @@
 ghost use Rattle.std.specs.Prelude.{◌≡◌, ◌⊎◌, Some, None, IfOk, IfErr, map, string_bytes};
-ghost use Rattle.serde_json.specs.View.{view, members_view};
-ghost use Rattle.oim_report.specs.Identifiers.{identifiers, identifiers_in, tree_identifiers};
-ghost use Rattle.oim_report.specs.Json.{entries, json};
+ghost use Rattle.serde_json.specs.View.{view};
+ghost use Rattle.oim_report.specs.Identifiers.{identifiers, tree_identifiers};
+ghost use Rattle.oim_report.specs.Json.{json};
 
 use crate::document::json_tree::{object_at, read_json};
 use oim_names::{Reason, Text};
-use serde_json::{Map, Value};
+use serde_json::Value;
 use std::alloc::{AllocError, Global};
 
 /// Returns the identifiers of a report's facts, in byte order (xBRL-JSON 1.0, section 2).
@@ -26,17 +26,9 @@ pub(crate) fn identifiers_of(alloc: Global, tree: &Value) -> Result<Vec<Text>, R
     ensures ok { IfOk result (λ is. is.items ≡ tree_identifiers (view tree.now)) }
     ensures errors { IfErr result (λ r. r ≡ Reason.OutOfMemory) }
 {
-    match object_at(tree, "facts") {
-        Some(objects) => keys_of(alloc, objects),
-        None => Ok(Vec::new(alloc)),
-    }
-}
-
-fn keys_of(alloc: Global, objects: &Map<String, Value>) -> Result<Vec<Text>, Reason>
-    ensures ok { IfOk result
-        (λ is. is.items ≡ identifiers_in (entries (members_view objects.now.entries))) }
-    ensures errors { IfErr result (λ r. r ≡ Reason.OutOfMemory) }
-{
+    let Some(objects) = object_at(tree, "facts") else {
+        return Ok(Vec::new(alloc));
+    };
     let mut keys = Vec::with_capacity(alloc, objects.len())?;
     for (key, _object) in objects.iter() {
         let key = Text::new(alloc, key.as_str())?;

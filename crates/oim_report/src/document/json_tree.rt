@@ -3,7 +3,7 @@ ghost use Rattle.std.specs.List.{list_any};
 ghost use Rattle.serde_json.specs.Data.{Members, null, object, put};
 ghost use Rattle.oim_report.specs.Pieces.{IsPiece};
 ghost use Rattle.serde_json.specs.View.{view, members_view};
-ghost use Rattle.oim_report.specs.Json.{without_mark, json, object_at, within, any_member, any_in, has_member, has_colon, is_unknown, is_no_object, is_no_array};
+ghost use Rattle.oim_report.specs.Json.{without_mark, json, object_at, within, any_in, has_member, has_colon, is_unknown, is_no_object, is_no_array};
 ghost use Rattle.oim_report.specs.Shown.{unknown_in};
 
 use crate::pieces::outline::{Outline, read_outline};
@@ -87,16 +87,7 @@ pub(crate) fn unknown_in<'a>(
         let found = unknown_in (map (λ s. s.now) known.now) members in
         option_map (λ k. k.now) result ≡ option_map (λ m. m.0) found }
 {
-    unknown_key(object?, known)
-}
-
-fn unknown_key<'a>(members: &'a Map<String, Value>, known: &[&str]) -> Option<&'a str>
-    ensures any { is_some result
-        ≡ any_member (is_unknown (map (λ s. s.now) known.now)) (members_view members.now.entries) }
-    ensures first { let found = unknown_in (map (λ s. s.now) known.now) (Some (members_view members.now.entries)) in
-        option_map (λ k. k.now) result ≡ option_map (λ m. m.0) found }
-{
-    for (key, _value) in members.iter() {
+    for (key, _value) in object?.iter() {
         if is_unknown_key(key.as_str(), known) {
             return Some(key.as_str());
         }

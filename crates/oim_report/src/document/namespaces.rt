@@ -1,12 +1,19 @@
-ghost use Rattle.std.specs.Prelude.{◌≡◌, ◌⊎◌, true, false, IfOk, IfErr, option_map};
-ghost use Rattle.serde_json.specs.View.{members_view};
-ghost use Rattle.oim_report.specs.Json.{any_in, any_member, members};
+ghost use Rattle.std.specs.Prelude.{◌≡◌, ◌⊎◌, [], true, false, if◌then◌else◌, Some, None, IfOk, IfErr, option_map};
+ghost use Rattle.std.specs.List.{find};
+ghost use Rattle.oim_names.specs.Bindings.{is_refused_binding};
+ghost use Rattle.serde_json.specs.View.{view, members_view};
+ghost use Rattle.oim_report.specs.Info.{bindings_of, namespaces_of};
+ghost use Rattle.oim_report.specs.Json.{any_in, entries, members};
 ghost use Rattle.oim_report.specs.Namespaces.{binds_nothing, bindings_in};
+ghost use Rattle.oim_report.specs.Shown.{entry, seen};
 
+use crate::document::json_tree::within;
 use crate::fact::json_member::JsonMember;
+use crate::findings::part::Part;
+use crate::refusal::unless_memory;
 use oim_names::{Aliases, Reason};
 use serde_json::{Map, Value};
-use std::alloc::Global;
+use std::alloc::{AllocError, Global};
 
 pub(crate) fn read_namespaces(
     alloc: Global,
@@ -18,20 +25,10 @@ pub(crate) fn read_namespaces(
         IfErr result (λ r. (r ≡ Reason.OutOfMemory)
         ⊎ ((r ≡ Reason.Namespace) × (any_in binds_nothing ms ≡ true))) }
 {
-    match namespaces {
-        Some(entries) => bind_all(alloc, entries),
-        None => Ok(Aliases::new(alloc)),
-    }
-}
-
-fn bind_all(alloc: Global, entries: &Map<String, Value>) -> Result<Aliases, Reason>
-    ensures bound { let ms = members_view entries.now.entries in
-        IfOk result (λ a. (a ≡ bindings_in ms) × (any_member binds_nothing ms ≡ false)) }
-    ensures refused { let ms = members_view entries.now.entries in
-        IfErr result (λ r. (r ≡ Reason.OutOfMemory)
-        ⊎ ((r ≡ Reason.Namespace) × (any_member binds_nothing ms ≡ true))) }
-{
     let mut aliases = Aliases::new(alloc);
+    let Some(entries) = namespaces else {
+        return Ok(aliases);
+    };
     for (prefix, uri) in entries.iter() {
         let Some(uri) = JsonMember::of_value(uri).text() else {
             return Err(Reason::Namespace);
@@ -39,4 +36,64 @@ fn bind_all(alloc: Global, entries: &Map<String, Value>) -> Result<Aliases, Reas
         aliases.add(prefix.as_str(), uri)?;
     }
     Ok(aliases)
+}
+
+/// Returns the prefixes that a report binds, or `None` if an entry of `namespaces` does not bind a
+/// prefix to a URI.
+///
+/// Errors: out of memory.
+pub fn report_aliases(alloc: Global, tree: &Value) -> Result<Option<Aliases>, AllocError>
+    ensures { let refused = any_in binds_nothing (namespaces_of (view tree.now)) in
+        IfOk result (λ aliases. aliases ≡ (if refused then None else Some (bindings_of (view tree.now)))) }
+{
+    let namespaces = within(tree, "documentInfo", "namespaces").and_then(Value::as_object);
+    bound_aliases(alloc, namespaces)
+}
+
+pub(crate) fn bound_aliases(
+    alloc: Global,
+    namespaces: Option<&Map<String, Value>>,
+) -> Result<Option<Aliases>, AllocError>
+    ensures { let ms = option_map (λ m. members_view m.now.entries) namespaces.entry in
+        let bound = bindings_in (members ms) in
+        IfOk result (λ aliases. aliases ≡ (if any_in binds_nothing ms then None else Some bound)) }
+{
+    unless_memory(read_namespaces(alloc, namespaces))
+}
+
+/// Returns the first entry of `namespaces` that does not bind a prefix to a URI.
+pub(crate) fn unbound<'a>(
+    alloc: Global,
+    namespaces: Option<&'a Map<String, Value>>,
+) -> Result<Option<Part<'a>>, AllocError>
+    ensures { let ms = option_map (λ m. members_view m.now.entries) namespaces.entry in
+        let found = find (λ m. binds_nothing m.0 m.1) (entries (members ms)) in
+        IfOk result (λ part. option_map seen part ≡ option_map entry found) }
+{
+    let Some(entries) = namespaces else {
+        return Ok(None);
+    };
+    for (prefix, uri) in entries.iter() {
+        if binds_nothing(alloc, prefix.as_str(), uri)? {
+            return Ok(Some(Part::Member(prefix.as_str(), uri)));
+        }
+    }
+    Ok(None)
+}
+
+fn binds_nothing(alloc: Global, prefix: &str, uri: &Value) -> Result<bool, AllocError>
+    ensures { IfOk result (λ nothing. nothing ≡ binds_nothing prefix.now (view uri.now)) }
+{
+    match JsonMember::of_value(uri).text() {
+        Some(uri) => is_no_binding(alloc, prefix, uri),
+        None => Ok(true),
+    }
+}
+
+fn is_no_binding(alloc: Global, prefix: &str, uri: &str) -> Result<bool, AllocError>
+    ensures { IfOk result (λ nothing. nothing ≡ is_refused_binding [] prefix.now uri.now) }
+{
+    let mut alone = Aliases::new(alloc);
+    let bound = unless_memory(alone.add(prefix, uri))?;
+    Ok(bound.is_none())
 }

@@ -1,13 +1,52 @@
-ghost use Rattle.std.specs.Prelude.{◌≡◌, ◌⊎◌, Some, false, IfOk, IfErr, IsTrue, OnOk};
+ghost use Rattle.std.specs.Prelude.{◌≡◌, ◌⊎◌, Some, None, false, IfOk, IfErr, IsTrue, OnOk};
 ghost use Rattle.std.specs.Option.{option_copied};
+ghost use Rattle.serde_json.specs.View.{view};
 ghost use Rattle.url.specs.Parser.{parse_url};
+ghost use Rattle.oim_report.specs.Info.{said_reference, said_references, taxonomy_of};
 ghost use Rattle.oim_report.specs.Kept.{is_reference_refused, is_within_limit, is_text_within_limit, is_web, kept, web_text, web_url};
 
 use crate::document::base::{Base, is_web};
+use crate::document::json_tree::within;
+use crate::fact::json_member::JsonMember;
 use crate::limits::MOST_REFERENCE_BYTES;
 use oim_names::{Reason, Text};
+use serde_json::Value;
 use std::alloc::Global;
 use url::{ParseError, Url};
+
+pub(crate) fn read_taxonomy(
+    alloc: Global,
+    base: Option<&Base>,
+    tree: &Value,
+) -> Result<Vec<Text>, Reason>
+    ensures ok { let said = said_references (option_copied base.entry) (taxonomy_of (view tree.now)) in
+        IfOk result (λ references. said ≡ Some references.items) }
+    ensures errors { let said = said_references (option_copied base.entry) (taxonomy_of (view tree.now)) in
+        IfErr result (λ r. (r ≡ Reason.OutOfMemory) ⊎ ((r ≡ Reason.TaxonomyUrl) × (said ≡ None))) }
+{
+    let mut references = Vec::new(alloc);
+    let Some(items) = within(tree, "documentInfo", "taxonomy").and_then(Value::as_array) else {
+        return Ok(references);
+    };
+    for item in items {
+        let kept = keep_item(alloc, base, item)?;
+        if references.push(kept).is_err() {
+            return Err(Reason::OutOfMemory);
+        }
+    }
+    Ok(references)
+}
+
+pub(crate) fn keep_item(alloc: Global, base: Option<&Base>, item: &Value) -> Result<Text, Reason>
+    ensures ok { IfOk result (λ kept. said_reference (option_copied base.entry) (view item.now) ≡ Some kept) }
+    ensures errors { let said = said_reference (option_copied base.entry) (view item.now) in
+        IfErr result (λ r. (r ≡ Reason.OutOfMemory) ⊎ ((r ≡ Reason.TaxonomyUrl) × (said ≡ None))) }
+{
+    match JsonMember::of_value(item).text() {
+        Some(reference) => keep(alloc, base, reference),
+        None => Err(Reason::TaxonomyUrl),
+    }
+}
 
 /// Returns the text under which a taxonomy reference is kept. An http or https URL is kept as its
 /// serialization (URL Standard, section 4.5), and another URL as it is spelled. A reference
@@ -16,7 +55,7 @@ use url::{ParseError, Url};
 ///
 /// Errors: `TaxonomyUrl` if the reference or its kept text has more than `MOST_REFERENCE_BYTES`
 /// bytes, or if resolving the reference does not give an http or https URL; `OutOfMemory`.
-pub(crate) fn keep(alloc: Global, base: Option<&Base>, reference: &str) -> Result<Text, Reason>
+fn keep(alloc: Global, base: Option<&Base>, reference: &str) -> Result<Text, Reason>
     ensures ok { IfOk result (λ text. kept (option_copied base.entry) reference.now ≡ Some text) }
     ensures accepted { OnOk result (is_reference_refused (option_copied base.entry) reference.now ≡ false) }
     ensures errors { IfErr result

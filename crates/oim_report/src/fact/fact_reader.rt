@@ -22,7 +22,7 @@ use crate::fact::fact_parts::{DimensionParts, FactParts};
 use crate::fact::fact_value::read_value;
 use crate::fact::json_member::JsonMember;
 use crate::fact::text_caches::TextCaches;
-use crate::findings::fact_in_scope::FactInScope;
+use crate::findings::fact_rows::FactInScope;
 use crate::findings::fault_list::Faults;
 use crate::place::Place;
 use crate::sheet::Sheet;

@@ -1,29 +1,95 @@
-//! Finds the part of a fact object to which a condition on its concept, period, unit, language,
-//! value or decimals applies.
-#![tactic(auto, unfolding(crate::specs::Holds::holds, crate::specs::Shown::fact_shown))]
+//! Finds the value in a fact object to which a condition on a single value applies.
 
-ghost use Rattle.std.specs.Prelude.{◌≡◌, ◌&&◌, ◌||◌, codes, is_none, not, option_and_then, option_map};
+ghost use Rattle.std.specs.Prelude.{◌≡◌, ◌≢◌, ◌&&◌, ◌||◌, codes, is_none, is_some, not, option_and_then, option_map};
 ghost use Rattle.std.specs.FinMap as map;
 ghost use Rattle.oim_value.specs.Decimals.{is_finite_decimals};
 ghost use Rattle.oim_value.specs.Number.{is_number, is_short};
+ghost use Rattle.serde_json.specs.Find.{get, get_member};
 ghost use Rattle.serde_json.specs.View.{view};
 ghost use Rattle.oim_report.specs.Holds.{concept, is_kind, is_some_and, lacks_moment, runs_backward};
-ghost use Rattle.oim_report.specs.Json.{members, object_at};
+ghost use Rattle.oim_report.specs.Json.{is_object, members, object_at};
 ghost use Rattle.oim_report.specs.Names.{named};
-ghost use Rattle.oim_report.specs.Sheet.{same_concept_kind};
-ghost use Rattle.oim_report.specs.Shown.{fact_part, seen};
+ghost use Rattle.oim_report.specs.Shown.{fact_part, seen, subject};
 
 use crate::concept_kind::ConceptKind;
+use crate::document::json_tree::{has_member, object_at};
 use crate::fact::fact_values::{dimension, is_no_text_or_null, text, whole};
-use crate::findings::fact_in_scope::FactInScope;
+use crate::findings::fact_rows::FactInScope;
 use crate::findings::part::{Part, value_if};
 use crate::sheet::lookup::find_named_concept;
 use oim_dims::{is_language, is_unit_text, read_period};
 use oim_names::Reason;
 use oim_value::{Decimals, read_fixed};
+use serde_json::Value;
 use std::alloc::Global;
 
 impl<'a> FactInScope<'_, 'a> {
+    /// Returns the part at fault if a condition applies. If the condition is not about a value, no
+    /// part can be shown.
+    #[tactic(auto, unfolding(crate::specs::Holds::holds, crate::specs::Shown::fact_shown))]
+    pub(crate) fn value_at_fault(&self, alloc: Global, reason: Reason) -> Option<Part<'a>>
+        requires form { reason ≢ Reason.MemberForm }
+        requires known { reason ≢ Reason.UnknownMember }
+        requires name { reason ≢ Reason.NameForm }
+        requires bound { reason ≢ Reason.UnboundPrefix }
+        requires free { reason ≢ Reason.ReservedNamespace }
+        requires dimension { reason ≢ Reason.UnknownDimension }
+        requires member { reason ≢ Reason.DimensionValue }
+        ensures { option_map seen result ≡ fact_part self.now.sheet.now self.now.aliases.now (view self.now.object.now) reason }
+    {
+        let value = self.subject(reason);
+        let text = text(value);
+        match reason {
+            Reason::Links => value_if(has_member(object_at(self.object, "links")), value),
+            Reason::Notes => value_if(value.is_some(), value),
+            Reason::DimensionsMissing => value_if(self.lacks_dimensions(), None),
+            Reason::MissingConcept => value_if(self.lacks_concept(), None),
+            Reason::UnknownConcept => value_if(self.is_unlisted(text), value),
+            Reason::PeriodForm => value_if(text.is_some_and(|t| lacks_moment(alloc, t)), value),
+            Reason::PeriodOrder => value_if(text.is_some_and(|t| runs_backward(alloc, t)), value),
+            Reason::UnitForm => value_if(text.is_some_and(|t| !is_unit_text(t)), value),
+            Reason::UnitOnOther => value_if(value.is_some() && self.is_other(), value),
+            Reason::LanguageForm => value_if(text.is_some_and(|t| !is_language(t)), value),
+            Reason::LanguageOnNumeric => value_if(value.is_some() && self.is_numeric(), value),
+            Reason::ValueForm => value_if(is_no_text_or_null(value), value),
+            Reason::NumberForm => value_if(
+                self.is_numeric() && text.is_some_and(is_no_number),
+                value,
+            ),
+            Reason::NumberDigits => value_if(
+                self.is_numeric() && text.is_some_and(is_long_number),
+                value,
+            ),
+            Reason::DecimalsForm => value_if(value.is_some() && whole(value).is_none(), value),
+            Reason::DecimalsRange => value_if(whole(value).is_some_and(is_out_of_range), value),
+            Reason::DecimalsOnOther => value_if(value.is_some() && self.is_other(), value),
+            _ => None,
+        }
+    }
+
+    // Returns the value that a condition is about, if there is one.
+    fn subject(&self, reason: Reason) -> Option<&'a Value>
+        ensures { let dimensions = members (object_at (codes "dimensions") (view self.now.object.now)) in
+            option_map (λ v. view v.now) result
+            ≡ subject self.now.sheet.now self.now.aliases.now (view self.now.object.now) dimensions reason }
+    {
+        match reason {
+            Reason::Links => self.object.get("links"),
+            Reason::Notes => dimension(self.object, "noteId"),
+            Reason::UnknownConcept => dimension(self.object, "concept"),
+            Reason::PeriodForm | Reason::PeriodOrder => dimension(self.object, "period"),
+            Reason::UnitForm | Reason::UnitOnOther => dimension(self.object, "unit"),
+            Reason::LanguageForm | Reason::LanguageOnNumeric => dimension(self.object, "language"),
+            Reason::ValueForm | Reason::NumberForm | Reason::NumberDigits => {
+                self.object.get("value")
+            }
+            Reason::DecimalsForm | Reason::DecimalsRange | Reason::DecimalsOnOther => {
+                self.object.get("decimals")
+            }
+            _ => None,
+        }
+    }
+
     pub(crate) fn kind(&self) -> Option<ConceptKind>
         ensures { let dimensions = members (object_at (codes "dimensions") (view self.now.object.now)) in
             let named = concept self.now.sheet.now self.now.aliases.now (view self.now.object.now) dimensions in
@@ -32,6 +98,20 @@ impl<'a> FactInScope<'_, 'a> {
         let concept = text(dimension(self.object, "concept"))?;
         let (_name, kind) = find_named_concept(self.sheet, self.aliases, concept)?;
         Some(kind)
+    }
+
+    fn lacks_dimensions(&self) -> bool
+        ensures { result ≡ (is_object (view self.now.object.now) && is_none (get (codes "dimensions") (view self.now.object.now))) }
+    {
+        self.object.is_object() && self.object.get("dimensions").is_none()
+    }
+
+    fn lacks_concept(&self) -> bool
+        ensures { let dimensions = object_at (codes "dimensions") (view self.now.object.now) in
+            result ≡ (is_some dimensions && is_none (get_member (codes "concept") (members dimensions))) }
+    {
+        object_at(self.object, "dimensions").is_some()
+            && dimension(self.object, "concept").is_none()
     }
 
     fn is_numeric(&self) -> bool
@@ -49,111 +129,17 @@ impl<'a> FactInScope<'_, 'a> {
         matches!(self.kind(), Some(ConceptKind::Text | ConceptKind::Name))
     }
 
-    pub(crate) fn unlisted_concept(&self) -> Option<Part<'a>>
-        ensures { option_map seen result ≡ fact_part self.now.sheet.now self.now.aliases.now (view self.now.object.now) Reason.UnknownConcept }
+    fn is_unlisted(&self, name: Option<&str>) -> bool
+        ensures { let named = option_and_then (named self.now.aliases.now) (option_map (λ n. n.now) name.entry) in
+            result ≡ is_some_and (λ n. is_none (map.get self.now.sheet.now.concepts n)) named }
     {
-        let concept = dimension(self.object, "concept");
-        let is_unlisted = match text(concept) {
-            Some(name) => self.is_unlisted(name),
+        match name {
+            Some(name) => {
+                self.aliases.name_refusal(name).is_none()
+                    && find_named_concept(self.sheet, self.aliases, name).is_none()
+            }
             None => false,
-        };
-        value_if(is_unlisted, concept)
-    }
-
-    fn is_unlisted(&self, name: &str) -> bool
-        ensures { result ≡ is_some_and (λ n. is_none (map.get self.now.sheet.now.concepts n)) (named self.now.aliases.now name.now) }
-    {
-        self.aliases.name_refusal(name).is_none()
-            && find_named_concept(self.sheet, self.aliases, name).is_none()
-    }
-
-    pub(crate) fn formless_period(&self, alloc: Global) -> Option<Part<'a>>
-        ensures { option_map seen result ≡ fact_part self.now.sheet.now self.now.aliases.now (view self.now.object.now) Reason.PeriodForm }
-    {
-        let period = dimension(self.object, "period");
-        let is_formless = text(period).is_some_and(|text| lacks_moment(alloc, text));
-        value_if(is_formless, period)
-    }
-
-    pub(crate) fn backward_period(&self, alloc: Global) -> Option<Part<'a>>
-        ensures { option_map seen result ≡ fact_part self.now.sheet.now self.now.aliases.now (view self.now.object.now) Reason.PeriodOrder }
-    {
-        let period = dimension(self.object, "period");
-        let is_backward = text(period).is_some_and(|text| runs_backward(alloc, text));
-        value_if(is_backward, period)
-    }
-
-    pub(crate) fn formless_unit(&self) -> Option<Part<'a>>
-        ensures { option_map seen result ≡ fact_part self.now.sheet.now self.now.aliases.now (view self.now.object.now) Reason.UnitForm }
-    {
-        let unit = dimension(self.object, "unit");
-        value_if(text(unit).is_some_and(|text| !is_unit_text(text)), unit)
-    }
-
-    pub(crate) fn misplaced_unit(&self) -> Option<Part<'a>>
-        ensures { option_map seen result ≡ fact_part self.now.sheet.now self.now.aliases.now (view self.now.object.now) Reason.UnitOnOther }
-    {
-        let unit = dimension(self.object, "unit");
-        value_if(unit.is_some() && self.is_other(), unit)
-    }
-
-    pub(crate) fn formless_language(&self) -> Option<Part<'a>>
-        ensures { option_map seen result ≡ fact_part self.now.sheet.now self.now.aliases.now (view self.now.object.now) Reason.LanguageForm }
-    {
-        let language = dimension(self.object, "language");
-        let is_formless = text(language).is_some_and(|text| !is_language(text));
-        value_if(is_formless, language)
-    }
-
-    pub(crate) fn misplaced_language(&self) -> Option<Part<'a>>
-        ensures { option_map seen result ≡ fact_part self.now.sheet.now self.now.aliases.now (view self.now.object.now) Reason.LanguageOnNumeric }
-    {
-        let language = dimension(self.object, "language");
-        value_if(language.is_some() && self.is_numeric(), language)
-    }
-
-    pub(crate) fn formless_value(&self) -> Option<Part<'a>>
-        ensures { option_map seen result ≡ fact_part self.now.sheet.now self.now.aliases.now (view self.now.object.now) Reason.ValueForm }
-    {
-        let value = self.object.get("value");
-        value_if(is_no_text_or_null(value), value)
-    }
-
-    pub(crate) fn formless_number(&self) -> Option<Part<'a>>
-        ensures { option_map seen result ≡ fact_part self.now.sheet.now self.now.aliases.now (view self.now.object.now) Reason.NumberForm }
-    {
-        let value = self.object.get("value");
-        let is_formless = text(value).is_some_and(is_no_number);
-        value_if(self.is_numeric() && is_formless, value)
-    }
-
-    pub(crate) fn long_number(&self) -> Option<Part<'a>>
-        ensures { option_map seen result ≡ fact_part self.now.sheet.now self.now.aliases.now (view self.now.object.now) Reason.NumberDigits }
-    {
-        let value = self.object.get("value");
-        let is_long = text(value).is_some_and(is_long_number);
-        value_if(self.is_numeric() && is_long, value)
-    }
-
-    pub(crate) fn formless_decimals(&self) -> Option<Part<'a>>
-        ensures { option_map seen result ≡ fact_part self.now.sheet.now self.now.aliases.now (view self.now.object.now) Reason.DecimalsForm }
-    {
-        let decimals = self.object.get("decimals");
-        value_if(decimals.is_some() && whole(decimals).is_none(), decimals)
-    }
-
-    pub(crate) fn decimals_out_of_range(&self) -> Option<Part<'a>>
-        ensures { option_map seen result ≡ fact_part self.now.sheet.now self.now.aliases.now (view self.now.object.now) Reason.DecimalsRange }
-    {
-        let decimals = self.object.get("decimals");
-        value_if(whole(decimals).is_some_and(is_out_of_range), decimals)
-    }
-
-    pub(crate) fn misplaced_decimals(&self) -> Option<Part<'a>>
-        ensures { option_map seen result ≡ fact_part self.now.sheet.now self.now.aliases.now (view self.now.object.now) Reason.DecimalsOnOther }
-    {
-        let decimals = self.object.get("decimals");
-        value_if(decimals.is_some() && self.is_other(), decimals)
+        }
     }
 }
 

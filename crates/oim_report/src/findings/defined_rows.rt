@@ -1,12 +1,9 @@
 //! Finds the first taxonomy-defined dimension in a fact object to which a condition applies.
 
-ghost use Rattle.std.specs.Prelude.{◌≡◌, ◌&&◌, [], option_map, IfOk};
-ghost use Rattle.std.specs.FinMap as map;
-ghost use Rattle.std.specs.Ordering.{is_eq};
+ghost use Rattle.std.specs.Prelude.{◌≡◌, ◌&&◌, [], codes, option_map, IfOk};
 ghost use Rattle.oim_names.specs.Expansion.{a_name};
-ghost use Rattle.oim_value.specs.ValueOrder.{name_cmp};
 ghost use Rattle.serde_json.specs.View.{view, members_view};
-ghost use Rattle.oim_report.specs.Json.{entries};
+ghost use Rattle.oim_report.specs.Json.{entries, members, object_at};
 ghost use Rattle.oim_report.specs.Names.{named};
 ghost use Rattle.oim_report.specs.Shown.{beside_first, entry, fact_part, name, repeated, seen, spell_same};
 ghost use Rattle.oim_report.specs.code.Rows.{defined_members, defined_name, first_defined, is_defined, is_misfit, is_unlisted};
@@ -14,28 +11,22 @@ ghost use Rattle.oim_report.specs.code.Rows.{defined_members, defined_name, firs
 use crate::dimension_kind::DimensionKind;
 use crate::document::json_tree::{has_colon, object_at};
 use crate::fact::fact_values::text;
-use crate::findings::fact_in_scope::FactInScope;
+use crate::findings::fact_rows::FactInScope;
 use crate::findings::part::Part;
+use crate::refusal::unless_memory;
 use crate::sheet::lookup::find_dimension;
 use crate::sheet::name_table_builder::NameTableBuilder;
-use crate::unless_memory::unless_memory;
 use oim_names::{Aliases, Name, Reason};
 use serde_json::{Map, Value};
 use std::alloc::{AllocError, Global};
 
 impl<'a> FactInScope<'_, 'a> {
-    #[tactic(auto, unfolding(crate::specs::Holds::holds, crate::specs::Shown::fact_shown), using(crate::proofs::DefinedRows::unlisted_shown))]
     pub(crate) fn unlisted_dimension(&self) -> Option<Part<'a>>
-        ensures { option_map seen result ≡ fact_part self.now.sheet.now self.now.aliases.now (view self.now.object.now) Reason.UnknownDimension }
-    {
-        self.unlisted_in(object_at(self.object, "dimensions")?)
-    }
-
-    fn unlisted_in(&self, dimensions: &'a Map<String, Value>) -> Option<Part<'a>>
-        ensures { let found = first_defined (λ k d. is_unlisted self.now.sheet.now self.now.aliases.now k) (members_view dimensions.now.entries) in
+        ensures { let dimensions = members (object_at (codes "dimensions") (view self.now.object.now)) in
+            let found = first_defined (λ k d. is_unlisted self.now.sheet.now self.now.aliases.now k) dimensions in
             option_map seen result ≡ option_map (λ m. name (a_name m.0)) found }
     {
-        for (key, _value) in dimensions.iter() {
+        for (key, _value) in object_at(self.object, "dimensions")?.iter() {
             if self.is_unlisted_dimension(key.as_str()) {
                 return Some(Part::Name(key.as_str()));
             }
@@ -62,8 +53,7 @@ impl<'a> FactInScope<'_, 'a> {
         if let Some(part) = self.misfit_in(dimensions) {
             return Ok(Some(part));
         }
-        let mut before = NameTableBuilder::new(alloc);
-        two_keys(&mut before, self.aliases, dimensions)
+        two_keys(alloc, self.aliases, dimensions)
     }
 
     fn misfit_in(&self, dimensions: &'a Map<String, Value>) -> Option<Part<'a>>
@@ -93,7 +83,7 @@ impl<'a> FactInScope<'_, 'a> {
     }
 }
 
-#[tactic(auto, using(crate::proofs::DefinedRows::colon_utf8))]
+#[tactic(auto, using(crate::proofs::ShownParts::colon_utf8))]
 pub(crate) fn is_defined(key: &str) -> bool
     ensures { result ≡ is_defined key.now }
 {
@@ -101,15 +91,15 @@ pub(crate) fn is_defined(key: &str) -> bool
 }
 
 fn two_keys<'a>(
-    before: &mut NameTableBuilder<DimensionKind>,
+    alloc: Global,
     aliases: &Aliases,
     dimensions: &'a Map<String, Value>,
 ) -> Result<Option<Part<'a>>, AllocError>
-    requires { before.old.names ≡ map.empty }
     ensures { let ms = members_view dimensions.now.entries in
         IfOk result (λ part. option_map seen part ≡ option_map (λ m. beside_first aliases.now (entries ms) m.0)
         (repeated aliases.now [] (defined_members ms))) }
 {
+    let mut before: NameTableBuilder<DimensionKind> = NameTableBuilder::new(alloc);
     for (key, _value) in dimensions.iter() {
         if let Some(name) = dimension_name(aliases, key.as_str())? {
             before.turn_to(name.uri())?;
@@ -143,18 +133,11 @@ fn spell_same(aliases: &Aliases, key: &str, other: &str) -> bool
 {
     match aliases.resolve(key) {
         Ok(name) => match aliases.resolve(other) {
-            Ok(found) => is_same_name(name, found),
+            Ok(found) => name.0.cmp(found.0).then(name.1.cmp(found.1)).is_eq(),
             Err(_) => false,
         },
         Err(_) => false,
     }
-}
-
-fn is_same_name(name: (&str, &str), other: (&str, &str)) -> bool
-    ensures { result ≡ is_eq (name_cmp (record { uri = name.entry.0.now; local_part = name.entry.1.now })
-        (record { uri = other.entry.0.now; local_part = other.entry.1.now })) }
-{
-    name.0.cmp(other.0).then(name.1.cmp(other.1)).is_eq()
 }
 
 fn dimension_name(aliases: &Aliases, key: &str) -> Result<Option<Name>, AllocError>
@@ -167,6 +150,7 @@ fn dimension_name(aliases: &Aliases, key: &str) -> Result<Option<Name>, AllocErr
     }
 }
 
+#[tactic(auto, using(crate::proofs::ShownParts::read_name))]
 pub(crate) fn name_of(aliases: &Aliases, key: &str) -> Result<Option<Name>, AllocError>
     ensures { IfOk result (λ name. name ≡ named aliases.now key.now) }
 {

@@ -1,32 +1,76 @@
-//! Finds the part of a document to which a condition on its base URL, its references or its
-//! features applies.
+//! Finds the part of a document to which a condition applies.
 
 ghost use Rattle.std.specs.Prelude.{◌≡◌, true, option_and_then, option_map, IfOk};
 ghost use Rattle.std.specs.List.{find};
 ghost use Rattle.std.specs.Option.{option_copied, option_map_or};
-ghost use Rattle.serde_json.specs.View.{view, items_view, members_view};
+ghost use Rattle.serde_json.specs.View.{view};
 ghost use Rattle.oim_report.specs.Holds.{as_text};
-ghost use Rattle.oim_report.specs.Json.{entries};
 ghost use Rattle.oim_report.specs.Info.{base_said, taxonomy_of};
 ghost use Rattle.oim_report.specs.Kept.{is_reference_refused};
-ghost use Rattle.oim_report.specs.Shown.{document_part, entry, first_item, seen, value};
+ghost use Rattle.oim_report.specs.Shown.{document_part, first_item, seen, value};
 ghost use Rattle.oim_report.specs.code.Rows.{is_misdeclared, misdeclared, misdeclared_part};
 
-use crate::document::base::Base;
-use crate::document::base_url::read_base_url;
+use crate::document::base::{Base, read_base_url};
 use crate::document::features::{is_allowed_duplicates, read_level};
+use crate::document::info::{has_other_type, misshapen, unknown};
 use crate::document::json_tree::within;
-use crate::document::taxonomy::keep_item;
+use crate::document::namespaces::{report_aliases, unbound};
+use crate::document::references::keep_item;
 use crate::fact::fact_values::text;
 use crate::findings::part::{Part, value_if};
-use crate::findings::report_aliases::report_aliases;
-use crate::unless_memory::unless_memory;
+use crate::refusal::unless_memory;
 use oim_names::{Aliases, Reason};
 use oim_value::Level;
-use serde_json::{Map, Value};
+use serde_json::Value;
 use std::alloc::{AllocError, Global};
 
-pub(crate) fn refused_base(alloc: Global, tree: &Value) -> Result<Option<Part<'_>>, AllocError>
+/// Returns the part at fault if the condition `reason` applies to a document, for the conditions
+/// from `MemberForm` to `Feature` (own). If several parts are at fault, the first in the order of
+/// `document_shown` is returned. If `xbrl:allowedDuplicates` is declared under several prefixes,
+/// each time with a valid level, the part is the object `features`. The result is `None` exactly if
+/// `reason` is not one of these conditions, does not apply, or is `Feature` while `Namespace`
+/// applies too.
+///
+/// Errors: out of memory.
+#[tactic(auto, unfolding(crate::specs::Holds::document_holds, crate::specs::Shown::document_shown))]
+pub fn document_part(
+    alloc: Global,
+    tree: &Value,
+    reason: Reason,
+) -> Result<Option<Part<'_>>, AllocError>
+    ensures { IfOk result (λ part. option_map seen part ≡ document_part (view tree.now) reason) }
+{
+    match reason {
+        Reason::MemberForm => Ok(misshapen(tree)),
+        Reason::UnknownMember => Ok(unknown(tree)),
+        Reason::DocumentType => Ok(other_type(tree)),
+        Reason::Namespace => refused_entry(alloc, tree),
+        Reason::BaseUrl => refused_base(alloc, tree),
+        Reason::TaxonomyUrl => refused_reference(alloc, tree),
+        Reason::Feature => refused_feature(alloc, tree),
+        _ => Ok(None),
+    }
+}
+
+#[tactic(auto, unfolding(crate::specs::Holds::document_holds, crate::specs::Shown::document_shown))]
+fn other_type(tree: &Value) -> Option<Part<'_>>
+    ensures { option_map seen result ≡ document_part (view tree.now) Reason.DocumentType }
+{
+    value_if(
+        has_other_type(tree),
+        within(tree, "documentInfo", "documentType"),
+    )
+}
+
+#[tactic(auto, unfolding(crate::specs::Holds::document_holds, crate::specs::Shown::document_shown), using(crate::proofs::ShownParts::entry_shown))]
+fn refused_entry(alloc: Global, tree: &Value) -> Result<Option<Part<'_>>, AllocError>
+    ensures { IfOk result (λ part. option_map seen part ≡ document_part (view tree.now) Reason.Namespace) }
+{
+    let namespaces = within(tree, "documentInfo", "namespaces").and_then(Value::as_object);
+    unbound(alloc, namespaces)
+}
+
+fn refused_base(alloc: Global, tree: &Value) -> Result<Option<Part<'_>>, AllocError>
     ensures { IfOk result (λ part. option_map seen part ≡ document_part (view tree.now) Reason.BaseUrl) }
 {
     let base = said_base(alloc, tree)?;
@@ -34,6 +78,7 @@ pub(crate) fn refused_base(alloc: Global, tree: &Value) -> Result<Option<Part<'_
 }
 
 // Returns `None` if the base URL is refused, and `Some(None)` if the report has no `baseURL`.
+#[tactic(auto, using(crate::proofs::DocumentHolds::found_is))]
 fn said_base(alloc: Global, tree: &Value) -> Result<Option<Option<Base>>, AllocError>
     ensures { IfOk result (λ base. base ≡ base_said (view tree.now)) }
 {
@@ -41,37 +86,27 @@ fn said_base(alloc: Global, tree: &Value) -> Result<Option<Option<Base>>, AllocE
 }
 
 /// If the base URL is refused, references are tested without it.
-pub(crate) fn refused_reference(alloc: Global, tree: &Value) -> Result<Option<Part<'_>>, AllocError>
+fn refused_reference(alloc: Global, tree: &Value) -> Result<Option<Part<'_>>, AllocError>
     ensures { IfOk result (λ part. option_map seen part ≡ document_part (view tree.now) Reason.TaxonomyUrl) }
 {
-    let base = said_base(alloc, tree)?;
-    reference_under(alloc, base.flatten(), tree)
+    let said = said_base(alloc, tree)?;
+    let base = said.flatten();
+    reference_under(alloc, base.as_ref(), tree)
 }
 
-fn reference_under(
+fn reference_under<'a>(
     alloc: Global,
-    base: Option<Base>,
-    tree: &Value,
-) -> Result<Option<Part<'_>>, AllocError>
-    ensures { let refused = is_reference_refused base in
+    base: Option<&Base>,
+    tree: &'a Value,
+) -> Result<Option<Part<'a>>, AllocError>
+    ensures { let refused = is_reference_refused (option_copied base.entry) in
         let all = taxonomy_of (view tree.now) in
         IfOk result (λ part. option_map seen part ≡ option_map value (first_item (λ v. option_map_or refused (as_text v) true) all)) }
 {
-    match within(tree, "documentInfo", "taxonomy").and_then(Value::as_array) {
-        Some(references) => first_refused(alloc, base.as_ref(), references),
-        None => Ok(None),
-    }
-}
-
-fn first_refused<'a>(
-    alloc: Global,
-    base: Option<&Base>,
-    references: &'a Vec<Value>,
-) -> Result<Option<Part<'a>>, AllocError>
-    ensures { let refused = is_reference_refused (option_copied base.entry) in
-        let all = items_view references.now.items in
-        IfOk result (λ part. option_map seen part ≡ option_map value (first_item (λ v. option_map_or refused (as_text v) true) all)) }
-{
+    let taxonomy = within(tree, "documentInfo", "taxonomy");
+    let Some(references) = taxonomy.and_then(Value::as_array) else {
+        return Ok(None);
+    };
     for reference in references {
         if is_refused(alloc, base, reference)? {
             return Ok(Some(Part::Value(reference)));
@@ -91,17 +126,13 @@ fn is_refused(alloc: Global, base: Option<&Base>, reference: &Value) -> Result<b
 /// Returns the first declaration of the feature whose value is not a level, or all features if the
 /// feature is repeated and each value is a level. If the prefixes are refused, the features are not
 /// tested.
-pub(crate) fn refused_feature(alloc: Global, tree: &Value) -> Result<Option<Part<'_>>, AllocError>
+fn refused_feature(alloc: Global, tree: &Value) -> Result<Option<Part<'_>>, AllocError>
     ensures { IfOk result (λ part. option_map seen part ≡ document_part (view tree.now) Reason.Feature) }
 {
-    let aliases = report_aliases(alloc, tree)?;
-    Ok(feature_under(&aliases, tree))
-}
-
-fn feature_under<'a>(aliases: &Option<Aliases>, tree: &'a Value) -> Option<Part<'a>>
-    ensures { option_map seen result ≡ option_and_then (λ bs. misdeclared bs (view tree.now)) aliases.now }
-{
-    feature_with(aliases.as_ref()?, tree)
+    match report_aliases(alloc, tree)? {
+        Some(aliases) => Ok(feature_with(&aliases, tree)),
+        None => Ok(None),
+    }
 }
 
 fn feature_with<'a>(aliases: &Aliases, tree: &'a Value) -> Option<Part<'a>>
@@ -119,21 +150,15 @@ fn misdeclared<'a>(aliases: &Aliases, tree: &'a Value) -> Part<'a>
     let Some(features) = within(tree, "documentInfo", "features") else {
         return Part::Nothing;
     };
-    let members = features.as_object();
-    let first = members.and_then(|members| first_misdeclared(aliases, members));
-    first.unwrap_or(Part::Value(features))
-}
-
-fn first_misdeclared<'a>(aliases: &Aliases, features: &'a Map<String, Value>) -> Option<Part<'a>>
-    ensures { option_map seen result ≡ option_map entry
-        (find (is_misdeclared aliases.now) (entries (members_view features.now.entries))) }
-{
-    for (key, value) in features.iter() {
+    let Some(members) = features.as_object() else {
+        return Part::Value(features);
+    };
+    for (key, value) in members.iter() {
         if is_misdeclared(aliases, key.as_str(), value) {
-            return Some(Part::Member(key.as_str(), value));
+            return Part::Member(key.as_str(), value);
         }
     }
-    None
+    Part::Value(features)
 }
 
 fn is_misdeclared(aliases: &Aliases, key: &str, value: &Value) -> bool

@@ -1,10 +1,9 @@
-ghost use Rattle.std.specs.Prelude.{◌≡◌, Some, false, IfNone, IfOk, IfSome, IsSome, IsTrue};
+ghost use Rattle.std.specs.Prelude.{◌≡◌, false, IfNone, IfOk, IfSome, IsSome, IsTrue};
 ghost use Rattle.std.specs.List.{list_any};
 ghost use Rattle.std.specs.Ordering.{is_lt};
 ghost use Rattle.oim_value.specs.Level.{level_cmp};
 ghost use Rattle.serde_json.specs.View.{view};
 ghost use Rattle.oim_report.specs.Apart.{AreFactsApart, HasFactsApart, are_apart};
-ghost use Rattle.oim_report.specs.Info.{bindings_of, level_said};
 ghost use Rattle.oim_report.specs.Duplicates.{allows, allows_values, level_of};
 ghost use Rattle.oim_report.specs.Report.{IsOrderOf};
 
@@ -15,7 +14,7 @@ use crate::fact::facts_reader::read_facts;
 use crate::order::order_of;
 use crate::sheet::Sheet;
 use oim_dims::Fact;
-use oim_names::{Aliases, Reason};
+use oim_names::Reason;
 use oim_value::{Level, Value as Said, value_meets};
 use serde_json::Value;
 use std::alloc::{AllocError, Global};
@@ -35,33 +34,19 @@ pub fn facts_apart(
     ensures found { IfOk result (λ two. HasFactsApart sheet.now (view tree.now) → IsSome two) }
 {
     match read_info(alloc, tree) {
-        Ok(info) => apart_under(alloc, sheet, tree, info.aliases, info.level),
-        Err(Reason::OutOfMemory) => Err(AllocError),
-        Err(_) => Ok(None),
-    }
-}
-
-fn apart_under(
-    alloc: Global,
-    sheet: &Sheet,
-    tree: &Value,
-    aliases: Aliases,
-    level: Level,
-) -> Result<Option<(usize, usize)>, AllocError>
-    requires aliases { aliases ≡ bindings_of (view tree.now) }
-    requires level { level_said (view tree.now) ≡ Some level }
-    ensures apart { IfOk result
-        (λ two. IfSome two (λ t. AreFactsApart sheet.now (view tree.now) t.0 t.1)) }
-    ensures found { IfOk result (λ two. HasFactsApart sheet.now (view tree.now) → IsSome two) }
-{
-    let mut reader = FactReader::new(alloc, sheet);
-    reader.turn_to(aliases);
-    match read_facts(alloc, &mut reader, tree) {
-        Ok(facts) => {
-            let order = order_of(alloc, facts.as_slice(), &[])?;
-            Ok(first_apart(facts.as_slice(), order.as_slice(), level))
+        Ok(info) => {
+            let mut reader = FactReader::new(alloc, sheet);
+            reader.turn_to(info.aliases);
+            match read_facts(alloc, &mut reader, tree) {
+                Ok(facts) => {
+                    let order = order_of(alloc, facts.as_slice(), &[])?;
+                    Ok(first_apart(facts.as_slice(), order.as_slice(), info.level))
+                }
+                Err(refusal) if refusal.reason == Reason::OutOfMemory => Err(AllocError),
+                Err(_) => Ok(None),
+            }
         }
-        Err(refusal) if refusal.reason == Reason::OutOfMemory => Err(AllocError),
+        Err(Reason::OutOfMemory) => Err(AllocError),
         Err(_) => Ok(None),
     }
 }
@@ -100,6 +85,7 @@ fn are_apart(facts: &[Fact], one: usize, other: usize, level: Level) -> bool
     }
 }
 
+#[tactic(auto, using(crate::proofs::Ties::equal_dimensions_tie))]
 fn allows(level: Level, fact: &Fact, other: &Fact) -> bool
     ensures { result ≡ allows level fact.now other.now }
 {

@@ -1,10 +1,10 @@
 //! Finds the first name in a fact object to which a condition on names applies. The search does not
 //! allocate.
 
-ghost use Rattle.std.specs.Prelude.{◌≡◌, [], codes, if◌then◌else◌, true, map, option_map, option_and_then};
+ghost use Rattle.std.specs.Prelude.{◌≡◌, [], codes, if◌then◌else◌, map, option_map, option_and_then};
 ghost use Rattle.std.specs.List.{find};
 ghost use Rattle.std.specs.Option.{option_map_or, option_to_list};
-ghost use Rattle.serde_json.specs.View.{view, members_view};
+ghost use Rattle.serde_json.specs.View.{view};
 ghost use Rattle.oim_report.specs.Holds.{as_text, is_kind, names, pieces, value_text};
 ghost use Rattle.oim_report.specs.Json.{members, object_at};
 ghost use Rattle.oim_names.specs.Expansion.{a_name, an_entity, refuses};
@@ -16,15 +16,15 @@ use crate::dimension_kind::DimensionKind;
 use crate::document::json_tree::object_at;
 use crate::fact::fact_values::{dimension, text};
 use crate::findings::defined_rows::is_defined;
-use crate::findings::fact_in_scope::FactInScope;
+use crate::findings::fact_rows::FactInScope;
 use crate::findings::part::Part;
 use crate::sheet::lookup::find_dimension;
 use oim_dims::{is_unit_text, refused_piece};
 use oim_names::{Aliases, Reason};
-use serde_json::{Map, Value};
+use serde_json::Value;
 
 impl<'a> FactInScope<'_, 'a> {
-    #[tactic(auto, using(crate::proofs::DefinedRows::shown_parts))]
+    #[tactic(auto, using(crate::proofs::ShownParts::shown_parts))]
     pub(crate) fn refused_name(&self, reason: Reason) -> Option<Part<'a>>
         ensures { let dimensions = members (object_at (codes "dimensions") (view self.now.object.now)) in
             let all = names self.now.sheet.now self.now.aliases.now (view self.now.object.now) dimensions in
@@ -45,20 +45,13 @@ impl<'a> FactInScope<'_, 'a> {
         self.refused_value(reason)
     }
 
+    #[tactic(auto, using(crate::proofs::ShownParts::none_before))]
     fn refused_dimension(&self, reason: Reason) -> Option<Part<'a>>
         ensures { let dimensions = members (object_at (codes "dimensions") (view self.now.object.now)) in
             let all = names_in self.now.sheet.now self.now.aliases.now dimensions in
             option_map seen result ≡ option_map name (find (refuses reason self.now.aliases.now) all) }
     {
-        self.refused_in(object_at(self.object, "dimensions")?, reason)
-    }
-
-    #[tactic(auto, using(crate::proofs::DefinedRows::none_before))]
-    fn refused_in(&self, dimensions: &'a Map<String, Value>, reason: Reason) -> Option<Part<'a>>
-        ensures { let all = names_in self.now.sheet.now self.now.aliases.now (members_view dimensions.now.entries) in
-            option_map seen result ≡ option_map name (find (refuses reason self.now.aliases.now) all) }
-    {
-        for (key, value) in dimensions.iter() {
+        for (key, value) in object_at(self.object, "dimensions")?.iter() {
             if let Some(part) = self.refused_member(key.as_str(), value, reason) {
                 return Some(part);
             }
@@ -145,13 +138,7 @@ fn refused_unit<'a>(aliases: &Aliases, unit: Option<&'a Value>, reason: Reason) 
         let all = map a_name (option_map_or pieces found []) in
         option_map seen result ≡ option_map name (find (refuses reason aliases.now) all) }
 {
-    piece_of(aliases, text(unit)?, reason)
-}
-
-fn piece_of<'a>(aliases: &Aliases, text: &'a str, reason: Reason) -> Option<Part<'a>>
-    ensures { let all = map a_name (pieces text.now) in
-        option_map seen result ≡ option_map name (find (refuses reason aliases.now) all) }
-{
+    let text = text(unit)?;
     if !is_unit_text(text) {
         return None;
     }

@@ -12,11 +12,10 @@ ghost use Rattle.oim_report.specs.Shown.{entry, kindless, name, named_kind, noth
 use crate::concept_kind::ConceptKind;
 use crate::dimension_kind::DimensionKind;
 use crate::document::json_tree::{is_no_object, object_at, unknown_in};
+use crate::document::namespaces::{bound_aliases, unbound};
 use crate::findings::defined_rows::{beside_first, name_of};
 use crate::findings::name_rows::is_refused;
 use crate::findings::part::Part;
-use crate::findings::report_aliases::bound_aliases;
-use crate::findings::unbound::unbound;
 use crate::sheet::Sheet;
 use crate::sheet::kind::Kind;
 use crate::sheet::name_table_builder::NameTableBuilder;
@@ -110,7 +109,7 @@ fn entry_at_fault<'a>(
     }
 }
 
-#[tactic(auto, using(crate::proofs::SheetParts::first_name))]
+#[tactic(auto, using(crate::proofs::ShownParts::first_name))]
 fn name_at_fault<'a>(tree: &'a Value, aliases: &Aliases, reason: Reason) -> Part<'a>
     ensures { let all = sheet_names (view tree.now) in
         seen result ≡ option_map_or name (find (refuses reason aliases.now) all) nothing }
@@ -129,18 +128,7 @@ fn first_refused<'a>(
     ensures { let all = key_names (members (option_map (λ m. members_view m.now.entries) entries.entry)) in
         option_map seen result ≡ option_map name (find (refuses reason aliases.now) all) }
 {
-    refused_key(aliases, entries?, reason)
-}
-
-fn refused_key<'a>(
-    aliases: &Aliases,
-    names: &'a Map<String, Value>,
-    reason: Reason,
-) -> Option<Part<'a>>
-    ensures { let all = key_names (members_view names.now.entries) in
-        option_map seen result ≡ option_map name (find (refuses reason aliases.now) all) }
-{
-    for (key, _kind) in names.iter() {
+    for (key, _kind) in entries?.iter() {
         if is_refused(aliases, key.as_str(), reason) {
             return Some(Part::Name(key.as_str()));
         }
@@ -175,14 +163,7 @@ fn first_without_kind<'a, K: Kind>(entries: Option<&'a Map<String, Value>>) -> O
     ensures { let ms = members (option_map (λ m. members_view m.now.entries) entries.entry) in
         option_map seen result ≡ option_map entry (kindless K.kind_named K.same_kind ms) }
 {
-    kindless_in::<K>(entries?)
-}
-
-fn kindless_in<'a, K: Kind>(listed: &'a Map<String, Value>) -> Option<Part<'a>>
-    ensures { let ms = members_view listed.now.entries in
-        option_map seen result ≡ option_map entry (kindless K.kind_named K.same_kind ms) }
-{
-    for (key, value) in listed.iter() {
+    for (key, value) in entries?.iter() {
         if kind_in::<K>(value).is_none() {
             return Some(Part::Member(key.as_str(), value));
         }
@@ -202,24 +183,12 @@ fn two_kinds<'a, K: Kind>(
         return Ok(None);
     };
     let mut gathered = NameTableBuilder::new(alloc);
-    two_kinds_in::<K>(&mut gathered, aliases, entries)
-}
-
-fn two_kinds_in<'a, K: Kind>(
-    gathered: &mut NameTableBuilder<K>,
-    aliases: &Aliases,
-    listed: &'a Map<String, Value>,
-) -> Result<Option<Part<'a>>, AllocError>
-    requires { gathered.old.names ≡ map.empty }
-    ensures { let ms = members_view listed.now.entries in
-        IfOk result (λ part. option_map seen part ≡ two_kinds K.kind_named K.same_kind aliases.now ms) }
-{
-    for (key, value) in listed.iter() {
+    for (key, value) in entries.iter() {
         if let Some((name, kind)) = named_kind::<K>(aliases, key.as_str(), value)? {
             gathered.turn_to(name.uri())?;
             let known = gathered.put(name, kind)?;
             if !kind.is(known) {
-                return Ok(Some(beside_first(aliases, listed, key.as_str())));
+                return Ok(Some(beside_first(aliases, entries, key.as_str())));
             }
         }
     }

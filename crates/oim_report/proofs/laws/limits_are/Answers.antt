@@ -1,5 +1,4 @@
-use Rattle.oim_report.proofs.LimitLaws.{nests_within_limit}
-use Rattle.oim_report.proofs.TextUtf8.{object_text_back}
+use Rattle.oim_report.proofs.TextUtf8.{nests_within_limit, object_text_back}
 use Rattle.oim_report.proofs.laws.limits_are.Goals as goal
 
 pub returns-clause-nesting : goal.returns-clause-nesting

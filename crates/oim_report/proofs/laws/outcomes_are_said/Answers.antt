@@ -1,8 +1,5 @@
-use Rattle.oim_report.proofs.Documents.{accepted_facts_fit, accepted_references_are_kept, outcomes_are_said}
+use Rattle.oim_report.proofs.Documents.{accepted_facts_fit, accepted_references_are_kept}
 use Rattle.oim_report.proofs.laws.outcomes_are_said.Goals as goal
-
-pub returns-clause-said : goal.returns-clause-said
-returns-clause-said c = outcomes_are_said
 
 pub returns-clause-facts : goal.returns-clause-facts
 returns-clause-facts c = accepted_facts_fit

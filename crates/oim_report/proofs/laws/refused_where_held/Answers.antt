@@ -1,4 +1,4 @@
-use Rattle.oim_report.proofs.RefusedWhereHeld.{refused_where_held}
+use Rattle.oim_report.proofs.FaultLaws.{refused_where_held}
 use Rattle.oim_report.proofs.laws.refused_where_held.Goals as goal
 
 pub returns : goal.returns

@@ -1,4 +1,4 @@
-use Rattle.std.proofs.Common.{◌≡◌, List, ◌∷◌, sym, subst, ap, ◌∙◌, rules}
+use Rattle.std.proofs.Common.{◌≡◌, ◌<◌, List, ◌∷◌, get_or, length, sym, subst, ap, ◌∙◌, rules}
 use Rattle.std.specs.Ordering.{ord_max}
 use Rattle.oim_value.specs.Level.{level_cmp}
 use Rattle.oim_value.specs.declared.level.Level.TheVariants.{Unique}
@@ -10,7 +10,7 @@ use Rattle.oim_report.proofs.Ties.{equal_dimensions_tie, level_max_is, lesser_le
 use Rattle.oim_report.specs.code.Beside.{both_common, interval_at, level_beside}
 use Rattle.oim_report.specs.Duplicates.{are_duplicates}
 use Rattle.oim_report.proofs.document.duplicates.level_within.Goals as goal
-use Rattle.oim_report.proofs.document.duplicates.level_within.Goals.{then-eq, else-eq}
+use Rattle.oim_report.proofs.document.duplicates.level_within.Goals.{After-lt, then-eq, else-eq}
 
 pub returns-in_default-clause-level : goal.returns-in_default-clause-level
 returns-in_default-clause-level c = level_of_none c.args.facts.now c.args.order.now c.requires c.in_default.ensures.cases
@@ -41,12 +41,13 @@ offset_bounds-facts-place c =
     let within = rest_within c.args.facts.now c.args.order.now c.in-Some.rest.now c.in-Some.first.now c.loop-place.place-index c.requires c.in-Some.ensures.cases.0 c.loop-place-test.true in
     search rules
 
-pub loop-place-preserved : goal.loop-place-preserved
-loop-place-preserved c =
-    let within = rest_within c.args.facts.now c.args.order.now c.in-Some.rest.now c.in-Some.first.now c.loop-place.place-index c.requires c.in-Some.ensures.cases.0 c.loop-place-test.true in
+within : (c : After-lt) → get_or c.in-Some.rest.now c.loop-place.place-index 0 < length c.args.facts.now
+within c = rest_within c.args.facts.now c.args.order.now c.in-Some.rest.now c.in-Some.first.now c.loop-place.place-index c.requires c.in-Some.ensures.cases.0 c.loop-place-test.true
+
+step : (c : After-lt) (fs : List Fact) → walk c.loop-place.last.now c.loop-place.shared c.loop-place.level (c.index-facts-place.result ∷ fs) ≡ walk c.index-facts-place.result c.if-eq.shared c.if-eq.level fs
+step c =
     let fact : Fact = c.index-facts-place.result in
     let test : c.eq.result ≡ are_duplicates c.loop-place.last.now fact = c.eq.ensures ∙ equal_dimensions_tie c.loop-place.last.now.dimensions fact.dimensions in
-    let step : (fs : List Fact) → walk c.loop-place.last.now c.loop-place.shared c.loop-place.level (fact ∷ fs) ≡ walk fact c.if-eq.shared c.if-eq.level fs =
     elim c.if-eq.branch [
       | then-eq w ↦
           let shared : c.if-eq.shared ≡ both_common c.loop-place.shared (interval_at fact.value) = w.shared-is ∙ w.both_common-shared.ensures ∙ ap (both_common c.loop-place.shared) c.interval_at-interval.ensures in
@@ -56,29 +57,20 @@ loop-place-preserved c =
       | else-eq w ↦
           let shared : c.if-eq.shared ≡ interval_at fact.value = w.shared-is ∙ c.interval_at-interval.ensures in
           (λ fs. walk-other c.loop-place.last.now fact c.loop-place.shared c.loop-place.level fs (sym test ∙ w.if-eq.false) ∙ (λ k. walk fact (sym shared k) (sym w.level-is k) fs))
-    ] in (
-      passed_one c.args.facts.now c.args.order.now c.in-Some.rest.now c.loop-place.place-index c.loop-place.last.now fact c.loop-place.shared c.if-eq.shared c.loop-place.level c.if-eq.level c.loop-place-test.true within c.index-facts-place.is step c.loop-place.invariant.0,
+    ]
+
+pub loop-place-preserved : goal.loop-place-preserved
+loop-place-preserved c =
+    let after = (goal.at.loop-place-preserved c).After-lt in (
+      passed_one c.args.facts.now c.args.order.now c.in-Some.rest.now c.loop-place.place-index c.loop-place.last.now c.index-facts-place.result c.loop-place.shared c.if-eq.shared c.loop-place.level c.if-eq.level c.loop-place-test.true (within after) c.index-facts-place.is (step after) c.loop-place.invariant.0,
       sym (lesser_levels_tie c.args.limit c.if-eq.level) ∙ sym c.lt.ensures ∙ c.if-lt.false,
     )
 
 pub returns-then-lt-clause-above : goal.returns-then-lt-clause-above
 returns-then-lt-clause-above c =
-    let within = rest_within c.args.facts.now c.args.order.now c.in-Some.rest.now c.in-Some.first.now c.loop-place.place-index c.requires c.in-Some.ensures.cases.0 c.loop-place-test.true in
-    let fact : Fact = c.index-facts-place.result in
-    let test : c.eq.result ≡ are_duplicates c.loop-place.last.now fact = c.eq.ensures ∙ equal_dimensions_tie c.loop-place.last.now.dimensions fact.dimensions in
-    let step : (fs : List Fact) → walk c.loop-place.last.now c.loop-place.shared c.loop-place.level (fact ∷ fs) ≡ walk fact c.if-eq.shared c.if-eq.level fs =
-    elim c.if-eq.branch [
-      | then-eq w ↦
-          let shared : c.if-eq.shared ≡ both_common c.loop-place.shared (interval_at fact.value) = w.shared-is ∙ w.both_common-shared.ensures ∙ ap (both_common c.loop-place.shared) c.interval_at-interval.ensures in
-          let level : c.if-eq.level ≡ ord_max level_cmp c.loop-place.level (level_beside c.loop-place.last.now.value c.loop-place.shared fact.value) =
-          w.level-is ∙ w.max-level.ensures ∙ level_max_is c.loop-place.level w.level_beside.result ∙ ap (ord_max level_cmp c.loop-place.level) w.level_beside.ensures in
-          (λ fs. walk-duplicate c.loop-place.last.now fact c.loop-place.shared c.loop-place.level fs (sym test ∙ w.if-eq.true) ∙ (λ k. walk fact (sym shared k) (sym level k) fs))
-      | else-eq w ↦
-          let shared : c.if-eq.shared ≡ interval_at fact.value = w.shared-is ∙ c.interval_at-interval.ensures in
-          (λ fs. walk-other c.loop-place.last.now fact c.loop-place.shared c.loop-place.level fs (sym test ∙ w.if-eq.false) ∙ (λ k. walk fact (sym shared k) (sym w.level-is k) fs))
-    ] in
-    passed_above c.args.facts.now c.args.order.now c.in-Some.rest.now c.loop-place.place-index c.args.limit c.loop-place.last.now fact c.loop-place.shared c.if-eq.shared c.loop-place.level c.if-eq.level c.requires c.loop-place-test.true within c.index-facts-place.is
-    c.loop-place.invariant.1 (sym (lesser_levels_tie c.args.limit c.if-eq.level) ∙ sym c.lt.ensures ∙ c.if-lt.true) c.loop-place.invariant.0 step
+    let after = (goal.at.returns-then-lt-clause-above c).After-lt in
+    passed_above c.args.facts.now c.args.order.now c.in-Some.rest.now c.loop-place.place-index c.args.limit c.loop-place.last.now c.index-facts-place.result c.loop-place.shared c.if-eq.shared c.loop-place.level c.if-eq.level c.requires c.loop-place-test.true (within after) c.index-facts-place.is
+    c.loop-place.invariant.1 (sym (lesser_levels_tie c.args.limit c.if-eq.level) ∙ sym c.lt.ensures ∙ c.if-lt.true) c.loop-place.invariant.0 (step after)
 
 pub returns-clause-level : goal.returns-clause-level
 returns-clause-level c = passed_all c.args.facts.now c.args.order.now c.in-Some.rest.now c.loop-place.place-index c.loop-place.last.now c.loop-place.shared c.loop-place.level c.requires c.loop-place-test.false c.loop-place.invariant.0

@@ -3,7 +3,7 @@ use Rattle.serde_json.specs.View.{view, members_view}
 use Rattle.oim_report.specs.Json.{values}
 use Rattle.oim_report.specs.Outcome.{fact_outcome}
 use Rattle.oim_report.proofs.Facts.{facts_after, facts_step, all_facts}
-use Rattle.oim_report.proofs.NoMemory.{fact_other}
+use Rattle.oim_report.proofs.FaultLaws.{fact_other}
 use Rattle.oim_report.proofs.fact.facts_reader.read_all.Goals as goal
 
 pub returns-in-Err-clause-errors : goal.returns-in-Err-clause-errors

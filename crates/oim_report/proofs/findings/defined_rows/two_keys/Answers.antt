@@ -4,11 +4,11 @@ use Rattle.std.specs.FinMap as map
 use Rattle.serde_json.specs.View.{view, members_view}
 use Rattle.oim_report.specs.code.Rows.{defined_members, defined_name}
 use Rattle.oim_report.specs.declared.dimension_kind.DimensionKind.TheVariants.{Explicit}
-use Rattle.oim_report.proofs.Repeated.{repeated_in, in_none, goes_on}
+use Rattle.oim_report.proofs.ShownParts.{repeated_in, in_none, goes_on}
 use Rattle.oim_report.proofs.findings.defined_rows.two_keys.Goals as goal
 
 pub loop-key-init : goal.loop-key-init
-loop-key-init c = in_none c.args.aliases.now c.args.before.now.names (defined_members (members_view c.into_iter-key-iterator.result)) c.requires ∙ search rules
+loop-key-init c = in_none c.args.aliases.now c.new-before.result.names (defined_members (members_view c.into_iter-key-iterator.result)) (search rules) ∙ search rules
 
 pub loop-key-preserved-in_ok-put : goal.loop-key-preserved-in_ok-put
 loop-key-preserved-in_ok-put c =

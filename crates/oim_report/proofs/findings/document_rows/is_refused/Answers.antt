@@ -4,8 +4,7 @@ use Rattle.std.specs.Option.{option_copied}
 use Rattle.serde_json.specs.View.{view}
 use Rattle.oim_names.specs.declared.reason.Reason.TheVariants.{TaxonomyUrl}
 use Rattle.oim_report.specs.Info.{said_reference}
-use Rattle.oim_report.proofs.DocumentHolds.{one_reference}
-use Rattle.oim_report.proofs.FoundWith.{from_some, none_is}
+use Rattle.oim_report.proofs.DocumentHolds.{one_reference, from_some, none_is}
 use Rattle.oim_report.proofs.findings.document_rows.is_refused.Goals as goal
 
 pub returns : goal.returns

@@ -4,8 +4,7 @@ use Rattle.serde_json.specs.View.{view}
 use Rattle.oim_report.specs.Holds.{document_holds}
 use Rattle.oim_report.specs.Info.{info}
 use Rattle.oim_report.specs.Shown.{document_shown, value_or_nothing, when}
-use Rattle.oim_report.proofs.DocumentHolds.{base_same}
-use Rattle.oim_report.proofs.FoundWith.{from_some}
+use Rattle.oim_report.proofs.DocumentHolds.{base_same, from_some}
 use Rattle.oim_report.proofs.findings.document_rows.refused_base.Goals as goal
 
 pub returns : goal.returns

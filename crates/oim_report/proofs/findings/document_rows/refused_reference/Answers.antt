@@ -1,13 +1,13 @@
-use Rattle.std.proofs.Common.{true, ap, ◌∙◌, option_map}
+use Rattle.std.proofs.Common.{rules, ◌≡◌, true, ap, ◌∙◌, option_map}
 use Rattle.std.proofs.lemmas.Result.{IfOk-weaker}
 use Rattle.std.specs.Prelude.{codes}
-use Rattle.std.specs.Option.{option_flatten, option_map_or}
+use Rattle.std.specs.Option.{option_copied, option_flatten, option_map_or}
 use Rattle.serde_json.specs.View.{view}
 use Rattle.oim_report.specs.Holds.{as_text, base, document_holds}
 use Rattle.oim_report.specs.Info.{info, taxonomy_of}
 use Rattle.oim_report.specs.Kept.{is_reference_refused}
 use Rattle.oim_report.specs.Shown.{document_shown, first_item, value}
-use Rattle.oim_report.proofs.DocumentParts.{flat_base}
+use Rattle.oim_report.proofs.DocumentHolds.{flat_base}
 use Rattle.oim_report.proofs.ShownParts.{item_shown}
 use Rattle.oim_report.proofs.findings.document_rows.refused_reference.Goals as goal
 
@@ -15,7 +15,8 @@ pub returns : goal.returns
 unfolding document_holds document_shown
 returns c =
     let tree = view c.args.tree.now in
-    let based = c.flatten.ensures ∙ ap option_flatten c.in_ok-base.ensures ∙ flat_base (info (codes "baseURL") tree) in
+    let borrowed : option_copied c.as_ref.result ≡ c.flatten-base.result = search rules in
+    let based = borrowed ∙ c.flatten-base.ensures ∙ ap option_flatten c.in_ok-said.ensures ∙ flat_base (info (codes "baseURL") tree) in
     IfOk-weaker c.reference_under.result _ _
     (λ part h.
     h

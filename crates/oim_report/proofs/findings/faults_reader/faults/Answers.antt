@@ -5,7 +5,7 @@ use Rattle.oim_report.specs.declared.place.Place.TheVariants.{Document}
 use Rattle.oim_report.specs.Faults.{faults, tree_faults}
 use Rattle.oim_report.specs.Json.{json}
 use Rattle.oim_report.specs.Outcome.{at}
-use Rattle.oim_report.proofs.FoundWith.{nothing_said}
+use Rattle.oim_report.proofs.DocumentHolds.{nothing_said}
 use Rattle.oim_report.proofs.findings.faults_reader.faults.Goals as goal
 
 pub returns-in_ok-push-in-None : goal.returns-in_ok-push-in-None

@@ -10,7 +10,7 @@ use Rattle.oim_report.specs.Info.{bindings_of, facts_of}
 use Rattle.oim_report.specs.Json.{values}
 use Rattle.oim_report.specs.Outcome.{at, tree_outcome}
 use Rattle.oim_report.proofs.FaultLaws.{level_alone}
-use Rattle.oim_report.proofs.FoundWith.{filled_else, holds_of, is_empty}
+use Rattle.oim_report.proofs.DocumentHolds.{filled_else, holds_of, is_empty}
 use Rattle.oim_report.proofs.findings.faults_reader.tree_faults.Goals as goal
 
 pub returns-then-not-is_empty : goal.returns-then-not-is_empty

@@ -1,8 +1,0 @@
-use Rattle.std.proofs.Common.{◌≡◌}
-use Rattle.serde_json.specs.View.{members_view}
-use Rattle.oim_report.specs.Info.{declarations, said_level}
-use Rattle.oim_report.proofs.Declared.{level_after}
-use Rattle.oim_report.proofs.document.features.declared_level.Given as goal
-
-abbrev pub invariant-loop-key : goal.invariant-loop-key
-invariant-loop-key l = level_after l.declared (declarations l.aliases (members_view l.key-iterator)) ≡ said_level (declarations l.aliases (members_view l.features.entries))

@@ -1,0 +1,12 @@
+use Rattle.std.proofs.Common.{ap, ◌∙◌}
+use Rattle.std.specs.Prelude.{is_none}
+use Rattle.oim_names.specs.Bindings.{is_refused_binding}
+use Rattle.oim_report.proofs.DocumentHolds.{alone, from_some}
+use Rattle.oim_report.proofs.document.namespaces.is_no_binding.Goals as goal
+
+pub returns : goal.returns
+returns c =
+    from_some c.in_ok-bound.bound c.is_none.result c.is_none.ensures
+    ∙ ap is_none c.in_ok-bound.ensures.0
+    ∙ alone c.add.result (is_refused_binding c.new-alone.result c.args.prefix.now c.args.uri.now) c.add.ensures.refused c.add.ensures.errors c.in_ok-bound.ensures.1
+    ∙ ap (λ bs. is_refused_binding bs c.args.prefix.now c.args.uri.now) c.new-alone.ensures

@@ -1,0 +1,12 @@
+use Rattle.std.proofs.Common.{◌≡◌, option_map}
+use Rattle.std.specs.List.{find}
+use Rattle.serde_json.specs.View.{members_view}
+use Rattle.oim_names.specs.Expansion.{refuses}
+use Rattle.oim_report.specs.Json.{members}
+use Rattle.oim_report.specs.Sheet.{key_names}
+use Rattle.oim_report.proofs.findings.sheet_part.first_refused.Given as goal
+
+abbrev pub invariant-loop-key : goal.invariant-loop-key
+invariant-loop-key l =
+    let first = find (refuses l.reason l.aliases) in
+    first (key_names (members_view l.key-iterator)) ≡ first (key_names (members (option_map (λ m. members_view m.now.entries) l.fn.entries)))
