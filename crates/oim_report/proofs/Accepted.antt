@@ -1,7 +1,5 @@
 -- If a fact object is accepted, its parts denote the fact.
-use Rattle.std.proofs.Common.{◌≡◌, List, Option, Some, None, Ok, refl, ap, ◌∙◌}
-use Rattle.std.specs.Prelude.{option_and_then}
-use Rattle.std.specs.Option.{option_map}
+use Rattle.std.proofs.Common.{◌≡◌, List, Option, Some, None, Ok, refl, ap, ◌∙◌, option_and_then, option_map}
 use Rattle.oim_names.specs.Bindings.{Binding}
 use Rattle.oim_names.specs.declared.reason.Reason.{Reason}
 use Rattle.oim_dims.specs.DimensionSet.{DimensionSet}

@@ -1,7 +1,6 @@
 -- If the URIs of all bindings are namespaces and `fact_outcome` returns a fact, the object denotes this fact, and the fact
 -- fits the sheet.
-use Rattle.std.proofs.Common.{◌≡◌, ℕ, ◌+◌, List, [], ◌∷◌, map as each_of, Some, Result, Ok, Err, refl, sym, ap, subst, ◌∙◌, arith}
-use Rattle.std.specs.Prelude.{All, option_and_then}
+use Rattle.std.proofs.Common.{◌≡◌, ℕ, ◌+◌, List, [], ◌∷◌, map as each_of, Some, Result, Ok, Err, refl, sym, ap, subst, ◌∙◌, arith, All, option_and_then}
 use Rattle.std.specs.List.{AllZip}
 use Rattle.std.specs.FinMap as map
 use Rattle.std.proofs.lemmas.List.Elements.{All-cons}
@@ -20,11 +19,9 @@ use Rattle.oim_report.specs.Parts.{DimensionParts, FactParts}
 use Rattle.oim_report.specs.Refusal.{map_ok}
 use Rattle.oim_report.specs.Sheet.{Sheet}
 use Rattle.oim_report.proofs.Accepted.{IsSaid, accepted}
-use Rattle.oim_report.proofs.Fitting.{AreNamespaces, AreCleanDimensions, AreClean, are_clean, concept_fits, said_entity_fits, said_language_fits, said_period_is, value_fits}
+use Rattle.oim_report.proofs.Fitting.{AreNamespaces, AreCleanDimensions, AreClean, are_clean, concept_fits, said_entity_fits, said_language_fits, said_period_is, value_fits, concept_says, entity_says, language_says, period_says, value_says}
 use Rattle.oim_report.proofs.MembersSay.{members_fit, members_rise, members_say}
-use Rattle.oim_report.proofs.SaysParts.{concept_says, entity_says, language_says, period_says, value_says}
-use Rattle.oim_report.proofs.UnitFits.{unit_fits, unit_is_one}
-use Rattle.oim_report.proofs.UnitSays.{unit_says}
+use Rattle.oim_report.proofs.UnitSays.{unit_fits, unit_is_one, unit_says}
 
 module _ (sheet : Sheet) (bs : List Binding) (are : AreNamespaces bs) (p : FactParts) (ds : DimensionParts) (f : Fact) (clean : AreClean p) (there : p.dimensions ≡ Some ds) (is : IsSaid sheet bs p ds f) where
   listed : map.get sheet.concepts f.dimensions.concept ≡ Some is.kind

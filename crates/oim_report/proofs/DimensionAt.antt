@@ -1,6 +1,5 @@
 -- A look-up or a test in an absent object gives the same result as in an object without members.
-use Rattle.std.proofs.Common.{◌≡◌, ℕ, List, Bool, refl}
-use Rattle.std.specs.Prelude.{Option, Some, None, option_and_then}
+use Rattle.std.proofs.Common.{◌≡◌, ℕ, List, Bool, refl, Option, Some, None, option_and_then}
 use Rattle.serde_json.specs.Data.{Data, Members, null, boolean, number, string, array, object}
 use Rattle.serde_json.specs.Find.{as_object, get, get_member}
 use Rattle.oim_report.specs.Json.{any_in, any_member, members}

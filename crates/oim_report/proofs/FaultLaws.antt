@@ -33,7 +33,7 @@ use Rattle.oim_report.proofs.AcceptedFacts.{next, ok_of}
 use Rattle.oim_report.proofs.Documents.{document_is_said, document_said, is_allowed, not_refused}
 use Rattle.oim_report.proofs.OneDocument.{says_one_document}
 use Rattle.oim_report.proofs.Accepted.{ok_or}
-use Rattle.oim_report.proofs.SheetHolds.{sheet_refused_where_held}
+use Rattle.oim_report.proofs.SheetEntries.{sheet_refused_where_held}
 
 pub free_is_said : (sheet : Sheet) (bs : List Binding) (d : Data) → IsFree sheet bs d → (f : Fact) × (fact_outcome sheet bs d ≡ Ok f)
 free_is_said sheet bs d free =

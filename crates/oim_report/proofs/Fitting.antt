@@ -1,57 +1,125 @@
--- If the URIs of all bindings are namespaces, each part of a fact that an object denotes fits the sheet.
-use Rattle.std.proofs.Common.{◌≡◌, ◌≢◌, ℕ, List, [], ◌∷◌, Bool, true, false, not, ◌&&◌, cond, bytes_eq, Option, Some, None, refl, sym, ap, subst, length, ◌==◌, arith}
-use Rattle.std.specs.Prelude.{ℤ, All, IsTrue, option_and_then, codes}
+-- An object that denotes a fact says each part of it. If the URIs of all bindings are namespaces, each part fits the sheet.
+use Rattle.std.proofs.Common.{◌≡◌, ℕ, ℤ, List, Bool, true, false, ◌&&◌, cond, Option, Some, None, Result, Ok, Err, refl, sym, subst, ◌≢◌, [], ◌∷◌, not, bytes_eq, ap, length, ◌==◌, arith, IsTrue, All, option_and_then, codes, find}
 use Rattle.std.specs.Option.{option_map, option_map_or, unwrap_or}
-use Rattle.std.specs.List.{find}
-use Rattle.std.specs.Str.{IsUtf8, is_utf8, str_to_ascii_lowercase}
+use Rattle.std.specs.Result.{result_ok}
+use Rattle.std.specs.Str.{str_to_ascii_lowercase, IsUtf8, is_utf8}
 use Rattle.std.proofs.lemmas.Bool.{and_parts, or_parts}
 use Rattle.std.proofs.lemmas.List.Elements.{All-cons, All-head, All-tail}
 use Rattle.std.proofs.lemmas.Str.{IsUtf8-from_is_utf8}
-use Rattle.oim_names.specs.QName.{QName, is_colon, is_entity, is_name, is_part, local_part, prefix_part}
-use Rattle.oim_names.specs.Bindings.{Binding, uri_of}
-use Rattle.oim_names.specs.Expansion.{ExpandsAs}
-use Rattle.oim_names.proofs.Bytes.{other_bytes}
 use Rattle.serde_json.specs.Data.{Data, Members, no_members, member}
-use Rattle.serde_json.specs.Find.{get_member}
-use Rattle.serde_json.specs.Find.{as_object}
-use Rattle.oim_names.specs.Expansion.{Expands}
-use Rattle.oim_value.specs.Decimals.{AreDecimals}
-use Rattle.oim_value.specs.Number.{IsShort}
-use Rattle.oim_value.proofs.ShortLaws.{short_is_kept}
+use Rattle.serde_json.specs.Find.{get_member, as_object}
+use Rattle.oim_names.specs.QName.{QName, is_name, is_entity, is_colon, is_part, local_part, prefix_part}
+use Rattle.oim_names.specs.Bindings.{Binding, uri_of}
+use Rattle.oim_names.specs.Expansion.{Expands, ExpandsAs}
+use Rattle.oim_names.specs.declared.reason.Reason.{Reason}
+use Rattle.oim_names.proofs.Bytes.{other_bytes}
+use Rattle.oim_value.specs.Decimals.{is_finite_decimals, AreDecimals}
+use Rattle.oim_value.specs.Number.{is_number, is_short, IsShort}
+use Rattle.oim_value.specs.Units.{units_of}
 use Rattle.oim_value.specs.declared.value.Value.{Value}
 use Rattle.oim_value.specs.declared.value.Value.TheVariants.{Nil, Number, Text as AText, Name as AName}
+use Rattle.oim_value.proofs.Denoted.{short_denotes}
+use Rattle.oim_value.proofs.ShortLaws.{short_is_kept}
 use Rattle.oim_dims.specs.Language.{is_language}
-use Rattle.oim_dims.specs.Period.{IsPeriod, period_of}
-use Rattle.oim_dims.proofs.Languages.{language_kept}
-use Rattle.oim_dims.proofs.ReadPeriods.{read_period_is}
+use Rattle.oim_dims.specs.Period.{period_of, IsPeriod}
 use Rattle.oim_dims.specs.declared.period.Period.{Period}
 use Rattle.oim_dims.specs.declared.period.Period.TheVariants.{Forever}
+use Rattle.oim_dims.proofs.Languages.{language_kept}
+use Rattle.oim_dims.proofs.ReadPeriods.{read_period_is}
 use Rattle.oim_report.specs.declared.concept_kind.ConceptKind.{ConceptKind}
 use Rattle.oim_report.specs.declared.concept_kind.ConceptKind.TheVariants.{Numeric, Text, Name}
-use Rattle.oim_report.specs.Fact.{GivesText, SaysDecimals, SaysNumber, SaysValue}
-use Rattle.oim_report.specs.FactFits.{EntityFits, FitsEntity, FitsName, IsNamespace, LanguageFits, ValueFits}
-use Rattle.oim_report.specs.Json.{Given, absent, text, whole, any_member, given, given_at, given_of, has_colon, text_of}
+use Rattle.oim_report.specs.Fact.{GivesText, SaysDecimals, SaysEntity, SaysLanguage, SaysPeriod, SaysValue, SaysNumber}
+use Rattle.oim_report.specs.Json.{Given, absent, nil, text, whole, text_of, any_member, given, given_at, given_of, has_colon}
 use Rattle.oim_report.specs.Names.{entity_named, named}
+use Rattle.oim_report.specs.Said.{said_concept, said_decimals, said_entity, said_language, said_period, said_value, value_with}
+use Rattle.oim_report.specs.FactFits.{EntityFits, FitsEntity, FitsName, IsNamespace, LanguageFits, ValueFits}
 use Rattle.oim_report.specs.Parts.{DimensionParts, FactParts, defined_in, dimension_parts, fact_parts, parts_of}
-use Rattle.oim_report.specs.Said.{said_concept, said_entity, said_language, said_period}
+use Rattle.oim_report.specs.Namespaces.{binds_nothing, bindings_in}
 use Rattle.oim_report.proofs.Accepted.{and_then_some, map_some}
 use Rattle.oim_report.proofs.Naming.{stands}
-use Rattle.oim_report.proofs.SaysParts.{language_says, period_ok, text_is}
-use Rattle.oim_report.specs.Namespaces.{binds_nothing, bindings_in}
 use Rattle.oim_report.proofs.KeptReferences.{text_utf8}
 use Rattle.oim_report.proofs.Utf8Parts.{after_utf8, only_colon}
+
+-- ---- if `said_period` returns a period, `SaysPeriod` holds for it. The same is proved for the
+-- concept, the entity, the language and the value.
+
+pub text_is : (g : Given) (t : List ℕ) → text_of g ≡ Some t → g ≡ text t
+text_is (text s) t e = cc
+text_is g t e = absurd (cc)
+
+gives : (g : Given) (P : List ℕ → Type 0) (t : List ℕ) → g ≡ text t → P t → GivesText g P
+gives g P t is p = subst (λ h. GivesText h P) (sym is) p
+
+pub concept_says : (bs : List Binding) (g : Given) (n : QName) → said_concept bs g ≡ Some n → GivesText g (λ t. Expands bs t n)
+concept_says bs g n e =
+    let t = and_then_some (named bs) (text_of g) n e in
+    gives g (λ s. Expands bs s n) t.0 (text_is g t.0 t.1) (stands is_name bs t.0 n t.2)
+
+pub entity_says : (bs : List Binding) (g : Given) (said : Option QName) → said_entity bs g ≡ Some said → SaysEntity bs g said
+entity_says bs absent said e = (let same : None ≡ said = cc in sym same)
+entity_says bs (text t) said e =
+    let n = map_some Some (entity_named bs t) said e in
+    (n.0, sym n.2, stands is_entity bs t n.0 n.1)
+entity_says bs g said e = absurd (cc)
+
+pub period_ok : (r : Result Period Reason) (p : Period) → result_ok r ≡ Some p → r ≡ Ok p
+period_ok (Ok q) p e = cc
+period_ok (Err r) p e = absurd (cc)
+
+pub period_says : (g : Given) (said : Period) → said_period g ≡ Some said → SaysPeriod g said
+period_says absent said e = (let same : Forever ≡ said = cc in sym same)
+period_says (text t) said e = period_ok (period_of t) said e
+period_says g said e = absurd (cc)
+
+said_if : {A : Type 0} (x said : A) (test b : Bool) → test ≡ b → cond b (Some x) None ≡ Some said → (test ≡ true) × (said ≡ x)
+said_if x said test true u e = (u, cc)
+said_if x said test false u e = absurd (cc)
+
+pub language_says : (kind : ConceptKind) (g : Given) (said : Option (List ℕ)) → said_language kind g ≡ Some said → SaysLanguage g said
+language_says kind absent said e = (let same : None ≡ said = cc in sym same)
+language_says Text (text t) said e = said_if (Some (str_to_ascii_lowercase t)) said (is_language t) (is_language t) refl e
+language_says Name (text t) said e = said_if (Some (str_to_ascii_lowercase t)) said (is_language t) (is_language t) refl e
+language_says kind g said e = absurd (cc)
+
+decimals_say : (g : Given) (places : Option ℤ) → said_decimals Numeric g ≡ Some places → SaysDecimals g places
+decimals_say absent places e = (let same : None ≡ places = cc in sym same)
+decimals_say (whole n) places e = said_if (Some n) places (is_finite_decimals n) (is_finite_decimals n) refl e
+decimals_say g places e = absurd (cc)
+
+module _ (bs : List Binding) (decimals : Given) (places : Option ℤ) (v : Value) where
+  number_says : (t : List ℕ) (form short : Bool) → is_number t ≡ form → is_short t ≡ short → SaysDecimals decimals places → cond (form && short) (Some (Number (units_of t) places)) None ≡ Some v → SaysValue bs Numeric (text t) decimals v
+  number_says t true true form short says e =
+      let is : Number (units_of t) places ≡ v = cc in
+      subst (SaysValue bs Numeric (text t) decimals) is (record { denoted = short_denotes t form short; short = short }, says)
+  number_says t b short_too form short says e = absurd (cc)
+
+  name_says : (t : List ℕ) → option_map AName (named bs t) ≡ Some v → SaysValue bs Name (text t) decimals v
+  name_says t e =
+      let n = map_some AName (named bs t) v e in
+      subst (SaysValue bs Name (text t) decimals) n.2 (stands is_name bs t n.0 n.1)
+
+  says_with : (kind : ConceptKind) (g : Given) → said_decimals kind decimals ≡ Some places → value_with bs kind g places ≡ Some v → SaysValue bs kind g decimals v
+  says_with Numeric (text t) d e = number_says t (is_number t) (is_short t) refl refl (decimals_say decimals places d) e
+  says_with Text (text t) d e = let is : AText t ≡ v = cc in subst (SaysValue bs Text (text t) decimals) is refl
+  says_with Name (text t) d e = name_says t e
+  says_with Numeric nil d e = let is : Nil ≡ v = cc in subst (SaysValue bs Numeric nil decimals) is refl
+  says_with Text nil d e = let is : Nil ≡ v = cc in subst (SaysValue bs Text nil decimals) is refl
+  says_with Name nil d e = let is : Nil ≡ v = cc in subst (SaysValue bs Name nil decimals) is refl
+  says_with kind g d e = absurd (cc)
+
+pub value_says : (bs : List Binding) (kind : ConceptKind) (g decimals : Given) (v : Value) → said_value bs kind g decimals ≡ Some v → SaysValue bs kind g decimals v
+value_says bs kind g decimals v e =
+    let places = and_then_some (value_with bs kind g) (said_decimals kind decimals) v e in
+    says_with bs decimals places.0 v kind g places.1 places.2
 
 -- ---- bindings whose URIs are namespaces
 
 abbrev pub AreNamespaces : List Binding → Type 0
 AreNamespaces bs = All (λ b. (b.uri ≢ []) × IsUtf8 b.uri) bs
 
-not_nil : (u : List ℕ) → bytes_eq u [] ≡ false → u ≢ []
-not_nil u e = other_bytes u [] e
-
 uri_in : (o : Option (List ℕ)) → ((t : List ℕ) → o ≡ Some t → IsUtf8 t) → option_map_or (λ u. bytes_eq u []) o true ≡ false → (unwrap_or o [] ≢ []) × IsUtf8 (unwrap_or o [])
 uri_in None utf8 e = absurd (cc)
-uri_in (Some u) utf8 e = (not_nil u e, utf8 u refl)
+uri_in (Some u) utf8 e = (other_bytes u [] e, utf8 u refl)
 
 pub bindings_are : (ms : Members) → any_member binds_nothing ms ≡ false → AreNamespaces (bindings_in ms)
 bindings_are no_members e = λ k d lt. absurd (omega (arith, lt))
@@ -73,14 +141,11 @@ bound_uri (b ∷ bs) p u are e =
 namespace_of : (has_form : List ℕ → Bool) (bs : List Binding) (t : List ℕ) (n : QName) → AreNamespaces bs → ExpandsAs has_form bs t n → IsNamespace n.uri
 namespace_of has_form bs t n are e = let is = bound_uri bs (prefix_part t) n.uri are e.uri in record { filled = is.0; allowed = e.allowed; utf8 = is.1 }
 
-local_utf8 : (t : List ℕ) → IsUtf8 t → IsUtf8 (local_part t)
-local_utf8 t utf8 = after_utf8 is_colon only_colon t utf8
-
 pub name_fits : (bs : List Binding) (t : List ℕ) (n : QName) → AreNamespaces bs → IsUtf8 t → ExpandsAs is_name bs t n → FitsName n
 name_fits bs t n are utf8 e = record {
   namespace = namespace_of is_name bs t n are e;
   form = subst (λ l. IsTrue (is_part l)) (sym e.local_part) (and_parts (is_part (prefix_part t)) (is_part (local_part t)) e.form).1;
-  utf8 = subst IsUtf8 (sym e.local_part) (local_utf8 t utf8);
+  utf8 = subst IsUtf8 (sym e.local_part) (after_utf8 is_colon only_colon t utf8);
 }
 
 not_empty : (l : List ℕ) → not (length l == 0) ≡ true → l ≢ []
@@ -91,7 +156,7 @@ pub entity_fits : (bs : List Binding) (t : List ℕ) (n : QName) → AreNamespac
 entity_fits bs t n are utf8 e = record {
   scheme = namespace_of is_entity bs t n are e;
   some = subst (λ l. l ≢ []) (sym e.local_part) (not_empty (local_part t) (and_parts (is_part (prefix_part t)) (not (length (local_part t) == 0)) e.form).1);
-  utf8 = subst IsUtf8 (sym e.local_part) (local_utf8 t utf8);
+  utf8 = subst IsUtf8 (sym e.local_part) (after_utf8 is_colon only_colon t utf8);
 }
 
 -- ---- the texts that `given` returns are UTF-8
@@ -156,13 +221,10 @@ are_clean d p e = let ms = map_some parts_of (as_object d) p e in subst AreClean
 
 -- ---- each part of the denoted fact fits the sheet
 
-text_clean : (g : Given) (t : List ℕ) → IsClean g → text_of g ≡ Some t → IsUtf8 t
-text_clean g t clean e = clean t (text_is g t e)
-
 pub concept_fits : (bs : List Binding) (g : Given) (n : QName) → AreNamespaces bs → IsClean g → said_concept bs g ≡ Some n → FitsName n
 concept_fits bs g n are clean e =
     let t = and_then_some (named bs) (text_of g) n e in
-    name_fits bs t.0 n are (text_clean g t.0 clean t.1) (stands is_name bs t.0 n t.2)
+    name_fits bs t.0 n are (clean t.0 (text_is g t.0 t.1)) (stands is_name bs t.0 n t.2)
 
 pub said_entity_fits : (bs : List Binding) (g : Given) (said : Option QName) → AreNamespaces bs → IsClean g → said_entity bs g ≡ Some said → EntityFits said
 said_entity_fits bs absent said are clean e = let same : None ≡ said = cc in subst EntityFits same tt

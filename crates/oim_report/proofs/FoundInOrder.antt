@@ -1,29 +1,152 @@
 -- Facts that were found in a text, sorted by their identifiers.
-use Rattle.std.proofs.Common.{◌≡◌, ℕ, suc, ◌+◌, ◌<◌, List, [], ◌∷◌, ◌++◌, length, get_or, drop, map, Bool, true, false, cond, Option, Some, None, Ok, String, Global, string_bytes, refl, sym, ap, ◌∙◌, subst, arith, append_assoc, append-nil}
-use Rattle.std.specs.Prelude.{IfSome}
+use Rattle.std.proofs.Common.{◌≡◌, ℕ, List, [], ◌∷◌, Bool, false, Option, Some, None, Result, Ok, Err, refl, sym, ap, ◌∙◌, subst, codes, not, is_none, option_and_then, if◌then◌else◌, IfOk, IfSome, MatchResult, IsUtf8, unwrap_or, suc, ◌+◌, ◌<◌, ◌++◌, length, get_or, drop, map, true, cond, String, Global, string_bytes, arith, append_assoc, append-nil, zero, slice_get, string_cmp, Ordering, Less, Equal, Greater}
+use Rattle.std.proofs.lemmas.Bool.{or_parts, or_from, false≢true}
+use Rattle.std.specs.Result.{result_ok}
 use Rattle.std.specs.Ordering.{nat_cmp, match_ordering, is_lt}
-use Rattle.std.specs.String.{string_cmp}
 use Rattle.std.specs.Cmp.Lexicographic.{slice_cmp}
 use Rattle.std.specs.BTreeMap.{insert_entry}
-use Rattle.std.specs.declared.cmp.Ordering.{Ordering}
-use Rattle.std.specs.declared.cmp.Ordering.TheVariants.{Less, Equal, Greater}
 use Rattle.std.proofs.lemmas.List.{drop_more, length-append, length-map, map-append}
-use Rattle.std.proofs.lemmas.Bool.{false≢true}
-use Rattle.oim_names.specs.Bindings.{Binding}
+use Rattle.serde_json.specs.Data.{Data, object, Members, no_items, put, no_members, member}
+use Rattle.serde_json.specs.Find.{get, as_array, as_object}
+use Rattle.serde_json.specs.Read.{read}
+use Rattle.serde_json.proofs.Views.{get_member-put, get_member-put_other}
+use Rattle.oim_names.specs.declared.reason.Reason.TheVariants.{MemberForm, UnknownMember, DocumentType, Namespace, BaseUrl, TaxonomyUrl, Feature, DisallowedDuplicates}
+use Rattle.oim_names.specs.Bindings.{Binding, uri_at}
+use Rattle.oim_names.specs.QName.{QName}
+use Rattle.oim_names.specs.declared.reason.Reason.{Reason}
+use Rattle.oim_value.specs.Level.{level_cmp}
+use Rattle.oim_value.specs.declared.level.Level.{Level}
+use Rattle.oim_value.specs.declared.level.Level.TheVariants.{All as AllLevel}
 use Rattle.oim_dims.specs.declared.fact.Fact.{Fact}
-use Rattle.serde_json.specs.Data.{Data, Members, no_members, member, put}
-use Rattle.oim_report.proofs.PutMembers.{before_all}
+use Rattle.oim_report.specs.declared.place.Place.TheVariants.{Document as AtDocument}
+use Rattle.oim_report.specs.Document.{Document}
+use Rattle.oim_report.specs.Duplicates.{level_of}
+use Rattle.oim_report.specs.Info.{info, namespaces_of, bindings_of, taxonomy_of, features_of, facts_of, said_base, said_references, declarations, said_level, base_said, references_said, level_said, root_keys, info_keys, document_type}
+use Rattle.oim_report.specs.Holds.{document_refusal}
+use Rattle.oim_report.specs.Json.{json, members, given_of, object_at, any_in, any_member, is_unknown, is_no_object, is_no_array, json_text, without_mark, entries, values}
+use Rattle.oim_report.specs.code.Findings.{is_text}
+use Rattle.oim_report.specs.Namespaces.{binds_nothing, bindings_in}
+use Rattle.oim_report.specs.Outcome.{at, facts_said, document_with, allowed, then_allowed, unless_refused, tree_outcome, outcome, fact_outcome, all_or_first}
+use Rattle.oim_report.specs.Refusal.{map_ok}
+use Rattle.oim_report.specs.Sheet.{Sheet}
+use Rattle.oim_report.specs.Pieces.{IsPiece, put_all}
+use Rattle.oim_report.specs.code.Pieces.{IsOutline, append}
 use Rattle.oim_report.specs.code.TapeParts.{Ascends}
 use Rattle.oim_report.specs.PlainJson.{IsBefore}
 use Rattle.oim_report.specs.code.FoundFacts.{AreFound, is_above, rise_after}
 use Rattle.oim_report.specs.Identifiers.{identifiers_in}
-use Rattle.oim_report.specs.Json.{entries, values}
-use Rattle.oim_report.specs.Outcome.{fact_outcome, all_or_first, facts_said}
-use Rattle.oim_report.specs.Pieces.{put_all}
-use Rattle.oim_report.specs.code.Pieces.{append}
-use Rattle.oim_report.specs.Refusal.{map_ok}
-use Rattle.oim_report.specs.Sheet.{Sheet}
-use Rattle.oim_report.proofs.MembersPut.{rising_stays}
+use Rattle.oim_report.specs.Parts.{DimensionParts, FactParts, HasForm}
+use Rattle.oim_report.specs.Said.{fact_of, said_concept}
+use Rattle.oim_report.specs.code.UriPlaces.{AreUriPlaces, ShareUris, concept_in}
+use Rattle.oim_report.proofs.DocumentHolds.{document_least, has_misshapen_part, has_other_type, has_unknown_part, info_refusal, shape_refusal}
+use Rattle.oim_report.proofs.EachRefusal.{first_holding, first_refusal, none_of}
+use Rattle.oim_report.proofs.PutMembers.{known_put, before_all, rising_stays}
+use Rattle.oim_report.proofs.Texts.{passes}
+use Rattle.oim_report.proofs.Accepted.{is_said}
+
+-- ---- a report that is read in pieces has the outcome of the whole report
+
+abbrev pub whole : Members → Members → Data
+whole ms fs = object (put (codes "facts") (object fs) ms)
+
+module _ (ms fs : Members) where
+  get_info : get (codes "documentInfo") (whole ms fs) ≡ get (codes "documentInfo") (object ms)
+  get_info = get_member-put_other (codes "documentInfo") (codes "facts") (object fs) ms (λ e. absurd (cc))
+
+  get_facts : get (codes "facts") (whole ms fs) ≡ Some (object fs)
+  get_facts = get_member-put (codes "facts") (object fs) ms
+
+  info_same : (key : List ℕ) → info key (whole ms fs) ≡ info key (object ms)
+  info_same key = ap (option_and_then (get key)) get_info
+
+  namespaces_same : namespaces_of (whole ms fs) ≡ namespaces_of (object ms)
+  namespaces_same = ap (option_and_then as_object) (info_same (codes "namespaces"))
+
+  pub bindings_same : bindings_of (whole ms fs) ≡ bindings_of (object ms)
+  bindings_same = ap (λ o. bindings_in (members o)) namespaces_same
+
+  features_same : features_of (whole ms fs) ≡ features_of (object ms)
+  features_same = ap (λ o. members (option_and_then as_object o)) (info_same (codes "features"))
+
+  taxonomy_same : taxonomy_of (whole ms fs) ≡ taxonomy_of (object ms)
+  taxonomy_same = ap (λ o. unwrap_or (option_and_then as_array o) no_items) (info_same (codes "taxonomy"))
+
+  base_same : base_said (whole ms fs) ≡ base_said (object ms)
+  base_same = ap (λ o. said_base (given_of o)) (info_same (codes "baseURL"))
+
+  pub references_same : references_said (whole ms fs) ≡ references_said (object ms)
+  references_same = λ i. option_and_then (λ base. said_references base (taxonomy_same i)) (base_same i)
+
+  pub level_same : level_said (whole ms fs) ≡ level_said (object ms)
+  level_same = λ i. said_level (declarations (bindings_same i) (features_same i))
+
+  pub facts_same : facts_of (whole ms fs) ≡ fs
+  facts_same = ap (λ o. members (option_and_then as_object o)) get_facts
+
+  info_refusal_same : info_refusal (whole ms fs) ≡ info_refusal (object ms)
+  info_refusal_same = λ i. first_holding ((any_in binds_nothing (namespaces_same i), Namespace) ∷ (is_none (base_same i), BaseUrl) ∷ (is_none (references_same i), TaxonomyUrl) ∷ (is_none (level_same i), Feature) ∷ [])
+
+  misshapen_same : has_misshapen_part (object ms) ≡ false → has_misshapen_part (whole ms fs) ≡ false
+  misshapen_same e =
+      let p = or_parts _ (is_no_array (info (codes "taxonomy") (object ms))) e in
+      let q = or_parts _ (is_no_object (get (codes "facts") (object ms))) p.0 in
+      let r = or_parts _ (is_no_object (info (codes "features") (object ms))) q.0 in
+      let s = or_parts _ (is_no_object (info (codes "namespaces") (object ms))) r.0 in
+      let t = or_parts false (is_none (object_at (codes "documentInfo") (object ms))) s.0 in
+      or_from _ _ (or_from _ _ (or_from _ _ (or_from _ _ (or_from false _ refl
+      (ap (λ o. is_none (option_and_then as_object o)) get_info ∙ t.1))
+      (ap is_no_object (info_same (codes "namespaces")) ∙ s.1))
+      (ap is_no_object (info_same (codes "features")) ∙ r.1))
+      (ap is_no_object get_facts))
+      (ap is_no_array (info_same (codes "taxonomy")) ∙ p.1)
+
+  unknown_same : has_unknown_part (object ms) ≡ false → has_unknown_part (whole ms fs) ≡ false
+  unknown_same e =
+      let p = or_parts (any_member (is_unknown root_keys) ms) (any_in (is_unknown info_keys) (object_at (codes "documentInfo") (object ms))) e in
+      or_from _ _ (known_put root_keys (codes "facts") (object fs) ms refl p.0) (ap (λ o. any_in (is_unknown info_keys) (option_and_then as_object o)) get_info ∙ p.1)
+
+  type_same : has_other_type (whole ms fs) ≡ has_other_type (object ms)
+  type_same = ap (λ o. not (is_text document_type (given_of o))) (info_same (codes "documentType"))
+
+three : (a b c : Bool) → first_holding ((a, MemberForm) ∷ (b, UnknownMember) ∷ (c, DocumentType) ∷ []) ≡ None → (a ≡ false) × (b ≡ false) × (c ≡ false)
+three false false false e = (refl, refl, refl)
+three a b c e = absurd (cc)
+
+pub not_refused_whole : (ms fs : Members) → document_refusal (object ms) ≡ None → document_refusal (whole ms fs) ≡ None
+not_refused_whole ms fs e =
+    let groups = none_of (shape_refusal (object ms)) _ (document_least (object ms) ∙ e) in
+    let info = none_of (info_refusal (object ms)) None groups.1 in
+    let each = three (has_misshapen_part (object ms)) (has_unknown_part (object ms)) (has_other_type (object ms)) groups.0 in
+    let shape : shape_refusal (whole ms fs) ≡ None = λ i. first_holding ((misshapen_same ms fs each.0 i, MemberForm) ∷ (unknown_same ms fs each.1 i, UnknownMember) ∷ ((type_same ms fs ∙ each.2) i, DocumentType) ∷ []) in
+    sym (document_least (whole ms fs)) ∙ (λ i. first_refusal (shape i ∷ (info_refusal_same ms fs ∙ info.0) i ∷ []))
+
+pub whole_outcome : (sheet : Sheet) (bytes : List ℕ) (tree : Data) (ms fs : Members) (facts : List Fact) (references : List (List ℕ)) (level : Level) → tree ≡ object ms → json bytes ≡ Some (whole ms fs)
+    → document_refusal tree ≡ None → facts_said sheet (bindings_of tree) fs ≡ Ok facts → references_said tree ≡ Some references → level_said tree ≡ Some level → is_lt (level_cmp level (level_of facts)) ≡ false
+    → outcome sheet bytes ≡ Ok (record { facts = facts; references = references; level = level })
+unfolding outcome
+whole_outcome sheet bytes tree ms fs facts references level t read accepted said r l above =
+    let all = whole ms fs in
+    let none = not_refused_whole ms fs (ap document_refusal (sym t) ∙ accepted) in
+    let same : facts_said sheet (bindings_of all) (facts_of all) ≡ Ok facts = (λ i. facts_said sheet ((bindings_same ms fs ∙ ap bindings_of (sym t)) i) (facts_same ms fs i)) ∙ said in
+    let refs : references_said all ≡ Some references = references_same ms fs ∙ ap references_said (sym t) ∙ r in
+    let lev : level_said all ≡ Some level = level_same ms fs ∙ ap level_said (sym t) ∙ l in
+    let document : Document = record { facts = facts; references = references; level = level } in
+    let made : document_with all facts ≡ document = λ i. record { facts = facts; references = unwrap_or (refs i) []; level = unwrap_or (lev i) AllLevel } in
+    ap (tree_outcome sheet) read ∙ ap (λ o. unless_refused o (then_allowed (map_ok (document_with all) (facts_said sheet (bindings_of all) (facts_of all))))) none
+    ∙ ap (λ o. then_allowed (map_ok (document_with all) o)) same ∙ ap allowed made ∙ ap (λ b. if b then Err (at AtDocument DisallowedDuplicates) else Ok document) above
+
+pub taken : {A E : Type 0} (r : Result A E) (x : A) (P : A → Type 0) → IfOk r P → Some x ≡ result_ok r → P x
+taken (Ok a) x P h e = let same : a ≡ x = cc in subst P same h
+taken (Err q) x P h e = absurd (cc)
+
+pub taken_case : {A E : Type 0} (r : Result A E) (x : A) (P : A → Type 0) (Q : E → Type 0) → MatchResult r P Q → Some x ≡ result_ok r → P x
+taken_case (Ok a) x P Q h e = let same : a ≡ x = cc in subst P same h
+taken_case (Err q) x P Q h e = absurd (cc)
+
+pub json_outline : {A : Type 0} (r : Option A) (t : A → Data) (f : A → List ℕ) (bytes text : List ℕ) → IfSome r (λ o. IsOutline text (t o) (f o)) → IsUtf8 text → text ≡ without_mark bytes
+    → IfSome r (λ o. (before : Members) × (t o ≡ object before) × ((found : Members) → IsPiece (f o) found → json bytes ≡ Some (object (put (codes "facts") (object found) before))))
+json_outline None t f bytes text h utf8 e = tt
+json_outline (Some o) t f bytes text h utf8 e = (h.0, h.1, λ found p. ap json_text (sym e) ∙ passes text (read text) utf8 ∙ h.2 found p)
 
 module _ (sheet : Sheet) (bs : List Binding) where
   -- ---- one piece after another
@@ -159,3 +282,64 @@ taken_one part xs left old taken v e o =
 
 pub longer : {V : Type 0} (taken : List V) (ss : List (String Global)) (v : V) (s : String Global) → length taken ≡ length ss → length (taken ++ v ∷ []) ≡ length (ss ++ s ∷ [])
 longer taken ss v s l = length-append taken (v ∷ []) ∙ ap (λ n. n + 1) l ∙ sym (length-append ss (s ∷ []))
+
+-- ---- indices of bindings in place of the URIs of concepts
+
+pub none_placed : (bs : List Binding) (fs : List Fact) (ps : List (Option ℕ)) → fs ≡ [] → ps ≡ [] → AreUriPlaces bs fs ps
+none_placed bs fs ps f p = subst (λ l. AreUriPlaces bs l ps) (sym f) (subst (AreUriPlaces bs []) (sym p) tt)
+
+pub places_append : (bs : List Binding) (fs gs : List Fact) (ps qs : List (Option ℕ)) → AreUriPlaces bs fs ps → AreUriPlaces bs gs qs → AreUriPlaces bs (fs ++ gs) (ps ++ qs)
+places_append bs [] gs [] qs h k = k
+places_append bs (f ∷ fs) gs (p ∷ ps) qs h k = (h.0, places_append bs fs gs ps qs h.1 k)
+places_append bs fs gs ps qs h k = absurd h
+
+pub places_push : (bs : List Binding) (fs more : List Fact) (ps places : List (Option ℕ)) (f : Fact) (p : Option ℕ) → more ≡ fs ++ f ∷ [] → places ≡ ps ++ p ∷ [] → IfSome p (λ i. uri_at bs i ≡ Some f.dimensions.concept.uri) → AreUriPlaces bs fs ps → AreUriPlaces bs more places
+places_push bs fs more ps places f p m e is h = subst (λ l. AreUriPlaces bs l places) (sym m) (subst (AreUriPlaces bs (fs ++ f ∷ [])) (sym e) (places_append bs fs (f ∷ []) ps (p ∷ []) h (is, tt)))
+
+place_at : (bs : List Binding) (fs : List Fact) (ps : List (Option ℕ)) (i p : ℕ) (f : Fact) → AreUriPlaces bs fs ps → slice_get ps i ≡ Some (Some p) → slice_get fs i ≡ Some f → uri_at bs p ≡ Some f.dimensions.concept.uri
+place_at bs (g ∷ fs) (q ∷ ps) zero p f h e k =
+    let place : q ≡ Some p = ap (λ o. unwrap_or o q) e in
+    let fact : g ≡ f = ap (λ o. unwrap_or o g) k in
+    subst (λ (x : Fact). uri_at bs p ≡ Some x.dimensions.concept.uri) fact (subst (λ o. IfSome o (λ j. uri_at bs j ≡ Some g.dimensions.concept.uri)) place h.0)
+place_at bs (g ∷ fs) (q ∷ ps) (suc i) p f h e k = place_at bs fs ps i p f h.1 e k
+place_at bs fs ps i p f h e k = absurd (Prim.cc)
+
+pub share_uris : (bs : List Binding) (fs : List Fact) (ps : List (Option ℕ)) → AreUriPlaces bs fs ps → ShareUris fs ps
+share_uris bs fs ps h i j p f g at_i at_j first second =
+    ap (λ o. unwrap_or o f.dimensions.concept.uri) (sym (place_at bs fs ps i p f h at_i first) ∙ place_at bs fs ps j p g h at_j second)
+
+-- ---- facts that are stored by identifier, each with its index
+
+abbrev ArePlaced : List Binding → List (String Global × (Fact × Option ℕ)) → Type 0
+ArePlaced bs es = AreUriPlaces bs (map (λ e. e.1.0) es) (map (λ e. e.1.1) es)
+
+placed_put : (bs : List Binding) (s : String Global) (v : Fact × Option ℕ) (es : List (String Global × (Fact × Option ℕ))) → IfSome v.1 (λ i. uri_at bs i ≡ Some v.0.dimensions.concept.uri) → ArePlaced bs es → ArePlaced bs (insert_entry string_cmp es s v)
+placed_put bs s v [] is h = (is, tt)
+placed_put bs s v (x ∷ es) is h =
+    elim (string_cmp s x.0) as (λ o. ArePlaced bs (match_ordering o ((s, v) ∷ x ∷ es) ((x.0, v) ∷ es) (x ∷ insert_entry string_cmp es s v))) [
+      | Less ↦ (is, h)
+      | Equal ↦ (is, h.1)
+      | Greater ↦ (h.0, placed_put bs s v es is h.1)
+    ]
+
+placed_all : (bs : List Binding) (ss : List (String Global)) (vs : List (Fact × Option ℕ)) (fs : List Fact) (ps : List (Option ℕ)) (es : List (String Global × (Fact × Option ℕ))) → AreUriPlaces bs (map (λ v. v.0) vs ++ fs) (map (λ v. v.1) vs ++ ps) → ArePlaced bs es → ArePlaced bs (put_entries ss vs es)
+placed_all bs [] vs fs ps es h k = k
+placed_all bs (s ∷ ss) [] fs ps es h k = k
+placed_all bs (s ∷ ss) (v ∷ vs) fs ps es h k = placed_all bs ss vs fs ps (insert_entry string_cmp es s v) h.1 (placed_put bs s v es h.0 k)
+
+pub all_placed : (bs : List Binding) (ss : List (String Global)) (facts fs : List Fact) (places ps : List (Option ℕ)) (taken : List (Fact × Option ℕ)) (es : List (String Global × (Fact × Option ℕ))) → AreUriPlaces bs facts places → facts ≡ map (λ v. v.0) taken ++ fs → places ≡ map (λ v. v.1) taken ++ ps → es ≡ put_entries ss taken [] → AreUriPlaces bs (map (λ e. e.1.0) es) (map (λ e. e.1.1) es)
+all_placed bs ss facts fs places ps taken es h f p k = subst (ArePlaced bs) (sym k) (placed_all bs ss taken fs ps [] (subst (AreUriPlaces bs (map (λ v. v.0) taken ++ fs)) p (subst (λ l. AreUriPlaces bs l places) f h)) tt)
+
+pub placed_by : (bs : List Binding) (fs gs : List Fact) (ps qs : List (Option ℕ)) → gs ≡ fs → qs ≡ ps → AreUriPlaces bs fs ps → AreUriPlaces bs gs qs
+placed_by bs fs gs ps qs e k h = subst (λ l. AreUriPlaces bs l qs) (sym e) (subst (AreUriPlaces bs fs) (sym k) h)
+
+-- ---- facts that are read
+
+-- the parts of a fact that was read name its concept
+pub concept_read : (sheet : Sheet) (bs : List Binding) (p : FactParts) (ds : DimensionParts) (read : Result Fact Reason) → HasForm p ds → IfOk read (λ f. fact_of sheet bs p ds ≡ Some f) → IfOk read (λ f. concept_in bs p ≡ Some f.dimensions.concept)
+concept_read sheet bs p ds (Ok f) form said = ap (option_and_then (λ (x : DimensionParts). said_concept bs x.concept)) form.there ∙ (is_said sheet bs p ds f said).each.concept
+concept_read sheet bs p ds (Err r) form said = tt
+
+pub place_read : (bs : List Binding) (parts : FactParts) (f : Fact) (p : Option ℕ) → IfSome p (λ i. (q : QName) → concept_in bs parts ≡ Some q → uri_at bs i ≡ Some q.uri) → concept_in bs parts ≡ Some f.dimensions.concept → IfSome p (λ i. uri_at bs i ≡ Some f.dimensions.concept.uri)
+place_read bs parts f None h said = tt
+place_read bs parts f (Some i) h said = h f.dimensions.concept said

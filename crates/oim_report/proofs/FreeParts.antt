@@ -1,9 +1,7 @@
 -- A part of a fact object denotes its part of the fact exactly if no condition on this part applies.
-use Rattle.std.proofs.Common.{◌≡◌, ℕ, ℤ, List, [], ◌∷◌, ◌++◌, map, Bool, true, false, not, ◌||◌, ◌&&◌, Ok, Err, refl, sym, ap, ◌∙◌}
-use Rattle.std.specs.Prelude.{Option, Some, None, int_lt, is_none, option_and_then, option_map, if◌then◌else◌}
+use Rattle.std.proofs.Common.{◌≡◌, ℕ, ℤ, List, [], ◌∷◌, ◌++◌, map, Bool, true, false, not, ◌||◌, ◌&&◌, Ok, Err, refl, sym, ap, ◌∙◌, Option, Some, None, int_lt, is_none, option_and_then, option_map, if◌then◌else◌, int_eq}
 use Rattle.std.specs.Option.{option_map_or, option_to_list}
 use Rattle.std.specs.List.{cons_option, filter_map, flat_map, list_any}
-use Rattle.std.specs.Ordering.{int_eq}
 use Rattle.std.specs.Result.{result_ok}
 use Rattle.std.specs.FinMap as map_of
 use Rattle.std.specs.Str.{str_to_ascii_lowercase}
@@ -40,7 +38,7 @@ use Rattle.oim_report.specs.Said.{all_named, concept_kind, dimension_kind, dimen
 use Rattle.oim_report.specs.Sheet.{Sheet, same_concept_kind, same_dimension_kind}
 use Rattle.oim_report.proofs.Accepted.{and_then_some, map_some}
 use Rattle.oim_report.proofs.MembersSay.{once_said}
-use Rattle.oim_report.proofs.NameRefusals.{first_free, name_more, names-parts, names_append}
+use Rattle.oim_report.proofs.SheetEntries.{first_free, name_more, names-parts, names_append}
 use Rattle.oim_report.proofs.Naming.{expanded, stands}
 use Rattle.oim_report.proofs.ValueWords.{by_given, no_value, no_whole, seen_member, whole_of}
 
@@ -206,24 +204,24 @@ pub record LanguageFree (kind : ConceptKind) (g : Given) : Type 0 where
   pub form : is_some_and (λ t. not (is_language t)) (text_of g) ≡ false
   pub not_numeric : (not (is_absent g) && same_concept_kind Numeric kind) ≡ false
 
-lower_free : (form : Bool) (t : List ℕ) (said : Option (List ℕ)) → (if form then Some (Some t) else None) ≡ Some said → not form ≡ false
-lower_free true t said e = refl
-lower_free false t said e = absurd (cc)
+free_if : {A : Type 0} (form : Bool) (x said : A) → (if form then Some x else None) ≡ Some said → not form ≡ false
+free_if true x said e = refl
+free_if false x said e = absurd (cc)
 
-lower_said : (form : Bool) (t : List ℕ) → not form ≡ false → (said : Option (List ℕ)) × ((if form then Some (Some t) else None) ≡ Some said)
-lower_said true t is = (Some t, refl)
-lower_said false t is = absurd (cc)
+said_if : {A : Type 0} (form : Bool) (x : A) → not form ≡ false → (said : A) × ((if form then Some x else None) ≡ Some said)
+said_if true x is = (x, refl)
+said_if false x is = absurd (cc)
 
 pub language_free : (kind : ConceptKind) (g : Given) (said : Option (List ℕ)) → said_language kind g ≡ Some said → LanguageFree kind g
 language_free kind absent said e = record { is_text = refl; form = refl; not_numeric = refl }
-language_free Text (text t) said e = record { is_text = refl; form = lower_free (is_language t) (str_to_ascii_lowercase t) said e; not_numeric = refl }
-language_free Name (text t) said e = record { is_text = refl; form = lower_free (is_language t) (str_to_ascii_lowercase t) said e; not_numeric = refl }
+language_free Text (text t) said e = record { is_text = refl; form = free_if (is_language t) (Some (str_to_ascii_lowercase t)) said e; not_numeric = refl }
+language_free Name (text t) said e = record { is_text = refl; form = free_if (is_language t) (Some (str_to_ascii_lowercase t)) said e; not_numeric = refl }
 language_free kind g said e = absurd (cc)
 
 pub language_said : (kind : ConceptKind) (g : Given) → LanguageFree kind g → (said : Option (List ℕ)) × (said_language kind g ≡ Some said)
 language_said kind absent free = (None, refl)
 language_said Numeric (text t) free = let no : true ≡ false = free.not_numeric in absurd (cc)
-language_said kind (text t) free = lower_said (is_language t) (str_to_ascii_lowercase t) free.form
+language_said kind (text t) free = said_if (is_language t) (Some (str_to_ascii_lowercase t)) free.form
 language_said kind g free = let no : true ≡ false = free.is_text in absurd (cc)
 
 pub record ValueFree (bs : List Binding) (kind : ConceptKind) (g : Given) : Type 0 where
@@ -266,22 +264,14 @@ pub record DecimalsFree (kind : ConceptKind) (g : Given) : Type 0 where
   pub range : is_some_and (λ n. not (is_finite_decimals n)) (whole_of g) ≡ false
   pub numeric : is_misplaced kind g ≡ false
 
-places_free : (finite : Bool) (n : ℤ) (places : Option ℤ) → (if finite then Some (Some n) else None) ≡ Some places → not finite ≡ false
-places_free true n places e = refl
-places_free false n places e = absurd (cc)
-
-places_said : (finite : Bool) (n : ℤ) → not finite ≡ false → (places : Option ℤ) × ((if finite then Some (Some n) else None) ≡ Some places)
-places_said true n is = (Some n, refl)
-places_said false n is = absurd (cc)
-
 pub decimals_free : (kind : ConceptKind) (g : Given) (places : Option ℤ) → said_decimals kind g ≡ Some places → DecimalsFree kind g
 decimals_free kind absent places e = record { form = refl; range = refl; numeric = refl }
-decimals_free Numeric (whole n) places e = record { form = refl; range = places_free (is_finite_decimals n) n places e; numeric = refl }
+decimals_free Numeric (whole n) places e = record { form = refl; range = free_if (is_finite_decimals n) (Some n) places e; numeric = refl }
 decimals_free kind g places e = absurd (cc)
 
 pub decimals_said : (kind : ConceptKind) (g : Given) → DecimalsFree kind g → (places : Option ℤ) × (said_decimals kind g ≡ Some places)
 decimals_said kind absent free = (None, refl)
-decimals_said Numeric (whole n) free = places_said (is_finite_decimals n) n free.range
+decimals_said Numeric (whole n) free = said_if (is_finite_decimals n) (Some n) free.range
 decimals_said kind (whole n) free = let no : true ≡ false = free.numeric in absurd (cc)
 decimals_said kind g free = let no : true ≡ false = free.form in absurd (cc)
 

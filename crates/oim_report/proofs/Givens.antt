@@ -1,6 +1,5 @@
 -- `given` returns a text for a UTF-8 string.
-use Rattle.std.proofs.Common.{◌≡◌, ℕ, List, String, Global, string_bytes, ap, sym, ◌∙◌, cond, rules}
-use Rattle.std.specs.Str.{IsUtf8}
+use Rattle.std.proofs.Common.{◌≡◌, ℕ, List, String, Global, string_bytes, ap, sym, ◌∙◌, cond, rules, IsUtf8}
 use Rattle.std.proofs.lemmas.Str.{is_utf8-from_IsUtf8}
 use Rattle.serde_json.specs.Data.{string}
 use Rattle.serde_json.specs.View.{view}

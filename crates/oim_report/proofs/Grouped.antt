@@ -1,30 +1,25 @@
 -- A map of names has the same entries as its groups. Each group has the names of one namespace.
-use Rattle.std.proofs.Common.{◌≡◌, ℕ, List, [], ◌∷◌, ◌++◌, Bool, true, false, cond, Option, Some, None, String, string_bytes, refl, sym, ap, subst, ◌∙◌}
-use Rattle.std.specs.Prelude.{IfSome, OnOk, OnErr, Result, Ok, Err, option_map, bytes_eq}
-use Rattle.std.specs.Borrow.{Bor}
-use Rattle.std.specs.Option.{unwrap_or}
+use Rattle.std.proofs.Common.{◌≡◌, ℕ, List, [], ◌∷◌, ◌++◌, Bool, true, false, cond, Option, Some, None, String, string_bytes, refl, sym, ap, subst, ◌∙◌, ◌≢◌, IfSome, OnOk, OnErr, Result, Ok, Err, option_map, bytes_eq, is_some, Bor, unwrap_or, Less, Equal, Greater, string_cmp}
 use Rattle.std.specs.List.{AllByRecursion}
 use Rattle.std.specs.List.Sorted.{IsStrictlySortedBy}
-use Rattle.std.specs.Map.{keys_of, values_of, lookup, remove_entry}
+use Rattle.std.specs.Map.{keys_of, values_of, lookup, remove_entry, update}
 use Rattle.std.specs.BTreeMap.{BTreeMap, IsOrdered, Updates, UpdatesBy, IsUnchanged, get_by_text, insert_entry, is_at, values}
-use Rattle.std.specs.Ordering.{is_eq, match_ordering, nat_cmp, ordering_then}
-use Rattle.std.specs.declared.cmp.Ordering.TheVariants.{Less, Equal, Greater}
-use Rattle.std.specs.Cmp.{Equal-is, tied_itself}
+use Rattle.std.specs.Ordering.{is_eq, match_ordering, nat_cmp, ordering_then, eq_by_cmp}
+use Rattle.std.specs.Cmp.{Equal-is, tied_itself, eq_by_cmp_equiv}
 use Rattle.std.specs.Cmp.Lexicographic.{slice_cmp}
-use Rattle.std.specs.String.{string_cmp}
-use Rattle.std.specs.FinMap as map
-use Rattle.std.specs.FinMap.{FinMap, find, get-from_entries}
+use Rattle.std.specs.FinMap.{FinMap, find, get-from_entries, entries, get-empty, get-entries, get-insert, same_map}
 use Rattle.std.proofs.lemmas.Bool.{false≢true}
 use Rattle.std.proofs.lemmas.Cmp.{nat_list_cmp_total}
 use Rattle.std.proofs.lemmas.Map.Keys.{sorted_head, sorted_tail}
 use Rattle.std.proofs.lemmas.Map.Lookups.{exact_bytes}
-use Rattle.std.proofs.lemmas.Map.Text.{btree_map_updates_text}
+use Rattle.std.proofs.lemmas.Map.Text.{btree_map_updates_text, is_eq-slice_cmp}
 use Rattle.std.proofs.lemmas.Option.{same_Some}
-use Rattle.oim_names.specs.QName.{QName, name_cmp}
-use Rattle.oim_names.proofs.Bytes.{same_bytes}
-use Rattle.oim_report.specs.code.Groups.{AreGroups, IsGroup, IsGroupOf, grouped_entries, in_group}
-use Rattle.oim_report.proofs.RisingNames.{name_total}
-use Rattle.oim_report.proofs.SheetEntries.{first_of, first_of-none}
+use Rattle.std.specs.FinMap as map
+use Rattle.oim_names.specs.QName.{QName, name_cmp, exact_name}
+use Rattle.oim_names.specs.Bindings.{Binding, uri_of}
+use Rattle.oim_names.proofs.Bytes.{same_bytes, bytes_eq-refl, bytes_not_eq, other_bytes}
+use Rattle.oim_report.specs.code.Groups.{AreGroups, IsGroup, IsGroupOf, grouped_entries, in_group, with_group, HasEach}
+use Rattle.oim_report.proofs.SheetEntries.{name_total, first_of, first_of-none}
 
 abbrev pub name : List ℕ → List ℕ → QName
 name u l = record { uri = u; local_part = l }
@@ -177,27 +172,16 @@ module _ {K Y : Type 0} where
   pub are_with : (m n : BTreeMap (String Y) (Group K Y)) (k : String Y) (g : Group K Y) → AreGroups m → IsGroup (string_bytes k) g → n.entries ≡ insert_entry string_cmp m.entries k g → IsOrdered string_cmp n → AreGroups n
   are_with m n k g are is es ordered = record { ordered = ordered; each = subst AreNamedGroups (sym es) (beside k g m.entries is are.each) }
 
-  pub get_without : (m n : BTreeMap (String Y) (Group K Y)) (t u l : List ℕ) → AreGroups m → AreGroups n → UpdatesBy string_cmp (λ k. slice_cmp nat_cmp t (string_bytes k)) m n None
-      → map.get (map_of n) (name u l) ≡ cond (bytes_eq t u) None (map.get (map_of m) (name u l))
-  get_without m n t u l are_m are_n updates =
+  pub get_updated : (m n : BTreeMap (String Y) (Group K Y)) (t u l : List ℕ) (o : Option (Group K Y)) → AreGroups m → AreGroups n → UpdatesBy string_cmp (λ k. slice_cmp nat_cmp t (string_bytes k)) m n o
+      → map.get (map_of n) (name u l) ≡ cond (bytes_eq t u) (option_map (λ e. e.1) (in_group o l)) (map.get (map_of m) (name u l))
+  get_updated m n t u l o are_m are_n updates =
       get_grouped n are_n u l
-      ∙ ap (λ g. option_map (λ e. e.1) (in_group g l)) (btree_map_updates_text t m n None updates u)
-      ∙ elim (bytes_eq t u) as (λ b. option_map (λ e. e.1) (in_group (cond b None (get_by_text m u)) l) ≡ cond b None (option_map (λ e. e.1) (in_group (get_by_text m u) l))) [
+      ∙ ap (λ h. option_map (λ e. e.1) (in_group h l)) (btree_map_updates_text t m n o updates u)
+      ∙ elim (bytes_eq t u) as (λ b. option_map (λ e. e.1) (in_group (cond b o (get_by_text m u)) l) ≡ cond b (option_map (λ e. e.1) (in_group o l)) (option_map (λ e. e.1) (in_group (get_by_text m u) l))) [
         | true ↦ refl
         | false ↦ refl
       ]
-      ∙ ap (cond (bytes_eq t u) None) (sym (get_grouped m are_m u l))
-
-  pub get_after : (m n : BTreeMap (String Y) (Group K Y)) (t u l : List ℕ) (g : Group K Y) → AreGroups m → AreGroups n → UpdatesBy string_cmp (λ k. slice_cmp nat_cmp t (string_bytes k)) m n (Some g)
-      → map.get (map_of n) (name u l) ≡ cond (bytes_eq t u) (option_map (λ e. e.1) (get_by_text g l)) (map.get (map_of m) (name u l))
-  get_after m n t u l g are_m are_n updates =
-      get_grouped n are_n u l
-      ∙ ap (λ h. option_map (λ e. e.1) (in_group h l)) (btree_map_updates_text t m n (Some g) updates u)
-      ∙ elim (bytes_eq t u) as (λ b. option_map (λ e. e.1) (in_group (cond b (Some g) (get_by_text m u)) l) ≡ cond b (option_map (λ e. e.1) (get_by_text g l)) (option_map (λ e. e.1) (in_group (get_by_text m u) l))) [
-        | true ↦ refl
-        | false ↦ refl
-      ]
-      ∙ ap (cond (bytes_eq t u) (option_map (λ e. e.1) (get_by_text g l))) (sym (get_grouped m are_m u l))
+      ∙ ap (cond (bytes_eq t u) (option_map (λ e. e.1) (in_group o l))) (sym (get_grouped m are_m u l))
 
 -- ---- a name that was found
 
@@ -222,3 +206,189 @@ each_after P m n p k x (Ok o) put same is each here q y found =
       | true ↦ λ t e. subst (P q) (same_Some x y e) (subst (λ v. P v x) (sym is ∙ same_bytes (string_bytes k) q t) here)
       | false ↦ λ _ e. each q y e
     ] refl (sym (btree_map_updates_text (string_bytes k) m n (Some x) put q) ∙ found)
+
+-- ---- the names of a sheet, while the group of the current namespace is outside the map
+
+apart_bytes : (u v : List ℕ) → bytes_eq u v ≡ false → bytes_eq v u ≡ false
+apart_bytes u v f = bytes_not_eq v u (λ e. other_bytes u v f (sym e))
+
+pub same_prefix : (last : Option (Bor (List ℕ))) (bs : List Binding) (p u v : List ℕ) → IfSome last (λ q. uri_of bs q.now ≡ Some u) → uri_of bs p ≡ Some v → IfSome last (λ q. q.now ≡ p → u ≡ v)
+same_prefix None bs p u v h e = tt
+same_prefix (Some q) bs p u v h e = λ same. same_Some u v (sym h ∙ ap (uri_of bs) same ∙ e)
+
+abbrev pub HasNone : {K : Type 0} → FinMap name_cmp K → List ℕ → Type 0
+HasNone m u = (l : List ℕ) → map.get m (name u l) ≡ None
+
+module _ {K Y : Type 0} where
+  abbrev pub kind_at : Group K Y → List ℕ → Option K
+  kind_at g l = option_map (λ e. e.1) (get_by_text g l)
+
+  pub get_with : (g : Group K Y) (m : FinMap name_cmp K) (u v l : List ℕ) → IsGroup u g → HasNone m u → map.get (with_group g m) (name v l) ≡ cond (bytes_eq u v) (kind_at g l) (map.get m (name v l))
+  get_with g m u v l h none =
+      get-from_entries name_total (values g ++ entries m) (name v l)
+      ∙ find_append (name v l) (values g) (entries m)
+      ∙ ap (first_of (find name_cmp (name v l) (values g))) (sym (get-entries m (name v l)))
+      ∙ elim (bytes_eq u v) as (λ b. bytes_eq u v ≡ b → first_of (find name_cmp (name v l) (values g)) (map.get m (name v l)) ≡ cond b (kind_at g l) (map.get m (name v l))) [
+        | true ↦ λ t.
+            ap (first_of (find name_cmp (name v l) (values g))) (ap (λ w. map.get m (name w l)) (sym (same_bytes u v t)) ∙ none l)
+            ∙ first_of-none (find name_cmp (name v l) (values g))
+            ∙ find_here v l g.entries (subst (λ w. AreNamed w g.entries) (same_bytes u v t) h)
+        | false ↦ λ f. ap (λ o. first_of o (map.get m (name v l))) (find_elsewhere v l u g.entries h (is_eq-slice_cmp v u ∙ apart_bytes u v f))
+      ] refl
+
+  -- the current group is put back into the map
+  pub joined : (g : Group K Y) (m n : FinMap name_cmp K) (u : List ℕ) → IsGroup u g → HasNone m u → ((v l : List ℕ) → map.get n (name v l) ≡ cond (bytes_eq u v) (kind_at g l) (map.get m (name v l))) → n ≡ with_group g m
+  joined g m n u h none set = same_map name_total exact_name n (with_group g m) (λ q. set q.uri q.local_part ∙ sym (get_with g m u q.uri q.local_part h none))
+
+  -- the loop turns from the group of one namespace to the group of another
+  module _ (g next : Group K Y) (m m1 m2 : FinMap name_cmp K) (last u : List ℕ) (apart : last ≢ u)
+      (taken : (v l : List ℕ) → map.get m1 (name v l) ≡ cond (bytes_eq u v) None (map.get m (name v l)))
+      (set : (v l : List ℕ) → map.get m2 (name v l) ≡ cond (bytes_eq last v) (kind_at g l) (map.get m1 (name v l))) where
+    pub none_left : HasNone m2 u
+    none_left l = set u l ∙ ap (λ b. cond b (kind_at g l) (map.get m1 (name u l))) (bytes_not_eq last u apart) ∙ taken u l ∙ ap (λ b. cond b None (map.get m (name u l))) (bytes_eq-refl u)
+
+    pub turned : IsGroup last g → HasNone m last → IsGroup u next → ((l : List ℕ) → kind_at next l ≡ map.get m (name u l)) → with_group next m2 ≡ with_group g m
+    turned h none is kinds = same_map name_total exact_name (with_group next m2) (with_group g m) (λ q.
+        let v = q.uri in
+        let l = q.local_part in
+        let old = map.get m (name v l) in
+        get_with next m2 u v l is none_left
+        ∙ ap (cond (bytes_eq u v) (kind_at next l)) (set v l ∙ ap (cond (bytes_eq last v) (kind_at g l)) (taken v l))
+        ∙ elim (bytes_eq u v) as (λ b. bytes_eq u v ≡ b → cond b (kind_at next l) (cond (bytes_eq last v) (kind_at g l) (cond b None old)) ≡ cond (bytes_eq last v) (kind_at g l) old) [
+          | true ↦ λ t.
+              kinds l ∙ ap (λ w. map.get m (name w l)) (same_bytes u v t)
+              ∙ sym (ap (λ b. cond b (kind_at g l) old) (bytes_not_eq last v (λ e. apart (e ∙ sym (same_bytes u v t)))))
+          | false ↦ λ _. refl
+        ] refl
+        ∙ sym (get_with g m last v l h none))
+
+  still_named : (u : List ℕ) (k : String Y) (e : QName × K) (es : List (String Y × (QName × K))) → e.0 ≡ name u (string_bytes k) → AreNamed u es → AreNamed u (insert_entry string_cmp es k e)
+  still_named u k e [] is h = (is, tt)
+  still_named u k e (f ∷ es) is h =
+      elim (string_cmp k f.0) as (λ r. string_cmp k f.0 ≡ r → AreNamed u (match_ordering r ((k, e) ∷ f ∷ es) ((f.0, e) ∷ es) (f ∷ insert_entry string_cmp es k e))) [
+        | Less ↦ λ _. (is, h)
+        | Equal ↦ λ t. (is ∙ ap (name u) (exact_bytes (string_bytes k) (string_bytes f.0) t), h.1)
+        | Greater ↦ λ _. (h.0, still_named u k e es is h.1)
+      ] refl
+
+  pub named_after : (u : List ℕ) (k : String Y) (e : QName × K) (g n : Group K Y) → e.0 ≡ name u (string_bytes k) → IsGroup u g → n.entries ≡ insert_entry string_cmp g.entries k e → IsGroup u n
+  named_after u k e g n is h es = subst (AreNamed u) (sym es) (still_named u k e g.entries is h)
+
+  module _ (g : Group K Y) (m : FinMap name_cmp K) (u l : List ℕ) (h : IsGroup u g) (none : HasNone m u) where
+    pub get_apart : map.get (with_group g m) (name u l) ≡ kind_at g l
+    get_apart = get_with g m u u l h none ∙ ap (λ b. cond b (kind_at g l) (map.get m (name u l))) (bytes_eq-refl u)
+
+    added : (n : Group K Y) (e : QName × K) → IsGroup u n → ((t : List ℕ) → get_by_text n t ≡ update bytes_eq (get_by_text g) l (Some e) t) → with_group n m ≡ map.insert (with_group g m) (name u l) e.1
+    added n e is updates = same_map name_total exact_name (with_group n m) (map.insert (with_group g m) (name u l) e.1) (λ q.
+        let v = q.uri in
+        let j = q.local_part in
+        let old = map.get m (name v j) in
+        get_with n m u v j is none
+        ∙ ap (λ o. cond (bytes_eq u v) (option_map (λ f. f.1) o) old) (updates j)
+        ∙ elim (bytes_eq u v) as (λ b. bytes_eq u v ≡ b → cond b (option_map (λ f. f.1) (cond (bytes_eq l j) (Some e) (get_by_text g j))) old ≡ cond (eq_by_cmp name_cmp (name v j) (name u l)) (Some e.1) (cond b (kind_at g j) old)) [
+          | true ↦ λ t.
+              let same : eq_by_cmp name_cmp (name v j) (name u l) ≡ bytes_eq l j = ap (λ w. eq_by_cmp name_cmp (name w j) (name u l)) (sym (same_bytes u v t)) ∙ same_uri u j l ∙ (eq_by_cmp_equiv nat_list_cmp_total).symm j l ∙ is_eq-slice_cmp l j in
+              elim (bytes_eq l j) as (λ b. option_map (λ f. f.1) (cond b (Some e) (get_by_text g j)) ≡ cond b (Some e.1) (kind_at g j)) [
+                | true ↦ refl
+                | false ↦ refl
+              ]
+              ∙ sym (ap (λ b. cond b (Some e.1) (kind_at g j)) same)
+          | false ↦ λ f. sym (ap (λ b. cond b (Some e.1) old) (other_uri v j u l (is_eq-slice_cmp v u ∙ apart_bytes u v f)))
+        ] refl
+        ∙ sym (get-insert name_total (with_group g m) (name u l) e.1 (name v j) ∙ ap (cond (eq_by_cmp name_cmp (name v j) (name u l)) (Some e.1)) (get_with g m u v j h none)))
+
+  -- a name is added to the current group
+  pub put_in : (g n : Group K Y) (m : FinMap name_cmp K) (u : List ℕ) (k : String Y) (e : QName × K) → IsGroup u g → HasNone m u → e.0 ≡ name u (string_bytes k) → n.entries ≡ insert_entry string_cmp g.entries k e → Updates string_cmp g n k (Some e)
+      → with_group n m ≡ map.insert (with_group g m) e.0 e.1
+  put_in g n m u k e h none is es updates =
+      added g m u (string_bytes k) h none n e (named_after u k e g n is h es) (btree_map_updates_text (string_bytes k) g n (Some e) updates)
+      ∙ ap (λ q. map.insert (with_group g m) q e.1) (sym is)
+
+  pub get_current : (g : Group K Y) (m : FinMap name_cmp K) (u : List ℕ) (q : QName) → IsGroup u g → HasNone m u → q.uri ≡ u → map.get (with_group g m) q ≡ kind_at g q.local_part
+  get_current g m u q h none same = ap (λ v. map.get (with_group g m) (name v q.local_part)) same ∙ get_apart g m u q.local_part h none
+
+pub is_some_kind : {K : Type 0} (o : Option (QName × K)) → is_some (option_map (λ e. e.1) o) ≡ is_some o
+is_some_kind None = refl
+is_some_kind (Some e) = refl
+
+pub on_ok : {A E : Type 0} {P Q : Type 0} (r : Result A E) → OnOk r P → (P → Q) → OnOk r Q
+on_ok (Ok a) p f = f p
+on_ok (Err e) p f = tt
+
+pub made_name : (q : QName) (u l : List ℕ) → q.uri ≡ u → l ≡ q.local_part → q ≡ name u l
+made_name q u l same is = λ i. record { uri = same i; local_part = sym is i }
+
+module _ {K Y : Type 0} (g : Group K Y) (m : FinMap name_cmp K) (no_names : g.entries ≡ []) (no_others : m ≡ map.empty) where
+  pub empty_with : with_group g m ≡ map.empty
+  empty_with = same_map name_total exact_name (with_group g m) map.empty (λ q.
+      get-from_entries name_total (values g ++ entries m) q
+      ∙ ap (λ es. find name_cmp q (values_of es ++ entries m)) no_names
+      ∙ sym (get-entries m q)
+      ∙ ap (λ n. map.get n q) no_others)
+
+  pub none_there : (u : List ℕ) → IsGroup u g × HasNone m u
+  none_there u = (subst (AreNamed u) (sym no_names) tt, λ l. ap (λ n. map.get n (name u l)) no_others ∙ get-empty name_cmp (name u l))
+
+-- ---- two maps from names to kinds are equal if each contains the entries of the other
+
+pub all_push : {X : Type 0} (P : X → Type 0) (xs : List X) (x : X) → AllByRecursion P xs → P x → AllByRecursion P (xs ++ x ∷ [])
+all_push P [] x all p = (p, tt)
+all_push P (y ∷ ys) x all p = (all.0, all_push P ys x all.1 p)
+
+module _ {Y X : Type 0} (P : List ℕ → X → Type 0) where
+  at_found : (t : List ℕ) (es : List (String Y × X)) (x : X) → AllByRecursion (λ e. P (string_bytes e.0) e.1) es → at_text t es ≡ Some x → P t x
+  at_found t [] x all found = absurd (cc)
+  at_found t (e ∷ es) x all found =
+      elim (is_eq (slice_cmp nat_cmp t (string_bytes e.0))) as (λ b. is_eq (slice_cmp nat_cmp t (string_bytes e.0)) ≡ b → cond b (Some e.1) (at_text t es) ≡ Some x → P t x) [
+        | true ↦ λ same is. subst (P t) (same_Some e.1 x is) (subst (λ u. P u e.1) (sym (tied_bytes t (string_bytes e.0) same)) all.0)
+        | false ↦ λ _ is. at_found t es x all.1 is
+      ] refl found
+
+module _ {K Y : Type 0} where
+  abbrev pub kind_in : Option (Group K Y) → List ℕ → Option K
+  kind_in group l = option_map (λ e. e.1) (in_group group l)
+
+  abbrev pub IsThere : Option (Group K Y) → List ℕ → QName × K → Type 0
+  IsThere group l e = kind_in group l ≡ Some e.1
+
+  pub each_there : (group : Option (Group K Y)) (other : Group K Y) → AllByRecursion (λ e. IsThere group (string_bytes e.0) e.1) other.entries → HasEach group other
+  each_there group other all l k is =
+      elim (get_by_text other l) as (λ o. get_by_text other l ≡ o → option_map (λ e. e.1) o ≡ Some k → kind_in group l ≡ Some k) [
+        | None ↦ λ _ none. absurd (cc)
+        | Some e ↦ λ found same. at_found (IsThere group) l other.entries e all found ∙ same
+      ] refl is
+
+  abbrev pub HasGroup : FinMap name_cmp K → List ℕ → Group K Y → Type 0
+  HasGroup m u g = (l : List ℕ) (k : K) → option_map (λ e. e.1) (get_by_text g l) ≡ Some k → map.get m (name u l) ≡ Some k
+
+  pub group_within : (m : FinMap name_cmp K) (gs : BTreeMap (String Y) (Group K Y)) → AreGroups gs → (u : List ℕ) (g : Group K Y) → get_by_text gs u ≡ Some g
+      → ((q : QName) (k : K) → map.get (map_of gs) q ≡ Some k → map.get m q ≡ Some k) → HasGroup m u g
+  group_within m gs are u g found within l k is = within (name u l) k (get_grouped gs are u l ∙ ap (λ o. kind_in o l) found ∙ is)
+
+  pub has_group : (m : FinMap name_cmp K) (u v : List ℕ) (own : Option (Group K Y)) (g : Group K Y) → v ≡ u → IsGroupOf m v own → HasGroup m u g → HasEach own g
+  has_group m u v own g same is has l k found = (is l).0 ∙ ap (λ w. map.get m (name w l)) same ∙ has l k found
+
+  pub group_has : (m : FinMap name_cmp K) (u v : List ℕ) (own : Option (Group K Y)) (g : Group K Y) → v ≡ u → IsGroupOf m v own → HasEach own g → HasGroup m u g
+  group_has m u v own g same is each l k found = ap (λ w. map.get m (name w l)) (sym same) ∙ sym (is l).0 ∙ each l k found
+
+  pub all_within : (m : FinMap name_cmp K) (gs : BTreeMap (String Y) (Group K Y)) → AreGroups gs → AllByRecursion (λ e. HasGroup m (string_bytes e.0) e.1) gs.entries
+      → (q : QName) (k : K) → map.get (map_of gs) q ≡ Some k → map.get m q ≡ Some k
+  all_within m gs are all q k is =
+      elim (get_by_text gs q.uri) as (λ o. get_by_text gs q.uri ≡ o → kind_in o q.local_part ≡ Some k → map.get m q ≡ Some k) [
+        | None ↦ λ _ none. absurd (cc)
+        | Some g ↦ λ found same. at_found (HasGroup m) q.uri gs.entries g all found q.local_part k same
+      ] refl (sym (get_grouped gs are q.uri q.local_part) ∙ is)
+
+module _ {K : Type 0} where
+  abbrev pub IsWithin : FinMap name_cmp K → FinMap name_cmp K → Type 0
+  IsWithin m n = (q : QName) (k : K) → map.get m q ≡ Some k → map.get n q ≡ Some k
+
+  pub within_both : (m n : FinMap name_cmp K) → IsWithin m n → IsWithin n m → m ≡ n
+  within_both m n there back = same_map name_total exact_name m n (λ q.
+      elim (map.get m q) as (λ o. map.get m q ≡ o → o ≡ map.get n q) [
+        | Some k ↦ λ is. sym (there q k is)
+        | None ↦ λ none. elim (map.get n q) as (λ o. map.get n q ≡ o → None ≡ o) [
+          | None ↦ λ _. refl
+          | Some k ↦ λ is. sym none ∙ back q k is
+        ] refl
+      ] refl)

@@ -1,15 +1,15 @@
 -- Two texts of members that a comma joins are read as the members of both. Each text must have a member, and the first
 -- text must end with a closing brace.
-use Rattle.std.proofs.Common.{◌≡◌, ℕ, suc, ◌-◌, ◌≤◌, Bool, true, false, List, [], ◌∷◌, ◌++◌, Some, inl, inr, ◌⊎◌, refl, sym, ap, ◌∙◌, subst, arith, append_assoc, append-nil}
-use Rattle.std.proofs.lemmas.List.{append_cancel_right}
+use Rattle.std.proofs.Common.{◌≡◌, Bool, true, false, List, [], ◌∷◌, ◌++◌, fold, inl, inr, ◌⊎◌, refl, ap, ◌∙◌, subst, ℕ, suc, ◌-◌, ◌≤◌, Some, sym, arith, append_assoc, append-nil}
 use Rattle.std.proofs.lemmas.Bool.{false≢true}
 use Rattle.std.specs.Prelude.{⊤}
+use Rattle.std.proofs.lemmas.List.{append_cancel_right}
 use Rattle.json.specs.Token.{Token, begin_object, end_object, begin_array, end_array, key, string, number, boolean, null, bad}
-use Rattle.json.specs.Lex.{Lexeme, token, comma, colon, between, lex, Place, fresh, after_value, after_comma, after_key, begins_colon, may_begin, may_close, if_allowed, place_token, punctuate, tokens}
-use Rattle.json.specs.Json as j
+use Rattle.json.specs.Lex.{Lexeme, token, comma, colon, Place, fresh, after_value, after_comma, after_key, begins_colon, may_begin, may_close, if_allowed, place_token, punctuate, between, lex, tokens}
+use Rattle.json.specs.Align.{is_good}
 use Rattle.json.specs.Json.{Json, Items, Members, value}
 use Rattle.json.specs.Tree.{json_tokens, items_tokens, members_tokens, depth, members_depth}
-use Rattle.json.specs.Align.{is_good}
+use Rattle.json.specs.Json as j
 use Rattle.json.proofs.Printed.Trees.{value-json_tokens}
 use Rattle.json.proofs.Unique.Spelling.{value-json_tokens_back}
 use Rattle.json.proofs.Nesting.{value-depth}
@@ -17,7 +17,98 @@ use Rattle.oim_report.specs.Pieces.{alone}
 use Rattle.oim_report.specs.code.Pieces.{Closed}
 use Rattle.oim_report.specs.code.TapeParts.{one}
 use Rattle.oim_report.proofs.JsonLexemes.{NoQuote, AllGood, piece_of}
-use Rattle.oim_report.proofs.PlacedValues.{NoBad, Fits, opened, opens, split, at_token}
+
+-- ---- the tokens of lexemes do not depend on the text that follows, unless this text begins with a colon or a token is bad
+
+abbrev pub NoBad : List Token → Type 0
+NoBad [] = ⊤
+NoBad (t ∷ ts) = (is_good t ≡ true) × NoBad ts
+
+-- an opening brace, an opening bracket or a key
+abbrev pub opens : Token → Bool
+opens begin_object = true
+opens begin_array = true
+opens (key s) = true
+opens o = false
+
+abbrev pub opened : Bool → List Token → Bool
+opened o ts = fold (λ _ t. opens t) o ts
+
+-- at the places `fresh` and `after_key`, the last token was a key or an opening brace or bracket
+abbrev pub Fits : Place → Bool → Type 0
+Fits after_value o = ⊤
+Fits after_comma o = ⊤
+Fits d o = o ≡ true
+
+-- at the place p, the token t becomes `made` and the next place is `next`, whatever follows; c states whether a colon follows
+record Goes (p : Place) (t : Token) (c : Bool) : Type 0 where
+  made : Token
+  next : Place
+  is : (k : Place → List Token) → place_token p t c k ≡ made ∷ k next
+  fits : Fits next (opens made)
+
+abbrev Stuck : Place → Token → Bool → Type 0
+Stuck p t c = (k : Place → List Token) → place_token p t c k ≡ bad ∷ []
+
+goes_if : (p : Place) (t made : Token) (c b : Bool) (next : Place) → ((k : Place → List Token) → place_token p t c k ≡ if_allowed b made k next) → Fits next (opens made) → Goes p t c ⊎ Stuck p t c
+goes_if p t made c true next e f = inl (record { made = made; next = next; is = e; fits = f })
+goes_if p t made c false next e f = inr e
+
+outcome : (p : Place) (t : Token) (c : Bool) → Goes p t c ⊎ Stuck p t c
+outcome p begin_object c = goes_if p begin_object begin_object c (may_begin p) fresh (λ k. refl) refl
+outcome p end_object c = goes_if p end_object end_object c (may_close p) after_value (λ k. refl) tt
+outcome p begin_array c = goes_if p begin_array begin_array c (may_begin p) fresh (λ k. refl) refl
+outcome p end_array c = goes_if p end_array end_array c (may_close p) after_value (λ k. refl) tt
+outcome p (string s) true = goes_if p (string s) (key s) true (may_begin p) after_key (λ k. refl) refl
+outcome p (string s) false = goes_if p (string s) (string s) false (may_begin p) after_value (λ k. refl) tt
+outcome p (number s) c = goes_if p (number s) (number s) c (may_begin p) after_value (λ k. refl) tt
+outcome p (boolean b) c = goes_if p (boolean b) (boolean b) c (may_begin p) after_value (λ k. refl) tt
+outcome p null c = goes_if p null null c (may_begin p) after_value (λ k. refl) tt
+outcome p t c = inr (λ k. refl)
+
+pub record Split (p : Place) (o : Bool) (ls : List Lexeme) : Type 0 where
+  pub ts : List Token
+  pub end : Place
+  pub goes : (more : List Lexeme) → begins_colon more ≡ false → punctuate p (ls ++ more) ≡ ts ++ punctuate end more
+  pub fits : Fits end (opened o ts)
+
+colon_front : (ls more : List Lexeme) → begins_colon more ≡ false → begins_colon (ls ++ more) ≡ begins_colon ls
+colon_front [] more e = e
+colon_front (token t ∷ ls) more e = refl
+colon_front (comma ∷ ls) more e = refl
+colon_front (colon ∷ ls) more e = refl
+
+pub at_token : (p : Place) (t : Token) (ls : List Lexeme) → punctuate p (token t ∷ ls) ≡ place_token p t (begins_colon ls) (λ next. punctuate next ls)
+unfolding punctuate
+at_token fresh t ls = refl
+at_token p t ls = refl
+
+token_front : (p : Place) (t : Token) (ls more : List Lexeme) → begins_colon more ≡ false → punctuate p (token t ∷ (ls ++ more)) ≡ place_token p t (begins_colon ls) (λ next. punctuate next (ls ++ more))
+token_front p t ls more e = at_token p t (ls ++ more) ∙ ap (λ c. place_token p t c (λ next. punctuate next (ls ++ more))) (colon_front ls more e)
+
+with_token : (p : Place) (o : Bool) (t : Token) (ls more : List Lexeme) → begins_colon more ≡ false → NoBad (punctuate p (token t ∷ (ls ++ more)))
+    → ((q : Place) (u : Bool) → Fits q u → NoBad (punctuate q (ls ++ more)) → Split q u ls) → Goes p t (begins_colon ls) ⊎ Stuck p t (begins_colon ls) → Split p o (token t ∷ ls)
+with_token p o t ls more e h ih (inl g) =
+    let rest = ih g.next (opens g.made) g.fits (subst NoBad (token_front p t ls more e ∙ g.is (λ next. punctuate next (ls ++ more))) h).1 in
+    record {
+      ts = g.made ∷ rest.ts;
+      end = rest.end;
+      goes = λ m f. token_front p t ls m f ∙ g.is (λ next. punctuate next (ls ++ m)) ∙ ap (λ l. g.made ∷ l) (rest.goes m f);
+      fits = rest.fits;
+    }
+with_token p o t ls more e h ih (inr s) = absurd (false≢true (subst NoBad (token_front p t ls more e ∙ s (λ next. punctuate next (ls ++ more))) h).0)
+
+pub split : (p : Place) (o : Bool) (ls more : List Lexeme) → Fits p o → begins_colon more ≡ false → NoBad (punctuate p (ls ++ more)) → Split p o ls
+unfolding punctuate
+split p o [] more f e h = record { ts = []; end = p; goes = λ m g. refl; fits = f }
+split p o (token t ∷ ls) more f e h = with_token p o t ls more e h (λ q u g k. split q u ls more g e k) (outcome p t (begins_colon ls))
+split after_value o (comma ∷ ls) more f e h =
+    let rest = split after_comma o ls more tt e h in
+    record { ts = rest.ts; end = rest.end; goes = rest.goes; fits = rest.fits }
+split after_key o (colon ∷ ls) more f e h =
+    let rest = split fresh o ls more f e h in
+    record { ts = rest.ts; end = rest.end; goes = rest.goes; fits = rest.fits }
+split p o (l ∷ ls) more f e h = absurd (false≢true h.0)
 
 -- ---- no token of a value is bad
 

@@ -21,8 +21,7 @@ use Rattle.oim_report.specs.Refusal.{unless}
 use Rattle.oim_report.specs.Sheet.{Sheet, concept_kind_named, dimension_kind_named, entries_in, entry, has_bad_kind, has_other_kind, has_two_kinds, kind_in, listed, names_no_kind, said_sheet, same_concept_kind, same_dimension_kind, sheet_bindings, sheet_concepts, sheet_dimensions, sheet_holds, sheet_of, sheet_outcome}
 use Rattle.oim_report.proofs.LeastOf.{none_is}
 use Rattle.oim_report.proofs.Naming.{expanded, stands}
-use Rattle.oim_report.proofs.RisingNames.{name_total}
-use Rattle.oim_report.proofs.SheetEntries.{tied}
+use Rattle.oim_report.proofs.SheetEntries.{name_total, tied}
 
 module _ {K : Type 0} (kind_named : List ℕ → Option K) (same : K → K → Bool) (same_is : (k l : K) → same k l ≡ true → k ≡ l) (bs : List Binding) where
   -- ---- each entry of the map is in the member

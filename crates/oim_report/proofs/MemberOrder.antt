@@ -1,11 +1,9 @@
 -- Members with different names can be added to a list in any order, with the same result.
-use Rattle.std.proofs.Common.{◌≡◌, ◌≢◌, ⊎_elim, true, false, cond, List, [], ◌∷◌, refl, sym, ap, ◌∙◌}
-use Rattle.std.specs.Prelude.{All}
+use Rattle.std.proofs.Common.{◌≡◌, ◌≢◌, ⊎_elim, Bool, true, false, cond, List, [], ◌∷◌, refl, sym, ap, ◌∙◌, All, Less, Equal, Greater}
 use Rattle.std.specs.Cmp.{tied_itself}
 use Rattle.std.proofs.lemmas.Bool.{and_parts, cases_Bool}
 use Rattle.std.proofs.lemmas.List.Elements.{All-nil, All-cons, All-head, All-tail}
 use Rattle.std.specs.Ordering.{is_lt, ordering_reverse}
-use Rattle.std.specs.declared.cmp.Ordering.TheVariants.{Less, Equal, Greater}
 use Rattle.oim_names.specs.QName.{QName, exact_name}
 use Rattle.oim_names.specs.contracts.name.NameOrd.TheImpl.Laws.{total-law as name_total}
 use Rattle.oim_value.specs.ValueOrder.{name_cmp}
@@ -27,14 +25,11 @@ one_way a b other h =
 pub other_way : (a b : QName) → is_lt (name_cmp a b) ≡ true → is_lt (name_cmp b a) ≡ false
 other_way a b h = ap is_lt (name_total.antisymm b a ∙ ap ordering_reverse (less_is _ h))
 
-goes_before : (n : QName) (m : Member) (e : Entry) (es : List Entry) → is_lt (name_cmp n e.0) ≡ true → with_member n m (e ∷ es) ≡ (n, m) ∷ e ∷ es
-goes_before n m e es h = ap (λ b. cond b ((n, m) ∷ e ∷ es) (e ∷ with_member n m es)) h
-
-goes_after : (n : QName) (m : Member) (e : Entry) (es : List Entry) → is_lt (name_cmp n e.0) ≡ false → with_member n m (e ∷ es) ≡ e ∷ with_member n m es
-goes_after n m e es h = ap (λ b. cond b ((n, m) ∷ e ∷ es) (e ∷ with_member n m es)) h
+added_at : {b : Bool} (n : QName) (m : Member) (e : Entry) (es : List Entry) → is_lt (name_cmp n e.0) ≡ b → with_member n m (e ∷ es) ≡ cond b ((n, m) ∷ e ∷ es) (e ∷ with_member n m es)
+added_at n m e es h = ap (λ b. cond b ((n, m) ∷ e ∷ es) (e ∷ with_member n m es)) h
 
 in_order : (a b : Entry) (es : List Entry) → is_lt (name_cmp a.0 b.0) ≡ true → with_member a.0 a.1 (with_member b.0 b.1 es) ≡ with_member b.0 b.1 (with_member a.0 a.1 es)
-in_order a b [] below = goes_before a.0 a.1 b [] below ∙ sym (goes_after b.0 b.1 a [] (other_way a.0 b.0 below))
+in_order a b [] below = added_at a.0 a.1 b [] below ∙ sym (added_at b.0 b.1 a [] (other_way a.0 b.0 below))
 in_order a b (e ∷ es) below =
     let add_a : List Entry → List Entry = with_member a.0 a.1 in
     let add_b : List Entry → List Entry = with_member b.0 b.1 in
@@ -42,16 +37,16 @@ in_order a b (e ∷ es) below =
     ⊎_elim
     (λ b_first.
     let a_first : is_lt (name_cmp a.0 e.0) ≡ true = ap is_lt (name_total.trans a.0 b.0 e.0 (less_is _ below) (less_is _ b_first)) in
-    ap add_a (goes_before b.0 b.1 e es b_first) ∙ goes_before a.0 a.1 b (e ∷ es) below
-    ∙ sym (ap add_b (goes_before a.0 a.1 e es a_first) ∙ goes_after b.0 b.1 a (e ∷ es) above ∙ ap (λ xs. a ∷ xs) (goes_before b.0 b.1 e es b_first)))
+    ap add_a (added_at b.0 b.1 e es b_first) ∙ added_at a.0 a.1 b (e ∷ es) below
+    ∙ sym (ap add_b (added_at a.0 a.1 e es a_first) ∙ added_at b.0 b.1 a (e ∷ es) above ∙ ap (λ xs. a ∷ xs) (added_at b.0 b.1 e es b_first)))
     (λ b_later.
     ⊎_elim
     (λ a_first.
-    ap add_a (goes_after b.0 b.1 e es b_later) ∙ goes_before a.0 a.1 e (add_b es) a_first
-    ∙ sym (ap add_b (goes_before a.0 a.1 e es a_first) ∙ goes_after b.0 b.1 a (e ∷ es) above ∙ ap (λ xs. a ∷ xs) (goes_after b.0 b.1 e es b_later)))
+    ap add_a (added_at b.0 b.1 e es b_later) ∙ added_at a.0 a.1 e (add_b es) a_first
+    ∙ sym (ap add_b (added_at a.0 a.1 e es a_first) ∙ added_at b.0 b.1 a (e ∷ es) above ∙ ap (λ xs. a ∷ xs) (added_at b.0 b.1 e es b_later)))
     (λ a_later.
-    ap add_a (goes_after b.0 b.1 e es b_later) ∙ goes_after a.0 a.1 e (add_b es) a_later ∙ ap (λ xs. e ∷ xs) (in_order a b es below)
-    ∙ sym (ap add_b (goes_after a.0 a.1 e es a_later) ∙ goes_after b.0 b.1 e (add_a es) b_later))
+    ap add_a (added_at b.0 b.1 e es b_later) ∙ added_at a.0 a.1 e (add_b es) a_later ∙ ap (λ xs. e ∷ xs) (in_order a b es below)
+    ∙ sym (ap add_b (added_at a.0 a.1 e es a_later) ∙ added_at b.0 b.1 e (add_a es) b_later))
     (cases_Bool (is_lt (name_cmp a.0 e.0))))
     (cases_Bool (is_lt (name_cmp b.0 e.0)))
 
@@ -64,7 +59,7 @@ either_first a b es other =
 
 pub goes_first : (e : Entry) (es : List Entry) → is_below e.0 es ≡ true → with_member e.0 e.1 es ≡ e ∷ es
 goes_first e [] h = refl
-goes_first e (f ∷ es) h = goes_before e.0 e.1 f es (and_parts (is_lt (name_cmp e.0 f.0)) (is_below e.0 es) h).0
+goes_first e (f ∷ es) h = added_at e.0 e.1 f es (and_parts (is_lt (name_cmp e.0 f.0)) (is_below e.0 es) h).0
 
 pub below_apart : (n : QName) (es : List Entry) → is_below n es ≡ true → All (λ (e : Entry). e.0 ≢ n) es
 below_apart n [] h = All-nil (λ (e : Entry). e.0 ≢ n)

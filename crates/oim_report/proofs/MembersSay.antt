@@ -1,30 +1,33 @@
 -- If `said_members` returns a list, it contains exactly the members that the keys denote. These members fit the sheet
 -- if the URIs of all bindings are namespaces, and the keys and texts are UTF-8.
-use Rattle.std.proofs.Common.{◌≡◌, ◌≢◌, ◌⊎◌, inl, inr, ⊎_elim, ℕ, zero, suc, ◌<◌, length, get_or, List, [], ◌∷◌, Bool, true, false, Option, Some, None, refl, sym, ap, subst, ◌∙◌, arith}
-use Rattle.std.specs.Prelude.{All, Contains, IsTrue, if◌then◌else◌, option_and_then}
+use Rattle.std.proofs.Common.{◌≡◌, ◌≢◌, ◌⊎◌, inl, inr, ⊎_elim, ℕ, zero, suc, ◌<◌, length, get_or, List, [], ◌∷◌, Bool, true, false, Option, Some, None, refl, sym, ap, subst, ◌∙◌, arith, ◌+◌, drop, add-one, ◌++◌, append_assoc, ◌≤◌, append-nil, ◌||◌, All, Contains, IsTrue, if◌then◌else◌, option_and_then, Any, IsPermutation, is_eq, is_lt, IsUtf8, Less, Bor, drop-cons, map}
 use Rattle.std.specs.List.{list_any}
-use Rattle.std.specs.Ordering.{is_eq}
-use Rattle.std.specs.Str.{IsUtf8}
 use Rattle.std.specs.Cmp.{tied_itself}
-use Rattle.std.specs.FinMap as map
-use Rattle.std.proofs.lemmas.Bool.{or_parts}
+use Rattle.std.proofs.lemmas.Bool.{or_parts, and_parts}
 use Rattle.std.proofs.lemmas.List.Elements.{All-contains, All-contains_itself}
+use Rattle.std.proofs.lemmas.List.Sorted.{Contains-permutation, IsPermutation-sym}
+use Rattle.std.specs.FinMap as finmap
 use Rattle.oim_names.specs.QName.{QName, is_name}
 use Rattle.oim_names.specs.Bindings.{Binding}
 use Rattle.oim_names.specs.contracts.name.NameOrd.TheImpl.Laws.{total-law as name_total}
+use Rattle.oim_names.specs.Expansion.{Expands}
+use Rattle.oim_names.proofs.Refusals.{names_one}
 use Rattle.oim_value.specs.ValueOrder.{name_cmp}
-use Rattle.oim_dims.specs.DimensionSet.{has_name, rises, with_member}
+use Rattle.oim_dims.specs.DimensionSet.{has_name, rises, with_member, is_below, repeats}
 use Rattle.oim_dims.specs.declared.member.Member.{Member}
 use Rattle.oim_dims.specs.declared.member.Member.TheVariants.{Nil as NoMember, Text as MemberText, Name as MemberName}
-use Rattle.oim_dims.proofs.Places.{members_grow, names_are_there}
+use Rattle.oim_dims.proofs.Places.{members_grow, names_are_there, less_is, old_or_new, old_is_kept, new_is_there}
 use Rattle.oim_report.specs.declared.dimension_kind.DimensionKind.{DimensionKind}
 use Rattle.oim_report.specs.declared.dimension_kind.DimensionKind.TheVariants.{Explicit, Typed}
-use Rattle.oim_report.specs.Fact.{SaysDimension, SaysMember, SaysMembers}
+use Rattle.oim_report.specs.Fact.{SaysDimension, SaysMember, SaysMembers, GivesText}
 use Rattle.oim_report.specs.FactFits.{DimensionFits, MemberFits}
 use Rattle.oim_report.specs.Json.{Given, nil, text}
 use Rattle.oim_report.specs.Names.{comes_again, named}
 use Rattle.oim_report.specs.Said.{dimension_kind, dimension_names, members_with, said_member, said_members}
 use Rattle.oim_report.specs.Sheet.{Sheet}
+use Rattle.oim_report.specs.declared.fact.json_member.JsonMember.{JsonMember}
+use Rattle.oim_report.specs.code.JsonMember.{seen}
+use Rattle.oim_report.specs.code.SeenParts.{seen_defined}
 use Rattle.oim_report.proofs.Accepted.{and_then_some, map_some}
 use Rattle.oim_report.proofs.Fitting.{AreNamespaces, IsClean, name_fits}
 use Rattle.oim_report.proofs.Naming.{stands}
@@ -47,7 +50,7 @@ dimension_says sheet bs d n m name says =
     record {
       name = stands is_name bs d.0 n name;
       kind = k.0;
-      listed = sym (ap (option_and_then (map.get sheet.dimensions)) name) ∙ k.1;
+      listed = sym (ap (option_and_then (finmap.get sheet.dimensions)) name) ∙ k.1;
       member = k.2;
     }
 
@@ -171,3 +174,197 @@ pub members_fit : (sheet : Sheet) (bs : List Binding) (ds : List (List ℕ × Gi
 members_fit sheet bs ds es are clean e k x lt =
     let found = by_key sheet bs ds es (walked sheet bs ds es e) (get_or es k x) (All-contains_itself es k x lt) in
     dimension_fits sheet bs found.0 (get_or es k x) are (All-contains (λ (d : List ℕ × Given). IsUtf8 d.0 × IsClean d.1) ds found.0 clean found.1) found.2
+
+-- ---- the taxonomy-defined dimensions of a fact denote at most one list of members that is sorted by name
+
+below_each : (n : QName) (es : List (QName × Member)) (x : QName × Member) → is_below n es ≡ true → Contains es x → name_cmp n x.0 ≡ Less
+below_each n [] x below c = absurd (none_in x c)
+below_each n (e ∷ es) x below c =
+    let both = and_parts (is_lt (name_cmp n e.0)) (is_below n es) below in
+    ⊎_elim
+    (λ is. subst (λ (f : QName × Member). name_cmp n f.0 ≡ Less) is (less_is (name_cmp n e.0) both.0))
+    (λ later. below_each n es x both.1 later)
+    (first_or_later e x es c)
+
+not_below_itself : (n : QName) → name_cmp n n ≡ Less → ⊥
+not_below_itself n h = let tie = tied_itself name_total n in absurd (cc)
+
+not_later : (e : QName × Member) (es : List (QName × Member)) → is_below e.0 es ≡ true → Contains es e → ⊥
+not_later e es below c = not_below_itself e.0 (below_each e.0 es e below c)
+
+in_rest : (e f : QName × Member) (es fs : List (QName × Member)) → e ≡ f → is_below e.0 es ≡ true → ((x : QName × Member) → Contains (e ∷ es) x → Contains (f ∷ fs) x) → (x : QName × Member) → Contains es x → Contains fs x
+in_rest e f es fs one below to x c =
+    ⊎_elim
+    (λ is. absurd (not_later e es below (subst (Contains es) (sym (one ∙ is)) c)))
+    (λ later. later)
+    (first_or_later f x fs (to x (later_in e x es c)))
+
+same_first : (e f : QName × Member) (es fs : List (QName × Member)) → is_below e.0 es ≡ true → is_below f.0 fs ≡ true → Contains (f ∷ fs) e → Contains (e ∷ es) f → e ≡ f
+same_first e f es fs below_e below_f there back =
+    ⊎_elim
+    (λ is. sym is)
+    (λ later. ⊎_elim
+    (λ is. is)
+    (λ behind. absurd (not_below_itself e.0 (name_total.trans e.0 f.0 e.0 (below_each e.0 es f below_e behind) (below_each f.0 fs e below_f later))))
+    (first_or_later e f es back))
+    (first_or_later f e fs there)
+
+pub same_rising : (es fs : List (QName × Member)) → IsTrue (rises es) → IsTrue (rises fs) → ((x : QName × Member) → Contains es x → Contains fs x) → ((x : QName × Member) → Contains fs x → Contains es x) → es ≡ fs
+same_rising [] [] up_e up_f to back = refl
+same_rising [] (f ∷ fs) up_e up_f to back = absurd (none_in f (back f (first_in f fs)))
+same_rising (e ∷ es) [] up_e up_f to back = absurd (none_in e (to e (first_in e es)))
+same_rising (e ∷ es) (f ∷ fs) up_e up_f to back =
+    let rising_e = and_parts (is_below e.0 es) (rises es) up_e in
+    let rising_f = and_parts (is_below f.0 fs) (rises fs) up_f in
+    let one = same_first e f es fs rising_e.0 rising_f.0 (to e (first_in e es)) (back f (first_in f fs)) in
+    let rest = same_rising es fs rising_e.1 rising_f.1 (in_rest e f es fs one rising_e.0 to) (in_rest f e fs es (sym one) rising_f.0 back) in
+    λ i. one i ∷ rest i
+
+pub one_some : {X : Type 0} (o : Option X) (x y : X) → o ≡ Some x → o ≡ Some y → x ≡ y
+one_some o x y p q = cc
+
+pub no_text : (g : Given) (Says : List ℕ → Type 0) → g ≡ nil → GivesText g Says → ⊥
+no_text (text t) Says e h = absurd (cc)
+no_text g Says e h = h
+
+pub one_text : (C : Type 0) (g : Given) (P Q : List ℕ → Type 0) → GivesText g P → GivesText g Q → ((t : List ℕ) → P t → Q t → C) → C
+one_text C (text t) P Q a b both = both t a b
+one_text C g P Q a b both = absurd a
+
+pub given_name : (bs : List Binding) (g : Given) (m n : QName) → GivesText g (λ t. Expands bs t m) → GivesText g (λ t. Expands bs t n) → m ≡ n
+given_name bs g m n a b = one_text (m ≡ n) g (λ t. Expands bs t m) (λ t. Expands bs t n) a b (λ t p q. names_one is_name bs t m n p q)
+
+one_member : (bs : List Binding) (k : DimensionKind) (g : Given) (m n : Member) → SaysMember bs k g m → SaysMember bs k g n → m ≡ n
+one_member bs Explicit g (MemberName m) (MemberName n) a b = ap MemberName (given_name bs g m n a b)
+one_member bs Explicit g (MemberText s) n a b = absurd a
+one_member bs Explicit g NoMember n a b = absurd a
+one_member bs Typed g (MemberName m) n a b = absurd a
+one_member bs Typed g (MemberText s) (MemberText t) a b = let same : text s ≡ text t = sym a ∙ b in cc
+one_member bs Typed g (MemberText s) NoMember a b = let same : text s ≡ nil = sym a ∙ b in absurd (cc)
+one_member bs Typed g NoMember (MemberText t) a b = let same : nil ≡ text t = sym a ∙ b in absurd (cc)
+one_member bs Typed g NoMember NoMember a b = refl
+one_member bs k g m n a b = absurd b
+
+one_dimension : (sheet : Sheet) (bs : List Binding) (d : List ℕ × Given) (e f : QName × Member) → SaysDimension sheet bs d e → SaysDimension sheet bs d f → e ≡ f
+one_dimension sheet bs d e f a b =
+    let name : e.0 ≡ f.0 = names_one is_name bs d.0 e.0 f.0 a.name b.name in
+    let kind : a.kind ≡ b.kind = one_some (finmap.get sheet.dimensions f.0) a.kind b.kind (subst (λ n. finmap.get sheet.dimensions n ≡ Some a.kind) name a.listed) b.listed in
+    let member : e.1 ≡ f.1 = one_member bs b.kind d.1 e.1 f.1 (subst (λ k. SaysMember bs k d.1 e.1) kind a.member) b.member in
+    λ i. (name i, member i)
+
+is_among : (sheet : Sheet) (bs : List Binding) (ds : List (List ℕ × Given)) (es fs : List (QName × Member)) → SaysMembers sheet bs ds es → SaysMembers sheet bs ds fs → (e : QName × Member) → Contains es e → Contains fs e
+is_among sheet bs ds es fs a b e c =
+    let key = All-contains (λ x. Any (λ d. SaysDimension sheet bs d x) ds) es e a.others c in
+    let found = All-contains (λ d. (x : QName × Member) × Contains fs x × SaysDimension sheet bs d x) ds key.1 b.each (key.0, key.2, key.3) in
+    subst (Contains fs) (one_dimension sheet bs key.1 found.0 e found.2 key.4) found.1
+
+pub one_list : (sheet : Sheet) (bs : List Binding) (ds : List (List ℕ × Given)) (es fs : List (QName × Member)) → IsTrue (rises es) → IsTrue (rises fs) → SaysMembers sheet bs ds es → SaysMembers sheet bs ds fs → es ≡ fs
+one_list sheet bs ds es fs up_e up_f a b = same_rising es fs up_e up_f (is_among sheet bs ds es fs a b) (is_among sheet bs ds fs es b a)
+
+-- ---- the members of taxonomy-defined dimensions, read one after another
+
+abbrev pub names_of : List (QName × Member) → List QName
+names_of es = map (λ e. e.0) es
+
+abbrev pub seen_item : Bor (List ℕ) × JsonMember → List ℕ × Given
+seen_item x = (x.0.now, seen x.1)
+
+pub next_defined : (xs : List (Bor (List ℕ) × JsonMember)) (i : ℕ) (x : Bor (List ℕ) × JsonMember) → i < length xs → seen_defined (drop i xs) ≡ seen_item (get_or xs i x) ∷ seen_defined (drop (i + 1) xs)
+next_defined xs i x within = rw (add-one, drop-cons xs i x) refl
+
+pub members_more : (sheet : Sheet) (bs : List Binding) (d : List ℕ × Given) (ds : List (List ℕ × Given)) (es : List (QName × Member)) (n : QName) (m : Member) → named bs d.0 ≡ Some n → said_member bs (dimension_kind sheet bs d.0) d.1 ≡ Some m → members_with sheet bs es (d ∷ ds) ≡ members_with sheet bs (with_member n m es) ds
+members_more sheet bs d ds es n m names said = rw (said, names) refl
+
+names_pushed : (es : List (QName × Member)) (e : QName × Member) → names_of (es ++ e ∷ []) ≡ names_of es ++ e.0 ∷ []
+names_pushed [] e = refl
+names_pushed (f ∷ es) e = ap (λ ns. f.0 ∷ ns) (names_pushed es e)
+
+pub names_more : (bs : List Binding) (d : List ℕ × Given) (ds : List (List ℕ × Given)) (es : List (QName × Member)) (n : QName) (m : Member) → named bs d.0 ≡ Some n → names_of es ++ dimension_names bs (d ∷ ds) ≡ names_of (es ++ (n, m) ∷ []) ++ dimension_names bs ds
+names_more bs d ds es n m names =
+    ap (λ ns. names_of es ++ ns) (rw names refl)
+    ∙ sym (append_assoc (names_of es) (n ∷ []) (dimension_names bs ds))
+    ∙ ap (λ ns. ns ++ dimension_names bs ds) (sym (names_pushed es (n, m)))
+
+-- ---- the reader collects all members of taxonomy-defined dimensions, then sorts them. `said_members` returns the same list
+
+abbrev Item : Type 0
+Item = QName × Member
+
+abbrev pub with_each : List Item → List Item → List Item
+with_each [] es = es
+with_each (f ∷ fs) es = with_each fs (with_member f.0 f.1 es)
+
+pub with_each-push : (fs es : List Item) (f : Item) → with_each (fs ++ f ∷ []) es ≡ with_member f.0 f.1 (with_each fs es)
+with_each-push [] es f = refl
+with_each-push (g ∷ fs) es f = with_each-push fs (with_member g.0 g.1 es) f
+
+old_or_one : (fs es : List Item) (x : Item) → Contains (with_each fs es) x → Contains es x ⊎ Contains fs x
+old_or_one [] es x c = inl c
+old_or_one (f ∷ fs) es x c =
+    ⊎_elim
+    (λ old. ⊎_elim inl (λ is. inr (0, omega arith, sym is)) (old_or_new f.0 f.1 x es old))
+    (λ later. inr (suc later.0, omega (arith, later.1), later.2))
+    (old_or_one fs (with_member f.0 f.1 es) x c)
+
+old_is_there : (fs es : List Item) (x : Item) → Contains es x → Contains (with_each fs es) x
+old_is_there [] es x c = c
+old_is_there (f ∷ fs) es x c = old_is_there fs (with_member f.0 f.1 es) x (old_is_kept f.0 f.1 x es c)
+
+each_is_there : (fs es : List Item) (x : Item) → Contains fs x → Contains (with_each fs es) x
+each_is_there [] es x c = absurd (none_in x c)
+each_is_there (f ∷ fs) es x c =
+    ⊎_elim
+    (λ is. old_is_there fs (with_member f.0 f.1 es) x (subst (Contains (with_member f.0 f.1 es)) is (new_is_there f.0 f.1 es)))
+    (λ later. each_is_there fs (with_member f.0 f.1 es) x later)
+    (first_or_later f x fs c)
+
+same_there : (n : QName) (fs : List Item) → list_any (λ m. is_eq (name_cmp n m)) (names_of fs) ≡ has_name n fs
+same_there n [] = refl
+same_there n (f ∷ fs) = ap (λ b. is_eq (name_cmp n f.0) || b) (same_there n fs)
+
+pub comes_again_is : (fs : List Item) → comes_again (names_of fs) ≡ repeats fs
+comes_again_is [] = refl
+comes_again_is (f ∷ fs) = λ i. same_there f.0 fs i || comes_again_is fs i
+
+none_left : {X : Type 0} (xs : List X) (i : ℕ) → length xs ≤ i → drop i xs ≡ []
+none_left [] zero past = refl
+none_left [] (suc i) past = refl
+none_left (x ∷ xs) zero past = absurd (omega (arith, past))
+none_left (x ∷ xs) (suc i) past = none_left xs i (omega (arith, past))
+
+module _ (sheet : Sheet) (bs : List Binding) (xs : List (Bor (List ℕ) × JsonMember)) (found : List Item) where
+  -- the state of the loop before index i
+  pub record AreFound (i : ℕ) : Type 0 where
+    pub names : names_of found ++ dimension_names bs (seen_defined (drop i xs)) ≡ dimension_names bs (seen_defined xs)
+    pub members : members_with sheet bs (with_each found []) (seen_defined (drop i xs)) ≡ members_with sheet bs [] (seen_defined xs)
+
+  pub put_in_order : (i : ℕ) → length xs ≤ i → AreFound i → (sorted : List Item) → repeats found ≡ false → IsPermutation found sorted → IsTrue (rises sorted) → said_members sheet bs (seen_defined xs) ≡ Some sorted
+  put_in_order i past are sorted once moved up =
+      let nothing : drop i xs ≡ [] = none_left xs i past in
+      let names : names_of found ≡ dimension_names bs (seen_defined xs) = sym (append-nil (names_of found)) ∙ ap (λ ys. names_of found ++ dimension_names bs (seen_defined ys)) (sym nothing) ∙ are.names in
+      let again : comes_again (dimension_names bs (seen_defined xs)) ≡ false = ap comes_again (sym names) ∙ comes_again_is found ∙ once in
+      let walked : members_with sheet bs [] (seen_defined xs) ≡ Some (with_each found []) = sym are.members ∙ ap (λ ys. members_with sheet bs (with_each found []) (seen_defined ys)) nothing in
+      let said : said_members sheet bs (seen_defined xs) ≡ Some (with_each found []) = ap (λ b. if b then None else members_with sheet bs [] (seen_defined xs)) again ∙ walked in
+      said
+      ∙ ap Some (same_rising (with_each found []) sorted (members_rise sheet bs (seen_defined xs) (with_each found []) said) up
+      (λ x c. Contains-permutation found sorted x moved (⊎_elim (λ old. absurd (none_in x old)) (λ one. one) (old_or_one found [] x c)))
+      (λ x c. each_is_there found [] x (Contains-permutation sorted found x (IsPermutation-sym found sorted moved) c)))
+
+pub found_more : (sheet : Sheet) (bs : List Binding) (xs : List (Bor (List ℕ) × JsonMember)) (found new : List Item) (i : ℕ) (x : Bor (List ℕ) × JsonMember) (within : i < length xs) (n : QName) (m : Member) → let d = seen_item (get_or xs i x) in
+    named bs d.0 ≡ Some n → said_member bs (dimension_kind sheet bs d.0) d.1 ≡ Some m → new ≡ found ++ (n, m) ∷ [] → AreFound sheet bs xs found i → AreFound sheet bs xs new (i + 1)
+found_more sheet bs xs found new i x within n m names said pushed are =
+    let d = seen_item (get_or xs i x) in
+    let ds = seen_defined (drop (i + 1) xs) in
+    let next = sym (next_defined xs i x within) in record {
+      names =
+          ap (λ fs. names_of fs ++ dimension_names bs ds) pushed
+          ∙ sym (names_more bs d ds found n m names)
+          ∙ ap (λ all. names_of found ++ dimension_names bs all) next
+          ∙ are.names;
+      members =
+          ap (λ fs. members_with sheet bs (with_each fs []) ds) pushed
+          ∙ ap (λ es. members_with sheet bs es ds) (with_each-push found [] (n, m))
+          ∙ sym (members_more sheet bs d ds (with_each found []) n m names said)
+          ∙ ap (members_with sheet bs (with_each found [])) next
+          ∙ are.members;
+    }

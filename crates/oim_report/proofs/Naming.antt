@@ -1,7 +1,5 @@
 -- The function `named_as` agrees with the relation `ExpandsAs`.
-use Rattle.std.proofs.Common.{◌≡◌, ◌≢◌, ◌⊎◌, inl, inr, ℕ, List, Bool, true, false, refl, sym, ap, subst}
-use Rattle.std.specs.Prelude.{◌↔◌, if◌then◌else◌, IsTrue, Option, Some, None, option_and_then}
-use Rattle.std.specs.Str.{bytes_eq}
+use Rattle.std.proofs.Common.{◌≡◌, ◌≢◌, ◌⊎◌, inl, inr, ℕ, List, Bool, true, false, refl, sym, ap, subst, ◌↔◌, if◌then◌else◌, IsTrue, Option, Some, None, option_and_then, bytes_eq}
 use Rattle.oim_names.specs.QName.{QName, local_part, prefix_part}
 use Rattle.oim_names.specs.Bindings.{Binding, uri_of}
 use Rattle.oim_names.specs.Expansion.{ExpandsAs, reserved_uri}

@@ -29,7 +29,7 @@ use Rattle.oim_report.specs.Info.{bindings_of, facts_of, references_said, level_
 use Rattle.oim_report.specs.Json.{Given, absent, nil, text, whole, json, values}
 use Rattle.oim_report.specs.Parts.{DimensionParts, FactParts, fact_parts}
 use Rattle.oim_report.specs.Sheet.{Sheet}
-use Rattle.oim_report.proofs.OneMembers.{given_name, no_text, one_list, one_some, one_text}
+use Rattle.oim_report.proofs.MembersSay.{given_name, no_text, one_list, one_some, one_text}
 
 one_text_or : (C IfP IfQ : Type 0) (g : Given) (P Q : List ℕ → Type 0) → GivesTextOr IfP g P → GivesTextOr IfQ g Q → (IfP → IfQ → C) → ((t : List ℕ) → P t → Q t → C) → C
 one_text_or C IfP IfQ absent P Q a b none both = none a b

@@ -1,18 +1,130 @@
--- Pieces that are read one after another.
-use Rattle.std.proofs.Common.{◌≡◌, ℕ, List, [], ◌∷◌, ◌++◌, Some, option_map, option_and_then, refl, sym, ap, ◌∙◌, subst, append_assoc, append-nil}
+-- Pieces: how `serde_json` reads them, and the members of pieces that are read one after another.
+use Rattle.std.proofs.Common.{◌≡◌, ℕ, List, [], Option, Some, option_and_then, refl, ap, ◌∙◌, zero, suc, ◌-◌, ◌∷◌, ◌++◌, length, slice_get, Vec, BTreeMap, String, Global, sym, arith, option_to_list, option_map, subst, append_assoc, append-nil, Less, Equal, Greater}
+use Rattle.std.proofs.lemmas.List.{length-append}
 use Rattle.std.specs.Ordering.{nat_cmp, match_ordering}
 use Rattle.std.specs.Cmp.Lexicographic.{slice_cmp}
-use Rattle.std.specs.declared.cmp.Ordering.TheVariants.{Less, Equal, Greater}
+use Rattle.json.specs.Token.{Token}
+use Rattle.json.specs.Lex.{tokens}
+use Rattle.json.specs.Json.{Json, Items, value, if_last}
 use Rattle.json.specs.Json as j
-use Rattle.serde_json.specs.Data.{Data, array, object, no_items, Members, no_members, member, item, put}
-use Rattle.serde_json.specs.Read.{of_json, read}
-use Rattle.oim_report.proofs.PutMembers.{ascends_put}
-use Rattle.oim_report.specs.code.TapeParts.{Ascends}
+use Rattle.serde_json.specs.Data.{Data, no_items, item, array, Members, object, no_members, member, put}
+use Rattle.serde_json.specs.Read.{of_json, of_items, of_members, number_of, max_depth, read}
+use Rattle.serde_json.specs.View.{view, items_view, members_view}
+use Rattle.serde_json.specs.declared.value.Value.{Value, Array, Object}
+use Rattle.serde_json.specs.Data as d
+use Rattle.serde_json.proofs.Views.{Entry, view-Array, view-Object}
 use Rattle.oim_report.specs.Pieces.{alone, one_data, HasMember, EndsWithBrace, IsPiece, put_all}
+use Rattle.oim_report.specs.code.TapeParts.{one, Ascends}
 use Rattle.oim_report.specs.code.Pieces.{Closed, append}
-use Rattle.oim_report.proofs.PieceTrees.{ReadAs, read_as}
-use Rattle.oim_report.proofs.MembersPut.{put_onto}
-use Rattle.oim_report.proofs.JoinedPieces.{joined_as}
+use Rattle.oim_report.proofs.JoinedMembers.{Reads, HasSome, plus, joined}
+use Rattle.oim_report.proofs.Accepted.{map_some, and_then_some}
+use Rattle.oim_report.proofs.PutMembers.{both_found, ascends_put, put_onto}
+
+-- ---- how `serde_json` reads the text of an array that contains one object
+
+-- `serde_json` reads the text as JSON members, and their data are `found`
+pub record ReadAs (a : List ℕ) (found : d.Members) : Type 0 where
+  pub ms : j.Members
+  pub reads : Reads max_depth a ms
+  pub gives : of_members ms d.no_members ≡ Some found
+
+number_only : (s : List ℕ) (x : Data) → of_json (j.number s) ≡ Some x → (n : d.Num) × (d.number n ≡ x)
+number_only s x e = let m = map_some d.number (number_of s) x e in (m.0, m.2)
+
+no_more : (vs : Items) → of_items vs ≡ Some d.no_items → vs ≡ j.no_items
+no_more j.no_items e = refl
+no_more (j.item v vs) e =
+    let t = and_then_some _ (of_json v) d.no_items e in
+    let m = map_some (d.item t.0) (of_items vs) d.no_items t.2 in
+    let is : d.item t.0 m.0 ≡ d.no_items = m.2 in
+    absurd (Prim.cc)
+
+of_object : (v : Json) (found : d.Members) → of_json v ≡ Some (d.object found) → (ms : j.Members) × (v ≡ j.object ms) × (of_members ms d.no_members ≡ Some found)
+of_object (j.number s) found e = let n = number_only s _ e in let is : d.number n.0 ≡ d.object found = n.1 in absurd (Prim.cc)
+of_object (j.array vs) found e = let m = map_some d.array (of_items vs) _ e in let is : d.array m.0 ≡ d.object found = m.2 in absurd (Prim.cc)
+of_object (j.object ms) found e =
+    let m = map_some d.object (of_members ms d.no_members) _ e in
+    let is : d.object m.0 ≡ d.object found = m.2 in
+    let same : m.0 ≡ found = Prim.cc in
+    (ms, refl, m.1 ∙ ap (λ f. Some f) same)
+of_object v found e = absurd (Prim.cc)
+
+of_one : (vs : Items) (found : d.Members) → of_items vs ≡ Some (d.item (d.object found) d.no_items) → (ms : j.Members) × (vs ≡ j.item (j.object ms) j.no_items) × (of_members ms d.no_members ≡ Some found)
+of_one j.no_items found e = absurd (Prim.cc)
+of_one (j.item v vs) found e =
+    let t = and_then_some _ (of_json v) _ e in
+    let m = map_some (d.item t.0) (of_items vs) _ t.2 in
+    let is : d.item t.0 m.0 ≡ d.item (d.object found) d.no_items = m.2 in
+    let first : t.0 ≡ d.object found = Prim.cc in
+    let rest : m.0 ≡ d.no_items = Prim.cc in
+    let o = of_object v found (t.1 ∙ ap (λ x. Some x) first) in
+    let none = no_more vs (m.1 ∙ ap (λ x. Some x) rest) in
+    (o.0, (λ i. j.item (o.1 i) (none i)), o.2)
+
+of_array : (v : Json) (found : d.Members) → of_json v ≡ Some (one_data found) → (ms : j.Members) × (v ≡ one ms) × (of_members ms d.no_members ≡ Some found)
+of_array (j.number s) found e = let n = number_only s _ e in let is : d.number n.0 ≡ one_data found = n.1 in absurd (Prim.cc)
+of_array (j.array vs) found e =
+    let m = map_some d.array (of_items vs) _ e in
+    let is : d.array m.0 ≡ one_data found = m.2 in
+    let same : m.0 ≡ d.item (d.object found) d.no_items = Prim.cc in
+    let o = of_one vs found (m.1 ∙ ap (λ x. Some x) same) in
+    (o.0, ap j.array o.1, o.2)
+of_array (j.object ms) found e = let m = map_some d.object (of_members ms d.no_members) _ e in let is : d.object m.0 ≡ one_data found = m.2 in absurd (Prim.cc)
+of_array v found e = absurd (Prim.cc)
+
+whole_some : (o : Option (Json × List Token)) (x : Data) → option_and_then of_json (option_and_then (λ p. if_last p.0 p.1) o) ≡ Some x → (v : Json) × (o ≡ Some (v, [])) × (of_json v ≡ Some x)
+whole_some (Some (v, [])) x e = (v, refl, e)
+whole_some o x e = absurd (Prim.cc)
+
+pub read_as : (a : List ℕ) (found : d.Members) → read (alone a) ≡ Some (one_data found) → ReadAs a found
+read_as a found e =
+    let w = whole_some (value max_depth (tokens (alone a))) (one_data found) e in
+    let o = of_array w.0 found w.2 in
+    record { ms = o.0; reads = w.1 ∙ ap (λ v. Some (v, [])) o.1; gives = o.2 }
+
+pub some_read : (ms : j.Members) (found : d.Members) → of_members ms d.no_members ≡ Some found → HasMember found → HasSome ms
+some_read j.no_members d.no_members e h = h
+some_read j.no_members (d.member k x found) e h = absurd (Prim.cc)
+some_read (j.member k v ms) found e h = tt
+
+-- ---- a piece, and the value that `serde_json` returns for it
+
+closed_at : (xs : List ℕ) (n : ℕ) → suc n ≡ length xs → slice_get xs n ≡ Some 125 → EndsWithBrace xs
+closed_at (x ∷ []) zero l h = Prim.cc
+closed_at (x ∷ y ∷ xs) (suc n) l h = closed_at (y ∷ xs) n (omega (arith, l)) h
+closed_at xs n l h = absurd (omega (arith, l))
+
+pub closed_last : (xs : List ℕ) → slice_get xs (length xs - 1) ≡ Some 125 → EndsWithBrace xs
+closed_last [] h = absurd (Prim.cc)
+closed_last (x ∷ xs) h = closed_at (x ∷ xs) _ (omega arith) h
+
+has_member : (es : List Entry) → (length es ≡ 0 → ⊥) → HasMember (members_view es)
+has_member [] h = absurd (h refl)
+has_member (e ∷ es) h = tt
+
+pub piece_read : (piece : List ℕ) (v : Value) (es : List Entry) → EndsWithBrace piece → read (alone piece) ≡ Some (view v) → view v ≡ one_data (members_view es) → (length es ≡ 0 → ⊥) → IsPiece piece (members_view es)
+piece_read piece v es last e one some = record { closed = last; some = has_member es some; reads = e ∙ ap (λ y. Some y) one }
+
+last_only : (rest : List Value) (x : Value) → length (rest ++ x ∷ []) ≡ 1 → rest ++ x ∷ [] ≡ x ∷ []
+last_only [] x l = refl
+last_only (y ∷ rest) x l = absurd (omega (arith, l, length-append rest (x ∷ [])))
+
+pub taken_object : (value : Value) (v : Vec Value Global) (rest : List Value) (r : Option Value) (x : Value) (m : BTreeMap (String Global) Value) → value ≡ Array v → v.items ≡ rest ++ option_to_list r → r ≡ Some x → x ≡ Object m → length v.items ≡ 1
+    → view value ≡ one_data (members_view m.entries)
+taken_object value v rest r x m a e s o l =
+    let items : v.items ≡ rest ++ Object m ∷ [] = e ∙ ap (λ q. rest ++ option_to_list q) (s ∙ ap (λ y. Some y) o) in
+    ap view a ∙ view-Array v ∙ ap (λ vs. array (items_view vs)) (items ∙ last_only rest (Object m) (ap length (sym items) ∙ l)) ∙ ap (λ d. array (item d no_items)) (view-Object m)
+
+-- ---- two texts of members, joined by a comma, as `serde_json` reads them
+
+pub joined_as : (a b : List ℕ) (found more : Members) → Closed a → HasMember found → HasMember more → ReadAs a found → ReadAs b more → ReadAs (a ++ 44 ∷ b) (put_all more found)
+joined_as a b found more closed some some_more r s = record {
+  ms = plus r.ms s.ms;
+  reads = joined max_depth a b r.ms s.ms closed (some_read r.ms found r.gives some) (some_read s.ms more s.gives some_more) r.reads s.reads;
+  gives = both_found r.ms s.ms found more r.gives s.gives;
+}
+
+-- ---- pieces that are read one after another
 
 pub ends_closed : (xs : List ℕ) → EndsWithBrace xs → Closed xs
 ends_closed [] h = absurd h
@@ -40,9 +152,6 @@ pub has_put_all : (ms onto : Members) → HasMember onto → HasMember (put_all 
 has_put_all no_members onto h = h
 has_put_all (member k d ms) onto h = has_put_all ms (put k d onto) (has_put k d onto)
 
-pub piece_as : (a : List ℕ) (found : Members) → IsPiece a found → ReadAs a found
-piece_as a found p = read_as a found p.reads
-
 pub read_back : (a : List ℕ) (found : Members) → ReadAs a found → read (alone a) ≡ Some (one_data found)
 read_back a found r =
     ap (λ o. option_and_then of_json (option_and_then (λ p. j.if_last p.0 p.1) o)) r.reads
@@ -52,7 +161,7 @@ pub both_pieces : (a b : List ℕ) (found more : Members) → IsPiece a found �
 both_pieces a b found more p q = record {
   closed = ends_behind a (44 ∷ b) (ends_later 44 b q.closed);
   some = has_put_all more found p.some;
-  reads = read_back (a ++ 44 ∷ b) (put_all more found) (joined_as a b found more (ends_closed a p.closed) p.some q.some (piece_as a found p) (piece_as b more q));
+  reads = read_back (a ++ 44 ∷ b) (put_all more found) (joined_as a b found more (ends_closed a p.closed) p.some q.some (read_as a found p.reads) (read_as b more q.reads));
 }
 
 put_append : (ms ns onto : Members) → put_all (append ms ns) onto ≡ put_all ns (put_all ms onto)

@@ -1,16 +1,17 @@
 -- The members of an object after a member is added.
-use Rattle.std.proofs.Common.{◌≡◌, ◌≢◌, ℕ, List, [], ◌∷◌, Bool, true, false, cond, Option, Some, None, refl, sym, ap, ◌∙◌}
-use Rattle.std.specs.Prelude.{◌&&◌}
-use Rattle.std.specs.Option.{option_map}
+use Rattle.std.proofs.Common.{◌≡◌, ◌≢◌, ℕ, List, [], ◌∷◌, Bool, true, false, cond, Option, Some, None, refl, sym, ap, ◌∙◌, option_and_then, subst, option_map, Less, Equal, Greater, Ordering, is_eq, bytes_eq}
+use Rattle.std.specs.Prelude.{◌&&◌, ⊤}
 use Rattle.std.specs.Ordering.{nat_cmp, match_ordering, ordering_reverse}
 use Rattle.std.specs.Cmp.Lexicographic.{slice_cmp}
 use Rattle.std.specs.Str.{is_utf8}
-use Rattle.std.specs.declared.cmp.Ordering.TheVariants.{Less, Equal, Greater}
 use Rattle.std.proofs.lemmas.Bool.{or_parts, or_from}
-use Rattle.std.proofs.lemmas.Cmp.{nat_list_cmp_total}
+use Rattle.std.proofs.lemmas.Cmp.{nat_list_cmp_total, tied_itself}
 use Rattle.std.proofs.lemmas.Map.Lookups.{exact_bytes}
+use Rattle.std.proofs.lemmas.Map.Text.{is_eq-slice_cmp}
+use Rattle.json.specs.Json as j
 use Rattle.serde_json.specs.Data.{Data, string, Members, no_members, member, put}
 use Rattle.serde_json.specs.Find.{get_member}
+use Rattle.serde_json.specs.Read.{of_json, of_members}
 use Rattle.serde_json.proofs.Views.{get_member-put, get_member-put_other}
 use Rattle.oim_report.specs.FactObject.{put_text}
 use Rattle.oim_report.specs.Json.{Given, given, any_member, has_colon, is_unknown}
@@ -18,6 +19,9 @@ use Rattle.oim_report.specs.Parts.{defined_in}
 use Rattle.oim_report.specs.PlainJson.{IsBefore}
 use Rattle.oim_report.specs.ReadBack.{with_given}
 use Rattle.oim_report.specs.code.TapeParts.{Ascends}
+use Rattle.oim_report.specs.Pieces.{put_all}
+use Rattle.oim_report.proofs.JoinedMembers.{plus}
+use Rattle.oim_report.proofs.Accepted.{and_then_some}
 
 pub before_all : (k l : List ℕ) (ms : Members) → slice_cmp nat_cmp k l ≡ Less → IsBefore l ms → IsBefore k ms
 before_all k l no_members less h = tt
@@ -93,6 +97,9 @@ known_put known key d (member l e ms) is h =
       | Greater ↦ or_from (is_unknown known l e) (any_member (is_unknown known) (put key d ms)) b.0 (known_put known key d ms is b.1)
     ]
 
+pub other_key : (name key : List ℕ) → slice_cmp nat_cmp name key ≡ Less → bytes_eq name key ≡ false
+other_key name key less = sym (is_eq-slice_cmp name key) ∙ ap is_eq less
+
 pub text_there : (key : List ℕ) (t : Option (List ℕ)) (ms : Members) → get_member key ms ≡ None → get_member key (put_text key t ms) ≡ option_map string t
 text_there key None ms none = none
 text_there key (Some t) ms none = get_member-put key (string t) ms
@@ -112,3 +119,152 @@ text_undefined key (Some t) ms plain = undefined_put key (string t) ms plain
 pub text_known : (known : List (List ℕ)) (key : List ℕ) (t : Option (List ℕ)) (ms : Members) → is_unknown known key (string []) ≡ false → any_member (is_unknown known) ms ≡ false → any_member (is_unknown known) (put_text key t ms) ≡ false
 text_known known key None ms is h = h
 text_known known key (Some t) ms is h = known_put known key (string t) ms is h
+
+-- ---- members with different keys can be added to an object in any order, with the same result
+
+abbrev cmp : List ℕ → List ℕ → Ordering
+cmp k l = slice_cmp nat_cmp k l
+
+flipped : (k l : List ℕ) (o : Ordering) → cmp k l ≡ o → cmp l k ≡ ordering_reverse o
+flipped k l o e = nat_list_cmp_total.antisymm l k ∙ ap ordering_reverse e
+
+-- ---- the index at which a member is inserted
+
+put_at : {o : Ordering} (k l : List ℕ) (d e : Data) (ms : Members) → cmp k l ≡ o → put k d (member l e ms) ≡ match_ordering o (member k d (member l e ms)) (member l d ms) (member l e (put k d ms))
+put_at k l d e ms h = ap (λ o. match_ordering o (member k d (member l e ms)) (member l d ms) (member l e (put k d ms))) h
+
+-- ---- two keys
+
+below_both : (k l : List ℕ) (d e : Data) (ms : Members) → cmp k l ≡ Less → put k d (put l e ms) ≡ put l e (put k d ms)
+below_both k l d e no_members less = put_at k l d e no_members less ∙ sym (put_at l k e d no_members (flipped k l Less less))
+below_both k l d e (member m x ms) less =
+    let above = flipped k l Less less in
+    elim (cmp l m) as (λ o. cmp l m ≡ o → put k d (put l e (member m x ms)) ≡ put l e (put k d (member m x ms))) [
+      | Less ↦ λ h.
+          let first = nat_list_cmp_total.trans k l m less h in
+          ap (put k d) (put_at l m e x ms h) ∙ put_at k l d e (member m x ms) less
+          ∙ sym (ap (put l e) (put_at k m d x ms first) ∙ put_at l k e d (member m x ms) above ∙ ap (member k d) (put_at l m e x ms h))
+      | Equal ↦ λ h.
+          let same = exact_bytes l m h in
+          let first : cmp k m ≡ Less = ap (cmp k) (sym same) ∙ less in
+          ap (put k d) (put_at l m e x ms h) ∙ put_at k m d e ms first
+          ∙ sym (ap (put l e) (put_at k m d x ms first) ∙ put_at l k e d (member m x ms) above ∙ ap (member k d) (put_at l m e x ms h))
+      | Greater ↦ λ h.
+          ap (put k d) (put_at l m e x ms h)
+          ∙ elim (cmp k m) as (λ p. cmp k m ≡ p → put k d (member m x (put l e ms)) ≡ put l e (put k d (member m x ms))) [
+            | Less ↦ λ g.
+                put_at k m d x (put l e ms) g
+                ∙ sym (ap (put l e) (put_at k m d x ms g) ∙ put_at l k e d (member m x ms) above ∙ ap (member k d) (put_at l m e x ms h))
+            | Equal ↦ λ g.
+                put_at k m d x (put l e ms) g
+                ∙ sym (ap (put l e) (put_at k m d x ms g) ∙ put_at l m e d ms h)
+            | Greater ↦ λ g.
+                put_at k m d x (put l e ms) g ∙ ap (member m x) (below_both k l d e ms less)
+                ∙ sym (ap (put l e) (put_at k m d x ms g) ∙ put_at l m e x (put k d ms) h)
+          ] refl
+    ] refl
+
+pub either_first : (k l : List ℕ) (d e : Data) (ms : Members) → (k ≡ l → ⊥) → put k d (put l e ms) ≡ put l e (put k d ms)
+either_first k l d e ms other =
+    elim (cmp k l) as (λ o. cmp k l ≡ o → put k d (put l e ms) ≡ put l e (put k d ms)) [
+      | Less ↦ λ h. below_both k l d e ms h
+      | Equal ↦ λ h. absurd (other (exact_bytes k l h))
+      | Greater ↦ λ h. sym (below_both l k e d ms (flipped k l Greater h))
+    ] refl
+
+put_again : (k : List ℕ) (d e : Data) (ms : Members) → put k d (put k e ms) ≡ put k d ms
+put_again k d e no_members = put_at k k d e no_members (tied_itself nat_list_cmp_total k)
+put_again k d e (member l x ms) =
+    let same = tied_itself nat_list_cmp_total k in
+    elim (cmp k l) as (λ o. cmp k l ≡ o → put k d (put k e (member l x ms)) ≡ put k d (member l x ms)) [
+      | Less ↦ λ h. ap (put k d) (put_at k l e x ms h) ∙ put_at k k d e (member l x ms) same ∙ sym (put_at k l d x ms h)
+      | Equal ↦ λ h. ap (put k d) (put_at k l e x ms h) ∙ put_at k l d e ms h ∙ sym (put_at k l d x ms h)
+      | Greater ↦ λ h. ap (put k d) (put_at k l e x ms h) ∙ put_at k l d x (put k e ms) h ∙ ap (member l x) (put_again k d e ms) ∙ sym (put_at k l d x ms h)
+    ] refl
+
+-- ---- all members of an object
+
+abbrev pub Lacks : List ℕ → Members → Type 0
+Lacks k no_members = ⊤
+Lacks k (member l d ms) = (k ≡ l → ⊥) × Lacks k ms
+
+pub put_all_later : (k : List ℕ) (d : Data) (ms onto : Members) → Lacks k ms → put_all ms (put k d onto) ≡ put k d (put_all ms onto)
+put_all_later k d no_members onto h = refl
+put_all_later k d (member l e ms) onto h = ap (put_all ms) (sym (either_first k l d e onto h.0)) ∙ put_all_later k d ms (put l e onto) h.1
+
+differs : (k l : List ℕ) → cmp k l ≡ Less → k ≡ l → ⊥
+differs k l h e = let same : Equal ≡ Less = sym (tied_itself nat_list_cmp_total l) ∙ ap (λ m. cmp m l) (sym e) ∙ h in absurd (Prim.cc)
+
+lacks_before : (k : List ℕ) (ms : Members) → IsBefore k ms → Lacks k ms
+lacks_before k no_members h = tt
+lacks_before k (member l d ms) h = (differs k l h.0, lacks_before k ms h.1)
+
+pub put_first : (k : List ℕ) (d : Data) (ms : Members) → IsBefore k ms → put k d ms ≡ member k d ms
+put_first k d no_members h = refl
+put_first k d (member l e ms) h = put_at k l d e ms h.0
+
+pub rising_stays : (ms : Members) → Ascends ms → put_all ms no_members ≡ ms
+rising_stays no_members h = refl
+rising_stays (member k d ms) h = put_all_later k d ms no_members (lacks_before k ms h.0) ∙ ap (put k d) (rising_stays ms h.1) ∙ put_first k d ms h.0
+
+pub put_onto : (k : List ℕ) (d : Data) (ms onto : Members) → Ascends ms → put_all (put k d ms) onto ≡ put k d (put_all ms onto)
+put_onto k d no_members onto h = refl
+put_onto k d (member l e ms) onto h =
+    elim (cmp k l) as (λ o. cmp k l ≡ o → put_all (put k d (member l e ms)) onto ≡ put k d (put_all ms (put l e onto))) [
+      | Less ↦ λ o. ap (λ l. put_all l onto) (put_at k l d e ms o) ∙ put_all_later k d (member l e ms) onto (differs k l o, lacks_before k ms (before_all k l ms o h.0))
+      | Equal ↦ λ o.
+          let same = exact_bytes k l o in
+          let lacks = subst (λ x. Lacks x ms) (sym same) (lacks_before l ms h.0) in
+          ap (λ l. put_all l onto) (put_at k l d e ms o)
+          ∙ ap (λ x. put_all ms (put x d onto)) (sym same)
+          ∙ ap (put_all ms) (sym (put_again k d e onto) ∙ ap (λ x. put k d (put x e onto)) same)
+          ∙ put_all_later k d ms (put l e onto) lacks
+      | Greater ↦ λ o. ap (λ l. put_all l onto) (put_at k l d e ms o) ∙ put_onto k d ms (put l e onto) h.1
+    ] refl
+
+-- ---- the keys of an object that was read ascend
+
+pub rising_found : (ms : j.Members) (old found : Members) → of_members ms old ≡ Some found → Ascends old → Ascends found
+rising_found j.no_members old found e h = let same : old ≡ found = Prim.cc in subst Ascends same h
+rising_found (j.member k v ms) old found e h = let t = and_then_some _ (of_json v) found e in rising_found ms (put k t.0 old) found t.2 (ascends_put k t.0 old h)
+
+-- ---- the members of a text, added to other members
+
+of_members_onto : (ms : j.Members) (old found onto : Members) → Ascends old → of_members ms old ≡ Some found → of_members ms (put_all old onto) ≡ Some (put_all found onto)
+of_members_onto j.no_members old found onto h e = let same : old ≡ found = Prim.cc in ap (λ l. Some (put_all l onto)) same
+of_members_onto (j.member k v ms) old found onto h e =
+    let t = and_then_some _ (of_json v) found e in
+    ap (option_and_then (λ d. of_members ms (put k d (put_all old onto)))) t.1 ∙ ap (of_members ms) (sym (put_onto k t.0 old onto h)) ∙ of_members_onto ms (put k t.0 old) found onto (ascends_put k t.0 old h) t.2
+
+pub found_onto : (ms : j.Members) (found onto : Members) → of_members ms no_members ≡ Some found → of_members ms onto ≡ Some (put_all found onto)
+found_onto ms found onto e = of_members_onto ms no_members found onto tt e
+
+pub of_members-plus : (ms ns : j.Members) (old : Members) → of_members (plus ms ns) old ≡ option_and_then (of_members ns) (of_members ms old)
+of_members-plus j.no_members ns old = refl
+of_members-plus (j.member k v ms) ns old = after (of_json v) (λ d. of_members-plus ms ns (put k d old))
+  where
+    after : (o : Option Data) → ((d : Data) → of_members (plus ms ns) (put k d old) ≡ option_and_then (of_members ns) (of_members ms (put k d old)))
+        → option_and_then (λ d. of_members (plus ms ns) (put k d old)) o ≡ option_and_then (of_members ns) (option_and_then (λ d. of_members ms (put k d old)) o)
+    after None same = refl
+    after (Some d) same = same d
+
+pub both_found : (ms ns : j.Members) (found more : Members) → of_members ms no_members ≡ Some found → of_members ns no_members ≡ Some more → of_members (plus ms ns) no_members ≡ Some (put_all more found)
+both_found ms ns found more e f = of_members-plus ms ns no_members ∙ ap (option_and_then (of_members ns)) e ∙ found_onto ns more found f
+
+-- ---- an object without the key
+
+lacks_put : (q k : List ℕ) (d : Data) (ms : Members) → Lacks q (put k d ms) → (q ≡ k → ⊥) × Lacks q ms
+lacks_put q k d no_members h = (h.0, tt)
+lacks_put q k d (member l e ms) h =
+    elim (cmp k l) as (λ o. cmp k l ≡ o → Lacks q (match_ordering o (member k d (member l e ms)) (member l d ms) (member l e (put k d ms))) → (q ≡ k → ⊥) × Lacks q (member l e ms)) [
+      | Less ↦ λ o h. h
+      | Equal ↦ λ o h. ((λ e. h.0 (e ∙ exact_bytes k l o)), h)
+      | Greater ↦ λ o h. let rest = lacks_put q k d ms h.1 in (rest.0, (h.0, rest.1))
+    ] refl h
+
+pub lacks_parts : (q : List ℕ) (ms onto : Members) → Lacks q (put_all ms onto) → Lacks q ms × Lacks q onto
+lacks_parts q no_members onto h = (tt, h)
+lacks_parts q (member k d ms) onto h =
+    let rest = lacks_parts q ms (put k d onto) h in
+    let here = lacks_put q k d onto rest.1 in
+    ((here.0, rest.0), here.1)

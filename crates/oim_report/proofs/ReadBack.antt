@@ -44,7 +44,7 @@ use Rattle.oim_report.specs.Sheet.{Sheet}
 use Rattle.oim_report.specs.ReadBack.{SpellsDimension, SpellsMeasures, SpellsName, SpellsValue, decimals_given, defined_given, option_given, value_given}
 use Rattle.oim_report.specs.declared.concept_kind.ConceptKind.TheVariants.{Numeric, Text, Name}
 use Rattle.oim_report.proofs.WrittenTexts.{expands, expands_entity, name_back, entity_back}
-use Rattle.oim_report.proofs.UnitSaid.{side, spelled}
+use Rattle.oim_report.proofs.UnitSays.{side, spelled}
 
 pub record ConceptReadsBack (sheet : Sheet) (bs : List Binding) (spelled : QName → List ℕ) (n : QName) (kind : ConceptKind) : Type 0 where
   pub says : Expands bs (spelled n) n

@@ -18,7 +18,7 @@ use Rattle.serde_json.specs.declared.value.Value.{Value}
 use Rattle.oim_report.specs.Json.{any_in, any_member, members, given, text_of, Given}
 use Rattle.oim_report.specs.Namespaces.{binds_nothing, bindings_in}
 use Rattle.oim_report.specs.Info.{declarations, is_allowed_duplicates, said_level, said_reference, said_references}
-use Rattle.oim_report.proofs.LastAt.{other_key}
+use Rattle.oim_report.proofs.PutMembers.{other_key}
 
 abbrev pub bound_step : List Binding → List ℕ → Option (List ℕ) → (List Binding → Option (List Binding)) → Option (List Binding)
 bound_step bs key None more = None

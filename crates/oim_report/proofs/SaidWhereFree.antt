@@ -1,6 +1,5 @@
 -- A fact object has a valid form and denotes a fact exactly if no condition applies to it.
-use Rattle.std.proofs.Common.{◌≡◌, ℕ, List, [], ◌++◌, map, Bool, true, false, not, ◌||◌, ◌&&◌, Ok, refl, sym, ap, subst, ◌∙◌}
-use Rattle.std.specs.Prelude.{Option, Some, None, codes, if◌then◌else◌, is_none, is_some, option_and_then, option_map}
+use Rattle.std.proofs.Common.{◌≡◌, ℕ, List, [], ◌++◌, map, Bool, true, false, not, ◌||◌, ◌&&◌, Ok, refl, sym, ap, subst, ◌∙◌, Option, Some, None, codes, if◌then◌else◌, is_none, is_some, option_and_then, option_map}
 use Rattle.std.specs.Option.{option_map_or, option_to_list}
 use Rattle.std.specs.List.{filter_map, flat_map, list_any}
 use Rattle.std.specs.FinMap as map_of
@@ -30,7 +29,7 @@ use Rattle.oim_report.specs.Sheet.{Sheet, same_concept_kind}
 use Rattle.oim_report.proofs.Accepted.{EachSays, IsSaid, and_then_some, is_said, map_some}
 use Rattle.oim_report.proofs.FreeParts.{ConceptFree, ConceptSaid, DecimalsFree, EntityFree, LanguageFree, MembersFree, PeriodFree, UnitFree, ValueFree, concept_free, concept_said, decimals_free, decimals_said, entity_free, entity_said, is_misfit, is_misplaced, language_free, language_said, members_free, members_said, names_in, period_free, period_said, spelled_by, unit_free, unit_said, value_free, value_said}
 use Rattle.oim_report.proofs.LeastOf.{none_is}
-use Rattle.oim_report.proofs.NameRefusals.{AreFree, are_free, names-parts, names_append, none_refused}
+use Rattle.oim_report.proofs.SheetEntries.{AreFree, are_free, names-parts, names_append, none_refused}
 use Rattle.oim_report.proofs.ValueWords.{absent_same, defined_same, no_text_same, no_value_same, no_whole_same, seen_member, text_same, there_same, whole_of, whole_same}
 use Rattle.oim_report.proofs.Passed.{second_false}
 

@@ -36,7 +36,7 @@ use Rattle.oim_report.specs.declared.findings.part.Part.{Part}
 use Rattle.oim_report.specs.declared.findings.part.Part.TheVariants.{Nothing}
 use Rattle.oim_report.specs.Least.{least}
 use Rattle.oim_report.proofs.Naming.{stands, expanded}
-use Rattle.oim_report.proofs.RisingNames.{name_total}
+use Rattle.oim_report.proofs.SheetEntries.{name_total}
 use Rattle.oim_report.proofs.DocumentHolds.{feature_same}
 
 -- some name of the list is in the map, or is repeated in the list

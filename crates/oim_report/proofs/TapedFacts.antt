@@ -1,34 +1,125 @@
--- The facts of a piece, while they are read from a tape one after another.
-use Rattle.std.proofs.Common.{◌≡◌, ℕ, ◌≤◌, List, [], ◌∷◌, ◌++◌, Some, None, Ok, String, Global, string_bytes, refl, sym, ap, ◌∙◌, subst}
+-- Members and facts that are read from a tape.
+use Rattle.std.proofs.Common.{◌≡◌, ℕ, ◌≤◌, List, Some, None, option_and_then, refl, ap, ◌∙◌, arith, [], ◌++◌, Option, ◌∷◌, Ok, String, Global, string_bytes, sym, subst}
 use Rattle.json.specs.Token.{Token}
-use Rattle.json.specs.Json as j
-use Rattle.json.specs.Json.{Json}
+use Rattle.json.specs.Json.{Json, value, if_last, document}
+use Rattle.json.specs.Tree.{depth, members_depth, json_tokens}
 use Rattle.json.specs.Find.{BeginsWith, InMembers, NextMember}
-use Rattle.json.specs.Tree.{depth}
+use Rattle.json.specs.Lex.{tokens}
+use Rattle.json.specs.Json as j
+use Rattle.json.proofs.Printed.Trees.{value-json_tokens}
+use Rattle.json.proofs.Unique.Spelling.{value-json_tokens_back}
+use Rattle.serde_json.specs.Data.{Data, Members, no_members, put, member}
+use Rattle.serde_json.specs.Read.{of_json, of_members, max_depth}
 use Rattle.oim_dims.specs.declared.fact.Fact.{Fact}
-use Rattle.serde_json.specs.Data.{Data, Members, no_members, member}
-use Rattle.serde_json.specs.Read.{of_json}
+use Rattle.oim_report.specs.code.TapeParts.{Ascends, AreData, one}
+use Rattle.oim_report.specs.Pieces.{alone, HasMember, EndsWithBrace, IsPiece, put_all}
 use Rattle.oim_report.specs.Outcome.{fact_outcome}
 use Rattle.oim_report.specs.code.FoundFacts.{AreFound}
-use Rattle.oim_report.specs.Pieces.{HasMember}
 use Rattle.oim_report.specs.code.Pieces.{append}
 use Rattle.oim_report.specs.code.Scope.{Scope}
-use Rattle.oim_report.specs.code.TapeParts.{AreData}
+use Rattle.oim_report.proofs.PutMembers.{ascends_put}
+use Rattle.oim_report.proofs.JoinedMembers.{Reads}
+use Rattle.oim_report.proofs.PiecesInTurn.{ReadAs, has_put, has_put_all, read_back}
 use Rattle.oim_report.proofs.FoundInOrder.{found_by, found_one}
-use Rattle.oim_report.proofs.JoinedMembers.{plus}
+
+-- ---- the members of an object on a tape, while they are read one after another
+
+-- the members of `vs` before the place on the tape have been put into `ms`, which satisfies `Is`; their values nest at most n
+-- levels deep
+pub record IsReading (n : ℕ) (vs : j.Members) (tape : List Token) (Is : Members → Type 0) : Type 0 where
+  pub left : j.Members
+  pub ms : Members
+  pub here : InMembers tape left
+  pub reads : of_members vs no_members ≡ of_members left ms
+  pub rises : Ascends ms
+  pub is : Is ms
+  pub flat : members_depth left ≤ n → members_depth vs ≤ n
+
+pub begun : (n : ℕ) (vs : j.Members) (tape : List Token) (Is : Members → Type 0) → InMembers tape vs → Is no_members → IsReading n vs tape Is
+begun n vs tape Is here is = record { left = vs; ms = no_members; here = here; reads = refl; rises = tt; is = is; flat = λ h. h }
+
+pub record IsMember (n : ℕ) (key : List ℕ) (v : Json) (Is More : Members → Type 0) : Type 0 where
+  pub found : Data
+  pub reads : of_json v ≡ Some found
+  pub flat : depth v ≤ n
+  pub puts : (ms : Members) → Ascends ms → Is ms → More (put key found ms)
+
+pub one_member : (n : ℕ) (vs : j.Members) (tape rest : List Token) (Is More : Members → Type 0) (m : List ℕ × List Token) → NextMember tape (Some m) rest → ((v : Json) → BeginsWith m.1 v → IsMember n m.0 v Is More)
+    → IsReading n vs tape Is → IsReading n vs rest More
+one_member n vs tape rest Is More m next is_one r =
+    let step = next r.left r.here in
+    let v = step.0 in
+    let one = is_one v step.3 in
+    let depths : members_depth r.left ≡ members_depth (j.member m.0 v step.1) = ap members_depth step.2 in
+    let low = one.flat in
+    record {
+      left = step.1;
+      ms = put m.0 one.found r.ms;
+      here = step.4;
+      reads = r.reads ∙ ap (λ l. of_members l r.ms) step.2 ∙ ap (option_and_then (λ d. of_members step.1 (put m.0 d r.ms))) one.reads;
+      rises = ascends_put m.0 one.found r.ms r.rises;
+      is = one.puts r.ms r.rises r.is;
+      flat = λ h. r.flat (omega (arith, depths, low, h));
+    }
+
+pub record AreRead (n : ℕ) (vs : j.Members) (Is : Members → Type 0) : Type 0 where
+  pub ms : Members
+  pub reads : of_members vs no_members ≡ Some ms
+  pub is : Is ms
+  pub flat : members_depth vs ≤ n
+
+pub all_read : (n : ℕ) (vs : j.Members) (tape rest : List Token) (Is : Members → Type 0) → NextMember tape None rest → IsReading n vs tape Is → AreRead n vs Is
+all_read n vs tape rest Is next r =
+    let none : r.left ≡ j.no_members = next r.left r.here in
+    let depths : members_depth r.left ≡ 0 = ap members_depth none in
+    record { ms = r.ms; reads = r.reads ∙ ap (λ l. of_members l r.ms) none; is = r.is; flat = r.flat (omega (arith, depths)) }
+
+-- ---- a piece whose facts are read from a tape
+
+members_put : (vs : j.Members) (ms onto : Members) → AreData vs ms → of_members vs onto ≡ Some (put_all ms onto)
+members_put j.no_members no_members onto h = refl
+members_put (j.member k v vs) (member l d ms) onto h =
+    ap (option_and_then (λ x. of_members vs (put k x onto))) h.1 ∙ ap (λ q. of_members vs (put q d onto)) h.0 ∙ members_put vs ms (put l d onto) h.3
+members_put vs ms onto h = absurd h
+
+shallow : (vs : j.Members) (ms : Members) → AreData vs ms → members_depth vs ≤ 2
+shallow j.no_members no_members h = omega arith
+shallow (j.member k v vs) (member l d ms) h = let rest = shallow vs ms h.3 in let here = h.2 in omega (arith, rest, here)
+shallow vs ms h = absurd h
+
+last_only : (o : Option (Json × List Token)) (v : Json) → option_and_then (λ p. if_last p.0 p.1) o ≡ Some v → o ≡ Some (v, [])
+last_only (Some (w, [])) v e = let same : w ≡ v = Prim.cc in ap (λ x. Some (x, [])) same
+last_only o v e = absurd (Prim.cc)
+
+-- the depth is bounded because `serde_json` allows one level less than the tape
+within_levels : (text : List ℕ) (v : Json) → document text ≡ Some v → depth v ≤ max_depth → value max_depth (tokens text) ≡ Some (v, [])
+within_levels text v e levels =
+    let spelled : tokens text ≡ json_tokens v ++ [] = value-json_tokens_back j.max_depth (tokens text) [] v (last_only (value j.max_depth (tokens text)) v e) in
+    ap (value max_depth) spelled ∙ value-json_tokens v max_depth [] levels
+
+pub taped_piece : (piece : List ℕ) (vs : j.Members) (ms : Members) → EndsWithBrace piece → document (alone piece) ≡ Some (one vs) → AreData vs ms → HasMember ms → IsPiece piece (put_all ms no_members)
+taped_piece piece vs ms closed e are some =
+    let low = shallow vs ms are in
+    let reads : Reads max_depth piece vs = within_levels (alone piece) (one vs) e (omega (arith, low)) in
+    let read : ReadAs piece (put_all ms no_members) = record { ms = vs; reads = reads; gives = members_put vs ms no_members are } in
+    record { closed = closed; some = still ms some; reads = read_back piece (put_all ms no_members) read }
+  where
+    still : (ms : Members) → HasMember ms → HasMember (put_all ms no_members)
+    still no_members h = h
+    still (member k d ms) h = has_put_all ms (put k d no_members) (has_put k d no_members)
+
+-- ---- the facts of a piece, while they are read one after another
 
 -- the members of `vs` before the place on the tape are data whose identifiers and facts are `ids` and `facts`
 pub record AreReading (s : Scope) (vs : j.Members) (tape : List Token) (ids : List (String Global)) (facts : List Fact) : Type 0 where
-  pub done : j.Members
   pub left : j.Members
   pub ms : Members
-  pub splits : vs ≡ plus done left
   pub here : InMembers tape left
-  pub are : AreData done ms
+  pub are : (more : Members) → AreData left more → AreData vs (append ms more)
   pub found : AreFound s.sheet s.aliases ms ids facts
 
 pub none_reading : (s : Scope) (vs : j.Members) (tape : List Token) (ids : List (String Global)) (facts : List Fact) → ids ≡ [] → facts ≡ [] → InMembers tape vs → AreReading s vs tape ids facts
-none_reading s vs tape [] [] i f here = record { done = j.no_members; left = vs; ms = no_members; splits = refl; here = here; are = tt; found = tt }
+none_reading s vs tape [] [] i f here = record { left = vs; ms = no_members; here = here; are = λ more h. h; found = tt }
 none_reading s vs tape ids facts i f here = absurd (Prim.cc)
 
 pub record IsData (s : Scope) (v : Json) (fact : Fact) : Type 0 where
@@ -37,18 +128,13 @@ pub record IsData (s : Scope) (v : Json) (fact : Fact) : Type 0 where
   pub flat : depth v ≤ 2
   pub says : fact_outcome s.sheet s.aliases found ≡ Ok fact
 
-data_append : (vs : j.Members) (ms : Members) (k : List ℕ) (v : Json) (d : Data) → AreData vs ms → of_json v ≡ Some d → depth v ≤ 2 → AreData (plus vs (j.member k v j.no_members)) (append ms (member k d no_members))
-data_append j.no_members no_members k v d h reads flat = (refl, reads, flat, tt)
-data_append (j.member l w vs) (member m e ms) k v d h reads flat = (h.0, h.1, h.2, data_append vs ms k v d h.3 reads flat)
-data_append vs ms k v d h reads flat = absurd h
+append_more : (ms : Members) (k : List ℕ) (d : Data) (more : Members) → append (append ms (member k d no_members)) more ≡ append ms (member k d more)
+append_more no_members k d more = refl
+append_more (member l e ms) k d more = ap (member l e) (append_more ms k d more)
 
-plus_assoc : (xs : j.Members) (k : List ℕ) (v : Json) (ys : j.Members) → plus xs (j.member k v ys) ≡ plus (plus xs (j.member k v j.no_members)) ys
-plus_assoc j.no_members k v ys = refl
-plus_assoc (j.member l w xs) k v ys = ap (j.member l w) (plus_assoc xs k v ys)
-
-plus_none : (xs : j.Members) → plus xs j.no_members ≡ xs
-plus_none j.no_members = refl
-plus_none (j.member k v xs) = ap (j.member k v) (plus_none xs)
+append_none : (ms : Members) → append ms no_members ≡ ms
+append_none no_members = refl
+append_none (member k d ms) = ap (member k d) (append_none ms)
 
 pub one_read : (s : Scope) (vs : j.Members) (tape rest : List Token) (ids more_ids : List (String Global)) (facts more_facts : List Fact) (id : String Global) (fact : Fact) (m : List ℕ × List Token) → NextMember tape (Some m) rest
     → string_bytes id ≡ m.0 → more_ids ≡ ids ++ id ∷ [] → more_facts ≡ facts ++ fact ∷ [] → ((v : Json) → BeginsWith m.1 v → IsData s v fact) → AreReading s vs tape ids facts → AreReading s vs rest more_ids more_facts
@@ -58,12 +144,10 @@ one_read s vs tape rest ids more_ids facts more_facts id fact m next key i f is 
     let one = is v step.3 in
     let all = found_one s.sheet s.aliases r.ms ids facts m.0 one.found id fact r.found key one.says in
     record {
-      done = plus r.done (j.member m.0 v j.no_members);
       left = step.1;
       ms = append r.ms (member m.0 one.found no_members);
-      splits = r.splits ∙ ap (plus r.done) step.2 ∙ plus_assoc r.done m.0 v step.1;
       here = step.4;
-      are = data_append r.done r.ms m.0 v one.found r.are one.reads one.flat;
+      are = λ more h. subst (AreData vs) (sym (append_more r.ms m.0 one.found more)) (r.are (member m.0 one.found more) (subst (λ l. AreData l (member m.0 one.found more)) (sym step.2) (refl, one.reads, one.flat, h)));
       found = found_by s.sheet s.aliases (append r.ms (member m.0 one.found no_members)) (ids ++ id ∷ []) more_ids (facts ++ fact ∷ []) more_facts i f all;
     }
 
@@ -71,7 +155,7 @@ pub all_found : (s : Scope) (vs : j.Members) (tape rest : List Token) (ids : Lis
     → (ms : Members) × AreData vs ms × AreFound s.sheet s.aliases ms ids facts
 all_found s vs tape rest ids facts next r =
     let none : r.left ≡ j.no_members = next r.left r.here in
-    (r.ms, subst (λ l. AreData l r.ms) (sym (r.splits ∙ ap (plus r.done) none ∙ plus_none r.done)) r.are, r.found)
+    (r.ms, subst (AreData vs) (append_none r.ms) (r.are no_members (subst (λ l. AreData l no_members) (sym none) tt)), r.found)
 
 pub found_some : (s : Scope) (ms : Members) (ids : List (String Global)) (facts : List Fact) → AreFound s.sheet s.aliases ms ids facts → (facts ≡ [] → ⊥) → HasMember ms
 found_some s no_members [] [] h some = some refl

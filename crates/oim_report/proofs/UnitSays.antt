@@ -1,25 +1,142 @@
--- If `unit_of` returns a unit, the text denotes this unit.
-use Rattle.std.proofs.Common.{◌≡◌, ◌≢◌, ℕ, List, [], ◌∷◌, Bool, true, false, cond, Option, Some, None, refl, sym, ap, subst, ◌∙◌}
-use Rattle.std.specs.Prelude.{option_map, option_and_then}
-use Rattle.std.specs.List.{AllZip}
-use Rattle.std.specs.List.Sorted.{IsSorted}
-use Rattle.std.specs.Ordering.{is_eq}
-use Rattle.std.specs.Cmp.{Equal-is, tied_itself}
-use Rattle.oim_names.specs.QName.{QName, is_name, exact_name}
+-- The units that texts denote, and what `unit_of` returns for the texts.
+use Rattle.std.proofs.Common.{◌≡◌, ◌≢◌, ℕ, zero, suc, ◌+◌, List, [], ◌∷◌, false, refl, ap, ◌∙◌, arith, ℤ, Bool, true, not, ◌&&◌, cond, sym, Option, Some, None, subst, ◌==◌, length, IfSome, option_map, if◌then◌else◌, option_and_then, All, IsSorted, IsPermutation, is_lt, is_eq, Less, Equal, Greater, IsUtf8}
+use Rattle.std.specs.List.{AllZip, list_all, list_any, before_first}
+use Rattle.std.proofs.lemmas.Bool.{cond-true, cond-false, cond_both, and_parts}
+use Rattle.std.proofs.lemmas.Cmp.{tied_itself}
+use Rattle.std.proofs.lemmas.List.Sorted.{IsPermutation-refl, IsPermutation-cons, IsPermutation-insert, IsPermutation-trans, All-permutation, length_permutation}
+use Rattle.std.specs.Cmp.{Equal-is}
+use Rattle.std.proofs.lemmas.List.Elements.{All-cons, All-head, All-tail}
+use Rattle.oim_names.specs.QName.{QName, is_name, exact_name, prefix_part}
 use Rattle.oim_names.specs.Bindings.{Binding}
 use Rattle.oim_names.specs.Expansion.{Expands}
 use Rattle.oim_names.specs.contracts.name.NameOrd.TheImpl.Laws.{total-law as name_total}
+use Rattle.oim_names.specs.declared.reason.Reason.TheVariants.{NumberForm, NumberDigits}
 use Rattle.oim_value.specs.ValueOrder.{name_cmp}
-use Rattle.oim_dims.specs.Unit.{HasMeasures, Measures, NamesEach, UnitOf, denominator_pieces, is_unit_text, numerator_pieces, pure_alone, pure_name}
+use Rattle.oim_value.specs.Number.{Denotes, is_number, is_short, number_refusal}
+use Rattle.oim_value.specs.Units.{units_of}
+use Rattle.oim_value.specs.declared.value.Value.TheVariants.{Number}
+use Rattle.oim_value.proofs.Denoted.{denotes_units}
+use Rattle.oim_dims.specs.Unit.{Measures, NamesEach, HasMeasures, UnitOf, IsUnit, numerator_pieces, denominator_pieces, pure_name, pure_alone, is_unit_text, IsMeasure, inner, is_mark, is_piece}
+use Rattle.oim_dims.specs.Separators.{is_slash}
+use Rattle.oim_dims.proofs.SortedOnce.{sorted_once}
+use Rattle.oim_dims.proofs.Naming.{side_some, no_mark_after}
+use Rattle.oim_report.specs.Said.{all_named, in_order, side_of, unit_of, unit_with, with_name, said_unit, text_said}
 use Rattle.oim_report.specs.declared.concept_kind.ConceptKind.{ConceptKind}
 use Rattle.oim_report.specs.declared.concept_kind.ConceptKind.TheVariants.{Numeric}
+use Rattle.oim_report.specs.Json.{Given, text, absent}
 use Rattle.oim_report.specs.Fact.{SaysUnit}
-use Rattle.oim_report.specs.Json.{Given, absent, text}
 use Rattle.oim_report.specs.Names.{named}
-use Rattle.oim_report.specs.Said.{all_named, in_order, said_unit, side_of, unit_of, unit_with}
+use Rattle.oim_report.specs.FactFits.{FitsName, UnitFits}
+use Rattle.oim_report.proofs.Naming.{expanded, stands}
+use Rattle.oim_report.proofs.MemberOrder.{other_way}
 use Rattle.oim_report.proofs.Accepted.{and_then_some, map_some}
-use Rattle.oim_report.proofs.Naming.{stands}
-use Rattle.oim_report.proofs.UnitSaid.{is_ordered, order_same, sorted}
+use Rattle.oim_report.proofs.Fitting.{AreNamespaces, IsClean, bound_uri, name_fits}
+use Rattle.oim_report.proofs.Utf8Parts.{denominators_utf8, numerators_utf8}
+
+-- ---- if a text denotes a unit that satisfies `IsUnit`, `unit_of` returns this unit. For `pure` alone, `unit_of` returns
+-- `Some None`.
+
+pub with_same : (n : QName) (ms : List QName) → IsPermutation (n ∷ ms) (with_name n ms)
+with_same n [] = IsPermutation-refl (n ∷ [])
+with_same n (m ∷ ms) =
+    cond_both (is_lt (name_cmp m n)) (m ∷ with_name n ms) (n ∷ m ∷ ms) (IsPermutation (n ∷ m ∷ ms))
+    (λ after. IsPermutation-trans (n ∷ m ∷ ms) (m ∷ n ∷ ms) (m ∷ with_name n ms) (IsPermutation-insert (m ∷ ms) 1 n) (IsPermutation-cons m (n ∷ ms) (with_name n ms) (with_same n ms)))
+    (λ before. IsPermutation-refl (n ∷ m ∷ ms))
+
+pub order_same : (ns : List QName) → IsPermutation ns (in_order ns)
+order_same [] = IsPermutation-refl []
+order_same (n ∷ ns) = IsPermutation-trans (n ∷ ns) (n ∷ in_order ns) (with_name n (in_order ns)) (IsPermutation-cons n ns (in_order ns) (order_same ns)) (with_same n (in_order ns))
+
+-- no name is below the name before it
+abbrev pub from : QName → List QName → Type 0
+from x [] = Unit {0}
+from x (y ∷ ys) = (is_lt (name_cmp y x) ≡ false) × from y ys
+
+abbrev pub ordered : List QName → Type 0
+ordered [] = Unit {0}
+ordered (x ∷ xs) = from x xs
+
+from_with : (x n : QName) (ms : List QName) → from x ms → is_lt (name_cmp n x) ≡ false → from x (with_name n ms)
+from_with x n [] c h = (h, tt)
+from_with x n (m ∷ ms) c h =
+    cond_both (is_lt (name_cmp m n)) (m ∷ with_name n ms) (n ∷ m ∷ ms) (from x)
+    (λ after. (c.0, from_with m n ms c.1 (other_way m n after)))
+    (λ before. (h, (before, c.1)))
+
+ordered_with : (n : QName) (ms : List QName) → ordered ms → ordered (with_name n ms)
+ordered_with n [] c = tt
+ordered_with n (m ∷ ms) c =
+    cond_both (is_lt (name_cmp m n)) (m ∷ with_name n ms) (n ∷ m ∷ ms) ordered
+    (λ after. from_with m n ms c (other_way m n after))
+    (λ before. (before, c))
+
+pub is_ordered : (ns : List QName) → ordered (in_order ns)
+is_ordered [] = tt
+is_ordered (n ∷ ns) = ordered_with n (in_order ns) (is_ordered ns)
+
+sorted_from : (x : QName) (xs : List QName) → from x xs → IsSorted name_cmp (x ∷ xs)
+sorted_from x [] c k d low within = absurd (omega arith)
+sorted_from x (y ∷ ys) c zero d low within = c.0
+sorted_from x (y ∷ ys) c (suc k) d low within = let e : suc k + 1 ≡ suc (k + 1) = omega arith in rw e (sorted_from y ys c.1 k d (omega arith) (omega arith))
+
+pub sorted : (xs : List QName) → ordered xs → IsSorted name_cmp xs
+sorted [] c = λ k d low within. absurd (omega arith)
+sorted (x ∷ xs) c = sorted_from x xs c
+
+pub spelled : (bs : List Binding) (ps : List (List ℕ)) (ns : List QName) → AllZip (Expands bs) ps ns → all_named bs ps ≡ Some ns
+spelled bs [] [] z = refl
+spelled bs (p ∷ ps) (n ∷ ns) z = rw (expanded is_name bs p n z.0, spelled bs ps ns z.1) refl
+spelled bs ps ns z = absurd z
+
+pub side : (bs : List Binding) (ps : List (List ℕ)) (ns : List QName) → NamesEach bs ps ns → IsSorted name_cmp ns → side_of bs ps ≡ Some ns
+side bs ps ns each up =
+    ap (option_map in_order) (spelled bs ps each.spelled each.expands)
+    ∙ ap Some (sorted_once name_cmp name_total exact_name (in_order each.spelled) ns each.spelled (order_same each.spelled) each.same (sorted (in_order each.spelled) (is_ordered each.spelled)) up)
+
+both_sides : (bs : List Binding) (t : List ℕ) (m : Measures) → HasMeasures bs t m → IsSorted name_cmp m.numerators → IsSorted name_cmp m.denominators → unit_of bs t ≡ Some (unit_with m.numerators m.denominators)
+both_sides bs t m has up down =
+    rw (has.form, side bs (numerator_pieces t) m.numerators has.numerators up, side bs (denominator_pieces t) m.denominators has.denominators down) refl
+
+alone_sorted : IsSorted name_cmp (pure_name ∷ [])
+alone_sorted = sorted_from pure_name [] tt
+
+none_sorted : IsSorted name_cmp []
+none_sorted = sorted [] tt
+
+is_none : unit_with (pure_name ∷ []) [] ≡ None
+is_none = cond-true (is_eq (name_cmp pure_name pure_name)) None (Some pure_alone) (ap is_eq (tied_itself name_total pure_name))
+
+not_pure : (n : QName) → n ≢ pure_name → is_eq (name_cmp n pure_name) ≡ false
+not_pure n other =
+    elim (name_cmp n pure_name) as (λ r. name_cmp n pure_name ≡ r → is_eq r ≡ false) [
+      | Less ↦ λ e. refl
+      | Equal ↦ λ e. absurd (other (exact_name n pure_name e))
+      | Greater ↦ λ e. refl
+    ] refl
+
+other_unit : (ns ds : List QName) → let m : Measures = record { numerators = ns; denominators = ds } in m ≢ pure_alone → unit_with ns ds ≡ Some m
+other_unit (n ∷ []) [] other = cond-false _ _ _ (not_pure n (λ same. other (λ i. record { numerators = same i ∷ []; denominators = [] })))
+other_unit ns ds other = refl
+
+pub unit_is : (bs : List Binding) (t : List ℕ) (u : Option Measures) → UnitOf bs t u → IfSome u IsUnit → unit_of bs t ≡ Some u
+unit_is bs t None says is = both_sides bs t pure_alone says alone_sorted none_sorted ∙ ap Some is_none
+unit_is bs t (Some m) says is = both_sides bs t m says.0 is.numerators is.denominators ∙ ap Some (other_unit m.numerators m.denominators says.1)
+
+-- ---- the number or the unit that is read from a text is the one that the text denotes
+
+both : (number short : Bool) → cond (not number) (Some NumberForm) (cond (not short) (Some NumberDigits) None) ≡ None → (number && short) ≡ true
+both true true h = refl
+both number short h = absurd (cc)
+
+pub number_said : (bs : List Binding) (kind : ConceptKind) (t : List ℕ) (units : ℤ) (places : Option ℤ) → kind ≡ Numeric → Denotes t units → number_refusal t ≡ None → text_said bs kind places t ≡ Some (Number units places)
+number_said bs kind t units places is says none =
+    ap (λ k. text_said bs k places t) is
+    ∙ ap (λ b. if b then Some (Number (units_of t) places) else None) (both (is_number t) (is_short t) none) ∙ (λ i. Some (Number (sym (denotes_units t units says) i) places))
+
+pub unit_read : (bs : List Binding) (kind : ConceptKind) (g : Given) (t : List ℕ) (u : Option Measures) → kind ≡ Numeric → g ≡ text t → UnitOf bs t u → IfSome u IsUnit → said_unit bs kind g ≡ Some u
+unit_read bs kind g t u numeric is says sorted = (λ i. said_unit bs (numeric i) (is i)) ∙ unit_is bs t u says sorted
+
+-- ---- if `unit_of` returns a unit, the text denotes this unit
 
 each_named : (bs : List Binding) (ps : List (List ℕ)) (ns : List QName) → all_named bs ps ≡ Some ns → AllZip (Expands bs) ps ns
 each_named bs [] ns e = let same : [] ≡ ns = cc in subst (AllZip (Expands bs) []) same tt
@@ -102,3 +219,74 @@ pub unit_says : (bs : List Binding) (kind : ConceptKind) (g : Given) (u : Option
 unit_says bs kind absent u e = (let same : None ≡ u = cc in sym same)
 unit_says bs Numeric (text t) u e = unit_denoted bs t u (sides bs t u e)
 unit_says bs kind g u e = absurd (cc)
+
+-- ---- if the URIs of all bindings are namespaces, a unit that a UTF-8 text denotes satisfies `IsUnit` and fits the kind of
+-- the concept.
+
+was_false : (b : Bool) → not b ≡ true → b ≡ false
+was_false true e = absurd (cc)
+was_false false e = refl
+
+abbrev IsGood : QName → Type 0
+IsGood n = IsMeasure n × FitsName n
+
+good : (bs : List Binding) (p : List ℕ) (n : QName) → AreNamespaces bs → is_piece p ≡ true → IsUtf8 p → Expands bs p n → IsGood n
+good bs p n are piece utf8 e =
+    let uri = bound_uri bs (prefix_part p) n.uri are e.uri in
+    let plain = was_false (list_any is_mark p) (and_parts (not (length p == 0)) (not (list_any is_mark p)) piece).1 in
+    let fits = name_fits bs p n are utf8 e in
+    (record { filled = uri.0; allowed = e.allowed; form = fits.form; plain = subst (λ l. list_any is_mark l ≡ false) (sym e.local_part) (no_mark_after _ p plain) }, fits)
+
+each_good : (bs : List Binding) (ps : List (List ℕ)) (ns : List QName) → AreNamespaces bs → list_all is_piece ps ≡ true → All IsUtf8 ps → AllZip (Expands bs) ps ns → All IsGood ns
+each_good bs [] [] are pieces utf8 z = λ k d lt. absurd (omega (arith, lt))
+each_good bs (p ∷ ps) (n ∷ ns) are pieces utf8 z =
+    let both = and_parts (is_piece p) (list_all is_piece ps) pieces in
+    All-cons IsGood n ns (good bs p n are both.0 (All-head IsUtf8 p ps utf8) z.0) (each_good bs ps ns are both.1 (All-tail IsUtf8 p ps utf8) z.1)
+each_good bs ps ns are pieces utf8 z = absurd z
+
+side_good : (bs : List Binding) (ps : List (List ℕ)) (ns : List QName) → AreNamespaces bs → list_all is_piece ps ≡ true → All IsUtf8 ps → IsSide bs ps ns → All IsGood ns
+side_good bs ps ns are pieces utf8 side = All-permutation IsGood side.names.spelled ns side.names.same (each_good bs ps side.names.spelled are pieces utf8 side.names.expands)
+
+some_above : (bs : List Binding) (t : List ℕ) (ns : List QName) → IsSide bs (numerator_pieces t) ns → ns ≢ []
+unfolding numerator_pieces
+some_above bs t ns side = side_some bs (inner (before_first is_slash t)) side.names.spelled ns side.names.expands (length_permutation side.names.spelled ns side.names.same)
+
+both_good : (bs : List Binding) (t : List ℕ) (u : Option Measures) (has : HasSides bs t u) → AreNamespaces bs → IsUtf8 t → (All IsGood has.numerators) × (All IsGood has.denominators)
+both_good bs t u has are utf8 =
+    let pieces = and_parts (list_all is_piece (numerator_pieces t)) (list_all is_piece (denominator_pieces t)) has.form in
+    (side_good bs (numerator_pieces t) has.numerators are pieces.0 (numerators_utf8 t utf8) has.above, side_good bs (denominator_pieces t) has.denominators are pieces.1 (denominators_utf8 t utf8) has.below)
+
+firsts : (ns : List QName) → All IsGood ns → All IsMeasure ns
+firsts ns all k d lt = (all k d lt).0
+
+seconds : (ns : List QName) → All IsGood ns → All FitsName ns
+seconds ns all k d lt = (all k d lt).1
+
+is_unit : (bs : List Binding) (t : List ℕ) (u : Option Measures) → HasSides bs t u → AreNamespaces bs → IsUtf8 t → IfSome u IsUnit
+is_unit bs t u has are utf8 = elim has.made [
+  | alone none pure ↦ subst (λ v. IfSome v IsUnit) (sym none) tt
+  | unit some apart ↦ subst (λ v. IfSome v IsUnit) (sym some) (let both = both_good bs t u has are utf8 in record {
+    numerators = has.above.order;
+    denominators = has.below.order;
+    multiplied = firsts has.numerators both.0;
+    divided = firsts has.denominators both.1;
+    some = some_above bs t has.numerators has.above;
+    unit = apart;
+  })
+]
+
+pub unit_is_one : (bs : List Binding) (kind : ConceptKind) (g : Given) (u : Option Measures) → AreNamespaces bs → IsClean g → said_unit bs kind g ≡ Some u → IfSome u IsUnit
+unit_is_one bs kind absent u are clean e = let same : None ≡ u = cc in subst (λ v. IfSome v IsUnit) same tt
+unit_is_one bs Numeric (text t) u are clean e = is_unit bs t u (sides bs t u e) are (clean t refl)
+unit_is_one bs kind g u are clean e = absurd (cc)
+
+measures_fit : (bs : List Binding) (t : List ℕ) (u : Option Measures) → HasSides bs t u → AreNamespaces bs → IsUtf8 t → UnitFits Numeric u
+measures_fit bs t u has are utf8 = elim has.made [
+  | alone none pure ↦ subst (UnitFits Numeric) (sym none) tt
+  | unit some apart ↦ subst (UnitFits Numeric) (sym some) (let both = both_good bs t u has are utf8 in record { numerators = seconds has.numerators both.0; denominators = seconds has.denominators both.1; numeric = refl })
+]
+
+pub unit_fits : (bs : List Binding) (kind : ConceptKind) (g : Given) (u : Option Measures) → AreNamespaces bs → IsClean g → said_unit bs kind g ≡ Some u → UnitFits kind u
+unit_fits bs kind absent u are clean e = let same : None ≡ u = cc in subst (UnitFits kind) same tt
+unit_fits bs Numeric (text t) u are clean e = measures_fit bs t u (sides bs t u e) are (clean t refl)
+unit_fits bs kind g u are clean e = absurd (cc)

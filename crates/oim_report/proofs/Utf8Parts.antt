@@ -1,8 +1,6 @@
 -- If a UTF-8 text is cut at ASCII characters, its parts are UTF-8.
-use Rattle.std.proofs.Common.{◌≡◌, ℕ, ◌+◌, ◌-◌, ◌<◌, ◌≤◌, List, [], ◌∷◌, ◌++◌, length, get_or, take, drop, Bool, true, false, ◌==◌, ◌&&◌, cond, refl, sym, ap, subst, arith, length-append}
-use Rattle.std.specs.Prelude.{All}
+use Rattle.std.proofs.Common.{◌≡◌, ℕ, ◌+◌, ◌-◌, ◌<◌, ◌≤◌, List, [], ◌∷◌, ◌++◌, length, get_or, take, drop, Bool, true, false, ◌==◌, ◌&&◌, cond, refl, sym, ap, subst, arith, length-append, All, IsUtf8}
 use Rattle.std.specs.List.{after_first, before_first, join_with_byte, list_any, position_or_len}
-use Rattle.std.specs.Str.{IsUtf8}
 use Rattle.std.proofs.lemmas.Bool.{and_parts, cases_lt, eqb-true}
 use Rattle.std.proofs.lemmas.List.{drop_all, take_all}
 use Rattle.std.proofs.Common.{inl, inr}
@@ -64,10 +62,6 @@ only_slash c h = grind (arith, nat_tests, h)
 pub only_colon : OnlyAscii is_colon
 only_colon c h = grind (arith, nat_tests, h)
 
-filled : (s : List ℕ) → get_or s 0 0 ≡ 40 → 0 < length s
-filled [] e = absurd (omega (arith, e))
-filled (c ∷ cs) e = omega arith
-
 two : (s : List ℕ) → get_or s 0 0 ≡ 40 → get_or s (length s - 1) 0 ≡ 41 → 2 ≤ length s
 two [] a b = absurd (omega (arith, a))
 two (c ∷ []) a b = absurd (omega (arith, a, b))
@@ -75,9 +69,8 @@ two (c ∷ d ∷ cs) a b = omega arith
 
 inside_utf8 : (s : List ℕ) → IsUtf8 s → get_or s 0 0 ≡ 40 → get_or s (length s - 1) 0 ≡ 41 → IsUtf8 (take (length s - 1 - 1) (drop 1 s))
 inside_utf8 s utf8 open' close =
-    let some = filled s open' in
     let many = two s open' close in
-    IsUtf8-between s 1 (length s - 1) utf8 (omega (arith, many)) (IsCharBoundary-after_ascii s 0 utf8 some (omega (arith, open'))) (IsCharBoundary-before_ascii s (length s - 1) (omega (arith, many)) (omega (arith, close)))
+    IsUtf8-between s 1 (length s - 1) utf8 (omega (arith, many)) (IsCharBoundary-after_ascii s 0 utf8 (omega (arith, many)) (omega (arith, open'))) (IsCharBoundary-before_ascii s (length s - 1) (omega (arith, many)) (omega (arith, close)))
 
 inner_utf8 : (s : List ℕ) → IsUtf8 s → IsUtf8 (inner s)
 inner_utf8 s utf8 =

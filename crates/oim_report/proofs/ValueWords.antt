@@ -1,7 +1,6 @@
 -- The conditions of `Holds` test values of type `Data`, the reader tests values of type `Given`, and the tests agree.
-use Rattle.std.proofs.Common.{◌≡◌, ℕ, ℤ, pos, List, ◌∷◌, map, Bool, true, false, not, ◌&&◌, cond, refl, ap}
+use Rattle.std.proofs.Common.{◌≡◌, ℕ, ℤ, pos, List, ◌∷◌, map, Bool, true, false, not, ◌&&◌, cond, refl, ap, filter}
 use Rattle.std.specs.Prelude.{⊤, Option, Some, None, is_none, is_some, option_and_then, if◌then◌else◌}
-use Rattle.std.specs.List.{filter}
 use Rattle.std.specs.Str.{is_utf8}
 use Rattle.serde_json.specs.Data.{Data, Members, no_members, member, null, number, string, unsigned, negative}
 use Rattle.serde_json.specs.Find.{as_null}

@@ -6,7 +6,6 @@ pub mod FoundFacts
 pub mod Groups
 pub mod JsonMember
 pub mod KindLaws
-pub mod NameCache
 pub mod Pieces
 pub mod Rows
 pub mod Scope
@@ -14,5 +13,4 @@ pub mod SeenParts
 pub mod SheetCode
 pub mod TapeParts
 pub mod TextCache
-pub mod TextCaches
 pub mod UriPlaces

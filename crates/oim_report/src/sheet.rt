@@ -1,23 +1,22 @@
 pub(crate) mod kind;
-pub(crate) mod lookup;
 pub(crate) mod name_table;
-pub(crate) mod name_table_builder;
 pub(crate) mod sheet_form;
-pub(crate) mod sheet_kinds;
 
-ghost use Rattle.std.specs.Prelude.{◌≡◌, ◌⊎◌, ◌↔◌, Some, Ok, Err, IsTrue, IfOk, IfErr};
+ghost use Rattle.std.specs.Prelude.{◌≡◌, ◌⊎◌, ◌↔◌, Some, Ok, Err, IsTrue, IfOk, IfErr, IfSome, option_map};
 ghost use Rattle.std.specs.FinMap as map;
 ghost use Rattle.serde_json.specs.View.{view};
+ghost use Rattle.oim_report.specs.Json.{text as a_text};
+ghost use Rattle.oim_report.specs.Names.{named};
+ghost use Rattle.oim_report.specs.Said.{concept_kind, dimension_kind};
 ghost use Rattle.oim_report.specs.Sheet.{sheet_of, sheet_outcome};
 
 use crate::concept_kind::ConceptKind;
 use crate::dimension_kind::DimensionKind;
 use crate::document::json_tree::{object_at, read_json};
 use crate::document::namespaces::read_namespaces;
-use crate::sheet::name_table::NameTable;
+use crate::sheet::name_table::{NameTable, read_table};
 use crate::sheet::sheet_form::{check_form, check_names};
-use crate::sheet::sheet_kinds::read_table;
-use oim_names::{Name, Reason};
+use oim_names::{Aliases, Name, Reason};
 use serde_json::Value;
 use std::alloc::Global;
 use std::marker::Model;
@@ -111,4 +110,29 @@ impl Sheet {
     {
         self.concepts.same_as(&other.concepts) && self.dimensions.same_as(&other.dimensions)
     }
+}
+
+pub(crate) fn find_named_concept<'s>(
+    sheet: &'s Sheet,
+    aliases: &Aliases,
+    text: &str,
+) -> Option<(&'s Name, ConceptKind)>
+    ensures kind { option_map (λ c. c.1) result
+        ≡ concept_kind sheet.now aliases.now (a_text text.now) }
+    ensures name { IfSome result (λ c. named aliases.now text.now ≡ Some c.0.now) }
+{
+    let (uri, local) = aliases.resolve(text).ok()?;
+    sheet.concepts().find(uri, local)
+}
+
+pub(crate) fn find_dimension<'s>(
+    sheet: &'s Sheet,
+    aliases: &Aliases,
+    text: &str,
+) -> Option<(&'s Name, DimensionKind)>
+    ensures kind { option_map (λ d. d.1) result ≡ dimension_kind sheet.now aliases.now text.now }
+    ensures name { IfSome result (λ d. named aliases.now text.now ≡ Some d.0.now) }
+{
+    let (uri, local) = aliases.resolve(text).ok()?;
+    sheet.dimensions().find(uri, local)
 }

@@ -1,4 +1,4 @@
-ghost use Rattle.std.specs.Prelude.{◌≡◌, ◌⊎◌, [], Ok, Err, Some, None, IsTrue, IfOk, IfErr, IfSome, OnOk, option_map};
+ghost use Rattle.std.specs.Prelude.{◌≡◌, ◌⊎◌, [], Ok, Err, Some, None, IfOk, IfErr, IfSome, OnOk, option_map};
 ghost use Rattle.serde_json.specs.Data.{Data};
 ghost use Rattle.serde_json.specs.View.{view};
 ghost use Rattle.oim_names.specs.Bindings.{uri_at};
@@ -7,7 +7,8 @@ ghost use Rattle.oim_report.specs.code.JsonMember.{seen};
 ghost use Rattle.oim_report.specs.code.TextCache.{concept_with};
 ghost use Rattle.oim_report.specs.code.UriPlaces.{concept_in};
 ghost use Rattle.oim_report.specs.code.SeenParts.{seen_defined, seen_dimensions, seen_parts};
-ghost use Rattle.oim_report.specs.Outcome.{fact_outcome};
+ghost use Rattle.oim_report.specs.Info.{facts_of};
+ghost use Rattle.oim_report.specs.Outcome.{at, fact_outcome, facts_said};
 ghost use Rattle.oim_report.specs.Said.{concept_kind, dimension_kind, fact_of, said_concept, said_dimensions, said_member, said_members};
 ghost use Rattle.oim_report.specs.Names.{named};
 ghost use Rattle.oim_report.specs.Parts.{fact_parts};
@@ -15,16 +16,17 @@ ghost use Rattle.oim_report.specs.Parts.{fact_parts};
 use crate::concept_kind::ConceptKind;
 use crate::dimension_kind::DimensionKind;
 use crate::document::features::split;
-use crate::fact::cached::cached_name;
-use crate::fact::core_dimensions::{read_entity, read_language, read_period, read_unit};
-use crate::fact::fact_form::well_formed;
-use crate::fact::fact_parts::{DimensionParts, FactParts};
-use crate::fact::fact_value::read_value;
+use crate::document::json_tree::object_at;
+use crate::fact::fact_content::{
+    cached_entity, cached_language, cached_name, cached_period, cached_unit, read_value,
+};
+use crate::fact::fact_parts::{DimensionParts, FactParts, well_formed};
 use crate::fact::json_member::JsonMember;
-use crate::fact::text_caches::TextCaches;
+use crate::fact::text_cache::TextCaches;
 use crate::findings::fact_rows::FactInScope;
 use crate::findings::fault_list::Faults;
 use crate::place::Place;
+use crate::refusal::Refusal;
 use crate::sheet::Sheet;
 use oim_dims::{Dimensions, Fact, Member};
 use oim_names::{Aliases, Copied, Name, Reason, Text};
@@ -45,8 +47,8 @@ pub(crate) struct FactReader<'s> {
 }
 
 impl<'s> Model for FactReader<'s> {
-    ghost use Rattle.oim_report.specs.code.TextCaches.{AreTextCaches};
     ghost use Rattle.oim_report.specs.code.Scope.{Scope, scope_code};
+    ghost use Rattle.oim_report.specs.code.TextCache.{AreTextCaches};
 
     ghost Value = { Scope };
 
@@ -82,21 +84,16 @@ impl<'s> FactReader<'s> {
     pub(crate) fn turn_to(&mut self, aliases: Aliases)
         ensures { self.new ≡ record self.old { aliases = aliases } }
     {
-        if self.has_room_under(&aliases) {
+        if self.aliases.same_as(&aliases) && !self.caches.is_full() {
             return;
         }
         self.aliases = aliases;
         self.caches = TextCaches::new(self.alloc);
     }
 
-    fn has_room_under(&self, aliases: &Aliases) -> bool
-        ensures { IsTrue result → self.now.aliases ≡ aliases.now }
-    {
-        self.aliases.same_as(aliases) && !self.caches.is_full()
-    }
-
     /// Reads the JSON value of a fact. An error is the lowest-numbered condition that applies, or
-    /// `OutOfMemory`.
+    /// `OutOfMemory`. Most facts are accepted, so each part is visited once, and the lowest-numbered
+    /// condition is searched for only after an error.
     pub(crate) fn read(&mut self, object: &Value) -> Result<Fact, Reason>
         ensures same { self.new ≡ self.old }
         ensures ok { IfOk result (λ f. fact_outcome self.old.sheet self.old.aliases (view object.now) ≡ Ok f) }
@@ -104,7 +101,10 @@ impl<'s> FactReader<'s> {
             (λ r. (r ≡ Reason.OutOfMemory)
             ⊎ (fact_outcome self.old.sheet self.old.aliases (view object.now) ≡ Err r)) }
     {
-        match self.read_object(object) {
+        let Some(parts) = FactParts::of(self.alloc, object)? else {
+            return Err(self.least_fault(object));
+        };
+        match self.read_parts(&parts) {
             Ok(fact) => Ok(fact),
             Err(Reason::OutOfMemory) => Err(Reason::OutOfMemory),
             Err(_) => Err(self.least_fault(object)),
@@ -128,18 +128,6 @@ impl<'s> FactReader<'s> {
             },
             Err(_) => Reason::OutOfMemory,
         }
-    }
-
-    // Most facts are accepted, so this function visits each part once, and does not look for the
-    // lowest-numbered condition.
-    fn read_object(&mut self, object: &Value) -> Result<Fact, Reason>
-        ensures same { self.new ≡ self.old }
-        ensures ok { IfOk result (λ f. fact_outcome self.old.sheet self.old.aliases (view object.now) ≡ Ok f) }
-    {
-        let Some(parts) = FactParts::of(self.alloc, object)? else {
-            return Err(Reason::MemberForm);
-        };
-        self.read_parts(&parts)
     }
 
     /// Reads a fact from the parts of its object. An error shows only that some condition applies,
@@ -216,11 +204,11 @@ impl<'s> FactReader<'s> {
     {
         self.read_members(parts.defined.as_slice(), read)?;
         let (alloc, aliases, caches) = (self.alloc, &self.aliases, &mut self.caches);
-        read.set_period(read_period(alloc, &mut caches.periods, parts.period)?);
-        read.set_unit(read_unit(alloc, aliases, &mut caches.units, kind, parts.unit)?);
-        let language = read_language(alloc, &mut caches.languages, kind, parts.language)?;
+        read.set_period(cached_period(alloc, &mut caches.periods, parts.period)?);
+        read.set_unit(cached_unit(alloc, aliases, &mut caches.units, kind, parts.unit)?);
+        let language = cached_language(alloc, &mut caches.languages, kind, parts.language)?;
         set_language(read, language);
-        let entity = read_entity(alloc, aliases, &mut caches.entities, parts.entity)?;
+        let entity = cached_entity(alloc, aliases, &mut caches.entities, parts.entity)?;
         set_entity(read, entity);
         Ok(())
     }
@@ -252,21 +240,12 @@ impl<'s> FactReader<'s> {
         ensures said { let kind = dimension_kind self.old.sheet self.old.aliases key.now in
             IfOk result (λ d. said_member self.old.aliases kind (seen member.entry) ≡ Some d.1) }
     {
-        let Some((name, kind)) = self.find_dimension(key) else {
+        let dimensions = self.sheet.dimensions();
+        let Some((name, kind)) = self.caches.dimensions.find(dimensions, &self.aliases, key) else {
             return Err(Reason::UnknownDimension);
         };
         let member = self.read_member(kind, member)?;
         Ok((name.copied(self.alloc)?, member))
-    }
-
-    fn find_dimension(&mut self, key: &str) -> Option<(&'s Name, DimensionKind)>
-        ensures same { self.new ≡ self.old }
-        ensures kind { option_map (λ d. d.1) result
-            ≡ dimension_kind self.old.sheet self.old.aliases key.now }
-        ensures name { IfSome result (λ d. named self.old.aliases key.now ≡ Some d.0.now) }
-    {
-        let dimensions = self.sheet.dimensions();
-        self.caches.dimensions.find(dimensions, &self.aliases, key)
     }
 
     fn read_member(&mut self, kind: DimensionKind, member: JsonMember<'_>) -> Result<Member, Reason>
@@ -304,4 +283,30 @@ fn set_entity(dimensions: &mut Dimensions, entity: Option<Name>)
     if let Some(entity) = entity {
         dimensions.set_entity(entity);
     }
+}
+
+pub(crate) fn read_facts(
+    alloc: Global,
+    reader: &mut FactReader<'_>,
+    tree: &Value,
+) -> Result<Vec<Fact>, Refusal>
+    ensures same { reader.new ≡ reader.old }
+    ensures ok { let said = facts_said reader.old.sheet reader.old.aliases (facts_of (view tree.now)) in
+        IfOk result (λ facts. said ≡ Ok facts.items) }
+    ensures errors { let said = facts_said reader.old.sheet reader.old.aliases (facts_of (view tree.now)) in
+        IfErr result (λ r. (r ≡ at Place.Document Reason.OutOfMemory) ⊎ (said ≡ Err r)) }
+{
+    let Some(objects) = object_at(tree, "facts") else {
+        return Ok(Vec::new(alloc));
+    };
+    let mut facts = Vec::with_capacity(alloc, objects.len())?;
+    let mut place: u64 = 1;
+    for (_identifier, object) in objects.iter() {
+        match reader.read(object) {
+            Ok(fact) => facts.push(fact)?,
+            Err(reason) => return Err(Refusal::of_fact(reason, place)),
+        }
+        place += 1;
+    }
+    Ok(facts)
 }

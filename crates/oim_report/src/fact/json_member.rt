@@ -1,14 +1,16 @@
-ghost use Rattle.std.specs.Prelude.{◌≡◌, Some, IfSome, option_map};
+ghost use Rattle.std.specs.Prelude.{◌≡◌, ◌<◌, ◌==◌, true, false, Some, IfSome, IsTrue, length, slice_index, option_map};
 ghost use Rattle.json.specs.Find.{BeginsWith};
 ghost use Rattle.json.specs.Json.{Json};
-ghost use Rattle.serde_json.specs.Read.{number_of};
-ghost use Rattle.serde_json.specs.Data.{Num, number, string};
+ghost use Rattle.serde_json.specs.Data as tree;
+ghost use Rattle.serde_json.specs.Data.{Num, string};
+ghost use Rattle.serde_json.specs.Find.{as_integer};
+ghost use Rattle.serde_json.specs.Read.{number_of, number_from};
 ghost use Rattle.serde_json.specs.View.{view};
 ghost use Rattle.oim_report.specs.code.JsonMember.{seen};
 ghost use Rattle.oim_report.specs.code.TapeParts.{IsLeaf};
 ghost use Rattle.oim_report.specs.Json.{given, given_of, is_absent, is_no_text, text_of};
 
-use crate::fact::whole_number::whole_number;
+use fast_float::Numeral;
 use json::Element;
 use serde_json::Value;
 
@@ -60,21 +62,13 @@ impl<'a> JsonMember<'a> {
         if element.is_null() {
             return Some(JsonMember::Nil);
         }
-        JsonMember::of_number(element.as_number()?)
+        Some(JsonMember::Whole(whole_number(element.as_number()?)?))
     }
 
     fn of_text(text: &'a str) -> JsonMember<'a>
         ensures { given (string text.now) ≡ seen result }
     {
         JsonMember::Text(text)
-    }
-
-    fn of_number(digits: &str) -> Option<JsonMember<'a>>
-        ensures { IfSome result (λ m. (found : Num) × (number_of digits.now ≡ Some found)
-            × (given (number found) ≡ seen m)) }
-    {
-        let whole = whole_number(digits)?;
-        Some(JsonMember::Whole(whole))
     }
 
     pub(crate) fn text(self) -> Option<&'a str>
@@ -97,4 +91,40 @@ impl<'a> JsonMember<'a> {
     {
         !matches!(self, JsonMember::Absent | JsonMember::Text(_))
     }
+}
+
+// Returns the integer that a JSON number represents. The result is `None` for `-0`, for a number
+// with a point or an exponent, and for an integer that does not fit in 64 bits.
+fn whole_number(digits: &str) -> Option<i128>
+    ensures { IfSome result
+        (λ n. (found : Num) × (number_of digits.now ≡ Some found) × (as_integer found ≡ Some n)) }
+{
+    let bytes = digits.as_bytes();
+    if has_minus(bytes) {
+        let whole = negative(&Numeral::scan(&bytes[1..]))?;
+        Some(whole as i128)
+    } else {
+        let whole = unsigned(&Numeral::scan(bytes))?;
+        Some(whole as i128)
+    }
+}
+
+fn has_minus(bytes: &[u8]) -> bool
+    ensures value { result ≡ (slice_index bytes.now 0 == 45) }
+    ensures len { IsTrue result → 0 < length bytes.now }
+{
+    !bytes.is_empty() && bytes[0] == b'-'
+}
+
+fn negative(numeral: &Numeral<'_>) -> Option<i64>
+    ensures { IfSome result (λ n. number_from true numeral.now ≡ Some (tree.negative n)) }
+{
+    let whole = numeral.to_i64(true)?;
+    if whole < 0 { Some(whole) } else { None }
+}
+
+fn unsigned(numeral: &Numeral<'_>) -> Option<u64>
+    ensures { IfSome result (λ n. number_from false numeral.now ≡ Some (tree.unsigned n)) }
+{
+    numeral.to_u64()
 }

@@ -1,10 +1,21 @@
-ghost use Rattle.std.specs.Prelude.{◌≡◌, ℕ, List, None};
-ghost use Rattle.std.specs.Option.{option_copied};
-ghost use Rattle.oim_report.specs.code.TextCache.{Adds, meaning};
+ghost use Rattle.std.specs.Prelude.{◌≡◌, ℕ, List, Some, None, IfSome, option_map, option_copied};
+ghost use Rattle.std.specs.FinMap.{FinMap};
+ghost use Rattle.oim_names.specs.Bindings.{Binding};
+ghost use Rattle.oim_value.specs.ValueOrder.{name_cmp};
+ghost use Rattle.oim_report.specs.Names.{named};
+ghost use Rattle.oim_report.specs.Sheet.{Sheet};
+ghost use Rattle.oim_report.specs.code.TextCache.{Adds, AreTextCaches, IsNameCache, IsReached, kind_of, meaning};
 
+use crate::concept_kind::ConceptKind;
+use crate::dimension_kind::DimensionKind;
+use crate::document::features::split;
 use crate::limits::{MOST_MEANING_BYTES, MOST_MEANINGS};
+use crate::sheet::kind::Kind;
+use crate::sheet::name_table::{Group, NameTable, find_in};
+use oim_dims::{Period, Unit};
+use oim_names::{Aliases, Name, Text};
 use std::alloc::Global;
-use std::collections::HashMap;
+use std::collections::{BTreeMap, HashMap};
 
 /// A cache of texts and their meanings, so that a repeated text is not read again. The cache
 /// contains copies of the texts, so it can outlive a piece of a report.
@@ -46,5 +57,113 @@ impl<T: Drop> TextCache<T> {
         if let Ok(key) = String::from_str(self.alloc, text) {
             let _replaced = self.meanings.insert(key, value);
         }
+    }
+}
+
+/// Finds which name of a sheet a text spells, under one set of prefixes. Groups are cached by
+/// prefix, so that later names with the same prefix are found without a search by URI.
+#[derive(Drop)]
+pub(crate) struct NameCache<'s, K: Kind> {
+    alloc: Global,
+    /// The texts that spell a name of the sheet, each with the name and its kind.
+    pub(crate) texts: TextCache<(&'s Name, K)>,
+    /// The bound prefixes that were looked up, each with the sheet's group for its namespace, if
+    /// the sheet has that group.
+    pub(crate) groups: BTreeMap<String, Option<&'s Group<K>>>,
+}
+
+impl<'s, K: Kind> NameCache<'s, K> {
+    pub(crate) fn new(alloc: Global) -> Self
+        ensures { (m : FinMap name_cmp K) (bs : List Binding) → IsNameCache m bs result }
+    {
+        NameCache {
+            alloc,
+            texts: TextCache::new(alloc),
+            groups: BTreeMap::new(alloc),
+        }
+    }
+
+    pub(crate) fn find(
+        &mut self,
+        table: &'s NameTable<K>,
+        aliases: &Aliases,
+        text: &str,
+    ) -> Option<(&'s Name, K)>
+        requires known { IsNameCache table.now aliases.now self.old }
+        ensures kind { option_map (λ e. e.1) result ≡ kind_of table.now aliases.now text.now }
+        ensures name { IfSome result (λ e. named aliases.now text.now ≡ Some e.0.now) }
+        ensures known { IsNameCache table.now aliases.now self.new }
+    {
+        if let Some(known) = self.texts.find(text) {
+            return Some((known.0, known.1));
+        }
+        let Ok((_uri, local)) = aliases.resolve(text) else {
+            return None;
+        };
+        let (prefix, _local) = split(text);
+        let (name, kind) = find_in(self.group(table, aliases, prefix), local)?;
+        self.texts.add(text, (name, kind));
+        Some((name, kind))
+    }
+
+    fn group(
+        &mut self,
+        table: &'s NameTable<K>,
+        aliases: &Aliases,
+        prefix: &str,
+    ) -> Option<&'s Group<K>>
+        requires known { IsNameCache table.now aliases.now self.old }
+        ensures reached { IsReached table.now aliases.now prefix.now result }
+        ensures known { IsNameCache table.now aliases.now self.new }
+    {
+        if let Some(known) = self.groups.get(prefix) {
+            return *known;
+        }
+        let group = table.group(aliases.uri(prefix)?);
+        if let Ok(key) = String::from_str(self.alloc, prefix) {
+            let _replaced = self.groups.insert(key, group);
+        }
+        group
+    }
+}
+
+/// Caches of the meanings of texts, under one sheet and one set of prefixes.
+#[derive(Drop)]
+pub(crate) struct TextCaches<'s> {
+    pub(crate) concepts: NameCache<'s, ConceptKind>,
+    pub(crate) dimensions: NameCache<'s, DimensionKind>,
+    pub(crate) entities: TextCache<Name>,
+    pub(crate) periods: TextCache<Period>,
+    pub(crate) units: TextCache<Option<Unit>>,
+    pub(crate) languages: TextCache<Text>,
+    /// The members of explicit dimensions.
+    pub(crate) members: TextCache<Name>,
+}
+
+impl<'s> TextCaches<'s> {
+    pub(crate) fn new(alloc: Global) -> Self
+        ensures { (sheet : Sheet) (bs : List Binding) → AreTextCaches sheet bs result }
+    {
+        TextCaches {
+            concepts: NameCache::new(alloc),
+            dimensions: NameCache::new(alloc),
+            entities: TextCache::new(alloc),
+            periods: TextCache::new(alloc),
+            units: TextCache::new(alloc),
+            languages: TextCache::new(alloc),
+            members: TextCache::new(alloc),
+        }
+    }
+
+    /// Returns whether any cache of texts is full. If so, `FactReader::turn_to` replaces all
+    /// caches.
+    pub(crate) fn is_full(&self) -> bool {
+        self.concepts.texts.is_full()
+            || self.dimensions.texts.is_full()
+            || self.entities.is_full()
+            || self.periods.is_full()
+            || self.units.is_full()
+            || self.languages.is_full()
+            || self.members.is_full()
     }
 }

@@ -16,7 +16,7 @@ use crate::document::json_tree::{has_member, object_at};
 use crate::fact::fact_values::{dimension, is_no_text_or_null, text, whole};
 use crate::findings::fact_rows::FactInScope;
 use crate::findings::part::{Part, value_if};
-use crate::sheet::lookup::find_named_concept;
+use crate::sheet::find_named_concept;
 use oim_dims::{is_language, is_unit_text, read_period};
 use oim_names::Reason;
 use oim_value::{Decimals, read_fixed};

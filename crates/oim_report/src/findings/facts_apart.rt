@@ -9,8 +9,7 @@ ghost use Rattle.oim_report.specs.Report.{IsOrderOf};
 
 use crate::document::duplicates::level_within;
 use crate::document::info::read_info;
-use crate::fact::fact_reader::FactReader;
-use crate::fact::facts_reader::read_facts;
+use crate::fact::fact_reader::{FactReader, read_facts};
 use crate::order::order_of;
 use crate::sheet::Sheet;
 use oim_dims::Fact;

@@ -18,7 +18,7 @@ use crate::fact::fact_values::{dimension, text};
 use crate::findings::defined_rows::is_defined;
 use crate::findings::fact_rows::FactInScope;
 use crate::findings::part::Part;
-use crate::sheet::lookup::find_dimension;
+use crate::sheet::find_dimension;
 use oim_dims::{is_unit_text, refused_piece};
 use oim_names::{Aliases, Reason};
 use serde_json::Value;

@@ -1,9 +1,9 @@
-ghost use Rattle.std.specs.Prelude.{◌≡◌, ◌∷◌, ◌++◌, Some, IfSome, option_map};
+ghost use Rattle.std.specs.Prelude.{Some, IfSome, option_map};
 ghost use Rattle.serde_json.specs.View.{view, members_view};
 ghost use Rattle.oim_report.specs.code.Pieces.{AreBoth, IsBeside, IsEnd, IsHead, IsOutline, IsSplit, IsTail};
 
+use crate::pieces::cuts::{cut_at, strip_back, strip_front, trim_back};
 use crate::pieces::piece::read_piece;
-use crate::pieces::spaces::{strip_back, strip_front, trim_back};
 use serde_json::{Map, Value};
 use std::alloc::Global;
 
@@ -84,18 +84,10 @@ fn split_tail(text: &str, searched: usize) -> Option<(&str, Option<&str>)>
 {
     let inner = strip_front(strip_front(text, ":")?, "{")?;
     let end = guess_end(trim_back(inner)?.as_bytes(), searched);
-    let (front, rest) = cut_at_brace(inner, end)?;
+    let (front, rest) = cut_at(inner, end, "}")?;
     let facts = trim_back(front)?;
     let behind = split_end(rest)?;
     Some((facts, behind))
-}
-
-fn cut_at_brace(text: &str, at: usize) -> Option<(&str, &str)>
-    ensures { IfSome result (λ p. text.now ≡ p.0.now ++ 125 ∷ p.1.now) }
-{
-    let (front, rest) = text.split_at_checked(at)?;
-    let rest = rest.strip_prefix('}')?;
-    Some((front, rest))
 }
 
 // Returns the text of the members after `facts`, `Some(None)` if there are no such members, or
@@ -143,15 +135,11 @@ fn read_beside(
         (λ m. IsBeside (option_map (λ t. t.now) before.entry) (option_map (λ t. t.now) behind.entry) (members_view m.entries)) }
 {
     let mut buffer = String::new(alloc);
-    match before {
-        Some(before) => match behind {
-            Some(behind) => read_both(alloc, &mut buffer, before, behind),
-            None => read_piece(alloc, &mut buffer, before),
-        },
-        None => match behind {
-            Some(behind) => read_piece(alloc, &mut buffer, behind),
-            None => None,
-        },
+    match (before, behind) {
+        (Some(before), Some(behind)) => read_both(alloc, &mut buffer, before, behind),
+        (Some(before), None) => read_piece(alloc, &mut buffer, before),
+        (None, Some(behind)) => read_piece(alloc, &mut buffer, behind),
+        (None, None) => None,
     }
 }
 

@@ -1,5 +1,4 @@
-ghost use Rattle.std.specs.Prelude.{◌≡◌, true, Some, IfSome, OnSome, string_bytes};
-ghost use Rattle.serde_json.specs.Read.{read};
+ghost use Rattle.std.specs.Prelude.{◌≡◌, true, IfSome, OnSome, string_bytes};
 ghost use Rattle.serde_json.specs.View.{view, members_view};
 ghost use Rattle.oim_report.specs.Pieces.{alone, one_data, EndsWithBrace, IsPiece};
 
@@ -18,7 +17,9 @@ pub(crate) fn read_piece(
     if !ends_with_brace(piece) {
         return None;
     }
-    let members = only_object(read_alone(alloc, buffer, piece)?)?;
+    fill_alone(buffer, piece)?;
+    let value = Value::from_str(alloc, buffer.as_str()).ok()?;
+    let members = only_object(value)?;
     if members.len() == 0 {
         return None;
     }
@@ -32,13 +33,6 @@ pub(crate) fn ends_with_brace(piece: &str) -> bool
         Some(byte) => *byte == b'}',
         None => false,
     }
-}
-
-fn read_alone(alloc: Global, buffer: &mut String, piece: &str) -> Option<Value>
-    ensures { IfSome result (λ v. read (alone piece.now) ≡ Some (view v)) }
-{
-    fill_alone(buffer, piece)?;
-    Value::from_str(alloc, buffer.as_str()).ok()
 }
 
 /// Sets `buffer` to an array with one object, whose members are the piece.

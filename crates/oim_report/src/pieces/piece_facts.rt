@@ -12,14 +12,78 @@ ghost use Rattle.oim_report.specs.code.UriPlaces.{AreUriPlaces};
 use crate::document::found_facts::FoundFacts;
 use crate::fact::fact_parts::FactParts;
 use crate::fact::fact_reader::FactReader;
+use crate::limits::MOST_KEPT_BYTES;
+use crate::pieces::cuts::split_piece;
 use crate::pieces::piece::{ends_with_brace, fill_alone};
-use crate::pieces::piece_buffers::PieceBuffers;
-use json::{Element, Members, Tape};
+use json::{Element, Members, Scratch, Tape};
 use std::alloc::Global;
 
-/// Reads the facts of a piece, in the order of the text. The result is `None` if the piece cannot
-/// be read, a fact cannot be read from a tape, or a fact or a request for memory is refused.
-pub(crate) fn read_piece_facts(
+/// The text of a piece and the scratch memory of its tape. They are reused for later pieces and
+/// reports.
+#[derive(Drop)]
+pub(crate) struct PieceBuffers {
+    pub(crate) text: String,
+    pub(crate) scratch: Scratch,
+}
+
+impl PieceBuffers {
+    pub(crate) fn new(alloc: Global) -> PieceBuffers {
+        PieceBuffers {
+            text: String::new(alloc),
+            scratch: Scratch::new(alloc),
+        }
+    }
+
+    /// Frees both buffers if the capacity of the text exceeds `MOST_KEPT_BYTES`.
+    pub(crate) fn free_if_large(&mut self, alloc: Global) {
+        if self.text.capacity() > MOST_KEPT_BYTES {
+            *self = PieceBuffers::new(alloc);
+        }
+    }
+}
+
+/// Returns the facts in `text`, in byte order of their identifiers. The result is `None` if a piece
+/// cannot be read, a fact is refused, or a request for memory is refused.
+pub(crate) fn read_facts_in_pieces(
+    alloc: Global,
+    reader: &mut FactReader<'_>,
+    buffers: &mut PieceBuffers,
+    text: &str,
+    size: usize,
+) -> Option<FoundFacts>
+    ensures same { reader.new ≡ reader.old }
+    ensures found { IfSome result (λ f. (objects : tree.Members) × IsPiece text.now objects
+        × AreFound reader.old.sheet reader.old.aliases objects f.identifiers.items f.facts.items) }
+    ensures places { IfSome result (λ f. AreUriPlaces reader.old.aliases f.facts.items f.places.items) }
+{
+    let mut identifiers = Vec::new(alloc);
+    let mut facts = Vec::new(alloc);
+    let mut places = Vec::new(alloc);
+    let mut left = text;
+    for _ in 0..text.len() {
+        let (piece, rest) = split_piece(left, size);
+        let mut more = read_piece_facts(alloc, reader, buffers, piece)?;
+        identifiers.append(&mut more.identifiers).ok()?;
+        facts.append(&mut more.facts).ok()?;
+        places.append(&mut more.places).ok()?;
+        match rest {
+            Some(rest) => left = rest,
+            None => {
+                let found = FoundFacts {
+                    identifiers,
+                    facts,
+                    places,
+                };
+                return found.in_order(alloc);
+            }
+        }
+    }
+    None
+}
+
+// Reads the facts of a piece, in the order of the text. The result is `None` if the piece cannot
+// be read, a fact cannot be read from a tape, or a fact or a request for memory is refused.
+fn read_piece_facts(
     alloc: Global,
     reader: &mut FactReader<'_>,
     buffers: &mut PieceBuffers,

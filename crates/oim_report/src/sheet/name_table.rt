@@ -1,15 +1,23 @@
-ghost use Rattle.std.specs.Prelude.{◌≡◌, ◌↔◌, ℕ, List, IsTrue, IfSome, if◌then◌else◌, OnOk, OnErr, Some, None, bytes_eq, option_map, string_bytes};
-ghost use Rattle.std.specs.Option.{option_copied};
+ghost use Rattle.std.specs.Prelude.{◌≡◌, ◌⊎◌, ◌↔◌, ℕ, List, [], true, false, IsTrue, IfErr, IfOk, IfSome, if◌then◌else◌, OnOk, OnErr, Some, None, bytes_eq, option_map, string_bytes, option_copied};
 ghost use Rattle.std.specs.BTreeMap.{get_by_text};
 ghost use Rattle.std.specs.FinMap as map;
+ghost use Rattle.serde_json.specs.View.{view, members_view};
 ghost use Rattle.oim_names.specs.QName.{QName};
+ghost use Rattle.oim_report.specs.Json.{members};
+ghost use Rattle.oim_report.specs.Names.{names_refusal};
+ghost use Rattle.oim_report.specs.Sheet.{has_bad_kind, key_names, kind_in, listed};
 ghost use Rattle.oim_report.specs.code.Groups.{HasEach, IsGroup, IsGroupOf, in_group};
+ghost use Rattle.oim_report.specs.code.SheetCode.{Unfinished};
 
+use crate::document::features::split;
+use crate::fact::json_member::JsonMember;
 use crate::sheet::kind::Kind;
-use oim_names::Name;
+use oim_names::{Aliases, Name, Reason};
+use serde_json::{Map, Value};
 use std::alloc::{AllocError, Global};
 use std::collections::BTreeMap;
 use std::marker::Model;
+use std::mem::replace;
 
 /// The names of one namespace and their kinds, by local part.
 pub(crate) type Group<K> = BTreeMap<String, (Name, K)>;
@@ -130,4 +138,152 @@ fn has_kind<K: Kind>(group: Option<&Group<K>>, local: &str, kind: K) -> bool
         Some((_name, known)) => known.is(kind),
         None => false,
     }
+}
+
+/// Collects names and their kinds while the keys of an object are read. The group of the current
+/// namespace is kept apart from the other groups, so names are added to this group without
+/// comparing URIs.
+#[derive(Drop)]
+pub(crate) struct NameTableBuilder<K: Kind> {
+    alloc: Global,
+    uri: String,
+    group: Group<K>,
+    others: NameTable<K>,
+}
+
+impl<K: Kind> Model for NameTableBuilder<K> {
+    ghost use Rattle.std.specs.Prelude.{◌≡◌, ℕ, List, None, string_bytes};
+    ghost use Rattle.std.specs.FinMap as map;
+    ghost use Rattle.oim_report.specs.code.Groups.{IsGroup, with_group};
+    ghost use Rattle.oim_report.specs.code.SheetCode.{Unfinished, unfinished_code};
+
+    ghost Value = { Unfinished K };
+
+    ghost coded = { unfinished_code K.code };
+
+    ghost view = { λ g. record { uri = string_bytes g.uri; names = with_group g.group g.others } };
+
+    ghost invariant = { λ g. IsGroup (string_bytes g.uri) g.group
+        × ((l : List ℕ) → map.get g.others (record { uri = string_bytes g.uri; local_part = l }) ≡ None) };
+}
+
+impl<K: Kind> NameTableBuilder<K> {
+    pub(crate) fn new(alloc: Global) -> Self
+        ensures { result ≡ record { uri = []; names = map.empty } }
+    {
+        NameTableBuilder {
+            alloc,
+            uri: String::new(alloc),
+            group: BTreeMap::new(alloc),
+            others: NameTable::new(alloc),
+        }
+    }
+
+    pub(crate) fn turn_to(&mut self, uri: &str) -> Result<(), AllocError>
+        ensures { OnOk result (self.new ≡ record { uri = uri.now; names = self.old.names }) }
+    {
+        if self.uri.as_str() == uri {
+            return Ok(());
+        }
+        let next = String::from_str(self.alloc, uri)?;
+        let names = self.others.take(self.alloc, uri);
+        let last = replace(&mut self.uri, next);
+        let group = replace(&mut self.group, names);
+        self.others.set(last, group)
+    }
+
+    pub(crate) fn has(&self, name: &Name) -> bool
+        requires { name.now.uri ≡ self.now.uri }
+        ensures { result ≡ map.contains_key self.now.names name.now }
+    {
+        self.group.contains_key(name.local())
+    }
+
+    pub(crate) fn put(&mut self, name: Name, kind: K) -> Result<K, AllocError>
+        requires { name.uri ≡ self.old.uri }
+        ensures ok { OnOk result (self.new
+            ≡ record self.old { names = if map.contains_key self.old.names name then self.old.names else map.insert self.old.names name kind }) }
+        ensures kind { IfOk result (λ k. map.get self.new.names name ≡ Some k) }
+    {
+        match self.group.get(name.local()) {
+            Some((_name, known)) => Ok(*known),
+            None => {
+                let local = String::from_str(self.alloc, name.local())?;
+                self.group.insert(local, (name, kind))?;
+                Ok(kind)
+            }
+        }
+    }
+
+    pub(crate) fn into_table(self) -> Result<NameTable<K>, AllocError>
+        ensures { IfOk result (λ table. table ≡ self.names) }
+    {
+        let NameTableBuilder {
+            uri,
+            group,
+            mut others,
+            ..
+        } = self;
+        others.set(uri, group)?;
+        Ok(others)
+    }
+}
+
+pub(crate) fn read_table<K: Kind>(
+    alloc: Global,
+    aliases: &Aliases,
+    object: Option<&Map<String, Value>>,
+) -> Result<NameTable<K>, Reason>
+    requires { let ms = members (option_map (λ m. members_view m.now.entries) object) in
+        names_refusal aliases.now (key_names ms) ≡ None }
+    ensures listed { let ms = members (option_map (λ m. members_view m.now.entries) object.entry) in
+        IfOk result (λ l. l ≡ listed K.kind_named K.same_kind aliases.now ms) }
+    ensures kinds { let ms = members (option_map (λ m. members_view m.now.entries) object.entry) in
+        IfOk result (λ _. has_bad_kind K.kind_named K.same_kind aliases.now ms ≡ false) }
+    ensures refused { let ms = members (option_map (λ m. members_view m.now.entries) object.entry) in
+        IfErr result (λ r. (r ≡ Reason.OutOfMemory) ⊎ ((r ≡ Reason.SheetKind)
+        × (has_bad_kind K.kind_named K.same_kind aliases.now ms ≡ true))) }
+{
+    let Some(members) = object else {
+        return Ok(NameTable::new(alloc));
+    };
+    let mut gathered = NameTableBuilder::new(alloc);
+    let mut last = None;
+    for (key, value) in members.iter() {
+        let Some(kind) = kind_in::<K>(value) else {
+            return Err(Reason::SheetKind);
+        };
+        let name = aliases.expand(key.as_str())?;
+        let (prefix, _local) = split(key.as_str());
+        turn(&mut gathered, last, prefix, name.uri())?;
+        last = Some(prefix);
+        let known = gathered.put(name, kind)?;
+        if !kind.is(known) {
+            return Err(Reason::SheetKind);
+        }
+    }
+    Ok(gathered.into_table()?)
+}
+
+// Keys are in byte order, so keys with the same prefix are adjacent, and the group changes at most
+// once per prefix.
+fn turn<K: Kind>(
+    gathered: &mut NameTableBuilder<K>,
+    last: Option<&str>,
+    prefix: &str,
+    uri: &str,
+) -> Result<(), AllocError>
+    requires { IfSome last (λ p. p.now ≡ prefix.now → gathered.old.uri ≡ uri.now) }
+    ensures { OnOk result (gathered.new ≡ record { uri = uri.now; names = gathered.old.names }) }
+{
+    if last == Some(prefix) {
+        return Ok(());
+    }
+    gathered.turn_to(uri)
+}
+
+pub(crate) fn kind_in<K: Kind>(value: &Value) -> Option<K>
+    ensures { result ≡ kind_in K.kind_named K.same_kind (view value.now) }
+{
+    K::named(JsonMember::of_value(value).text()?)
 }

@@ -1,5 +1,4 @@
-ghost use Rattle.std.specs.Prelude.{◌≡◌, ◌++◌, ◌∷◌, [], option_map};
-ghost use Rattle.std.specs.List.{find};
+ghost use Rattle.std.specs.Prelude.{◌≡◌, ◌++◌, ◌∷◌, [], option_map, find};
 ghost use Rattle.std.specs.Result.{result_err};
 ghost use Rattle.serde_json.specs.View.{view, members_view};
 ghost use Rattle.oim_report.specs.Json.{members};
@@ -67,15 +66,9 @@ fn refuses_keys(aliases: &Aliases, listed: Option<&Map<String, Value>>, reason: 
     ensures { let ms = members (option_map (λ m. members_view m.now.entries) listed.entry) in
         result ≡ refuses_some reason aliases.now (key_names ms) }
 {
-    match listed {
-        Some(members) => refuses_key(aliases, members, reason),
-        None => false,
-    }
-}
-
-fn refuses_key(aliases: &Aliases, members: &Map<String, Value>, reason: Reason) -> bool
-    ensures { result ≡ refuses_some reason aliases.now (key_names (members_view members.now.entries)) }
-{
+    let Some(members) = listed else {
+        return false;
+    };
     for (key, _kind) in members.iter() {
         if is_refused(aliases, key.as_str(), reason) {
             return true;

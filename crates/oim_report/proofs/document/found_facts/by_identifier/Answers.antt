@@ -5,8 +5,7 @@ use Rattle.std.proofs.lemmas.Iterator.Adapters.{YieldsList-from_vec}
 use Rattle.std.proofs.lemmas.Iterator.Consumers.{YieldsList-end}
 use Rattle.std.proofs.lemmas.List.{map-id}
 use Rattle.oim_dims.specs.declared.fact.Fact.{Fact}
-use Rattle.oim_report.proofs.FoundInOrder.{put_entries, put_one_more, all_kept, taken_one, longer}
-use Rattle.oim_report.proofs.UriPlaces.{all_placed}
+use Rattle.oim_report.proofs.FoundInOrder.{put_entries, put_one_more, all_kept, taken_one, longer, all_placed}
 use Rattle.oim_report.proofs.document.found_facts.by_identifier.Goals as goal
 
 pub loop-identifier-init : goal.loop-identifier-init

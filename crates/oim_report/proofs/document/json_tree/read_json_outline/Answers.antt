@@ -1,7 +1,7 @@
 use Rattle.std.proofs.Common.{◌≡◌, sym, ◌∙◌, subst}
 use Rattle.std.specs.Prelude.{IsUtf8}
 use Rattle.serde_json.specs.View.{view}
-use Rattle.oim_report.proofs.DocumentInPieces.{taken_case, json_outline}
+use Rattle.oim_report.proofs.FoundInOrder.{taken_case, json_outline}
 use Rattle.oim_report.proofs.document.json_tree.read_json_outline.Goals as goal
 
 pub returns : goal.returns

@@ -1,7 +1,7 @@
 use Rattle.std.proofs.Common.{Some, ◌-◌, length, slice_get, sym, ap, ◌∙◌}
 use Rattle.std.proofs.lemmas.Bool.{eqb-true}
 use Rattle.oim_report.proofs.pieces.piece.ends_with_brace.Goals as goal
-use Rattle.oim_report.proofs.PieceEntries.{closed_last}
+use Rattle.oim_report.proofs.PiecesInTurn.{closed_last}
 
 pub returns-in-Some : goal.returns-in-Some
 returns-in-Some c e =

@@ -1,7 +1,7 @@
 use Rattle.std.proofs.Common.{◌≡◌, length, sym, ap, ◌∙◌}
 use Rattle.serde_json.specs.View.{members_view}
 use Rattle.oim_report.specs.Pieces.{one_data}
-use Rattle.oim_report.proofs.PieceEntries.{taken_object}
+use Rattle.oim_report.proofs.PiecesInTurn.{taken_object}
 use Rattle.oim_report.proofs.pieces.piece.only_object.Goals as goal
 
 pub returns-in-Some-Object : goal.returns-in-Some-Object

@@ -1,5 +1,4 @@
-use Rattle.std.proofs.Common.{◌≡◌, List, Option, Some, None, MatchOption, ap, ◌∙◌}
-use Rattle.std.specs.Prelude.{IfSome}
+use Rattle.std.proofs.Common.{◌≡◌, List, Option, Some, None, MatchOption, ap, ◌∙◌, IfSome}
 use Rattle.json.specs.Token.{Token}
 use Rattle.json.specs.Json.{Json, array, object, Items, no_items, item, Members}
 use Rattle.json.specs.Find.{InMembers, as_object}

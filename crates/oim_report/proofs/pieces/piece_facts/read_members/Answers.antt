@@ -1,14 +1,12 @@
-use Rattle.std.proofs.Common.{rules, ◌≡◌, [], ◌∷◌, ◌++◌, Some, Ok, string_bytes, refl, sym, ap, subst, ◌∙◌}
-use Rattle.std.specs.Prelude.{IfSome}
+use Rattle.std.proofs.Common.{rules, ◌≡◌, [], ◌∷◌, ◌++◌, Some, Ok, string_bytes, refl, sym, ap, subst, ◌∙◌, IfSome}
 use Rattle.serde_json.specs.Data.{Data}
 use Rattle.oim_report.specs.Outcome.{fact_outcome}
 use Rattle.oim_report.specs.Parts.{fact_parts}
 use Rattle.oim_report.specs.code.SeenParts.{seen_parts}
-use Rattle.oim_report.proofs.DocumentInPieces.{taken}
+use Rattle.oim_report.proofs.FoundInOrder.{taken, none_placed, place_read, places_push}
 use Rattle.oim_names.specs.Bindings.{uri_at}
 use Rattle.oim_report.specs.code.Scope.{Scope}
 use Rattle.oim_report.specs.code.UriPlaces.{concept_in}
-use Rattle.oim_report.proofs.UriPlaces.{none_placed, place_read, places_push}
 use Rattle.oim_report.proofs.TapedFacts.{none_reading, one_read, all_found, found_some}
 use Rattle.oim_report.proofs.pieces.piece_facts.read_members.Goals as goal
 

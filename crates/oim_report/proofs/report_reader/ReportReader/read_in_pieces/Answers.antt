@@ -1,5 +1,4 @@
-use Rattle.std.proofs.Common.{◌≡◌, Some, Ok, false, sym, ◌∙◌, subst, ap, None, option_map}
-use Rattle.std.specs.Ordering.{is_lt}
+use Rattle.std.proofs.Common.{◌≡◌, Some, Ok, false, sym, ◌∙◌, subst, ap, None, option_map, is_lt}
 use Rattle.oim_value.specs.Level.{level_cmp}
 use Rattle.serde_json.specs.View.{view}
 use Rattle.oim_report.specs.Duplicates.{level_of}
@@ -12,11 +11,9 @@ use Rattle.oim_report.specs.Outcome.{facts_said, outcome}
 use Rattle.oim_report.specs.code.Scope.{Scope}
 use Rattle.oim_report.proofs.AcceptedFacts.{facts_fit}
 use Rattle.oim_report.proofs.Documents.{bindings_are_namespaces}
-use Rattle.oim_report.proofs.DocumentInPieces.{taken, facts_same, whole_outcome}
-use Rattle.oim_report.proofs.FoundInOrder.{found_said, keys_found}
+use Rattle.oim_report.proofs.FoundInOrder.{taken, facts_same, whole_outcome, found_said, keys_found, share_uris}
 use Rattle.oim_report.proofs.KeptReferences.{references_kept}
 use Rattle.oim_report.specs.code.UriPlaces.{ShareUris}
-use Rattle.oim_report.proofs.UriPlaces.{share_uris}
 use Rattle.oim_report.proofs.report_reader.ReportReader.read_in_pieces.Goals as goal
 
 pub new-report-requires-clause-facts : goal.new-report-requires-clause-facts

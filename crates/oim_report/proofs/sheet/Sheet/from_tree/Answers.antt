@@ -1,13 +1,11 @@
-use Rattle.std.proofs.Common.{inl, inr, ⊎_elim, Err, rules, sym, ap, ◌∙◌}
+use Rattle.std.proofs.Common.{inl, inr, ⊎_elim, Err, rules, sym, ap, ◌∙◌, option_map}
 use Rattle.std.proofs.lemmas.Result.{err_from_is_err_and}
 use Rattle.std.proofs.lemmas.Bool.{or_left, or_right}
-use Rattle.std.specs.Prelude.{option_map}
 use Rattle.serde_json.specs.View.{members_view, view}
 use Rattle.oim_report.specs.Json.{members}
 use Rattle.oim_report.specs.Refusal.{unless}
 use Rattle.oim_report.specs.Sheet.{key_names, said_sheet}
-use Rattle.oim_report.proofs.NameRefusals.{names-parts}
-use Rattle.oim_report.proofs.SheetHolds.{kinds_refused, sheet_least}
+use Rattle.oim_report.proofs.SheetEntries.{names-parts, kinds_refused, sheet_least}
 use Rattle.oim_report.proofs.sheet.Sheet.from_tree.Goals as goal
 
 pub read_table-requires : goal.read_table-requires

@@ -1,14 +1,12 @@
-use Rattle.std.proofs.Common.{rules, [], ◌∷◌, map, string_bytes, refl, sym, ap, subst, ◌∙◌}
-use Rattle.std.specs.Prelude.{option_map}
+use Rattle.std.proofs.Common.{rules, [], ◌∷◌, map, string_bytes, refl, sym, ap, subst, ◌∙◌, option_map, option_copied}
 use Rattle.std.specs.List.{AllByRecursion}
 use Rattle.std.specs.Map.Iter.{deref_pair}
-use Rattle.std.specs.Option.{option_copied}
 use Rattle.std.specs.String.{string_cmp_total}
 use Rattle.std.proofs.lemmas.Bool.{false≢true}
 use Rattle.std.proofs.lemmas.List.{map-append}
 use Rattle.std.proofs.lemmas.Map.Iter.{btree_map_turn, iter_end}
 use Rattle.oim_report.specs.code.Groups.{in_group}
-use Rattle.oim_report.proofs.SameNames.{IsThere, all_push, each_there}
+use Rattle.oim_report.proofs.Grouped.{IsThere, all_push, each_there}
 use Rattle.oim_report.proofs.sheet.name_table.has_each.Goals as goal
 
 pub returns-then-not-has_kind : goal.returns-then-not-has_kind

@@ -1,8 +1,7 @@
-use Rattle.std.proofs.Common.{map, string_bytes}
+use Rattle.std.proofs.Common.{map, string_bytes, option_copied}
 use Rattle.std.specs.List.{AllByRecursion}
 use Rattle.std.specs.Map.Iter.{deref_pair}
-use Rattle.std.specs.Option.{option_copied}
-use Rattle.oim_report.proofs.SameNames.{IsThere}
+use Rattle.oim_report.proofs.Grouped.{IsThere}
 use Rattle.oim_report.proofs.sheet.name_table.has_each.Given as goal
 
 abbrev pub invariant-loop-local : goal.invariant-loop-local

@@ -4,8 +4,7 @@ use Rattle.serde_json.specs.Data.{Members, no_members}
 use Rattle.oim_report.specs.code.FoundFacts.{AreFound, rise_after}
 use Rattle.oim_report.specs.Pieces.{put_all}
 use Rattle.oim_report.specs.Sheet.{Sheet}
-use Rattle.oim_report.proofs.FoundInOrder.{rising_found, found_by, weaker}
-use Rattle.oim_report.proofs.UriPlaces.{placed_by}
+use Rattle.oim_report.proofs.FoundInOrder.{rising_found, found_by, weaker, placed_by}
 use Rattle.oim_report.specs.code.UriPlaces.{AreUriPlaces}
 use Rattle.oim_report.proofs.document.found_facts.FoundFacts.in_order.Goals as goal
 

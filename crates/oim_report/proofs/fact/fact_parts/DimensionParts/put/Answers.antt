@@ -1,8 +1,7 @@
 use Rattle.std.proofs.Common.{codes, refl, sym, ◌∙◌}
 use Rattle.oim_report.specs.code.JsonMember.{seen}
 use Rattle.oim_report.specs.code.SeenParts.{seen_dimensions}
-use Rattle.oim_report.proofs.PartsPut.{core_at}
-use Rattle.oim_report.proofs.DefinedPut.{defined_at}
+use Rattle.oim_report.proofs.PartsPut.{core_at, defined_at}
 use Rattle.oim_report.proofs.fact.fact_parts.DimensionParts.put.Goals as goal
 
 pub returns-in_default : goal.returns-in_default

@@ -1,10 +1,9 @@
-use Rattle.std.proofs.Common.{◌≡◌, ℕ, List, Bor, sym, ap, ◌∙◌}
+use Rattle.std.proofs.Common.{◌≡◌, ℕ, List, Bor, sym, ap, ◌∙◌, insert}
 use Rattle.oim_report.specs.declared.fact.json_member.JsonMember.{JsonMember}
-use Rattle.std.specs.List.{insert}
 use Rattle.oim_report.specs.ReadBack.{with_given}
 use Rattle.oim_report.specs.code.JsonMember.{seen}
 use Rattle.oim_report.specs.code.SeenParts.{seen_defined}
-use Rattle.oim_report.proofs.DefinedPut.{seen_insert, if_inserted, on_some}
+use Rattle.oim_report.proofs.PartsPut.{seen_insert, if_inserted, on_some}
 use Rattle.oim_report.proofs.fact.fact_parts.DimensionParts.put_defined.Goals as goal
 
 pub returns-clause-defined : goal.returns-clause-defined

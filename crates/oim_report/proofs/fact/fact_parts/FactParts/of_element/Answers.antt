@@ -2,7 +2,7 @@ use Rattle.std.proofs.Common.{Some, option_map, sym, ap, ◌∙◌, arith}
 use Rattle.json.specs.Tree.{depth}
 use Rattle.serde_json.specs.Data.{object}
 use Rattle.serde_json.specs.Read.{of_json}
-use Rattle.oim_report.proofs.MembersInTurn.{begun, one_member, all_read}
+use Rattle.oim_report.proofs.TapedFacts.{begun, one_member, all_read}
 use Rattle.oim_report.proofs.fact.fact_parts.FactParts.of_element.Goals as goal
 
 pub loop-key-init : goal.loop-key-init

@@ -3,7 +3,7 @@ use Rattle.json.specs.Json as j
 use Rattle.json.specs.Find.{InMembers}
 use Rattle.oim_report.specs.code.SeenParts.{seen_parts}
 use Rattle.oim_report.specs.code.TapeParts.{IsSoFar}
-use Rattle.oim_report.proofs.MembersInTurn.{IsReading}
+use Rattle.oim_report.proofs.TapedFacts.{IsReading}
 use Rattle.oim_report.proofs.fact.fact_parts.FactParts.of_element.Given as goal
 
 abbrev pub invariant-loop-key : goal.invariant-loop-key

@@ -1,5 +1,4 @@
-use Rattle.std.proofs.Common.{◌≡◌, List, [], ◌∷◌, ◌++◌, map, slice_get, inr, refl, sym, ap, ◌∙◌}
-use Rattle.std.specs.Prelude.{option_copied}
+use Rattle.std.proofs.Common.{◌≡◌, List, [], ◌∷◌, ◌++◌, map, slice_get, inr, refl, sym, ap, ◌∙◌, option_copied}
 use Rattle.serde_json.specs.View.{view}
 use Rattle.oim_report.specs.declared.place.Place.TheVariants.{Document}
 use Rattle.oim_report.specs.declared.refusal.Refusal.{Refusal}

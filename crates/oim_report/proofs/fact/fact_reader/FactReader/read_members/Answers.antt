@@ -3,8 +3,7 @@ use Rattle.std.proofs.lemmas.Bool.{false_from_ne_true}
 use Rattle.oim_dims.specs.DimensionSet.{repeats}
 use Rattle.oim_report.specs.Names.{named}
 use Rattle.oim_report.specs.Said.{dimension_kind, said_member}
-use Rattle.oim_report.proofs.InTurn.{found_more, put_in_order}
-use Rattle.oim_report.proofs.MemberLists.{seen_item}
+use Rattle.oim_report.proofs.MembersSay.{found_more, put_in_order, seen_item}
 use Rattle.oim_report.proofs.fact.fact_reader.FactReader.read_members.Goals as goal
 
 pub loop-key-preserved : goal.loop-key-preserved

@@ -1,5 +1,5 @@
 use Rattle.std.proofs.Common.{◌≡◌, ◌≤◌, length, vec_len, vec_capacity}
-use Rattle.oim_report.proofs.InTurn.{AreFound}
+use Rattle.oim_report.proofs.MembersSay.{AreFound}
 use Rattle.oim_report.proofs.fact.fact_reader.FactReader.read_members.Given as goal
 
 abbrev pub invariant-loop-key : goal.invariant-loop-key

@@ -1,5 +1,4 @@
-use Rattle.std.proofs.Common.{◌≡◌, List, Some, Result, Ok, Err}
-use Rattle.std.specs.Prelude.{IfOk}
+use Rattle.std.proofs.Common.{◌≡◌, List, Some, Result, Ok, Err, IfOk}
 use Rattle.serde_json.specs.Data.{Data}
 use Rattle.oim_names.specs.Bindings.{Binding}
 use Rattle.oim_names.specs.declared.reason.Reason.{Reason}
@@ -10,7 +9,7 @@ use Rattle.oim_report.specs.Said.{fact_of}
 use Rattle.oim_report.specs.Sheet.{Sheet}
 use Rattle.oim_report.specs.code.SeenParts.{seen_dimensions, seen_parts}
 use Rattle.oim_report.proofs.SaidWhereFree.{said_outcome}
-use Rattle.oim_report.proofs.UriPlaces.{concept_read}
+use Rattle.oim_report.proofs.FoundInOrder.{concept_read}
 use Rattle.oim_report.proofs.fact.fact_reader.FactReader.read_parts.Goals as goal
 
 as_said : (sheet : Sheet) (bs : List Binding) (p : FactParts) (ds : DimensionParts) (read : Result Fact Reason) → HasForm p ds → IfOk read (λ f. fact_of sheet bs p ds ≡ Some f)

@@ -1,5 +1,4 @@
-use Rattle.std.proofs.Common.{sym, subst}
-use Rattle.std.specs.Option.{option_copied}
+use Rattle.std.proofs.Common.{sym, subst, option_copied}
 use Rattle.oim_report.specs.code.Groups.{IsGroupOf}
 use Rattle.oim_report.proofs.Grouped.{is_group_of, map_of}
 use Rattle.oim_report.proofs.sheet.name_table.NameTable.group.Goals as goal

@@ -1,13 +1,12 @@
-use Rattle.std.proofs.Common.{rules, [], ◌∷◌, map, string_bytes, refl, sym, ap, subst, ◌∙◌}
+use Rattle.std.proofs.Common.{rules, [], ◌∷◌, map, string_bytes, refl, sym, ap, subst, ◌∙◌, option_copied}
 use Rattle.std.specs.List.{AllByRecursion}
-use Rattle.std.specs.Option.{option_copied}
 use Rattle.std.specs.Map.Iter.{deref_pair}
 use Rattle.std.specs.String.{string_cmp_total}
 use Rattle.std.specs.FinMap as finmap
 use Rattle.std.proofs.lemmas.Bool.{false≢true}
 use Rattle.std.proofs.lemmas.List.{map-append}
 use Rattle.std.proofs.lemmas.Map.Iter.{btree_map_turn, iter_end}
-use Rattle.oim_report.proofs.SameNames.{HasGroup, all_push, all_within, group_has, group_within, has_group}
+use Rattle.oim_report.proofs.Grouped.{HasGroup, all_push, all_within, group_has, group_within, has_group}
 use Rattle.oim_report.proofs.sheet.name_table.NameTable.is_within.Goals as goal
 
 pub returns-then-not-has_each : goal.returns-then-not-has_each

@@ -1,7 +1,7 @@
 use Rattle.std.proofs.Common.{map, string_bytes}
 use Rattle.std.specs.List.{AllByRecursion}
 use Rattle.std.specs.Map.Iter.{deref_pair}
-use Rattle.oim_report.proofs.SameNames.{HasGroup}
+use Rattle.oim_report.proofs.Grouped.{HasGroup}
 use Rattle.oim_report.proofs.sheet.name_table.NameTable.is_within.Given as goal
 
 abbrev pub invariant-loop-uri : goal.invariant-loop-uri

@@ -1,6 +1,6 @@
 use Rattle.std.proofs.Common.{ap, ◌∙◌}
 use Rattle.std.specs.FinMap as map
-use Rattle.oim_report.proofs.SameNames.{within_both}
+use Rattle.oim_report.proofs.Grouped.{within_both}
 use Rattle.oim_report.proofs.sheet.name_table.NameTable.same_as.Goals as goal
 
 pub returns-then-is_within : goal.returns-then-is_within

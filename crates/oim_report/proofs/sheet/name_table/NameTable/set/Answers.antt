@@ -1,8 +1,7 @@
-use Rattle.std.proofs.Common.{ap, cond, string_bytes, ◌∙◌}
-use Rattle.std.specs.Prelude.{bytes_eq, option_map}
+use Rattle.std.proofs.Common.{Some, ap, cond, string_bytes, ◌∙◌, bytes_eq, option_map}
 use Rattle.std.specs.BTreeMap.{get_by_text}
 use Rattle.std.specs.FinMap as map
-use Rattle.oim_report.proofs.Grouped.{are_still, are_with, get_after, name}
+use Rattle.oim_report.proofs.Grouped.{are_still, are_with, get_updated, name}
 use Rattle.oim_report.proofs.sheet.name_table.NameTable.set.Goals as goal
 
 pub invariant_of-self : goal.invariant_of-self
@@ -16,5 +15,5 @@ returns-clause-ok g c u l =
     let t = string_bytes c.args.uri in
     let gs = c.self.inside.groups in
     let after = are_with gs c.insert.new.self c.args.uri c.args.group c.self.invariant c.requires c.in_ok-insert.ensures.entries c.insert.ensures.ordered in
-    get_after gs c.insert.new.self t u l c.args.group c.self.invariant after c.in_ok-insert.ensures.updates
+    get_updated gs c.insert.new.self t u l (Some c.args.group) c.self.invariant after c.in_ok-insert.ensures.updates
     ∙ ap (λ m. cond (bytes_eq t u) (option_map (λ e. e.1) (get_by_text c.args.group l)) (map.get m (name u l))) c.self.view_is

@@ -1,9 +1,8 @@
-use Rattle.std.proofs.Common.{None, cond, sym, subst, ap, ◌∙◌}
-use Rattle.std.specs.Prelude.{IfSome, bytes_eq, option_map}
+use Rattle.std.proofs.Common.{None, cond, sym, subst, ap, ◌∙◌, IfSome, bytes_eq, option_map}
 use Rattle.std.specs.BTreeMap.{get_by_text}
 use Rattle.std.specs.FinMap as map
 use Rattle.oim_report.specs.code.Groups.{IsGroup, in_group}
-use Rattle.oim_report.proofs.Grouped.{are_without, get_grouped, get_without, is_group, name, or_empty_kinds, or_empty_named}
+use Rattle.oim_report.proofs.Grouped.{are_without, get_grouped, get_updated, is_group, name, or_empty_kinds, or_empty_named}
 use Rattle.oim_report.proofs.sheet.name_table.NameTable.take.Goals as goal
 
 pub invariant_of-self : goal.invariant_of-self
@@ -28,4 +27,4 @@ returns-clause-others g c u l =
     let t = c.args.uri.now in
     let gs = c.self.inside.groups in
     let after = are_without gs c.remove.new.self _ c.self.invariant c.remove.ensures.entries c.remove.ensures.ordered in
-    get_without gs c.remove.new.self t u l c.self.invariant after c.remove.ensures.updates ∙ ap (λ m. cond (bytes_eq t u) None (map.get m (name u l))) c.self.view_is
+    get_updated gs c.remove.new.self t u l None c.self.invariant after c.remove.ensures.updates ∙ ap (λ m. cond (bytes_eq t u) None (map.get m (name u l))) c.self.view_is

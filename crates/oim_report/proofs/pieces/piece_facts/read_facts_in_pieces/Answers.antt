@@ -1,0 +1,73 @@
+use Rattle.std.proofs.Common.{rules, ◌≡◌, ◌++◌, List, option_map, subst, refl, ap, ◌∙◌}
+use Rattle.oim_names.specs.Bindings.{Binding}
+use Rattle.serde_json.specs.Data.{Members, no_members}
+use Rattle.oim_report.specs.code.FoundFacts.{AreFound}
+use Rattle.oim_report.specs.Pieces.{IsPiece, put_all}
+use Rattle.oim_report.specs.code.Pieces.{with_rest, append}
+use Rattle.oim_report.specs.Sheet.{Sheet}
+use Rattle.oim_report.proofs.FoundInOrder.{none_found, found_append, found_by, weaker, none_placed, placed_by, places_append}
+use Rattle.oim_report.specs.code.Scope.{Scope}
+use Rattle.oim_report.specs.code.UriPlaces.{AreUriPlaces}
+use Rattle.oim_report.proofs.PiecesInTurn.{one_more, last_one}
+use Rattle.oim_report.proofs.pieces.piece_facts.read_facts_in_pieces.Goals as goal
+
+pub loop-init : goal.loop-init
+loop-init c =
+    let sheet = c.args.reader.now.sheet in
+    let bs = c.args.reader.now.aliases in
+    (search rules, no_members, refl, none_found sheet bs _ _ c.new-identifiers.ensures.items c.new-facts.ensures.items, refl, none_placed bs _ _ c.new-facts.ensures.items c.new-places.ensures.items)
+
+pub returns-in-None-clause-found : goal.returns-in-None-clause-found
+returns-in-None-clause-found c =
+    let sheet = c.args.reader.now.sheet in
+    let bs = c.args.reader.now.aliases in
+    let read = c.in_ok-more.ensures.found in
+    let new = read.0 in
+    let more = c.in_ok-more.more in
+    let objects = c.loop.invariant.1 in
+    let piece = c.split_piece.result.0.now in
+    let splits : c.loop.left.now ≡ with_rest piece (option_map (λ r. r.now) c.split_piece.result.1) = c.split_piece.ensures in
+    let next = splits ∙ ap (λ r. with_rest piece (option_map (λ r. r.now) r)) c.in-None.is in
+    let pushed : c.append.new.self.items ≡ c.loop.identifiers.items ++ more.identifiers.items = search rules in
+    let added : c.append-in-loop.new.self.items ≡ c.loop.facts.items ++ more.facts.items = search rules in
+    let more_found = subst (λ r. AreFound r.sheet r.aliases new more.identifiers.items more.facts.items) c.loop.invariant.4 read.2 in
+    let found = found_by sheet bs _ _ _ _ _ pushed added (found_append sheet bs objects new c.loop.identifiers.items more.identifiers.items c.loop.facts.items more.facts.items c.loop.invariant.3 more_found) in
+    weaker c.in_order.result
+    (λ f. (s : Sheet) (b : List Binding) (ms : Members) → AreFound s b ms c.append.new.self.items c.append-in-loop.new.self.items → AreFound s b (put_all ms no_members) f.identifiers.items f.facts.items)
+    (λ f. (ms : Members) × IsPiece c.args.text.now ms × AreFound sheet bs ms f.identifiers.items f.facts.items)
+    c.in_order.ensures.found
+    (λ f h. (put_all (append objects new) no_members, last_one c.args.text.now c.loop.left.now piece objects new c.loop.invariant.2 next read.1, h sheet bs (append objects new) found))
+
+pub returns-in-None-clause-places : goal.returns-in-None-clause-places
+returns-in-None-clause-places c =
+    let bs = c.args.reader.now.aliases in
+    let more = c.in_ok-more.more in
+    let added : c.append-in-loop.new.self.items ≡ c.loop.facts.items ++ more.facts.items = search rules in
+    let placed : c.append-in-loop-2.new.self.items ≡ c.loop.places.items ++ more.places.items = search rules in
+    let new = subst (λ (r : Scope). AreUriPlaces r.aliases more.facts.items more.places.items) c.loop.invariant.4 c.in_ok-more.ensures.places in
+    let all = placed_by bs _ _ _ _ added placed (places_append bs c.loop.facts.items more.facts.items c.loop.places.items more.places.items c.loop.invariant.5 new) in
+    weaker c.in_order.result
+    (λ f. (b : List Binding) → AreUriPlaces b c.append-in-loop.new.self.items c.append-in-loop-2.new.self.items → AreUriPlaces b f.facts.items f.places.items)
+    (λ f. AreUriPlaces bs f.facts.items f.places.items)
+    c.in_order.ensures.places
+    (λ f h. h bs all)
+
+pub loop-preserved : goal.loop-preserved
+loop-preserved c =
+    let sheet = c.args.reader.now.sheet in
+    let bs = c.args.reader.now.aliases in
+    let read = c.in_ok-more.ensures.found in
+    let new = read.0 in
+    let more = c.in_ok-more.more in
+    let objects = c.loop.invariant.1 in
+    let piece = c.split_piece.result.0.now in
+    let splits : c.loop.left.now ≡ with_rest piece (option_map (λ r. r.now) c.split_piece.result.1) = c.split_piece.ensures in
+    let next = splits ∙ ap (λ r. with_rest piece (option_map (λ r. r.now) r)) c.in-Some.is in
+    let pushed : c.append.new.self.items ≡ c.loop.identifiers.items ++ more.identifiers.items = search rules in
+    let added : c.append-in-loop.new.self.items ≡ c.loop.facts.items ++ more.facts.items = search rules in
+    let more_found = subst (λ r. AreFound r.sheet r.aliases new more.identifiers.items more.facts.items) c.loop.invariant.4 read.2 in
+    let found = found_by sheet bs _ _ _ _ _ pushed added (found_append sheet bs objects new c.loop.identifiers.items more.identifiers.items c.loop.facts.items more.facts.items c.loop.invariant.3 more_found) in
+    let placed : c.append-in-loop-2.new.self.items ≡ c.loop.places.items ++ more.places.items = search rules in
+    let more_placed = subst (λ (r : Scope). AreUriPlaces r.aliases more.facts.items more.places.items) c.loop.invariant.4 c.in_ok-more.ensures.places in
+    let places = placed_by bs _ _ _ _ added placed (places_append bs c.loop.facts.items more.facts.items c.loop.places.items more.places.items c.loop.invariant.5 more_placed) in
+    (search rules, append objects new, one_more c.args.text.now c.loop.left.now piece c.in-Some.rest.now objects new c.loop.invariant.2 next read.1, found, c.read_piece_facts.ensures.same ∙ c.loop.invariant.4, places)

@@ -1,9 +1,0 @@
-use Rattle.std.proofs.Common.{◌≡◌}
-use Rattle.serde_json.specs.View.{members_view}
-use Rattle.oim_report.specs.Names.{refuses_some}
-use Rattle.oim_report.specs.Sheet.{key_names}
-use Rattle.oim_report.proofs.sheet.sheet_form.refuses_key.Given as goal
-
-abbrev pub invariant-loop-key : goal.invariant-loop-key
-invariant-loop-key l =
-    refuses_some l.reason l.aliases (key_names (members_view l.key-iterator)) ≡ refuses_some l.reason l.aliases (key_names (members_view l.members.entries))

@@ -1,0 +1,191 @@
+//! Reads the value, entity, period, unit and language of a fact. An error other than `OutOfMemory`
+//! shows only that some condition applies, not which one.
+//!
+//! A text that a cache lacks is read and, if it is accepted, passed to `TextCache::add`. A condition
+//! that needs more than the text, such as `UnitOnOther`, is tested for each fact.
+
+ghost use Rattle.std.specs.Prelude.{◌≡◌, Some, IfOk};
+ghost use Rattle.oim_names.specs.Expansion.{Expands, ExpandsEntity};
+ghost use Rattle.oim_report.specs.Json.{whole};
+ghost use Rattle.oim_report.specs.Said.{said_decimals, said_entity, said_language, said_period, said_unit, said_value, text_said};
+ghost use Rattle.oim_report.specs.code.JsonMember.{seen};
+ghost use Rattle.oim_report.specs.code.TextCache.{IsTextCache, TextSaysLanguage, TextSaysPeriod, TextSaysUnit};
+
+use crate::concept_kind::ConceptKind;
+use crate::fact::json_member::JsonMember;
+use crate::fact::text_cache::TextCache;
+use oim_dims::{Period, Unit, read_language, read_period, read_unit};
+use oim_names::{Aliases, Copied, Name, Reason, Text};
+use oim_value::{Decimals, Value, read_fixed};
+use std::alloc::Global;
+
+pub(crate) fn cached_name(
+    alloc: Global,
+    aliases: &Aliases,
+    names: &mut TextCache<Name>,
+    text: &str,
+) -> Result<Name, Reason>
+    requires known { IsTextCache (Expands aliases.now) names.old }
+    ensures ok { IfOk result (Expands aliases.now text.now) }
+    ensures known { IsTextCache (Expands aliases.now) names.new }
+{
+    if let Some(known) = names.find(text) {
+        return Ok(known.copied(alloc)?);
+    }
+    let name = aliases.expand(text)?;
+    names.add(text, name.copied(alloc)?);
+    Ok(name)
+}
+
+pub(crate) fn cached_entity(
+    alloc: Global,
+    aliases: &Aliases,
+    entities: &mut TextCache<Name>,
+    entity: JsonMember<'_>,
+) -> Result<Option<Name>, Reason>
+    requires known { IsTextCache (ExpandsEntity aliases.now) entities.old }
+    ensures said { IfOk result (λ read. said_entity aliases.now (seen entity.entry) ≡ Some read) }
+    ensures known { IsTextCache (ExpandsEntity aliases.now) entities.new }
+{
+    match entity {
+        JsonMember::Absent => Ok(None),
+        JsonMember::Text(text) => {
+            if let Some(known) = entities.find(text) {
+                return Ok(Some(known.copied(alloc)?));
+            }
+            let read = aliases.expand_entity(text)?;
+            entities.add(text, read.copied(alloc)?);
+            Ok(Some(read))
+        }
+        _ => Err(Reason::MemberForm),
+    }
+}
+
+pub(crate) fn cached_period(
+    alloc: Global,
+    periods: &mut TextCache<Period>,
+    period: JsonMember<'_>,
+) -> Result<Period, Reason>
+    requires known { IsTextCache TextSaysPeriod periods.old }
+    ensures said { IfOk result (λ read. said_period (seen period.entry) ≡ Some read) }
+    ensures known { IsTextCache TextSaysPeriod periods.new }
+{
+    match period {
+        JsonMember::Absent => Ok(Period::Forever),
+        JsonMember::Text(text) => {
+            if let Some(known) = periods.find(text) {
+                return Ok(*known);
+            }
+            let read = read_period(alloc, text);
+            if let Ok(period) = &read {
+                periods.add(text, *period);
+            }
+            read
+        }
+        _ => Err(Reason::MemberForm),
+    }
+}
+
+pub(crate) fn cached_unit(
+    alloc: Global,
+    aliases: &Aliases,
+    units: &mut TextCache<Option<Unit>>,
+    kind: ConceptKind,
+    unit: JsonMember<'_>,
+) -> Result<Option<Unit>, Reason>
+    requires known { IsTextCache (TextSaysUnit aliases.now) units.old }
+    ensures said { IfOk result (λ read. said_unit aliases.now kind (seen unit.entry) ≡ Some read) }
+    ensures known { IsTextCache (TextSaysUnit aliases.now) units.new }
+{
+    match (kind, unit) {
+        (_, JsonMember::Absent) => Ok(None),
+        (ConceptKind::Numeric, JsonMember::Text(text)) => {
+            if let Some(known) = units.find(text) {
+                return Ok(Copied::copied(known, alloc)?);
+            }
+            let read = read_unit(alloc, aliases, text)?;
+            units.add(text, Copied::copied(&read, alloc)?);
+            Ok(read)
+        }
+        _ => Err(Reason::UnitOnOther),
+    }
+}
+
+#[tactic(auto, using(crate::proofs::TextCacheAdds::still))]
+pub(crate) fn cached_language(
+    alloc: Global,
+    languages: &mut TextCache<Text>,
+    kind: ConceptKind,
+    language: JsonMember<'_>,
+) -> Result<Option<Text>, Reason>
+    requires known { IsTextCache TextSaysLanguage languages.old }
+    ensures said { IfOk result (λ read. said_language kind (seen language.entry) ≡ Some read) }
+    ensures known { IsTextCache TextSaysLanguage languages.new }
+{
+    match (kind, language) {
+        (_, JsonMember::Absent) => Ok(None),
+        (ConceptKind::Text | ConceptKind::Name, JsonMember::Text(text)) => {
+            if let Some(known) = languages.find(text) {
+                return Ok(Some(known.copied(alloc)?));
+            }
+            let read = read_language(alloc, text)?;
+            languages.add(text, read.copied(alloc)?);
+            Ok(Some(read))
+        }
+        _ => Err(Reason::LanguageOnNumeric),
+    }
+}
+
+pub(crate) fn read_value(
+    alloc: Global,
+    aliases: &Aliases,
+    kind: ConceptKind,
+    value: JsonMember<'_>,
+    decimals: JsonMember<'_>,
+) -> Result<Value, Reason>
+    ensures said { IfOk result
+        (λ v. said_value aliases.now kind (seen value.entry) (seen decimals.entry) ≡ Some v) }
+{
+    let places = read_decimals(kind, decimals)?;
+    match value {
+        JsonMember::Nil => Ok(Value::Nil),
+        JsonMember::Text(text) => read_text(alloc, aliases, kind, places, text),
+        _ => Err(Reason::ValueForm),
+    }
+}
+
+fn read_text(
+    alloc: Global,
+    aliases: &Aliases,
+    kind: ConceptKind,
+    places: Decimals,
+    text: &str,
+) -> Result<Value, Reason>
+    ensures { IfOk result (λ v. text_said aliases.now kind places text.now ≡ Some v) }
+{
+    match kind {
+        ConceptKind::Numeric => Ok(Value::Number(read_fixed(text)?, places)),
+        ConceptKind::Text => Ok(Value::Text(Text::new(alloc, text)?)),
+        ConceptKind::Name => Ok(Value::Name(aliases.expand(text)?)),
+    }
+}
+
+// A number without decimals is exact.
+fn read_decimals(kind: ConceptKind, decimals: JsonMember<'_>) -> Result<Decimals, Reason>
+    ensures { IfOk result (λ read. said_decimals kind (seen decimals.entry) ≡ Some read) }
+{
+    match (kind, decimals) {
+        (_, JsonMember::Absent) => Ok(Decimals::INFINITE),
+        (ConceptKind::Numeric, JsonMember::Whole(number)) => read_whole(number),
+        _ => Err(Reason::DecimalsForm),
+    }
+}
+
+fn read_whole(number: i128) -> Result<Decimals, Reason>
+    ensures { IfOk result (λ read. said_decimals ConceptKind.Numeric (whole number) ≡ Some read) }
+{
+    match i64::try_from(number) {
+        Ok(number) => Decimals::finite(number),
+        Err(_) => Err(Reason::DecimalsRange),
+    }
+}
