@@ -1,33 +1,92 @@
--- Each replica that exchanges texts has the base of the accepted reports that reached it since its last restart.
-use Rattle.std.proofs.Common.{◌≡◌, ℕ, zero, suc, ◌-◌, List, [], ◌∷◌, ◌++◌, map, length, get_or, set, replicate, Result, Ok, Err, Option, Some, None, refl, sym, ap, subst, ◌∙◌}
-use Rattle.std.proofs.lemmas.List.{map-set, length-set}
-use Rattle.std.proofs.Math.ListN.{get_or-map}
+-- Each replica that exchanges texts has the base, and says the same, as a new merge of the accepted reports that reached it since its
+-- last restart.
+use Rattle.std.proofs.Common.{◌≡◌, ℕ, List, [], ◌++◌, Result, Ok, Err, refl, sym, ap, ◌∙◌, ⊎_elim, zero, suc, ◌-◌, ◌∷◌, map, length, get_or, set, replicate, Option, Some, None, subst}
+use Rattle.std.specs.Prelude.{Contains, flat_map, option_map}
+use Rattle.std.specs.Cmp.{nat_cmp_total}
+use Rattle.std.specs.List.{Any}
+use Rattle.std.proofs.lemmas.List.Concat.{flat_map-append}
+use Rattle.std.proofs.lemmas.List.Folds.{flat_map-map}
+use Rattle.std.proofs.lemmas.Map.Lookups.{exact_unsigned}
+use Rattle.merge_laws.specs.Members.{SameMembers}
 use Rattle.oim_report.specs.Document.{Document}
 use Rattle.oim_report.specs.Outcome.{outcome}
 use Rattle.oim_report.specs.Sheet.{Sheet}
 use Rattle.oim_report.specs.declared.refusal.Refusal.{Refusal}
-use Rattle.fact_base.specs.Body.{body, union}
+use Rattle.fact_base.specs.Body.{Body, body, union}
 use Rattle.fact_base.specs.Contents.{Contents}
+use Rattle.fact_base.specs.Fits.{Fits, IsAccepted}
+use Rattle.fact_base.proofs.Bodies.{accepted_fits, body_ignores_order, body_of_both}
+use Rattle.fact_base.proofs.Members.{each_by_there, first_or_later, in_flat_map, none_there, some_in_other}
+use Rattle.fact_base.proofs.Sets.{set_of_is_set}
+use Rattle.oim_merge.specs.Reports.{accepted, document_in}
+use Rattle.oim_merge.specs.Replicas.{Numbers, base_named, both, documents_named, joined_with, report, Agree, ReplicasStay, WireAgrees, Writer, earlier, present, reached, text_by, text_chosen, wire, with_accepted, with_outcome, EqualSetsWriteTheSame, ReplicasSayAsAfresh}
+use Rattle.std.proofs.lemmas.List.{map-set, length-set, length-replicate}
+use Rattle.std.proofs.Math.ListN.{get_or-map}
 use Rattle.oim_merge.specs.Bases.{base_of}
 use Rattle.oim_merge.specs.History.{IsReadAsBody}
-use Rattle.oim_merge.specs.Reports.{document_in}
-use Rattle.oim_merge.specs.Replicas.{Agree, Numbers, ReplicasStay, WireAgrees, Writer, base_named, both, documents_named, earlier, joined_with, present, reached, report, text_by, text_chosen, wire, with_accepted, with_outcome}
 use Rattle.oim_merge.specs.Schedule.{Machine, World, happens, keeps, kept_by, numbered, receives, run, start, world_after}
-use Rattle.oim_merge.specs.declared.schedules.event.Event.{Event}
-use Rattle.oim_merge.specs.declared.schedules.event.Event.TheVariants.{Take, Join, Send, Receive, Restart}
+use Rattle.oim_merge.specs.declared.event.Event.{Event}
+use Rattle.oim_merge.specs.declared.event.Event.TheVariants.{Take, Join, Send, Receive, Restart}
 use Rattle.oim_merge.proofs.Histories.{earlier_texts_give_bodies, texts_give_bodies}
-use Rattle.oim_merge.proofs.NamedReports.{base_both, reports_fit}
-use Rattle.oim_merge.proofs.Zips.{AtBoth, zip_numbered, zip_push}
+use Rattle.oim_merge.proofs.Zips.{AtBoth, zip_numbered}
+use Rattle.std.specs.Option.{unwrap_or}
+use Rattle.std.proofs.lemmas.Option.{slice_get-map}
+use Rattle.oim_report.specs.Duplicates.{level_of}
+use Rattle.fact_base.specs.Rows.{values_at}
+use Rattle.fact_base.specs.Verdict.{verdict}
+use Rattle.oim_write.specs.Bytes.{canonical}
+use Rattle.std.proofs.lemmas.Slice.Zip.{all_zipped_more}
+
+-- ---- reports with numbers
+
+module _ (sheet : Sheet) (reports : List (List ℕ)) where
+  -- the document of the report with this number, if the report is accepted
+  abbrev documents_at : ℕ → List Document
+  documents_at r = document_in (outcome sheet (report reports r))
+
+  named_is : (numbers : Numbers) → documents_named sheet reports numbers ≡ flat_map documents_at numbers
+  named_is numbers = flat_map-map (λ bytes. document_in (outcome sheet bytes)) (report reports) numbers
+
+  same_named : (a b : Numbers) → SameMembers (flat_map documents_at (both a b)) (flat_map documents_at (a ++ b))
+  same_named a b d =
+      let set = set_of_is_set nat_cmp_total exact_unsigned (a ++ b) in
+      let first = in_flat_map documents_at (both a b) d in
+      let second = in_flat_map documents_at (a ++ b) d in (
+        λ h. second.1 (some_in_other (λ r. Contains (documents_at r) d) (both a b) (a ++ b) (λ r. (set.members r).0) (first.0 h)),
+        λ h. first.1 (some_in_other (λ r. Contains (documents_at r) d) (a ++ b) (both a b) (λ r. (set.members r).1) (second.0 h)),
+      )
+
+  body_both : (a b : Numbers) → body (documents_named sheet reports (both a b)) ≡ union (body (documents_named sheet reports a)) (body (documents_named sheet reports b))
+  body_both a b =
+      ap body (named_is (both a b))
+      ∙ body_ignores_order (flat_map documents_at (both a b)) (flat_map documents_at (a ++ b)) (same_named a b)
+      ∙ ap body (flat_map-append documents_at a b)
+      ∙ body_of_both (flat_map documents_at a) (flat_map documents_at b)
+      ∙ (λ i. union (body (sym (named_is a) i)) (body (sym (named_is b) i)))
+
+  pub base_both : (a b : Numbers) → base_named sheet reports (both a b) ≡ joined_with (base_named sheet reports a) (base_named sheet reports b)
+  base_both a b = ap (λ (x : Body). let c : Contents = record { sheet = sheet; body = x } in c) (body_both a b)
+
+-- ---- accepted documents fit their sheet
+
+accepted_one : (sheet : Sheet) (bytes : List ℕ) (outcome_is : Result Document Refusal) (d : Document) → outcome sheet bytes ≡ outcome_is → Contains (document_in outcome_is) d → IsAccepted sheet d
+accepted_one sheet bytes (Ok x) d is h = (bytes, is ∙ ap Ok (⊎_elim (λ e. e) (none_there d) (first_or_later x [] d h)))
+accepted_one sheet bytes (Err r) d is h = none_there d h
+
+pub reports_fit : (sheet : Sheet) (reports : List (List ℕ)) → Fits sheet (body (accepted sheet reports))
+reports_fit sheet reports =
+    accepted_fits sheet (accepted sheet reports) (each_by_there (IsAccepted sheet) (accepted sheet reports) (λ d there.
+    let some = (in_flat_map (λ bytes. document_in (outcome sheet bytes)) reports d).0 there in
+    accepted_some d reports some))
+  where
+    accepted_some : (d : Document) (reports : List (List ℕ)) → Any (λ bytes. Contains (document_in (outcome sheet bytes)) d) reports → IsAccepted sheet d
+    accepted_some d reports some = accepted_one sheet some.1 (outcome sheet some.1) d refl some.4
 
 -- ---- lists of one repeated element
 
 map-replicate : {A B : Type 0} (f : A → B) (n : ℕ) (x : A) → replicate n (f x) ≡ map f (replicate n x)
 map-replicate f zero x = refl
 map-replicate f (suc n) x = ap (λ ys. f x ∷ ys) (map-replicate f n x)
-
-length-replicate : {A : Type 0} (n : ℕ) (x : A) → length (replicate n x) ≡ n
-length-replicate zero x = refl
-length-replicate (suc n) x = ap suc (length-replicate n x)
 
 -- ---- no event changes the number of replicas
 
@@ -115,7 +174,7 @@ module _ (sheet : Sheet) (writers : List Writer) (reports : List (List ℕ)) whe
   agree_happens sets bases agree (Join i j) = agree_keeps sets bases agree i _ _ ((λ t. joined_with (says_kept sets bases agree i t) (says_kept sets bases agree j t)) ∙ sym (base_both sheet reports _ _))
   agree_happens sets bases agree (Send i) = record {
     replicas = agree.replicas;
-    sent = zip_push Says bases.sent sets.sent _ _ agree.sent (says_sent (kept_by sets_machine sets i) (length bases.sent) (kept_by bytes_machine bases i) (says_kept sets bases agree i));
+    sent = all_zipped_more Says bases.sent sets.sent _ _ agree.sent (says_sent (kept_by sets_machine sets i) (length bases.sent) (kept_by bytes_machine bases i) (says_kept sets bases agree i));
   }
   agree_happens sets bases agree (Receive i k) = agree_receives sets bases agree i _ _ (zip_numbered Says bases.sent sets.sent agree.sent k)
   agree_happens sets bases agree (Restart i) = agree_keeps sets bases agree i [] (base_of sheet []) refl
@@ -130,3 +189,38 @@ module _ (sheet : Sheet) (writers : List Writer) (reports : List (List ℕ)) whe
 
 pub wire_agrees : WireAgrees
 wire_agrees sheet writers reports n events good = agree sheet writers reports n events
+
+-- ---- texts, verdicts, values and levels
+
+numbered_map : {A B : Type 0} (f : A → B) (xs : List A) (i : ℕ) → numbered (map f xs) i ≡ option_map f (numbered xs i)
+numbered_map f xs zero = refl
+numbered_map f xs (suc k) = slice_get-map f xs k
+
+module _ (sheet : Sheet) (writers : List Writer) (reports : List (List ℕ)) (n : ℕ) (events : List Event) where
+  base_is : (i : ℕ) (numbers : Numbers) (base : Contents) →
+      numbered (world_after (reached sheet reports) n events).replicas i ≡ Some numbers →
+      numbered (world_after (wire sheet writers reports) n events).replicas i ≡ Some base →
+      base ≡ base_named sheet reports numbers
+  base_is i numbers base set there =
+      let same : Some base ≡ Some (base_named sheet reports numbers) =
+      sym there
+      ∙ ap (λ bs. numbered bs i) (agree sheet writers reports n events).replicas
+      ∙ numbered_map (base_named sheet reports) (world_after (reached sheet reports) n events).replicas i
+      ∙ ap (option_map (base_named sheet reports)) set in
+      ap (λ o. unwrap_or o base) same
+
+pub replicas_say_as_afresh : ReplicasSayAsAfresh
+replicas_say_as_afresh sheet writers reports n events good i numbers base set there =
+    let is : base.body ≡ body (documents_named sheet reports numbers) = ap (λ (c : Contents). c.body) (base_is sheet writers reports n events i numbers base set there) in
+    record {
+      bytes = ap canonical is;
+      verdicts = λ d. ap (λ (b : Body). verdict b.facts d) is;
+      values = λ d. ap (λ (b : Body). values_at d b.facts) is;
+      level = ap (λ (b : Body). level_of b.facts) is;
+    }
+
+pub equal_sets_write_the_same : EqualSetsWriteTheSame
+equal_sets_write_the_same sheet writers reports n events good i j numbers base other set same there others =
+    let first = base_is sheet writers reports n events i numbers base set there in
+    let second = base_is sheet writers reports n events j numbers other same others in
+    ap (λ (c : Contents). canonical c.body) (first ∙ sym second)

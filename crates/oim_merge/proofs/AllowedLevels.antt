@@ -5,8 +5,8 @@ use Rattle.std.specs.List.{AllByRecursion, list_all}
 use Rattle.std.specs.List.Sorted.{IsStrictlySortedBy}
 use Rattle.std.specs.Ordering.{is_le, ord_max}
 use Rattle.std.specs.declared.cmp.Ordering.TheVariants.{Less}
-use Rattle.std.proofs.lemmas.Bool.{and_from, and_parts, not-false}
-use Rattle.std.proofs.lemmas.List.Elements.{All-cons, All-head, All-nil, All-tail}
+use Rattle.std.proofs.lemmas.Bool.{not-false}
+use Rattle.std.proofs.lemmas.List.Elements.{All-head, All-tail, All-weaker}
 use Rattle.merge_laws.specs.Ends.{summary_of_all}
 use Rattle.merge_laws.specs.Sorted.{IsRising, IsSet, entry_key}
 use Rattle.oim_value.specs.Level.{level_cmp}
@@ -24,6 +24,7 @@ use Rattle.fact_base.specs.declared.verdict.Verdict.TheVariants.{Consistent as I
 use Rattle.fact_base.proofs.Levels.{highest, highest_is, level_of_values}
 use Rattle.fact_base.proofs.RowsOf.{facts_are, rows_tell_facts}
 use Rattle.oim_merge.specs.Above.{AllowedIsDeclared, is_above, row_is_above, some_above}
+use Rattle.std.proofs.lemmas.List.Sums.{AllPass-from_list_all, list_all-from_AllPass}
 
 -- ---- rows as entries
 
@@ -106,16 +107,12 @@ module _ (l : Level) where
       ∙ grouped (is_le (level_cmp level l)) (row_level_within r) (list_all row_level_within rs)
 
   stays_from : (rs : List Row) → list_all row_level_within rs ≡ true → All (λ r. row_is_above l r ≡ false) rs
-  stays_from [] within = All-nil (λ r. row_is_above l r ≡ false)
-  stays_from (r ∷ rs) within =
-      let both = and_parts (row_level_within r) (list_all row_level_within rs) within in
-      All-cons (λ q. row_is_above l q ≡ false) r rs (row_within r.1 l ∙ ap not both.0) (stays_from rs both.1)
+  stays_from rs within =
+      All-weaker (λ r. row_level_within r ≡ true) (λ r. row_is_above l r ≡ false) (λ r here. row_within r.1 l ∙ ap not here) rs (AllPass-from_list_all row_level_within rs within)
 
   within_from : (rs : List Row) → All (λ r. row_is_above l r ≡ false) rs → list_all row_level_within rs ≡ true
-  within_from [] stays = refl
-  within_from (r ∷ rs) stays =
-      let here : not (row_level_within r) ≡ false = sym (row_within r.1 l) ∙ All-head (λ q. row_is_above l q ≡ false) r rs stays in
-      and_from (row_level_within r) (list_all row_level_within rs) (not-false (row_level_within r) here) (within_from rs (All-tail (λ q. row_is_above l q ≡ false) r rs stays))
+  within_from rs stays = list_all-from_AllPass row_level_within rs
+      (All-weaker (λ r. row_is_above l r ≡ false) (λ r. row_level_within r ≡ true) (λ r here. not-false (row_level_within r) (sym (row_within r.1 l) ∙ here)) rs stays)
 
 pub allowed_is_declared : AllowedIsDeclared
 allowed_is_declared sheet b l fits =

@@ -1,11 +1,11 @@
 -- Evidence exists and is unique for each dimension set of a body that fits a sheet.
-use Rattle.std.proofs.Common.{◌≡◌, ◌≢◌, ℕ, zero, suc, ◌<◌, ◌≤◌, Bool, true, false, List, [], ◌∷◌, length, Option, Some, None, ◌++◌, inl, inr, refl, sym, ap, subst, ◌∙◌, arith}
+use Rattle.std.proofs.Common.{◌≡◌, ◌≢◌, ℕ, ◌<◌, ◌≤◌, Bool, true, false, List, [], ◌∷◌, length, Option, Some, None, ◌++◌, inl, inr, refl, sym, ap, subst, ◌∙◌, arith}
 use Rattle.std.proofs.lemmas.List.Elements.{All-contains}
 use mathlib.Core.Bool.{true≢false}
-use Rattle.std.specs.Prelude.{Contains, codes, is_some, slice_get, ℤ, ◌≤ℤ◌, if◌then◌else◌}
+use Rattle.std.specs.Prelude.{Contains, codes, slice_get, ℤ, ◌≤ℤ◌, if◌then◌else◌}
 use Rattle.std.specs.Option.{unwrap_or}
 use Rattle.std.proofs.lemmas.Int.{ints}
-use Rattle.std.proofs.lemmas.Option.{get_or_from_slice_get}
+use Rattle.std.proofs.lemmas.Option.{get_or_from_slice_get, slice_get_within}
 use Rattle.merge_laws.specs.Ends.{Summarised, summary_of_all}
 use Rattle.oim_value.specs.Ends.{intervals_of}
 use Rattle.oim_value.specs.Meets.{Meets}
@@ -80,18 +80,13 @@ evidence_exists sheet b fits r at = shown_by r.1 (summary_of_all r.1) (summarise
 
 -- ---- the evidence is unique
 
-pub slice_within : {A : Type 0} (xs : List A) (i : ℕ) (x : A) → slice_get xs i ≡ Some x → i < length xs
-slice_within [] i x is = absurd (true≢false (sym (ap is_some is)))
-slice_within (y ∷ ys) zero x is = omega arith
-slice_within (y ∷ ys) (suc i) x is = omega (arith, slice_within ys i x is)
-
 stands : (vs : List Value) (i : ℕ) (v : Value) → slice_get vs i ≡ Some v → Contains vs v
-stands vs i v is = (i, slice_within vs i v is, get_or_from_slice_get vs i v v is)
+stands vs i v is = (i, slice_get_within vs i v is, get_or_from_slice_get vs i v v is)
 
 one_not_apart : (vs : List Value) (i j : ℕ) → length vs ≡ 1 → ¬ (AreApart vs i j)
 one_not_apart vs i j one apart =
-    let i_first : i ≡ 0 = omega (arith, one, slice_within vs i apart.first apart.first_there) in
-    let j_first : j ≡ 0 = omega (arith, one, slice_within vs j apart.second apart.second_there) in
+    let i_first : i ≡ 0 = omega (arith, one, slice_get_within vs i apart.first apart.first_there) in
+    let j_first : j ≡ 0 = omega (arith, one, slice_get_within vs j apart.second apart.second_there) in
     let same : apart.first ≡ apart.second = ap (λ o. unwrap_or o apart.first) (sym apart.first_there ∙ ap (slice_get vs) (i_first ∙ sym j_first) ∙ apart.second_there) in
     apart.apart (subst (Meets apart.first) same (meets_is_reflexive apart.first))
 

@@ -1,24 +1,106 @@
--- Cached readings of texts, and sent texts that are stored once.
-use Rattle.std.proofs.Common.{◌≡◌, ℕ, suc, ◌<◌, ◌≤◌, zero, List, [], ◌∷◌, ◌++◌, length, length-append, get_or, set, replicate, Bor, Option, None, Some, MatchOption, HoldsAt, option_map, Result, Ok, Err, refl, sym, ap, subst, ◌∙◌, arith}
+-- How one event changes a list of bases, cached readings, and sent texts that are stored once.
+use Rattle.std.proofs.Common.{◌≡◌, ◌≢◌, ℕ, zero, suc, ◌-◌, ◌<◌, ◌≤◌, ◌||◌, false, inl, ⊎_elim, List, [], ◌++◌, length, get_or, set, Some, sym, ap, ◌∙◌, arith, ◌∷◌, length-append, replicate, Bor, Option, None, MatchOption, HoldsAt, option_map, Result, Ok, Err, refl, subst}
+use mathlib.Core.Bool.{true≢false}
+use Rattle.std.proofs.Math.Seq.{set-set, get_or-append_seam}
+use Rattle.std.proofs.lemmas.Bool.{or_parts}
+use Rattle.std.proofs.lemmas.Bool.Decides.{nat_tests}
+use Rattle.std.proofs.lemmas.List.{get_or_default, get_or-set_other, length-set, set-get_or, get_or_append_left}
+use Rattle.oim_dims.proofs.Orders.{fact_cmp_exact, fact_cmp_total}
+use Rattle.merge_laws.specs.Members.{SameMembers}
+use Rattle.fact_base.specs.Body.{Body, union}
+use Rattle.fact_base.specs.BodyLaws.{IsBody}
+use Rattle.fact_base.specs.Contents.{Contents}
+use Rattle.fact_base.proofs.Members.{in_one_of_both}
+use Rattle.fact_base.proofs.Sets.{is_set_of}
+use Rattle.fact_base.proofs.TextOrder.{text_cmp_exact, text_cmp_total}
+use Rattle.oim_report.specs.Outcome.{outcome}
+use Rattle.oim_report.specs.Sheet.{Sheet}
+use Rattle.oim_merge.specs.Bases.{base_of}
+use Rattle.oim_merge.specs.Replay.{world_of, texts_at}
+use Rattle.oim_merge.specs.Replicas.{joined_with, wire, with_outcome}
+use Rattle.oim_merge.specs.Schedule.{happens, is_outside, names_none, numbered, receives}
+use Rattle.oim_merge.specs.declared.event.Event.{Event}
+use Rattle.oim_merge.specs.declared.event.Event.TheVariants.{Receive, Send}
 use Rattle.std.specs.Prelude.{IfOk}
 use Rattle.std.specs.List.{AllZip}
 use Rattle.std.specs.Result.{result_err}
-use Rattle.std.proofs.Math.Seq.{get_or-append_seam}
-use Rattle.std.proofs.lemmas.List.{get_or_append_left}
-use Rattle.std.proofs.lemmas.Option.{slice_get-map}
+use Rattle.std.proofs.lemmas.Option.{slice_get-map, slice_get-get_or}
 use Rattle.oim_report.specs.Document.{Document}
-use Rattle.oim_report.specs.Outcome.{outcome}
-use Rattle.oim_report.specs.Sheet.{Sheet}
 use Rattle.oim_report.specs.declared.refusal.Refusal.{Refusal}
-use Rattle.fact_base.specs.Contents.{Contents}
 use Rattle.oim_write.specs.Bytes.{canonical}
 use Rattle.oim_merge.specs.code.Held.{AreWithin, IsCurrent, IsTextAt, Stay}
-use Rattle.oim_merge.specs.Replay.{texts_at}
 use Rattle.oim_merge.specs.code.Readings.{AreReadings, IsReadingOf, read_as, with_read}
-use Rattle.oim_merge.specs.Replicas.{with_outcome}
-use Rattle.oim_merge.specs.Schedule.{numbered}
-use Rattle.oim_merge.proofs.ScheduleSteps.{slice_there}
-use Rattle.oim_merge.proofs.Zips.{zip_at, zip_both, zip_long, zip_push, zip_same, zip_set, zip_weaker}
+use Rattle.oim_merge.proofs.Zips.{zip_at, zip_both, zip_same, zip_set, zip_weaker}
+use Rattle.std.proofs.lemmas.Slice.Zip.{all_zipped_more, AllZip-long}
+
+-- ---- joins
+
+same_twice : {A : Type 0} (xs : List A) → SameMembers xs (xs ++ xs)
+same_twice xs x = (λ h. (in_one_of_both xs xs x).1 (inl h), λ h. ⊎_elim (λ l. l) (λ r. r) ((in_one_of_both xs xs x).0 h))
+
+union_itself : (b : Body) → IsBody b → b ≡ union b b
+union_itself b rises =
+    let facts = is_set_of fact_cmp_total fact_cmp_exact b.facts (b.facts ++ b.facts) rises.facts (same_twice b.facts) in
+    let references = is_set_of text_cmp_total text_cmp_exact b.references (b.references ++ b.references) rises.references (same_twice b.references) in
+    λ i. record { facts = facts i; references = references i }
+
+joined_itself : (base : Contents) → IsBody base.body → base ≡ joined_with base base
+joined_itself base rises = λ i. record { sheet = base.sheet; body = union_itself base.body rises i }
+
+pub joins_same : (base other : Contents) → base.body ≡ other.body → IsBody base.body → base ≡ joined_with base other
+joins_same base other same rises = joined_itself base rises ∙ (λ i. record { sheet = base.sheet; body = union base.body (same i) })
+
+pub read_default : {A : Type 0} (xs : List A) (i : ℕ) (x d : A) → i < length xs → x ≡ get_or xs i x → x ≡ get_or xs i d
+read_default xs i x d within is = is ∙ get_or_default xs i x d within
+
+pub joins_itself : (bases : List Contents) (i j : ℕ) (base fresh : Contents) → i ≡ j → i < length bases → base ≡ get_or bases i base → IsBody base.body →
+    bases ≡ set bases i (joined_with (get_or bases i fresh) (get_or bases j fresh))
+joins_itself bases i j base fresh is within read rises =
+    let there = read_default bases i base fresh within read in
+    sym (set-get_or bases i fresh)
+    ∙ ap (set bases i) (sym there ∙ joined_itself base rises ∙ (λ t. joined_with (there t) ((there ∙ ap (λ k. get_or bases k fresh) is) t)))
+
+-- if a base leaves the list, joins another base and returns, the list is the same as after a join in place
+pub joins_other : (bases : List Contents) (i j : ℕ) (left base other joined fresh : Contents) → i ≢ j → j < length bases →
+    base ≡ get_or bases i fresh → other ≡ get_or (set bases i left) j other → joined ≡ joined_with base other →
+    set (set bases i left) i joined ≡ set bases i (joined_with (get_or bases i fresh) (get_or bases j fresh))
+joins_other bases i j left base other joined fresh apart also there read is =
+    let long : length (set bases i left) ≡ length bases = length-set bases i left in
+    let others = read_default (set bases i left) j other fresh (omega (arith, long, also)) read ∙ get_or-set_other bases i j left fresh (λ e. apart (sym e)) in
+    set-set bases i left joined ∙ ap (set bases i) (is ∙ (λ t. joined_with (there t) (others t)))
+
+-- ---- sends and receives
+
+pub names_good : (replicas reports sent : ℕ) (event other : Event) → event ≡ other → names_none replicas reports sent event ≡ false → names_none replicas reports sent other ≡ false
+names_good replicas reports sent event other is good = sym (ap (names_none replicas reports sent) is) ∙ good
+
+number_within : (greatest number : ℕ) → is_outside greatest number ≡ false → number - 1 < greatest
+number_within greatest zero inside = absurd (true≢false inside)
+number_within greatest (suc place) inside = let least : suc place ≤ greatest = grind (arith, nat_tests) in omega (arith, least)
+
+pub sender_within : (replicas reports sent : ℕ) (event : Event) (i : ℕ) → event ≡ Send i → names_none replicas reports sent event ≡ false → i - 1 < replicas
+sender_within replicas reports sent event i is good = number_within replicas i (names_good replicas reports sent event (Send i) is good)
+
+numbered_there : {A : Type 0} (xs : List A) (number : ℕ) (d : A) → is_outside (length xs) number ≡ false → numbered xs number ≡ Some (get_or xs (number - 1) d)
+numbered_there xs zero d inside = absurd (true≢false inside)
+numbered_there xs (suc place) d inside =
+    let within = number_within (length xs) (suc place) inside in
+    let before : place ≡ suc place - 1 = omega arith in
+    slice_get-get_or xs place d (omega (arith, within)) ∙ ap (λ k. Some (get_or xs k d)) before
+
+-- putting back a base that received a text gives the world after the event `Receive`
+pub receives_text : (sheet : Sheet) (reports : List (List ℕ)) (bases : List Contents) (sent : List (List ℕ)) (i k : ℕ) (base given : Contents) (more : List Contents) (after : List (List ℕ)) →
+    (is_outside (length bases) i || is_outside (length sent) k) ≡ false → base ≡ get_or bases (i - 1) base →
+    given ≡ with_outcome (outcome sheet (get_or sent (k - 1) [])) base → more ≡ set bases (i - 1) given → after ≡ sent →
+    world_of more after ≡ happens (wire sheet [] reports) (world_of bases sent) (Receive i k)
+receives_text sheet reports bases sent i k base given more after inside read is changed same =
+    let parts = or_parts (is_outside (length bases) i) (is_outside (length sent) k) inside in
+    let fresh = base_of sheet [] in
+    let said = outcome sheet (get_or sent (k - 1) []) in
+    let there : base ≡ get_or bases (i - 1) fresh = read_default bases (i - 1) base fresh (number_within (length bases) i parts.0) read in
+    let changes : more ≡ set bases (i - 1) (with_outcome said (get_or bases (i - 1) fresh)) = changed ∙ ap (set bases (i - 1)) (is ∙ ap (with_outcome said) there) in
+    let world : world_of more after ≡ receives (wire sheet [] reports) (world_of bases sent) i (Some (get_or sent (k - 1) [])) = λ t. world_of (changes t) (same t) in
+    world ∙ ap (receives (wire sheet [] reports) (world_of bases sent) i) (sym (numbered_there sent k [] parts.1))
 
 -- ---- cached readings
 
@@ -36,13 +118,13 @@ sheet_is sheet (Err refusal) = tt
 
 module _ (sheet : Sheet) (texts : List (List ℕ)) (kept : List (Option (Result Contents Refusal))) (each : AreReadings sheet texts kept) (place : ℕ) (there : place < length texts) where
   pub kept_there : place < length kept
-  kept_there = let long = zip_long (IsReadingOf sheet) texts kept each in omega (arith, there, long)
+  kept_there = let long = AllZip-long (IsReadingOf sheet) texts kept each in omega (arith, there, long)
 
   pub kept_is : (found : Option (Result Contents Refusal)) (read : Result Contents Refusal) → get_or kept place found ≡ Some read → read ≡ read_as sheet (outcome sheet (get_or texts place []))
   kept_is found read is = subst (IsReadingOf sheet (get_or texts place [])) is (zip_at (IsReadingOf sheet) texts kept each place [] found there)
 
 pub kept_long : (sheet : Sheet) (texts : List (List ℕ)) (kept more : List (Option (Result Contents Refusal))) → AreReadings sheet texts kept → AreReadings sheet texts more → length more ≡ length kept
-kept_long sheet texts kept more before after = zip_long (IsReadingOf sheet) texts more after ∙ sym (zip_long (IsReadingOf sheet) texts kept before)
+kept_long sheet texts kept more before after = AllZip-long (IsReadingOf sheet) texts more after ∙ sym (AllZip-long (IsReadingOf sheet) texts kept before)
 
 pub none_is_kept : (sheet : Sheet) (texts : List (List ℕ)) → AreReadings sheet texts (replicate (length texts) None)
 none_is_kept sheet texts = zip_same (IsReadingOf sheet) texts None (λ text. tt)
@@ -103,7 +185,7 @@ none_is_current texts zero base = tt
 none_is_current texts (suc n) base = (tt, none_is_current texts n base)
 
 pub kept_new : (sheet : Sheet) (texts : List (List ℕ)) (kept : List (Option (Result Contents Refusal))) (text : List ℕ) → AreReadings sheet texts kept → AreReadings sheet (texts ++ text ∷ []) (kept ++ None ∷ [])
-kept_new sheet texts kept text each = zip_push (IsReadingOf sheet) texts kept text None each tt
+kept_new sheet texts kept text each = all_zipped_more (IsReadingOf sheet) texts kept text None each tt
 
 -- `sent` has the index in `texts` of each sent text, so looking up a number in `sent` and the index in `texts` finds the text
 pub text_of_number : (texts : List (List ℕ)) (sent : List ℕ) (number before held : ℕ) (text : Option (Bor (List ℕ))) → AreWithin texts sent → number ≡ suc before → before < length sent → held ≡ get_or sent before held →
@@ -115,5 +197,5 @@ text_of_number texts sent number before held None within is there read past =
 text_of_number texts sent number before held (Some t) within is there read found =
     ap (numbered (texts_at texts sent)) is
     ∙ slice_get-map (λ place. get_or texts place []) sent before
-    ∙ ap (option_map (λ place. get_or texts place [])) (slice_there sent before held there ∙ ap Some (sym read))
+    ∙ ap (option_map (λ place. get_or texts place [])) (slice_get-get_or sent before held there ∙ ap Some (sym read))
     ∙ ap Some (sym (found.1 []))

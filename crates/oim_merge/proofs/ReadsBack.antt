@@ -1,8 +1,17 @@
 -- The text of a body that fits a sheet is read as the document with the body's facts and references.
-use Rattle.std.proofs.Common.{◌≡◌, ℕ, ◌+◌, List, [], ◌∷◌, ◌++◌, true, false, cond, Option, Some, None, Ok, Err, refl, sym, ap, subst, bytes_eq, ◌≢◌, ◌∙◌, codes, map, arith}
-use Rattle.std.specs.Prelude.{All, Bool, IsTrue, IsUtf8, ◌<◌, ◌↔◌, ⊤, nat_lt, not}
-use Rattle.std.specs.List.{list_all}
-use Rattle.std.specs.Str.{IsAscii, is_utf8}
+use Rattle.std.proofs.Common.{◌≡◌, ℕ, List, [], ◌∷◌, ◌++◌, true, false, cond, Option, Some, None, ◌+◌, Ok, Err, refl, sym, ap, subst, ◌≢◌, ◌∙◌, codes, map, arith, get_or}
+use Rattle.std.specs.Prelude.{IfSome, option_map, All, Bool, IsTrue, IsUtf8, ◌<◌, ◌↔◌, ⊤, nat_lt, not}
+use Rattle.std.specs.List.{find, list_all}
+use Rattle.std.specs.Str.{bytes_eq, IsAscii, is_utf8}
+use Rattle.oim_names.specs.QName.{QName}
+use Rattle.oim_names.specs.Bindings.{Binding, uri_of}
+use Rattle.oim_value.specs.declared.value.Value.{Value}
+use Rattle.oim_value.specs.declared.value.Value.TheVariants.{Name as AName}
+use Rattle.oim_dims.specs.Unit.{Measures}
+use Rattle.oim_dims.specs.declared.fact.Fact.{Fact}
+use Rattle.oim_dims.specs.declared.member.Member.{Member}
+use Rattle.oim_dims.specs.declared.member.Member.TheVariants.{Name as MemberName}
+use Rattle.oim_report.specs.ReadBack.{SpellsDimension, SpellsFact, SpellsMeasures, SpellsMember, SpellsName, SpellsValue}
 use Rattle.std.proofs.lemmas.Bool.{and_parts, false≢true}
 use Rattle.std.proofs.lemmas.Bool.Decides.{nat_tests}
 use Rattle.std.proofs.lemmas.Str.{is_utf8-from_IsUtf8, IsUtf8-from_ascii}
@@ -10,26 +19,22 @@ use Rattle.std.proofs.lemmas.Str.Ascii.{IsAscii-nil, IsAscii-cons}
 use Rattle.std.proofs.lemmas.List.Elements.{All-head, All-tail}
 use Rattle.serde_json.specs.Data.{Data, string, array, object, Members, no_members, member}
 use Rattle.serde_json.specs.Written.{compact_text}
-use Rattle.oim_names.specs.QName.{QName}
-use Rattle.oim_names.specs.Bindings.{Binding, uri_of}
 use Rattle.oim_names.specs.Expansion.{reserved_uri}
 use Rattle.oim_names.specs.declared.reason.Reason.TheVariants.{DisallowedDuplicates}
 use Rattle.oim_value.specs.Level.{level_cmp, level_entry}
 use Rattle.oim_value.specs.declared.level.Level.{Level}
 use Rattle.oim_value.specs.declared.level.Level.TheVariants.{Unique, Complete, Consistent, All as AllLevel}
 use Rattle.std.specs.Ordering.{is_le, is_lt}
-use Rattle.oim_dims.specs.declared.fact.Fact.{Fact}
 use Rattle.oim_report.specs.Duplicates.{level_of}
-use Rattle.oim_report.specs.FactFits.{FactFits}
+use Rattle.oim_report.specs.FactFits.{FactFits, IsNamespace}
 use Rattle.oim_report.specs.FactObject.{fact_object}
-use Rattle.oim_report.specs.Json.{any_member, given, other, text, values}
+use Rattle.oim_report.specs.Json.{any_member, given, other, text, values, json}
 use Rattle.oim_report.specs.Namespaces.{binds_nothing, bindings_in}
 use Rattle.oim_report.specs.Holds.{document_refusal}
 use Rattle.oim_report.specs.Info.{declarations, document_type, level_said, said_level, said_references, said_reference}
 use Rattle.oim_report.specs.Kept.{IsKeptReference}
-use Rattle.oim_report.specs.Outcome.{all_or_first, at, fact_outcome, facts_said, tree_outcome, unless_above}
+use Rattle.oim_report.specs.Outcome.{all_or_first, at, fact_outcome, facts_said, tree_outcome, unless_above, outcome}
 use Rattle.oim_report.specs.Refusal.{map_ok}
-use Rattle.oim_report.specs.ReadBack.{SpellsFact}
 use Rattle.oim_report.specs.Sheet.{Sheet}
 use Rattle.oim_report.specs.Document.{Document}
 use Rattle.oim_report.specs.declared.place.Place.TheVariants.{Document as AtDocument}
@@ -40,10 +45,7 @@ use Rattle.fact_base.specs.Body.{Body}
 use Rattle.fact_base.specs.Fits.{Fits}
 use Rattle.oim_report.proofs.TextUtf8.{object_text_back}
 use Rattle.fact_base.proofs.Members.{each_by_there}
-use Rattle.oim_report.specs.FactFits.{IsNamespace}
-use Rattle.oim_report.specs.Json.{json}
 use Rattle.oim_report.specs.PlainJson.{IsPlainJson}
-use Rattle.oim_report.specs.Outcome.{outcome}
 use Rattle.oim_write.specs.Tree.{features_member, identifier, members_before, members_by, name_text, prefix, text_items, tree_declaring, xbrl_member}
 use Rattle.oim_write.specs.Uris.{uris}
 use Rattle.oim_write.specs.Bytes.{canonical, earlier}
@@ -51,8 +53,55 @@ use Rattle.oim_write.specs.Prefixes.{bindings_of}
 use Rattle.oim_write.proofs.Namespaces.{uris_are_namespaces}
 use Rattle.oim_write.proofs.PlainTrees.{trees_are_plain}
 use Rattle.oim_write.proofs.SpelledFacts.{facts_are_spelled, prefix_is_part}
-use Rattle.oim_merge.specs.ReadBack.{CanonicalReadsBack, EarlierReadsBack, IsHeldTo, LeastLevelIsDeclared, document_at}
-use Rattle.oim_merge.proofs.MoreBindings.{spelled_by_more}
+use Rattle.oim_merge.specs.ReadBack.{CanonicalReadsBack, EarlierReadsBack, IsHeldTo, LeastLevelIsDeclared, document_at, EarlierIsNotCanonical}
+use Rattle.oim_write.proofs.FirstKeys.{behind_type, earlier_letter, present_letter}
+
+-- ---- further bindings at the end do not change how earlier prefixes are resolved
+
+found_before_more : (bs more : List Binding) (p u : List ℕ) → uri_of bs p ≡ Some u → uri_of (bs ++ more) p ≡ Some u
+found_before_more [] more p u h = absurd (cc)
+found_before_more (b ∷ bs) more p u h =
+    elim (bytes_eq b.prefix p) as (λ t. option_map (λ (c : Binding). c.uri) (cond t (Some b) (find (λ (c : Binding). bytes_eq c.prefix p) bs)) ≡ Some u → option_map (λ (c : Binding). c.uri) (cond t (Some b) (find (λ (c : Binding). bytes_eq c.prefix p) (bs ++ more))) ≡ Some u) [
+      | true ↦ λ here. here
+      | false ↦ λ later. found_before_more bs more p u later
+    ] h
+
+module _ (bs more : List Binding) (spelled : QName → List ℕ) where
+  name_by_more : (n : QName) → SpellsName bs spelled n → SpellsName (bs ++ more) spelled n
+  name_by_more n h = record { prefix = h.prefix; filled = h.filled; simple = h.simple; bound = found_before_more bs more h.prefix n.uri h.bound; text = h.text }
+
+  entity_by_more : (e : Option QName) → IfSome e (SpellsName bs spelled) → IfSome e (SpellsName (bs ++ more) spelled)
+  entity_by_more None h = tt
+  entity_by_more (Some n) h = name_by_more n h
+
+  unit_by_more : (m : Option Measures) → IfSome m (SpellsMeasures bs spelled) → IfSome m (SpellsMeasures (bs ++ more) spelled)
+  unit_by_more None h = tt
+  unit_by_more (Some m) h = record {
+    numerators = λ k d within. name_by_more _ (h.numerators k d within);
+    denominators = λ k d within. name_by_more _ (h.denominators k d within);
+  }
+
+  member_by_more : (m : Member) → SpellsMember bs spelled m → SpellsMember (bs ++ more) spelled m
+  member_by_more (MemberName n) h = name_by_more n h
+  member_by_more m h = tt
+
+  dimension_by_more : (e : QName × Member) → SpellsDimension bs spelled e → SpellsDimension (bs ++ more) spelled e
+  dimension_by_more e h = record { name = name_by_more e.0 h.name; member = member_by_more e.1 h.member }
+
+  value_by_more : (v : Value) → SpellsValue bs spelled v → SpellsValue (bs ++ more) spelled v
+  value_by_more (AName n) h = name_by_more n h
+  value_by_more v h = tt
+
+  pub spelled_by_more : (f : Fact) → SpellsFact bs spelled f → SpellsFact (bs ++ more) spelled f
+  spelled_by_more f h = record {
+    concept = name_by_more f.dimensions.concept h.concept;
+    entity = entity_by_more f.dimensions.entity h.entity;
+    unit = unit_by_more f.dimensions.unit h.unit;
+    members = λ k d within. dimension_by_more _ (h.members k d within);
+    value = value_by_more f.value h.value;
+  }
+
+-- ---- reading a text
 
 reference_back : (r : List ℕ) → IsKeptReference r → said_reference None (string r) ≡ Some r
 reference_back r is = rw (is.utf8, is.kept, is.short) refl
@@ -71,15 +120,11 @@ facts_back sheet bs key spelled (f ∷ fs) n fit spell =
 
 none_above : (l : Level) → is_lt (level_cmp l l) ≡ false
 none_above Unique = refl
-none_above Complete = refl
-none_above Consistent = refl
-none_above AllLevel = refl
+none_above l = refl
 
 none_above_all : (found : Level) → is_lt (level_cmp AllLevel found) ≡ false
 none_above_all Unique = refl
-none_above_all Complete = refl
-none_above_all Consistent = refl
-none_above_all AllLevel = refl
+none_above_all found = refl
 
 small_byte : (c : ℕ) → nat_lt c 128 ≡ true → c < 128
 small_byte c h = grind (arith, nat_tests)
@@ -106,9 +151,7 @@ ascii_given t h = text_given t (IsUtf8-from_ascii t (ascii t h))
 
 level_given : (l : Level) → said_level (given (string (level_entry l).text) ∷ []) ≡ Some l
 level_given Unique = ap (λ g. said_level (g ∷ [])) (ascii_given (codes "none") refl)
-level_given Complete = ap (λ g. said_level (g ∷ [])) (ascii_given (codes "complete") refl)
-level_given Consistent = ap (λ g. said_level (g ∷ [])) (ascii_given (codes "consistent") refl)
-level_given AllLevel = ap (λ g. said_level (g ∷ [])) (ascii_given (codes "all") refl)
+level_given l = ap (λ g. said_level (g ∷ [])) (ascii_given (level_entry l).text refl)
 
 level_found : (bs : List Binding) → uri_of bs (codes "xbrl") ≡ Some reserved_uri → (l : Level) → said_level (declarations bs (member (codes "xbrl:allowedDuplicates") (string (level_entry l).text) no_members)) ≡ Some l
 level_found bs bound l = rw bound (level_given l)
@@ -232,21 +275,10 @@ earlier_reads_back sheet b fits =
 
 turned : (x y : Level) → is_le (level_cmp y x) ≡ not (is_lt (level_cmp x y))
 turned Unique Unique = refl
-turned Unique Complete = refl
-turned Unique Consistent = refl
-turned Unique AllLevel = refl
 turned Complete Unique = refl
-turned Complete Complete = refl
-turned Complete Consistent = refl
-turned Complete AllLevel = refl
 turned Consistent Unique = refl
-turned Consistent Complete = refl
-turned Consistent Consistent = refl
-turned Consistent AllLevel = refl
 turned AllLevel Unique = refl
-turned AllLevel Complete = refl
-turned AllLevel Consistent = refl
-turned AllLevel AllLevel = refl
+turned x y = refl
 
 module _ (d : Document) (r : Refusal) where
   refused_where : (t : Bool) → (cond t (Err r) (Ok d) ≡ Err r) ↔ IsTrue t
@@ -270,3 +302,8 @@ held declared found b =
 pub least_level_is_declared : LeastLevelIsDeclared
 least_level_is_declared sheet b level fits =
     subst (IsHeldTo level (level_of b.facts) (document_at level b)) (sym (declared_reads_back sheet b (Some level) fits)) (held level (level_of b.facts) b)
+
+pub earlier_is_not_canonical : EarlierIsNotCanonical
+earlier_is_not_canonical b c same =
+    let letters : 110 ≡ 102 = sym (earlier_letter b) ∙ ap (λ t. get_or t behind_type 0) same ∙ present_letter c in
+    absurd (omega (arith, letters))

@@ -1,9 +1,8 @@
-use Rattle.std.proofs.Common.{◌≡◌, ℕ, suc, ◌+◌, ◌<◌, ◌≤◌, List, [], ◌∷◌, ◌++◌, length, get_or, inr, Option, refl, sym, ap, subst, ◌∙◌, append_assoc, append-nil, arith}
+use Rattle.std.proofs.Common.{◌≡◌, ℕ, suc, ◌+◌, ◌<◌, List, [], ◌∷◌, ◌++◌, length, get_or, inr, Option, refl, sym, ap, subst, ◌∙◌, append_assoc, append-nil, arith}
 use Rattle.std.proofs.lemmas.List.Elements.{All-contains}
 use Rattle.std.specs.Prelude.{◌≢◌, Contains}
 use Rattle.std.proofs.lemmas.List.{get_or-append-add, get_or-map, get_or_append_left, length-append, length-map}
 use Rattle.std.proofs.lemmas.Grind.{flat_map-append}
-use Rattle.std.proofs.KnownBytes.{Appends-nil}
 use Rattle.oim_dims.specs.declared.fact.Fact.{Fact}
 use Rattle.oim_dims.specs.FactOrder.{fact_cmp}
 use Rattle.oim_dims.proofs.Orders.{fact_cmp_total}
@@ -24,9 +23,14 @@ use Rattle.oim_write.proofs.NumberedFacts.{row_facts, rows_facts, rows_facts_are
 use Rattle.oim_write.proofs.Ranks.{rank_at}
 use Rattle.oim_merge.specs.Lines.{AreRowsFrom, AreRowsOf, HasOneText, IsRow, LinesAreOne, RowText, identifier_at, line_text}
 use Rattle.oim_merge.specs.Judged.{DependsOnItsNames}
-use Rattle.oim_merge.specs.Listing.{AppendsFrontOfRows}
 use Rattle.oim_merge.specs.Named.{HasPlaces, named}
-use Rattle.oim_merge.proofs.Evidenced.{evidence_exists, one_evidence, slice_within}
+use Rattle.oim_merge.proofs.Evidenced.{evidence_exists, one_evidence}
+use Rattle.std.proofs.lemmas.Option.{slice_get_within}
+use Rattle.oim_merge.specs.Listing.{ListStops}
+use Rattle.oim_merge.specs.Run.{fault_of}
+use Rattle.oim_write.specs.Sink.{AppendsFront, written_of}
+use Rattle.oim_write.specs.declared.write_fault.WriteFault.{WriteFault}
+use Rattle.oim_write.specs.declared.write_fault.WriteFault.TheVariants.{OutOfMemory, Device}
 
 -- ---- lists of rows
 
@@ -63,14 +67,17 @@ module _ (written : RowText) (sheet : Sheet) (b : Body) (fits : Fits sheet b) wh
   pub all_exist : (text : List ℕ) × AreRowsOf written b text
   all_exist = left_exist [] (rows_of b.facts) refl 1
 
-  pub none_written : (header : List ℕ) {old : Option (List ℕ)} → AppendsFrontOfRows header written b old old 0
-  none_written header {old} = record { rows = all_exist.0; are = all_exist.1; front = record { front = []; rest = _; whole = refl; appended = Appends-nil old; count = refl } }
-
   pub rows_are_one : HasOneText (AreRowsOf written b)
   rows_are_one = record { text = all_exist.0; is = all_exist.1; only = λ other rows. rows_agree written b.facts 1 (rows_of b.facts) other all_exist.0 rows all_exist.1 }
 
 pub lines_are_one : LinesAreOne
 lines_are_one = rows_are_one line_text
+
+-- a fault occurred after a first part of the header and the rows was appended
+pub list_stops : (header : List ℕ) (written : RowText) (b : Body) (rows : List ℕ) {old new : Option (List ℕ)} {text : List ℕ} (fault : WriteFault) →
+    AreRowsOf written b rows → text ≡ header ++ rows → AppendsFront old new text (written_of fault) → ListStops header written b old new (fault_of fault)
+list_stops header written b rows {old} {new} (OutOfMemory n) are is front = inr (record { rows = rows; are = are; front = subst (λ t. AppendsFront old new t n) is front })
+list_stops header written b rows {old} {new} (Device n) are is front = record { rows = rows; are = are; front = subst (λ t. AppendsFront old new t n) is front }
 
 -- ---- identifiers of facts
 
@@ -95,7 +102,7 @@ module _ (facts : List Fact) (rises : IsSet fact_cmp facts) (before : List Fact)
 -- ---- the next row
 
 pub places_within : (vs : List Value) (e : Evidence) → IsEvidence vs e → HasPlaces (length vs) e
-places_within vs (Apart i j) is = (slice_within vs i is.apart.first is.apart.first_there, slice_within vs j is.apart.second is.apart.second_there)
+places_within vs (Apart i j) is = (slice_get_within vs i is.apart.first is.apart.first_there, slice_get_within vs j is.apart.second is.apart.second_there)
 places_within vs e is = tt
 
 module _ (b : Body) (rises : IsSet fact_cmp b.facts) (done rest : List Row) (r : Row) (all : done ++ (r ∷ rest) ≡ rows_of b.facts) where
@@ -112,12 +119,6 @@ module _ (b : Body) (rises : IsSet fact_cmp b.facts) (done rest : List Row) (r :
       filled [] some = absurd (some refl)
       filled (v ∷ vs) some = omega arith
 
-  -- the facts up to the end of the row are among all facts, so their count does not overflow
-  pub row_within : length (rows_facts done) + length r.1 ≤ length b.facts
-  row_within =
-      let long : length (row_facts r) ≡ length r.1 = length-map r.1 (λ v. record { dimensions = r.0; value = v }) in
-      omega (arith, long, ap length facts_split, length-append (rows_facts done) (row_facts r ++ rows_facts rest), length-append (row_facts r) (rows_facts rest))
-
   -- a text with the identifiers that follow from `before` and `count` is the text of the row
   pub row_is : (written : RowText) → DependsOnItsNames written → (number before count : ℕ) (e : Evidence) (row : List ℕ) → before ≡ length (rows_facts done) → count ≡ length b.facts → IsEvidence r.1 e →
       row ≡ written (named before count) number r e → IsRow written b.facts number r row
@@ -129,8 +130,3 @@ module _ (b : Body) (rises : IsSet fact_cmp b.facts) (done rest : List Row) (r :
         ∙ names (named (length (rows_facts done)) (length b.facts)) (identifier_at b.facts r) number r e row_filled (places_within r.1 e shows)
         (named_is b.facts rises (rows_facts done) r (rows_facts rest) facts_split);
   }
-
-  pub count_with_row : length (rows_facts done) + length r.1 ≡ length (rows_facts (done ++ r ∷ []))
-  count_with_row =
-      let long : length (row_facts r) ≡ length r.1 = length-map r.1 (λ v. record { dimensions = r.0; value = v }) in
-      omega (arith, long, ap length (flat_map-append row_facts done (r ∷ [])), length-append (rows_facts done) (row_facts r ++ []), length-append (row_facts r) [])

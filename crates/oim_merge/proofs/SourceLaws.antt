@@ -1,15 +1,15 @@
--- Each fact object of an accepted report is listed once, and each fact of the body is listed.
-use Rattle.std.proofs.Common.{◌≡◌, ℕ, suc, List, [], ◌∷◌, ◌++◌, map, length, Bool, true, false, not, Some, Result, Ok, Err, refl, sym, ap, ◌∙◌, subst, inl, inr, ⊎_elim}
-use Rattle.std.specs.Prelude.{Contains, filter}
+-- Each fact object of an accepted report is listed once, each fact of the body is listed, and the order of the reports does not matter.
+use Rattle.std.proofs.Common.{◌≡◌, ℕ, suc, List, [], ◌∷◌, ◌++◌, map, length, Bool, true, false, not, Some, Result, Ok, Err, refl, sym, ap, ◌∙◌, subst, inl, inr, ⊎_elim, zero, ◌<◌, get_or, set, append_assoc, arith, ◌-◌, ◌+◌, Option}
+use Rattle.std.specs.Prelude.{Contains, filter, flat_map, swap}
 use Rattle.std.specs.List.{AllByRecursion, AllZip}
 use Rattle.std.specs.List.Sorted.{IsPermutation, IsStrictlySortedBy}
-use Rattle.std.specs.Cmp.{tied_itself}
+use Rattle.std.specs.Cmp.{tied_itself, Equal-is}
 use Rattle.std.specs.Option.{unwrap_or}
 use Rattle.std.specs.Ordering.{is_eq}
 use Rattle.std.specs.declared.cmp.Ordering.TheVariants.{Less}
 use Rattle.std.proofs.lemmas.Bool.{cases_Bool}
 use Rattle.std.proofs.lemmas.Grind.{flat_map-append}
-use Rattle.std.proofs.lemmas.List.Sorted.{Contains-permutation, IsPermutation-append_right, IsPermutation-filter_both, IsPermutation-refl, IsPermutation-trans}
+use Rattle.std.proofs.lemmas.List.Sorted.{Contains-permutation, IsPermutation-append_right, IsPermutation-filter_both, IsPermutation-refl, IsPermutation-trans, IsPermutation-append_comm, IsPermutation-append_left, IsPermutation-keeps, IsPermutation-map, IsPermutation-sym}
 use Rattle.merge_laws.specs.Sorted.{IsSet}
 use Rattle.serde_json.specs.Data.{Data}
 use Rattle.oim_names.specs.Bindings.{Binding}
@@ -28,11 +28,14 @@ use Rattle.fact_base.specs.Body.{all_facts}
 use Rattle.fact_base.proofs.Members.{first_or_later, first_there, in_one_of_both, later_there, none_there}
 use Rattle.fact_base.proofs.Sets.{set_of_is_set}
 use Rattle.oim_merge.specs.Reports.{accepted, document_in, merged}
-use Rattle.oim_merge.specs.declared.sources.mention.Mention.{Mention}
-use Rattle.oim_merge.specs.Sources.{EachFactIsSaid, EachMentionIsTold, EachObjectIsMentioned, IsMentionOf, by_fact, is_of, mentions, mentions_by_fact, mentions_from, mentions_in, mentions_of}
-use Rattle.oim_merge.proofs.ByPlace.{is_equal}
+use Rattle.oim_merge.specs.declared.mentions.Mention.{Mention}
+use Rattle.oim_merge.specs.Sources.{EachFactIsSaid, EachMentionIsTold, EachObjectIsMentioned, IsMentionOf, by_fact, is_of, mentions, mentions_by_fact, mentions_from, mentions_in, mentions_of, Saying, SourcesIgnoreOrder, saying}
 use Rattle.oim_merge.specs.Mentions.{AreOf}
-use Rattle.oim_merge.proofs.SourceMentions.{mentions_are_of}
+use Rattle.oim_merge.proofs.Traces.{mentions_are_of}
+use Rattle.std.proofs.lemmas.List.Edits.{swap_is}
+use Rattle.std.proofs.lemmas.List.{get_or-append-add, length-append, map-append}
+use Rattle.merge_laws.specs.Members.{SameMembers}
+use Rattle.fact_base.proofs.Bodies.{body_ignores_order}
 
 -- ---- each object once
 
@@ -40,7 +43,7 @@ abbrev is_other : Fact → Mention → Bool
 is_other f m = not (is_of f m)
 
 same_fact : (f : Fact) (m : Mention) → is_of f m ≡ true → m.fact ≡ f
-same_fact f m e = fact_cmp_exact m.fact f (is_equal (fact_cmp m.fact f) e)
+same_fact f m e = fact_cmp_exact m.fact f ((Equal-is (fact_cmp m.fact f)).0 e)
 
 is_fact : (f : Fact) (m : Mention) → m.fact ≡ f → is_of f m ≡ true
 is_fact f m e = ap (λ g. is_eq (fact_cmp g f)) e ∙ ap is_eq (tied_itself fact_cmp_total f)
@@ -173,3 +176,93 @@ each_object_is_mentioned sheet n bytes d tree accepted read =
     subst (λ t. AllZip (IsMentionOf sheet (bindings_of t) n) (entries (facts_of t)) (mentions_of n (identifiers bytes) (outcome sheet bytes))) same
     (subst (λ ms. AllZip (IsMentionOf sheet (bindings_of said) n) (entries (facts_of said)) ms)
     (sym ((λ i. mentions_of n (has.1 i) (accepted i)))) told)
+
+-- ---- permuting a list permutes the concatenation of its images
+
+exchanged : {B : Type 0} (us vs ws : List B) → IsPermutation (us ++ (vs ++ ws)) (vs ++ (us ++ ws))
+exchanged us vs ws =
+    let both : IsPermutation ((us ++ vs) ++ ws) ((vs ++ us) ++ ws) = IsPermutation-append_left ws (us ++ vs) (vs ++ us) (IsPermutation-append_comm us vs) in
+    subst (λ l. IsPermutation l (vs ++ (us ++ ws))) (append_assoc us vs ws) (subst (IsPermutation ((us ++ vs) ++ ws)) (append_assoc vs us ws) both)
+
+module _ {A B : Type 0} (f : A → List B) where
+  -- swapping the first element with a later one permutes the concatenation
+  put_first : (x d : A) (xs : List A) (j : ℕ) → j < length xs → IsPermutation (f x ++ flat_map f xs) (f (get_or xs j d) ++ flat_map f (set xs j x))
+  put_first x d [] j h = absurd (omega (arith, h))
+  put_first x d (z ∷ zs) zero h = exchanged (f x) (f z) (flat_map f zs)
+  put_first x d (z ∷ zs) (suc j) h =
+      let here = f x ++ (f z ++ flat_map f zs) in
+      let middle = f z ++ (f x ++ flat_map f zs) in
+      let moved = f z ++ (f (get_or zs j d) ++ flat_map f (set zs j x)) in
+      let there = f (get_or zs j d) ++ (f z ++ flat_map f (set zs j x)) in
+      IsPermutation-trans here middle there (exchanged (f x) (f z) (flat_map f zs))
+      (IsPermutation-trans middle moved there
+      (IsPermutation-append_right (f z) (f x ++ flat_map f zs) (f (get_or zs j d) ++ flat_map f (set zs j x)) (put_first x d zs j (omega (arith, h))))
+      (exchanged (f z) (f (get_or zs j d)) (flat_map f (set zs j x))))
+
+  swapped : (d : A) (l : List A) (i j : ℕ) → i < length l → j < length l → IsPermutation (flat_map f l) (flat_map f (set (set l i (get_or l j d)) j (get_or l i d)))
+  swapped d [] i j p q = absurd (omega (arith, p))
+  swapped d (x ∷ xs) zero zero p q = IsPermutation-refl (f x ++ flat_map f xs)
+  swapped d (x ∷ xs) zero (suc j) p q = put_first x d xs j (omega (arith, q))
+  swapped d (x ∷ xs) (suc i) zero p q = put_first x d xs i (omega (arith, p))
+  swapped d (x ∷ xs) (suc i) (suc j) p q =
+      IsPermutation-append_right (f x) (flat_map f xs) (flat_map f (set (set xs i (get_or xs j d)) j (get_or xs i d))) (swapped d xs i j (omega (arith, p)) (omega (arith, q)))
+
+  by_swap : (l : List A) (i j : ℕ) → i < length l → j < length l → IsPermutation (flat_map f l) (flat_map f (swap l i j))
+  by_swap [] i j p q = absurd (omega (arith, p))
+  by_swap (x ∷ xs) i j p q =
+      subst (λ m. IsPermutation (flat_map f (x ∷ xs)) (flat_map f m)) (swap_is (x ∷ xs) i j x p q) (swapped x (x ∷ xs) i j p q)
+
+  pub reordered : (xs ys : List A) → IsPermutation xs ys → IsPermutation (flat_map f xs) (flat_map f ys)
+  reordered xs ys moved = IsPermutation-keeps xs (λ l. IsPermutation (flat_map f xs) (flat_map f l)) (IsPermutation-refl (flat_map f xs))
+      (λ l i j p q h. IsPermutation-trans (flat_map f xs) (flat_map f l) (flat_map f (swap l i j)) h (by_swap l i j p q)) ys moved
+
+-- ---- reordered reports
+
+-- a mention with the bytes of its report
+abbrev said_in : List ℕ → Mention → Saying
+said_in bytes m = record { bytes = bytes; identifier = m.identifier; fact = m.fact }
+
+abbrev sayings_of : Sheet → List ℕ → List Saying
+sayings_of sheet bytes = map (said_in bytes) (mentions_of 0 (identifiers bytes) (outcome sheet bytes))
+
+module _ (reports : List (List ℕ)) (bytes : List ℕ) (n : ℕ) (here : get_or reports (n - 1) [] ≡ bytes) where
+  in_report : (is : List (List ℕ)) (fs : List Fact) → map (saying reports) (mentions_in n is fs) ≡ map (said_in bytes) (mentions_in 0 is fs)
+  in_report (i ∷ is) (f ∷ fs) = λ k. (record { bytes = here k; identifier = i; fact = f }) ∷ in_report is fs k
+  in_report is fs = refl
+
+  of_report : (is : Option (List (List ℕ))) (o : Result Document Refusal) → map (saying reports) (mentions_of n is o) ≡ map (said_in bytes) (mentions_of 0 is o)
+  of_report (Some is) (Ok d) = in_report is d.facts
+  of_report is o = refl
+
+of_reports : (sheet : Sheet) (done rest : List (List ℕ)) (n : ℕ) → n ≡ suc (length done) → map (saying (done ++ rest)) (mentions_from n sheet rest) ≡ flat_map (sayings_of sheet) rest
+of_reports sheet done [] n count = refl
+of_reports sheet done (bytes ∷ rest) n count =
+    let reports = done ++ (bytes ∷ rest) in
+    let first = mentions_of n (identifiers bytes) (outcome sheet bytes) in
+    let later = mentions_from (suc n) sheet rest in
+    let place : n - 1 ≡ length done + 0 = omega (arith, count) in
+    let here : get_or reports (n - 1) [] ≡ bytes = ap (λ k. get_or reports k []) place ∙ get_or-append-add done (bytes ∷ rest) 0 [] in
+    let next = of_reports sheet (done ++ bytes ∷ []) rest (suc n) (omega (arith, count, length-append done (bytes ∷ []))) in
+    let rest_of : map (saying reports) later ≡ flat_map (sayings_of sheet) rest = ap (λ l. map (saying l) later) (sym (append_assoc done (bytes ∷ []) rest)) ∙ next in
+    map-append (saying reports) first later ∙ (λ k. of_report reports bytes n here (identifiers bytes) (outcome sheet bytes) k ++ rest_of k)
+
+sayings : (sheet : Sheet) (reports : List (List ℕ)) → IsPermutation (flat_map (sayings_of sheet) reports) (map (saying reports) (mentions_by_fact sheet reports))
+sayings sheet reports =
+    let told = map (saying reports) (mentions_by_fact sheet reports) in
+    subst (λ l. IsPermutation l told) (of_reports sheet [] reports 1 refl) (IsPermutation-map (saying reports) _ _ (each_mention_is_told sheet reports))
+
+same_members : {A : Type 0} (xs ys : List A) → IsPermutation xs ys → SameMembers xs ys
+same_members xs ys moved x = (Contains-permutation xs ys x moved, Contains-permutation ys xs x (IsPermutation-sym xs ys moved))
+
+pub sources_ignore_order : SourcesIgnoreOrder
+sources_ignore_order sheet reports others moved =
+    let documents = reordered (λ bytes. document_in (outcome sheet bytes)) reports others moved in
+    let these = flat_map (sayings_of sheet) reports in
+    let those = flat_map (sayings_of sheet) others in
+    let told = map (saying reports) (mentions_by_fact sheet reports) in
+    let other = map (saying others) (mentions_by_fact sheet others) in
+    record {
+      facts = ap (λ b. b.facts) (body_ignores_order (accepted sheet reports) (accepted sheet others) (same_members _ _ documents));
+      sayings = IsPermutation-trans told these other (IsPermutation-sym these told (sayings sheet reports))
+          (IsPermutation-trans these those other (reordered (sayings_of sheet) reports others moved) (sayings sheet others));
+    }

@@ -1,5 +1,5 @@
 -- Lists whose elements are related index by index.
-use Rattle.std.proofs.Common.{◌≡◌, ℕ, zero, suc, ◌<◌, List, [], ◌∷◌, ◌++◌, length, get_or, set, replicate, Option, Some, None, refl, ap, arith}
+use Rattle.std.proofs.Common.{ℕ, zero, suc, ◌<◌, List, [], ◌∷◌, length, get_or, set, replicate, Option, Some, None, arith}
 use Rattle.std.specs.Prelude.{slice_get}
 use Rattle.std.specs.List.{AllZip}
 use Rattle.oim_merge.specs.Schedule.{numbered}
@@ -18,11 +18,6 @@ zip_get R xs ys h k = absurd h
 pub zip_numbered : {A B : Type 0} (R : A → B → Type 0) (xs : List A) (ys : List B) → AllZip R xs ys → (k : ℕ) → AtBoth R (numbered xs k) (numbered ys k)
 zip_numbered R xs ys h zero = tt
 zip_numbered R xs ys h (suc k) = zip_get R xs ys h k
-
-pub zip_push : {A B : Type 0} (R : A → B → Type 0) (xs : List A) (ys : List B) (x : A) (y : B) → AllZip R xs ys → R x y → AllZip R (xs ++ x ∷ []) (ys ++ y ∷ [])
-zip_push R [] [] x y h one = (one, tt)
-zip_push R (z ∷ xs) (w ∷ ys) x y h one = (h.0, zip_push R xs ys x y h.1 one)
-zip_push R xs ys x y h one = absurd h
 
 pub zip_at : {A B : Type 0} (R : A → B → Type 0) (xs : List A) (ys : List B) → AllZip R xs ys → (k : ℕ) (d : A) (e : B) → k < length xs → R (get_or xs k d) (get_or ys k e)
 zip_at R [] [] h k d e within = absurd (omega (arith, within))
@@ -46,11 +41,6 @@ pub zip_weaker : {A B : Type 0} (R S : A → B → Type 0) → ((x : A) (y : B) 
 zip_weaker R S weaker [] [] h = tt
 zip_weaker R S weaker (x ∷ xs) (y ∷ ys) h = (weaker x y h.0, zip_weaker R S weaker xs ys h.1)
 zip_weaker R S weaker o d h = absurd h
-
-pub zip_long : {A B : Type 0} (R : A → B → Type 0) (xs : List A) (ys : List B) → AllZip R xs ys → length ys ≡ length xs
-zip_long R [] [] h = refl
-zip_long R (x ∷ xs) (y ∷ ys) h = ap suc (zip_long R xs ys h.1)
-zip_long R xs ys h = absurd h
 
 pub zip_same : {A B : Type 0} (R : A → B → Type 0) (xs : List A) (y : B) → ((x : A) → R x y) → AllZip R xs (replicate (length xs) y)
 zip_same R [] y each = tt

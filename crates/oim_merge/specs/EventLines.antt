@@ -3,10 +3,10 @@ use Rattle.std.specs.Prelude.{◌≡◌, ℕ, ◌+◌, ◌^◌, ◌<◌, ◌≤�
 use Rattle.std.specs.Fmt.{decimal}
 use Rattle.std.specs.List.{AllZip}
 use Rattle.oim_merge.specs.Bundle.{line_pieces}
-use Rattle.oim_merge.specs.declared.schedules.event.Event.{Event}
-use Rattle.oim_merge.specs.declared.schedules.event.Event.TheVariants.{Take, Join, Send, Receive, Restart}
-use Rattle.oim_merge.specs.declared.schedules.replay_fault.ReplayFault.{ReplayFault}
-use Rattle.oim_merge.specs.declared.schedules.replay_fault.ReplayFault.TheVariants.{OutOfMemory, BadEvent}
+use Rattle.oim_merge.specs.declared.event.Event.{Event}
+use Rattle.oim_merge.specs.declared.event.Event.TheVariants.{Take, Join, Send, Receive, Restart}
+use Rattle.oim_merge.specs.declared.events.ReplayFault.{ReplayFault}
+use Rattle.oim_merge.specs.declared.events.ReplayFault.TheVariants.{OutOfMemory, BadEvent}
 
 -- a number that a line can spell
 abbrev pub IsNumber : ℕ → Type 0

@@ -4,8 +4,8 @@ use Rattle.std.specs.List.{AllByRecursion}
 use Rattle.std.specs.Ordering.{is_lt}
 use Rattle.oim_dims.specs.FactOrder.{fact_cmp}
 use Rattle.oim_dims.specs.declared.fact.Fact.{Fact}
-use Rattle.oim_merge.specs.declared.sources.mention.Mention.{Mention}
-use Rattle.oim_merge.specs.declared.sources.placed_mention.PlacedMention.{PlacedMention}
+use Rattle.oim_merge.specs.declared.mentions.Mention.{Mention}
+use Rattle.oim_merge.specs.declared.mentions.PlacedMention.{PlacedMention}
 
 -- each mentioned fact is in the list
 abbrev pub AreOf : List Fact → List Mention → Type 0

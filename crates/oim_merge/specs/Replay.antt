@@ -8,10 +8,10 @@ use Rattle.fact_base.specs.Contents.{Contents}
 use Rattle.oim_merge.specs.Replicas.{base_named, reached, report, wire}
 use Rattle.oim_merge.specs.Reports.{refusal_in}
 use Rattle.oim_merge.specs.Schedule.{IsFirstBad, NoneIsBad, World, world_after}
-use Rattle.oim_merge.specs.declared.schedules.event.Event.{Event}
-use Rattle.oim_merge.specs.declared.schedules.event.Event.TheVariants.{Take}
-use Rattle.oim_merge.specs.declared.schedules.replay_fault.ReplayFault.{ReplayFault}
-use Rattle.oim_merge.specs.declared.schedules.replay_fault.ReplayFault.TheVariants.{OutOfMemory, BadEvent}
+use Rattle.oim_merge.specs.declared.event.Event.{Event}
+use Rattle.oim_merge.specs.declared.event.Event.TheVariants.{Take}
+use Rattle.oim_merge.specs.declared.events.ReplayFault.{ReplayFault}
+use Rattle.oim_merge.specs.declared.events.ReplayFault.TheVariants.{OutOfMemory, BadEvent}
 
 -- the replicas, the texts that they sent, and the refusals from `Take` events
 pub record Replay : Type 0 where

@@ -18,7 +18,7 @@ use Rattle.oim_merge.specs.Bases.{base_of}
 use Rattle.oim_merge.specs.History.{IsReadAsBody}
 use Rattle.oim_merge.specs.Reports.{accepted}
 use Rattle.oim_merge.specs.Schedule.{Machine, NoneIsBad, World, numbered, world_after}
-use Rattle.oim_merge.specs.declared.schedules.event.Event.{Event}
+use Rattle.oim_merge.specs.declared.event.Event.{Event}
 
 -- the report with this number, counted from 1
 abbrev pub report : List (List ℕ) → ℕ → List ℕ

@@ -1,8 +1,8 @@
 -- Schedules of events, for any kind of replica (own). Replicas, reports and sent messages have numbers from 1.
 use Rattle.std.specs.Prelude.{◌≡◌, ℕ, zero, suc, ◌+◌, ◌-◌, ◌<◌, Bool, true, false, ◌||◌, Option, Some, None, List, [], ◌∷◌, ◌++◌, length, filter, take, nat_lt, ◌==◌, slice_get, slice_set, replicate}
 use Rattle.std.specs.List.{slice_index_or}
-use Rattle.oim_merge.specs.declared.schedules.event.Event.{Event}
-use Rattle.oim_merge.specs.declared.schedules.event.Event.TheVariants.{Take, Join, Send, Receive, Restart}
+use Rattle.oim_merge.specs.declared.event.Event.{Event}
+use Rattle.oim_merge.specs.declared.event.Event.TheVariants.{Take, Join, Send, Receive, Restart}
 
 -- the element with this number, counted from 1
 abbrev pub numbered : {A : Type 0} → List A → ℕ → Option A

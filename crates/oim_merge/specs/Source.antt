@@ -1,8 +1,8 @@
 -- The bytes that a source gave (own).
 use Rattle.std.specs.Prelude.{◌≡◌, ℕ, ◌+◌, ◌<◌, List, Option, Result, Ok, Err, length}
 use Rattle.std.specs.Io.KnownBytes.{Consumes}
-use Rattle.oim_merge.specs.declared.read_fault.ReadFault.{ReadFault}
-use Rattle.oim_merge.specs.declared.read_fault.ReadFault.TheVariants.{OutOfMemory, Device, TooLong}
+use Rattle.oim_merge.specs.declared.source_reader.ReadFault.{ReadFault}
+use Rattle.oim_merge.specs.declared.source_reader.ReadFault.TheVariants.{OutOfMemory, Device, TooLong}
 
 -- the source gave a first part of its bytes, and this part has the property
 abbrev pub Gives : Option (List ℕ) → Option (List ℕ) → (List ℕ → Type 0) → Type 0

@@ -18,7 +18,7 @@ use Rattle.oim_report.specs.Sheet.{Sheet}
 use Rattle.oim_report.specs.declared.refusal.Refusal.{Refusal}
 use Rattle.oim_write.specs.Tree.{identifier}
 use Rattle.oim_merge.specs.Reports.{merged}
-use Rattle.oim_merge.specs.declared.sources.mention.Mention.{Mention}
+use Rattle.oim_merge.specs.declared.mentions.Mention.{Mention}
 
 -- the mentions in a report, given its identifiers and facts in the same order
 abbrev pub mentions_in : ℕ → List (List ℕ) → List Fact → List Mention

@@ -5,7 +5,7 @@ use Rattle.oim_report.specs.Outcome.{outcome}
 use Rattle.oim_report.specs.Sheet.{Sheet}
 use Rattle.oim_merge.specs.Added.{Added, added, begun, with_report}
 use Rattle.oim_merge.specs.Sources.{mentions, mentions_of}
-use Rattle.oim_merge.specs.declared.sources.mention.Mention.{Mention}
+use Rattle.oim_merge.specs.declared.mentions.Mention.{Mention}
 
 -- the reports that were added, and the mentions in the accepted ones
 pub record Traced : Type 0 where

@@ -1,12 +1,12 @@
-ghost use Rattle.std.specs.Prelude.{◌≡◌, ◌-◌, ◌^◌, ◌<◌, IfOk, IfErr};
+ghost use Rattle.std.specs.Prelude.{◌≡◌, ◌-◌, ◌^◌, ◌<◌, ◌==◌, length, position, IfOk, IfErr, IfSome};
+ghost use Rattle.std.specs.List.{before_first, after_first};
 ghost use Rattle.oim_merge.specs.Added.{added};
-ghost use Rattle.oim_merge.specs.Bundle.{filled_pieces};
+ghost use Rattle.oim_merge.specs.Bundle.{filled_pieces, is_line_end};
 ghost use Rattle.oim_merge.specs.Run.{BundleStops, ConsolidatesBundle, failures_after_run};
 
 use crate::consolidation::Consolidation;
 use crate::fault::Fault;
 use crate::refusals::Refusals;
-use crate::schedules::line_cut::cut_line;
 use oim_names::Reason;
 use oim_report::Sheet;
 use oim_value::Level;
@@ -55,4 +55,22 @@ fn merge_lines<'s>(
         rest = behind;
     }
     Ok(consolidation)
+}
+
+/// Returns the first line, and the bytes behind its end.
+pub(crate) fn cut_line(bytes: &[u8]) -> (&[u8], &[u8])
+    ensures line { result.0.now ≡ before_first is_line_end bytes.now }
+    ensures rest { result.1.now ≡ after_first is_line_end bytes.now }
+{
+    match index_of(b'\n', bytes) {
+        Some(end) => (&bytes[..end], &bytes[end + 1..]),
+        None => (bytes, &[]),
+    }
+}
+
+pub(crate) fn index_of(byte: u8, bytes: &[u8]) -> Option<usize>
+    ensures index { result ≡ position (λ c. c == byte) bytes.now }
+    ensures within { IfSome result (λ index. index < length bytes.now) }
+{
+    bytes.iter().position(|one| *one == byte)
 }

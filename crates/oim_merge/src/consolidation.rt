@@ -1,24 +1,23 @@
-ghost use Rattle.std.specs.Prelude.{◌≡◌, ℕ, List, [], ◌++◌, ◌+◌, ◌-◌, ◌^◌, ◌<◌, IfOk, IfErr, OnOk, OnErr};
+ghost use Rattle.std.specs.Prelude.{◌≡◌, ℕ, List, [], ◌++◌, ◌+◌, ◌-◌, ◌^◌, ◌<◌, IfOk, IfErr, OnOk, OnErr, MatchResult, Ok, Err};
 ghost use Rattle.oim_report.specs.Identifiers.{identifiers};
 ghost use Rattle.oim_report.specs.Outcome.{outcome};
 ghost use Rattle.oim_merge.specs.Added.{added, begun, with_report};
+ghost use Rattle.oim_merge.specs.Bases.{base_of};
 ghost use Rattle.oim_merge.specs.Lines.{line_text};
 ghost use Rattle.oim_merge.specs.Listing.{ListStops, Lists};
+ghost use Rattle.oim_merge.specs.Reports.{accepted, refused};
 ghost use Rattle.oim_merge.specs.Run.{Consolidates, ConsolidationStops, Stops, Writes, failures_after_run};
 ghost use Rattle.oim_merge.specs.Sources.{mentions_of};
 ghost use Rattle.oim_merge.specs.code.Outcomes.{IsOutcome};
 
 use crate::allowed_level::write_within;
 use crate::fault::Fault;
-use crate::merged::Merged;
-use crate::reading::{read, read_with_identifiers};
+use crate::mentions::{Mention, mentions_in};
 use crate::refusals::Refusals;
-use crate::sources::mention::Mention;
-use crate::sources::mentions::mentions_in;
-use crate::verdicts::verdict_format::VerdictFormat;
-use crate::verdicts::verdict_line::VerdictLines;
-use crate::verdicts::verdict_listing::write_verdicts;
-use fact_base::Gathering;
+use crate::verdict_format::VerdictFormat;
+use crate::verdict_listing::{VerdictLines, write_verdicts};
+use fact_base::{Base, Gathering};
+use oim_names::Reason;
 use oim_report::{Refusal, Report, ReportReader, Sheet};
 use oim_value::Level;
 use oim_write::{Encoded, Sink};
@@ -145,13 +144,14 @@ impl<'s> Consolidation<'s> {
         ensures mentions { IfOk result (λ read. read.1.items
             ≡ mentions_of (self.old.reports + 1) (identifiers bytes.now) (outcome self.old.sheet bytes.now)) }
     {
-        match read_with_identifiers(&mut self.reader, bytes)? {
+        match self.reader.read_identified(bytes) {
             Ok((report, identifiers)) => {
                 let number = self.reports + 1;
                 let identifiers = identifiers.as_slice();
                 let mentions = mentions_in(self.alloc, number, identifiers, report.facts())?;
                 Ok((Ok(report), mentions))
             }
+            Err(refusal) if refusal.reason == Reason::OutOfMemory => Err(AllocError),
             Err(refusal) => Ok((Err(refusal), Vec::new(self.alloc))),
         }
     }
@@ -285,5 +285,50 @@ impl<'s> Consolidation<'s> {
         } = self;
         let base = gathered.into_base()?;
         Ok(Merged { base, refusals })
+    }
+}
+
+/// Merged reports: the accepted reports as one base, and the refusals of the other reports.
+#[derive(Drop)]
+pub struct Merged<'s> {
+    /// The base of the accepted reports.
+    pub base: Base<'s>,
+    /// The refusals, with the numbers of their reports, from 1.
+    pub refusals: Refusals,
+}
+
+impl<'s> Merged<'s> {
+    /// Reads the reports under the sheet, in order, and merges the accepted ones.
+    ///
+    /// Errors: out of memory.
+    pub fn of(
+        alloc: Global,
+        sheet: &'s Sheet,
+        reports: &[Encoded],
+    ) -> Result<Merged<'s>, AllocError>
+        ensures base { IfOk result
+            (λ merged. merged.base ≡ base_of sheet.now (accepted sheet.now reports.now)) }
+        ensures refusals { IfOk result (λ merged. merged.refusals ≡ refused sheet.now reports.now) }
+    {
+        Consolidation::of(alloc, sheet, reports)?.into_merged()
+    }
+}
+
+/// Reads a report under the reader's sheet, or returns the report's refusal.
+///
+/// Errors: out of memory, which is not a refusal here.
+pub(crate) fn read<'s>(
+    reader: &mut ReportReader<'s>,
+    bytes: &[u8],
+) -> Result<Result<Report<'s>, Refusal>, AllocError>
+    ensures same { reader.new ≡ reader.old }
+    ensures read { IfOk result (λ read. MatchResult read
+        (λ report. (outcome reader.old bytes.now ≡ Ok report.document) × (report.sheet ≡ reader.old))
+        (λ refusal. outcome reader.old bytes.now ≡ Err refusal)) }
+{
+    match reader.read(bytes) {
+        Ok(report) => Ok(Ok(report)),
+        Err(refusal) if refusal.reason == Reason::OutOfMemory => Err(AllocError),
+        Err(refusal) => Ok(Err(refusal)),
     }
 }

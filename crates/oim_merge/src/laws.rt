@@ -20,29 +20,34 @@ pub fn reports_ignore_order()
 {}
 
 /// Adding reports one at a time gives the same body and the same refusals as merging their list.
+#[tactic(auto, using(crate::proofs::Reports::steps_are_list))]
 pub fn steps_are_list()
     ensures { StepsAreList }
 {}
 
 /// Adding reports one at a time to a traced merge gives the same state as merging their list.
+#[tactic(auto, using(crate::proofs::Traces::traced_steps_are_list))]
 pub fn traced_steps_are_list()
     ensures { TracedStepsAreList }
 {}
 
 /// The text of a body that fits a sheet is read as the same facts and references, in order, with
 /// the level of its facts.
+#[tactic(auto, using(crate::proofs::ReadsBack::canonical_reads_back))]
 pub fn canonical_reads_back()
     ensures { CanonicalReadsBack }
 {}
 
 /// The earlier form of the text of a body that fits a sheet is read as the same facts and
 /// references. The earlier form declares no level, so all duplicates are allowed.
+#[tactic(auto, using(crate::proofs::ReadsBack::earlier_reads_back))]
 pub fn earlier_reads_back()
     ensures { EarlierReadsBack }
 {}
 
 /// The text of a body that fits a sheet declares the strictest level that the facts satisfy. If the
 /// text declared a stricter level, it would be refused; with a looser level, it would be accepted.
+#[tactic(auto, using(crate::proofs::ReadsBack::least_level_is_declared))]
 pub fn least_level_is_declared()
     ensures { LeastLevelIsDeclared }
 {}
@@ -55,6 +60,7 @@ pub fn allowed_is_declared()
 
 /// The text of a body that fits a sheet is accepted, and a new base that takes the report has that
 /// body. The text may be in the canonical form or in the earlier form.
+#[tactic(auto, using(crate::proofs::Histories::earlier_texts_give_bodies, crate::proofs::Histories::texts_give_bodies))]
 pub fn texts_give_bodies()
     ensures present { TextsGiveBodies }
     ensures earlier { EarlierTextsGiveBodies }
@@ -70,11 +76,13 @@ pub fn bases_read_back(base: &Base<'_>)
 
 /// The text of a body that fits a sheet is the canonical text of the document that is read from
 /// the text.
+#[tactic(auto, using(crate::proofs::Histories::merged_texts_are_canonical))]
 pub fn merged_texts_are_canonical()
     ensures { MergedTextsAreCanonical }
 {}
 
 /// No text in the earlier form is canonical.
+#[tactic(auto, using(crate::proofs::ReadsBack::earlier_is_not_canonical))]
 pub fn earlier_is_not_canonical()
     ensures { EarlierIsNotCanonical }
 {}
@@ -82,6 +90,7 @@ pub fn earlier_is_not_canonical()
 /// A base has the body of the documents that reached it, directly or through bases that it joined.
 /// So two bases have the same canonical text, verdicts, level and references if the same documents
 /// reached both, whatever the order, grouping and repetition.
+#[tactic(auto, using(crate::proofs::Histories::histories_are_forgotten, crate::proofs::Histories::histories_give_bodies, crate::proofs::Histories::levels_are_forgotten, crate::proofs::Histories::references_are_forgotten, crate::proofs::Histories::verdicts_are_forgotten))]
 pub fn histories_are_forgotten()
     ensures body { HistoriesGiveBodies }
     ensures bytes { HistoriesAreForgotten }
@@ -92,6 +101,7 @@ pub fn histories_are_forgotten()
 
 /// Merging a merged text with itself and with any of the reports that it was merged from gives the
 /// same text.
+#[tactic(auto, using(crate::proofs::Histories::merged_texts_merge))]
 pub fn merged_texts_merge()
     ensures { MergedTextsMerge }
 {}
@@ -111,6 +121,7 @@ pub fn lines_tell_verdicts()
 /// An accepted report has one mention for each fact object. The mention contains the object's fact.
 /// `source_lines` writes one line for each mention and no other line. Each fact of the merged
 /// reports has a line.
+#[tactic(auto, using(crate::proofs::SourceLaws::each_fact_is_said, crate::proofs::SourceLaws::each_mention_is_told, crate::proofs::SourceLaws::each_object_is_mentioned))]
 pub fn sources_are_whole()
     ensures objects { EachObjectIsMentioned }
     ensures told { EachMentionIsTold }
@@ -126,6 +137,7 @@ pub fn sources_ignore_order()
 /// After every schedule without a bad event, each replica has the base of the documents that
 /// reached it since its last restart. Each sent text is read as the body that the sender had when
 /// it sent the text, whichever version wrote the text. No replica is added or lost.
+#[tactic(auto, using(crate::proofs::Agreement::replicas_stay, crate::proofs::Agreement::wire_agrees))]
 pub fn wire_agrees()
     ensures agrees { WireAgrees }
     ensures stay { ReplicasStay }
@@ -139,11 +151,13 @@ pub fn replicas_say_as_afresh()
 
 /// After every schedule without a bad event, two replicas write the same bytes if the same accepted
 /// reports reached both since their last restarts.
+#[tactic(auto, using(crate::proofs::Agreement::equal_sets_write_the_same))]
 pub fn equal_sets_write_the_same()
     ensures { EqualSetsWriteTheSame }
 {}
 
 /// A line of a schedule spells at most one event.
+#[tactic(auto, using(crate::proofs::EventTexts::lines_say_one_event))]
 pub fn lines_say_one_event()
     ensures { LinesSayOneEvent }
 {}

@@ -2,10 +2,24 @@ ghost use Rattle.std.specs.Prelude.{◌≡◌, ◌+◌, ◌-◌, ◌^◌, ◌<�
 ghost use Rattle.std.specs.Io.KnownBytes.{Consumes, IsAtEnd, Keeps};
 ghost use Rattle.oim_merge.specs.Source.{GivesBefore, failures_after_read};
 
-use crate::read_fault::ReadFault;
 use crate::source::{Source, SourceError};
 use oim_write::Encoded;
 use std::alloc::{AllocError, Global};
+use thiserror::Error;
+
+/// Why a source was not read to its end.
+#[derive(Clone, Copy, Debug, PartialEq, Eq, Error)]
+pub enum ReadFault {
+    /// Memory was refused. The bytes that were read are lost.
+    #[error("out of memory")]
+    OutOfMemory,
+    /// The source failed after this many bytes.
+    #[error("the device failed after {0} bytes")]
+    Device(u64),
+    /// The source has more bytes than the limit allows.
+    #[error("too long")]
+    TooLong,
+}
 
 /// The buffer grows by at least `FEWEST` and at most `MOST` bytes at once. Only its last growth may
 /// be less, so that its size stays within the limit plus one byte. Many files need only one growth.

@@ -9,8 +9,8 @@ use Rattle.oim_write.specs.Bytes.{canonical}
 use Rattle.oim_merge.specs.code.Readings.{AreReadings}
 use Rattle.oim_merge.specs.Replay.{world_of, texts_at}
 use Rattle.oim_merge.specs.Schedule.{World}
-use Rattle.oim_merge.specs.declared.schedules.messages.Messages.{Messages}
-use Rattle.oim_merge.specs.declared.schedules.replicas.Replicas.{Replicas}
+use Rattle.oim_merge.specs.declared.messages.Messages.{Messages}
+use Rattle.oim_merge.specs.declared.replicas.Replicas.{Replicas}
 
 abbrev pub AreWithin : List (List ℕ) → List ℕ → Type 0
 AreWithin texts places = All (λ place. place < length texts) places

@@ -6,8 +6,8 @@ use Rattle.oim_dims.specs.declared.fact.Fact.{Fact}
 use Rattle.oim_write.specs.Rank.{padded, width}
 use Rattle.oim_merge.specs.Lines.{AreRowsFrom, RowText}
 use Rattle.oim_merge.specs.Sources.{SourceText}
-use Rattle.oim_merge.specs.declared.sources.fact_list.LentFact.{LentFact}
-use Rattle.oim_merge.specs.declared.sources.placed_mention.PlacedMention.{PlacedMention}
+use Rattle.oim_merge.specs.declared.fact_list.LentFact.{LentFact}
+use Rattle.oim_merge.specs.declared.mentions.PlacedMention.{PlacedMention}
 
 -- these rows of a body with these facts, numbered from 1, were pushed through a buffer
 pub record PassesRows (written : RowText) (facts : List Fact) (rows : List Row) (old new : Option (List ℕ)) (before after : Pending) : Type 0 where

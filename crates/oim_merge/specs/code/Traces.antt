@@ -2,7 +2,7 @@
 use Rattle.std.specs.Prelude.{◌≡◌, ℕ, List}
 use Rattle.oim_merge.specs.Added.{Added, added}
 use Rattle.oim_merge.specs.Sources.{mentions}
-use Rattle.oim_merge.specs.declared.sources.mention.Mention.{Mention}
+use Rattle.oim_merge.specs.declared.mentions.Mention.{Mention}
 
 -- the reports and mentions are those of a list of reports
 pub record AreTraced (a : Added) (ms : List Mention) : Type 0 where

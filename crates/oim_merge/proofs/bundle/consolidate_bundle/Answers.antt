@@ -1,5 +1,5 @@
 use Rattle.std.proofs.lemmas.Result.{IfErr-weaker, IfOk-weaker}
-use Rattle.oim_merge.proofs.Bundles.{HasRead, consolidated, stopped}
+use Rattle.oim_merge.proofs.LinePieces.{HasRead, consolidated, stopped}
 use Rattle.oim_merge.proofs.bundle.consolidate_bundle.Goals as goal
 
 pub returns-clause-ok : goal.returns-clause-ok

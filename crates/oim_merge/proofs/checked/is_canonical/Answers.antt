@@ -6,7 +6,7 @@ use Rattle.fact_base.specs.Body.{body, union}
 use Rattle.fact_base.specs.Contents.{Contents}
 use Rattle.fact_base.proofs.Bodies.{body_of_both}
 use Rattle.oim_write.specs.Bytes.{canonical}
-use Rattle.oim_merge.proofs.Rising.{canonical_rises}
+use Rattle.oim_merge.proofs.Histories.{canonical_rises}
 use Rattle.oim_merge.proofs.checked.is_canonical.Goals as goal
 
 pub returns-then-not-rise : goal.returns-then-not-rise

@@ -4,7 +4,7 @@ use Rattle.std.proofs.lemmas.Bool.{false≢true}
 use Rattle.std.proofs.lemmas.List.Sorted.{answers_always}
 use Rattle.oim_dims.specs.FactOrder.{fact_cmp}
 use Rattle.oim_dims.specs.declared.fact.Fact.{Fact}
-use Rattle.oim_merge.proofs.Rising.{Differ, placed_if_rising, rise_in_place}
+use Rattle.oim_merge.proofs.Histories.{Differ, placed_if_rising, rise_in_place}
 use Rattle.oim_merge.proofs.checked.rise.Goals as goal
 
 -- each number of a list is its own index

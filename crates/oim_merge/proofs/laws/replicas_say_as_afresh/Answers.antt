@@ -1,4 +1,4 @@
-use Rattle.oim_merge.proofs.Afresh.{replicas_say_as_afresh}
+use Rattle.oim_merge.proofs.Agreement.{replicas_say_as_afresh}
 use Rattle.oim_merge.proofs.laws.replicas_say_as_afresh.Goals as goal
 
 pub returns : goal.returns

@@ -1,0 +1,9 @@
+use Rattle.std.proofs.Common.{◌≡◌, ◌++◌, drop, map}
+use Rattle.fact_base.specs.Entries.{facts_with}
+use Rattle.oim_merge.specs.code.Listing.{lent}
+use Rattle.oim_merge.proofs.fact_list.add_row.Given as goal
+
+abbrev pub invariant-loop-value : goal.invariant-loop-value
+invariant-loop-value l =
+    map lent l.facts.items ++ facts_with l.row.dimensions.now (drop l.value-index l.row.values.now)
+    ≡ map lent l.initial.facts.items ++ facts_with l.row.dimensions.now l.row.values.now

@@ -1,0 +1,13 @@
+use Rattle.std.proofs.Common.{◌≡◌, ◌++◌, map}
+use Rattle.fact_base.specs.Rows.{rows_of}
+use Rattle.fact_base.specs.Shown.{rows_left, shown}
+use Rattle.oim_write.proofs.NumberedFacts.{rows_facts}
+use Rattle.oim_merge.specs.code.Listing.{lent}
+use Rattle.oim_merge.proofs.fact_list.facts_of.Given as goal
+
+-- the facts of the rows so far are listed
+abbrev pub invariant-loop-row : goal.invariant-loop-row
+invariant-loop-row l = record {
+  rows : map shown l.yielded ++ rows_left l.row-iterator ≡ rows_of l.base.body.facts;
+  facts : map lent l.facts.items ≡ rows_facts (map shown l.yielded);
+}

@@ -1,0 +1,19 @@
+use Rattle.std.proofs.Common.{◌≡◌, sym, ap, ◌∙◌}
+use Rattle.std.specs.Cmp.{Equal-is}
+use Rattle.std.specs.List.{HoldsAt}
+use Rattle.std.proofs.lemmas.Bool.{OnTrue_from}
+use Rattle.oim_value.proofs.ValueOrders.{value_cmp_exact}
+use Rattle.oim_value.specs.ValueOrder.{value_cmp}
+use Rattle.oim_report.proofs.Ties.{equal_dimensions, equal_values_tie}
+use Rattle.oim_merge.specs.code.Listing.{lent}
+use Rattle.oim_merge.proofs.fact_list.is_at.Goals as goal
+
+pub returns-then-eq-clause-same : goal.returns-then-eq-clause-same
+returns-then-eq-clause-same c =
+    let facts = c.args.facts.now in
+    let fact = c.args.fact.now in
+    let one = c.in-Some.one.now in
+    let dimensions : one.dimensions.now ≡ fact.dimensions = equal_dimensions one.dimensions.now fact.dimensions (sym c.eq.ensures ∙ c.if-eq.true) in
+    OnTrue_from c.eq-then-eq.result (HoldsAt (λ g. lent g ≡ fact) facts c.args.place) (λ same.
+    let value : one.value.now ≡ fact.value = value_cmp_exact one.value.now fact.value ((Equal-is (value_cmp one.value.now fact.value)).0 (sym (equal_values_tie one.value.now fact.value) ∙ sym c.eq-then-eq.ensures ∙ same)) in
+    λ d. ap lent (sym (c.in-Some.ensures.lookup.3.1 d)) ∙ (λ i. record { dimensions = dimensions i; value = value i }))

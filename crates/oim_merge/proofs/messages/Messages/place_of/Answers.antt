@@ -1,0 +1,43 @@
+use Rattle.std.proofs.Common.{◌≡◌, [], ◌∷◌, ◌++◌, length, sym, ap, subst, ◌∙◌}
+use Rattle.std.specs.List.{All}
+use Rattle.std.proofs.lemmas.List.Elements.{All-push}
+use Rattle.oim_write.specs.Bytes.{canonical}
+use Rattle.oim_merge.specs.code.Held.{AreWithin, IsTextAt, IsWritten, Stay}
+use Rattle.oim_merge.specs.Replay.{texts_at}
+use Rattle.oim_merge.specs.code.Readings.{AreReadings}
+use Rattle.oim_merge.proofs.KeptTexts.{among_more, kept_new, stands_last, stay_with_more, within_longer}
+use Rattle.oim_merge.proofs.messages.Messages.place_of.Goals as goal
+
+pub returns-in_ok-push-in-Err-2-clause-place : goal.returns-in_ok-push-in-Err-2-clause-place
+returns-in_ok-push-in-Err-2-clause-place c =
+    let texts = c.args.self.now.texts.items in
+    let text = c.in_ok-text.text in
+    let place_is : c.len-place.result ≡ length texts = c.len-place.ensures ∙ c.args.self.now.texts.ok.0 in
+    subst (λ ts. IsTextAt ts (canonical c.args.base.now.body) c.len-place.result) (sym c.in_ok-push-in-Err.ensures.items)
+    (subst (λ t. IsTextAt (texts ++ text ∷ []) t c.len-place.result) c.in_ok-text.ensures
+    (subst (IsTextAt (texts ++ text ∷ []) text) (sym place_is) (stands_last texts c.args.self.now.sent.items text)))
+
+pub returns-in_ok-push-in-Err-2-clause-sent : goal.returns-in_ok-push-in-Err-2-clause-sent
+returns-in_ok-push-in-Err-2-clause-sent c =
+    let sent = c.args.self.now.sent.items in
+    ap (λ ts. texts_at ts sent) c.in_ok-push-in-Err.ensures.items ∙ among_more c.args.self.now.texts.items c.in_ok-text.text sent c.requires.held.places
+
+pub returns-in_ok-push-in-Err-2-clause-held : goal.returns-in_ok-push-in-Err-2-clause-held
+returns-in_ok-push-in-Err-2-clause-held c =
+    let sheet = c.args.base.now.sheet in
+    let texts = c.args.self.now.texts.items in
+    let sent = c.args.self.now.sent.items in
+    let text = c.in_ok-text.text in
+    let longer = c.in_ok-push-in-Err.ensures.items in
+    record {
+      places = subst (λ ts. AreWithin ts sent) (sym longer) (within_longer texts sent text c.requires.held.places);
+      kept = subst (λ ts. AreReadings sheet ts c.push-in-Err.new.self.items) (sym longer)
+          (subst (AreReadings sheet (texts ++ text ∷ [])) (sym c.in_ok-push-in-Err-2.ensures.items) (kept_new sheet texts c.args.self.now.kept.items text c.requires.held.kept));
+      written = subst (λ ts. All (IsWritten sheet) ts) (sym longer)
+          (All-push (IsWritten sheet) texts text c.requires.held.written (record { body = c.args.base.now.body; fits = c.sheet-sheet.ensures.fits; written = c.in_ok-text.ensures }));
+    }
+
+pub returns-in_ok-push-in-Err-2-clause-stay : goal.returns-in_ok-push-in-Err-2-clause-stay
+returns-in_ok-push-in-Err-2-clause-stay c =
+    let texts = c.args.self.now.texts.items in
+    subst (Stay texts) (sym c.in_ok-push-in-Err.ensures.items) (stay_with_more texts c.in_ok-text.text)

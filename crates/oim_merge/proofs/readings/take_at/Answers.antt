@@ -1,0 +1,55 @@
+use Rattle.std.proofs.Common.{◌≡◌, [], Some, get_or, sym, ap, subst, ◌∙◌, rules}
+use Rattle.std.specs.Prelude.{IfOk}
+use Rattle.std.specs.Result.{result_err}
+use Rattle.std.proofs.lemmas.Result.{IfOk-weaker, on_ok_weaker}
+use Rattle.oim_report.specs.Outcome.{outcome}
+use Rattle.oim_merge.specs.code.Readings.{IsReadingOf, read_as, with_read}
+use Rattle.oim_merge.proofs.KeptTexts.{kept_is, kept_there, read_default, refusal_is, sheet_is, with_read_is}
+use Rattle.oim_merge.proofs.Zips.{zip_set}
+use Rattle.oim_merge.proofs.readings.take_at.Goals as goal
+
+pub bounds-kept-place : goal.bounds-kept-place
+bounds-kept-place c = kept_there c.args.sheet.now c.args.texts.now c.args.kept.now c.requires.kept c.args.place c.requires.place
+
+pub offset_bounds-kept-place : goal.offset_bounds-kept-place
+offset_bounds-kept-place c =
+    let within = kept_there c.args.sheet.now c.args.texts.now c.args.kept.now c.requires.kept c.args.place c.requires.place in
+    search rules
+
+pub bounds-kept-place-2 : goal.bounds-kept-place-2
+bounds-kept-place-2 c = kept_there c.args.sheet.now c.args.texts.now c.args.kept.now c.requires.kept c.args.place c.requires.place
+
+pub offset_bounds-kept-place-2 : goal.offset_bounds-kept-place-2
+offset_bounds-kept-place-2 c =
+    let within = kept_there c.args.sheet.now c.args.texts.now c.args.kept.now c.requires.kept c.args.place c.requires.place in
+    search rules
+
+pub take_read-requires : goal.take_read-requires
+take_read-requires c =
+    let sheet = c.args.sheet.now in
+    let said = outcome sheet (get_or c.args.texts.now c.args.place []) in
+    let is = kept_is sheet c.args.texts.now c.args.kept.now c.requires.kept c.args.place c.requires.place c.index-kept-place.result c.in-Some.read c.in-Some.is in
+    subst (λ read. IfOk read (λ other. other.sheet ≡ c.args.base.now.sheet)) (sym is)
+    (subst (λ s. IfOk (read_as sheet said) (λ other. other.sheet ≡ s)) (sym c.requires.sheet) (sheet_is sheet said))
+
+pub returns-in-Some-clause-base : goal.returns-in-Some-clause-base
+returns-in-Some-clause-base c =
+    let sheet = c.args.sheet.now in
+    let base = c.args.base.now in
+    let said = outcome sheet (get_or c.args.texts.now c.args.place []) in
+    let is = kept_is sheet c.args.texts.now c.args.kept.now c.requires.kept c.args.place c.requires.place c.index-kept-place.result c.in-Some.read c.in-Some.is in
+    on_ok_weaker c.take_read.result (λ new. new ∙ ap (λ read. with_read read base) is ∙ with_read_is sheet said base) c.take_read.ensures.base
+
+pub returns-in-Some-clause-refusal : goal.returns-in-Some-clause-refusal
+returns-in-Some-clause-refusal c =
+    let sheet = c.args.sheet.now in
+    let said = outcome sheet (get_or c.args.texts.now c.args.place []) in
+    let is = kept_is sheet c.args.texts.now c.args.kept.now c.requires.kept c.args.place c.requires.place c.index-kept-place.result c.in-Some.read c.in-Some.is in
+    IfOk-weaker c.take_read.result (λ told. told ≡ result_err c.in-Some.read) (λ told. told ≡ result_err said) (λ told same. same ∙ ap result_err is ∙ refusal_is sheet said) c.take_read.ensures.refusal
+
+pub returns-clause-kept : goal.returns-clause-kept
+returns-clause-kept c =
+    let sheet = c.args.sheet.now in
+    let texts = c.args.texts.now in
+    let bytes = c.as_bytes.ensures ∙ read_default texts c.args.place c.index-texts-place.result [] c.requires.place c.index-texts-place.is in
+    zip_set (IsReadingOf sheet) texts c.args.kept.now c.requires.kept c.args.place [] (Some c.in_ok-read.read) (c.in_ok-read.ensures ∙ ap (λ b. read_as sheet (outcome sheet b)) bytes)

@@ -1,0 +1,119 @@
+use Rattle.std.proofs.Common.{◌≡◌, ◌-◌, [], length, set, refl, sym, ap, subst, ◌∙◌, arith}
+use Rattle.std.specs.List.{AllZip}
+use Rattle.fact_base.specs.Contents.{Contents}
+use Rattle.oim_merge.specs.code.Held.{AreHeld, IsCurrent, sent_texts, world_in}
+use Rattle.oim_merge.specs.Replicas.{wire}
+use Rattle.oim_merge.specs.Schedule.{happens}
+use Rattle.oim_merge.specs.declared.event.Event.TheVariants.{Receive}
+use Rattle.oim_merge.proofs.KeptTexts.{current_after_change, current_after_send, current_at, names_good, receives_text, sender_within, kept_long}
+use Rattle.std.proofs.lemmas.Slice.Zip.{AllZip-long}
+use Rattle.std.proofs.lemmas.List.{with_items_is}
+use Rattle.oim_merge.specs.code.Readings.{AreReadings}
+use Rattle.oim_merge.proofs.replicas.Replicas.step.Goals as goal
+
+pub returns-in_ok-push-in-Take-clause-kept : goal.returns-in_ok-push-in-Take-clause-kept
+returns-in_ok-push-in-Take-clause-kept c =
+    let old = c.args.self.now in
+    let sheet = c.args.sheet.now in
+    let reports = c.args.reports.now in
+    let place = c.in-Take.i - 1 in
+    let more = c.take_at.new.kept in
+    let each = c.in_ok-refusal-in-Take.ensures.kept in
+    let long : length more ≡ old.reports.len = kept_long sheet reports old.reports.items more c.requires.kept.taken each ∙ sym old.reports.ok.0 in
+    record {
+      taken = subst (AreReadings sheet reports) (sym (with_items_is old.reports more long)) each;
+      held = c.requires.kept.held;
+      current = current_after_change old.messages.texts.items old.bases.items (set old.bases.items place c.take_at.new.base) old.current.items c.forget.new.current.items c.requires.kept.current
+          place c.take_at.new.base refl c.forget.ensures;
+    }
+
+pub returns-in_default-clause-kept : goal.returns-in_default-clause-kept
+returns-in_default-clause-kept c =
+    let old = c.args.self.now in
+    let sheet = c.args.sheet.now in
+    let reports = c.args.reports.now in
+    let place = c.in-Take.i - 1 in
+    let more = c.take_at.new.kept in
+    let each = c.in_ok-refusal-in-Take.ensures.kept in
+    let long : length more ≡ old.reports.len = kept_long sheet reports old.reports.items more c.requires.kept.taken each ∙ sym old.reports.ok.0 in
+    record {
+      taken = subst (AreReadings sheet reports) (sym (with_items_is old.reports more long)) each;
+      held = c.requires.kept.held;
+      current = current_after_change old.messages.texts.items old.bases.items (set old.bases.items place c.take_at.new.base) old.current.items c.forget.new.current.items c.requires.kept.current
+          place c.take_at.new.base refl c.forget.ensures;
+    }
+
+pub index_mut-current-requires : goal.index_mut-current-requires
+index_mut-current-requires c =
+    let old = c.args.self.now in
+    let within = sender_within (length old.bases.items) (length c.args.reports.now) (length (sent_texts old.messages)) c.args.event c.in-Send.i c.in-Send.is c.requires.there in
+    let long : length old.current.items ≡ length old.bases.items = AllZip-long (IsCurrent old.messages.texts.items) old.bases.items old.current.items c.requires.kept.current in
+    omega (arith, within, long, old.current.ok.0)
+
+pub send-requires-clause-current : goal.send-requires-clause-current
+send-requires-clause-current c =
+    let old = c.args.self.now in
+    let within = sender_within (length old.bases.items) (length c.args.reports.now) (length (sent_texts old.messages)) c.args.event c.in-Send.i c.in-Send.is c.requires.there in
+    current_at old.messages.texts.items old.bases.items old.current.items c.requires.kept.current (c.in-Send.i - 1) c.index.result.now c.index_mut-current.result.now within c.index.ensures c.index_mut-current.ensures.value
+
+pub returns-in_ok-send-in-Send-clause-kept : goal.returns-in_ok-send-in-Send-clause-kept
+returns-in_ok-send-in-Send-clause-kept c =
+    let old = c.args.self.now in
+    let base = c.index.result.now in
+    let within = sender_within (length old.bases.items) (length c.args.reports.now) (length (sent_texts old.messages)) c.args.event c.in-Send.i c.in-Send.is c.requires.there in
+    let of_sheet : base.sheet ≡ c.args.sheet.now = subst (λ (b : Contents). b.sheet ≡ c.args.sheet.now) (sym c.index.ensures) (c.requires.sheets (c.in-Send.i - 1) base within) in
+    record {
+      taken = c.requires.kept.taken;
+      held = subst (λ s. AreHeld s c.send.new.self) of_sheet c.in_ok-send-in-Send.ensures.held;
+      current = current_after_send old.messages.texts.items c.send.new.self.texts.items old.bases.items old.current.items c.requires.kept.current c.in_ok-send-in-Send.ensures.stay
+          (c.in-Send.i - 1) base c.send.new.current c.index.ensures c.in_ok-send-in-Send.ensures.current;
+    }
+
+pub returns-in_ok-join_at-in-Join-clause-kept : goal.returns-in_ok-join_at-in-Join-clause-kept
+returns-in_ok-join_at-in-Join-clause-kept c =
+    let old = c.args.self.now in
+    record {
+      taken = c.requires.kept.taken;
+      held = c.requires.kept.held;
+      current = current_after_change old.messages.texts.items old.bases.items c.join_at.new.bases.items old.current.items c.forget-in-Join.new.current.items c.requires.kept.current
+          (c.in-Join.i - 1) _ c.in_ok-join_at-in-Join.ensures c.forget-in-Join.ensures;
+    }
+
+pub returns-in_ok-give-in-Receive-clause-world : goal.returns-in_ok-give-in-Receive-clause-world
+returns-in_ok-give-in-Receive-clause-world c =
+    let old = c.args.self.now in
+    let sheet = c.args.sheet.now in
+    let reports = c.args.reports.now in
+    let i = c.in-Receive.i in
+    let k = c.in-Receive.k in
+    let given = c.give.new.base in
+    let inside = names_good (length old.bases.items) (length reports) (length (sent_texts old.messages)) c.args.event (Receive i k) c.in-Receive.is c.requires.there in
+    receives_text sheet reports old.bases.items (sent_texts old.messages) i k c.index_mut-base-in-Receive.result.now given (set old.bases.items (i - 1) given) (sent_texts c.give.new.self)
+    inside c.index_mut-base-in-Receive.ensures.value c.in_ok-give-in-Receive.ensures.base refl c.in_ok-give-in-Receive.ensures.sent
+    ∙ ap (happens (wire sheet [] reports) (world_in old)) (sym c.in-Receive.is)
+
+pub returns-in_ok-give-in-Receive-clause-kept : goal.returns-in_ok-give-in-Receive-clause-kept
+returns-in_ok-give-in-Receive-clause-kept c =
+    let old = c.args.self.now in
+    let place = c.in-Receive.i - 1 in
+    let base = c.give.new.base in
+    let more = set old.bases.items place base in
+    let left = c.forget-in-Receive.new.current.items in
+    let same : old.messages.texts.items ≡ c.give.new.self.texts.items = λ t. ((sym c.in_ok-give-in-Receive.ensures.texts) t).items in
+    record {
+      taken = c.requires.kept.taken;
+      held = c.in_ok-give-in-Receive.ensures.held;
+      current = subst (λ texts. AllZip (IsCurrent texts) more left) same
+          (current_after_change old.messages.texts.items old.bases.items more old.current.items left c.requires.kept.current place base refl c.forget-in-Receive.ensures);
+    }
+
+pub returns-in-Restart-clause-kept : goal.returns-in-Restart-clause-kept
+returns-in-Restart-clause-kept c =
+    let old = c.args.self.now in
+    let place = c.in-Restart.i - 1 in
+    record {
+      taken = c.requires.kept.taken;
+      held = c.requires.kept.held;
+      current = current_after_change old.messages.texts.items old.bases.items (set old.bases.items place c.new.result) old.current.items c.forget-in-Restart.new.current.items c.requires.kept.current
+          place c.new.result refl c.forget-in-Restart.ensures;
+    }

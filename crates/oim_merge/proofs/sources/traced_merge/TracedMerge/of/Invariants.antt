@@ -1,9 +1,0 @@
-use Rattle.std.proofs.Common.{◌≡◌, take}
-use Rattle.oim_merge.specs.Traced.{traced}
-use Rattle.oim_merge.proofs.sources.traced_merge.TracedMerge.of.Given as goal
-
-abbrev pub invariant-loop-report : goal.invariant-loop-report
-invariant-loop-report l = record {
-  is : l.merge ≡ traced l.sheet (take l.report-index l.reports);
-  count : l.merge.added.reports ≡ l.report-index;
-}

@@ -1,0 +1,12 @@
+use Rattle.std.proofs.Common.{◌+◌, ap, ◌∙◌}
+use Rattle.oim_merge.specs.Traced.{Traced}
+use Rattle.oim_merge.proofs.Traces.{traced_step}
+use Rattle.oim_merge.proofs.traced_merge.TracedMerge.of.Goals as goal
+
+pub loop-report-preserved : goal.loop-report-preserved
+loop-report-preserved c =
+    let l = c.loop-report in
+    record {
+      is = traced_step c.args.sheet.now c.args.reports.now l.report-index c.report-item.result c.as_bytes.result.now l.merge c.add.new.self c.loop-report-test.true c.report-item.is c.as_bytes.ensures c.in_ok-add.ensures.ok l.invariant.is;
+      count = ap (λ (t : Traced). t.added.reports) c.in_ok-add.ensures.ok ∙ ap (λ n. n + 1) l.invariant.count;
+    }

@@ -1,0 +1,98 @@
+ghost use Rattle.std.specs.Prelude.{◌≡◌, map, length, IfOk};
+ghost use Rattle.merge_laws.specs.Sorted.{IsSet};
+ghost use Rattle.oim_dims.specs.FactOrder.{fact_cmp};
+ghost use Rattle.oim_merge.specs.Mentions.{AreOf, all_placed};
+ghost use Rattle.oim_merge.specs.Sources.{by_fact, mentions_in};
+ghost use Rattle.oim_merge.specs.code.Listing.{lent};
+
+use crate::fact_list::{LentFact, Run, facts_of, place_of};
+use fact_base::Base;
+use oim_dims::Fact;
+use oim_names::{Copied, Text};
+use std::alloc::{AllocError, Global};
+
+/// A mention: a fact object in an accepted report, with its fact.
+#[derive(Debug, Drop)]
+pub struct Mention {
+    /// The number of the report, from 1.
+    pub report: u64,
+    /// The identifier of the object.
+    pub identifier: Text,
+    /// The fact that the object reports.
+    pub fact: Fact,
+}
+
+/// A mention: a fact object in a report, with the index of its fact in a base.
+#[derive(Debug, Drop)]
+pub struct PlacedMention {
+    /// The number of facts in the base that are less than the mentioned fact.
+    pub place: usize,
+    /// The number of the report, from 1.
+    pub report: u64,
+    /// The identifier of the fact in the report.
+    pub identifier: Text,
+}
+
+/// Returns the mentions in the report with this number. Identifiers and facts are in the same order.
+///
+/// Errors: out of memory.
+pub(crate) fn mentions_in(
+    alloc: Global,
+    number: u64,
+    identifiers: &[Text],
+    facts: &[Fact],
+) -> Result<Vec<Mention>, AllocError>
+    requires { length identifiers.now ≡ length facts.now }
+    ensures { IfOk result (λ ms. ms.items ≡ mentions_in number identifiers.now facts.now) }
+{
+    let mut mentions = Vec::with_capacity(alloc, facts.len())?;
+    for (i, fact) in facts.iter().enumerate() {
+        mentions.push(Mention {
+            report: number,
+            identifier: identifiers[i].copied(alloc)?,
+            fact: fact.copied(alloc)?,
+        })?;
+    }
+    Ok(mentions)
+}
+
+/// Returns the mentions with the indices of their facts in the base, sorted by fact. Mentions of
+/// one fact keep their order.
+///
+/// Errors: out of memory.
+pub(crate) fn placed_by_fact(
+    alloc: Global,
+    base: &Base<'_>,
+    mentions: Vec<Mention>,
+) -> Result<Vec<PlacedMention>, AllocError>
+    requires { AreOf base.now.body.facts mentions.items }
+    ensures { IfOk result (λ ms. ms.items
+        ≡ all_placed base.now.body.facts (by_fact base.now.body.facts mentions.items)) }
+{
+    // the contract of `sheet` states that the facts ascend
+    let _sheet = base.sheet();
+    let facts = facts_of(alloc, base)?;
+    let mut placed = placed(alloc, facts.as_slice(), mentions)?;
+    placed.sort_by_key(|mention| mention.place)?;
+    Ok(placed)
+}
+
+fn placed(
+    alloc: Global,
+    facts: &[LentFact<'_>],
+    mentions: Vec<Mention>,
+) -> Result<Vec<PlacedMention>, AllocError>
+    requires { IsSet fact_cmp (map lent facts.now) }
+    ensures { IfOk result (λ ms. ms.items ≡ all_placed (map lent facts.now) mentions.items) }
+{
+    let mut placed = Vec::with_capacity(alloc, mentions.len())?;
+    let mut run = Run::new();
+    for mention in mentions {
+        placed.push(PlacedMention {
+            place: place_of(facts, &mut run, &mention.fact),
+            report: mention.report,
+            identifier: mention.identifier,
+        })?;
+    }
+    Ok(placed)
+}

@@ -1,0 +1,152 @@
+ghost use Rattle.std.specs.Prelude.{◌≡◌, ◌<◌, ◌≤◌, [], ◌∷◌, ◌++◌, length, MatchResult, IfOk, OnOk};
+ghost use Rattle.std.specs.List.{slice_index_or};
+ghost use Rattle.oim_report.specs.Outcome.{outcome};
+ghost use Rattle.oim_report.specs.Sheet.{Sheet as SheetSeen};
+ghost use Rattle.oim_merge.specs.code.Held.{AreHeld, IsCurrent, IsTextAt, Stay, sent_texts};
+ghost use Rattle.oim_merge.specs.Replicas.{with_outcome};
+ghost use Rattle.oim_write.specs.Bytes.{canonical};
+
+use crate::readings::{Reading, take_at};
+use fact_base::Base;
+use oim_report::Sheet;
+use oim_write::{Encoded, text};
+use std::alloc::{AllocError, Global};
+use std::cmp::Ordering;
+
+/// The sent texts in order. Equal texts are stored and read once. Contracts guarantee that a text
+/// found by `find` is equal, but not that `find` finds each equal text. If `find` misses a text,
+/// this costs only memory and time.
+#[derive(Drop)]
+pub(crate) struct Messages<'s> {
+    /// The distinct texts, in the order of first sending.
+    pub texts: Vec<Encoded>,
+    /// For each distinct text, the cached result of reading it.
+    pub kept: Vec<Reading<'s>>,
+    /// The indices in `texts`, in the byte order of the texts.
+    pub order: Vec<usize>,
+    /// For each sent text, its index among the distinct texts.
+    pub sent: Vec<usize>,
+}
+
+impl<'s> Messages<'s> {
+    pub(crate) fn new(alloc: Global) -> Messages<'s>
+        ensures sent { sent_texts result ≡ [] }
+        ensures held { (sheet : SheetSeen) → AreHeld sheet result }
+    {
+        Messages {
+            texts: Vec::new(alloc),
+            kept: Vec::new(alloc),
+            order: Vec::new(alloc),
+            sent: Vec::new(alloc),
+        }
+    }
+
+    /// Sends the text of a base and stores its index in `current`. If `current` already has an
+    /// index, the text is not written again.
+    ///
+    /// Errors: out of memory.
+    pub(crate) fn send(
+        &mut self,
+        alloc: Global,
+        base: &Base<'_>,
+        current: &mut Option<usize>,
+    ) -> Result<(), AllocError>
+        requires held { AreHeld base.now.sheet self.old }
+        requires current { IsCurrent self.old.texts.items base.now current.old }
+        ensures sent { OnOk result (sent_texts self.new ≡ sent_texts self.old ++ canonical base.now.body ∷ []) }
+        ensures held { OnOk result (AreHeld base.now.sheet self.new) }
+        ensures current { OnOk result (IsCurrent self.new.texts.items base.now current.new) }
+        ensures stay { OnOk result (Stay self.old.texts.items self.new.texts.items) }
+    {
+        let place = self.place_of(alloc, base, *current)?;
+        self.sent.push(place)?;
+        *current = Some(place);
+        Ok(())
+    }
+
+    fn place_of(
+        &mut self,
+        alloc: Global,
+        base: &Base<'_>,
+        current: Option<usize>,
+    ) -> Result<usize, AllocError>
+        requires held { AreHeld base.now.sheet self.old }
+        requires current { IsCurrent self.old.texts.items base.now current }
+        ensures place { IfOk result (IsTextAt self.new.texts.items (canonical base.now.body)) }
+        ensures sent { OnOk result (sent_texts self.new ≡ sent_texts self.old) }
+        ensures held { OnOk result (AreHeld base.now.sheet self.new) }
+        ensures stay { OnOk result (Stay self.old.texts.items self.new.texts.items) }
+    {
+        if let Some(place) = current {
+            return Ok(place);
+        }
+        let text = text(alloc, base)?;
+        let _sheet = base.sheet();
+        match self.find(&text) {
+            Ok(place) => Ok(place),
+            Err(at) => {
+                let place = self.texts.len();
+                self.order.insert(at, place)?;
+                self.texts.push(text)?;
+                self.kept.push(None)?;
+                Ok(place)
+            }
+        }
+    }
+
+    /// The index in `texts` of an equal text, or the index in `order` at which to insert the index
+    /// of a new text.
+    fn find(&self, text: &Encoded) -> Result<usize, usize>
+        ensures { MatchResult result
+            (IsTextAt self.now.texts.items text.now)
+            (λ at. at ≤ length self.now.order.items) }
+    {
+        let at = self
+            .order
+            .binary_search_by(|place| self.compare(*place, text))?;
+        let place = self.order[at];
+        match self.texts.get(place) {
+            Some(known) if known.as_bytes() == text.as_bytes() => Ok(place),
+            _ => Err(at),
+        }
+    }
+
+    fn compare(&self, place: usize, text: &Encoded) -> Ordering {
+        match self.texts.get(place) {
+            Some(known) => known.as_bytes().cmp(text.as_bytes()),
+            None => Ordering::Less,
+        }
+    }
+
+    /// Adds the facts and references of a sent text to a base. `number` counts sent texts from 0.
+    /// Each text is read only once. If the text is refused, the base does not change.
+    ///
+    /// Errors: out of memory.
+    pub(crate) fn give(
+        &mut self,
+        alloc: Global,
+        sheet: &'s Sheet,
+        number: usize,
+        base: &mut Base<'s>,
+    ) -> Result<(), AllocError>
+        requires number { number < length self.old.sent.items }
+        requires held { AreHeld sheet.now self.old }
+        requires sheet { base.old.sheet ≡ sheet.now }
+        ensures texts { self.new.texts ≡ self.old.texts }
+        ensures sent { sent_texts self.new ≡ sent_texts self.old }
+        ensures held { OnOk result (AreHeld sheet.now self.new) }
+        ensures base { OnOk result (base.new
+            ≡ with_outcome (outcome sheet.now (slice_index_or (sent_texts self.old) number [])) base.old) }
+    {
+        let place = self.sent[number];
+        take_at(
+            alloc,
+            sheet,
+            self.texts.as_slice(),
+            self.kept.as_mut_slice(),
+            place,
+            base,
+        )?;
+        Ok(())
+    }
+}

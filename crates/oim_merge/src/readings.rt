@@ -1,0 +1,106 @@
+ghost use Rattle.std.specs.Prelude.{◌≡◌, ◌<◌, None, [], length, replicate, IfOk, OnOk};
+ghost use Rattle.std.specs.List.{slice_index_or};
+ghost use Rattle.std.specs.Result.{result_err};
+ghost use Rattle.oim_report.specs.Outcome.{outcome};
+ghost use Rattle.oim_merge.specs.code.Readings.{AreReadings, read_as, with_read};
+ghost use Rattle.oim_merge.specs.Replicas.{joined_with, with_outcome};
+
+use crate::consolidation::read;
+use fact_base::{Base, Gathering};
+use oim_report::{Refusal, ReportReader, Sheet};
+use oim_write::Encoded;
+use std::alloc::{AllocError, Global};
+
+/// The cached result of reading a text under a sheet: none yet, a base, or a refusal. A base is
+/// cached instead of a report, because joining a base can copy fewer facts than taking a report,
+/// which copies all.
+pub(crate) type Reading<'s> = Option<Result<Base<'s>, Refusal>>;
+
+pub(crate) fn none_read<'s>(alloc: Global, texts: usize) -> Result<Vec<Reading<'s>>, AllocError>
+    ensures { IfOk result (λ made. made.items ≡ replicate texts None) }
+{
+    let mut kept = Vec::with_capacity(alloc, texts)?;
+    for _made in 0..texts {
+        kept.push(None)?;
+    }
+    Ok(kept)
+}
+
+/// Adds the facts and references of the text at the index `place` to a base. The text is read only
+/// the first time, and the result is cached. If the text is refused, the base does not change, and
+/// the refusal is returned. A struct of the six parameters would serve only this call.
+///
+/// Errors: out of memory.
+pub(crate) fn take_at<'s>(
+    alloc: Global,
+    sheet: &'s Sheet,
+    texts: &[Encoded],
+    kept: &mut [Reading<'s>],
+    place: usize,
+    base: &mut Base<'s>,
+) -> Result<Option<Refusal>, AllocError>
+    requires place { place < length texts.now }
+    requires kept { AreReadings sheet.now texts.now kept.old }
+    requires sheet { base.old.sheet ≡ sheet.now }
+    ensures kept { OnOk result (AreReadings sheet.now texts.now kept.new) }
+    ensures base { OnOk result
+        (base.new ≡ with_outcome (outcome sheet.now (slice_index_or texts.now place [])) base.old) }
+    ensures refusal { IfOk result
+        (λ told. told ≡ result_err (outcome sheet.now (slice_index_or texts.now place []))) }
+{
+    if let Some(read) = &kept[place] {
+        return take_read(base, read);
+    }
+    let read = read_base(alloc, sheet, texts[place].as_bytes())?;
+    let told = take_read(base, &read)?;
+    kept[place] = Some(read);
+    Ok(told)
+}
+
+fn read_base<'s>(
+    alloc: Global,
+    sheet: &'s Sheet,
+    bytes: &[u8],
+) -> Result<Result<Base<'s>, Refusal>, AllocError>
+    ensures { IfOk result (λ read. read ≡ read_as sheet.now (outcome sheet.now bytes.now)) }
+{
+    let mut reader = ReportReader::new(alloc, sheet);
+    match read(&mut reader, bytes)? {
+        Ok(report) => {
+            let mut gathered = Gathering::new(alloc, sheet);
+            gathered.add(report)?;
+            Ok(Ok(gathered.into_base()?))
+        }
+        Err(refusal) => Ok(Err(refusal)),
+    }
+}
+
+fn take_read(
+    base: &mut Base<'_>,
+    read: &Result<Base<'_>, Refusal>,
+) -> Result<Option<Refusal>, AllocError>
+    requires { IfOk read.now (λ other. other.sheet ≡ base.old.sheet) }
+    ensures base { OnOk result (base.new ≡ with_read read.now base.old) }
+    ensures refusal { IfOk result (λ told. told ≡ result_err read.now) }
+{
+    match read {
+        Ok(other) => {
+            join_new(base, other)?;
+            Ok(None)
+        }
+        Err(refusal) => Ok(Some(*refusal)),
+    }
+}
+
+/// Joins another base. If the bases are equal, each row is compared once, and no memory is
+/// requested.
+pub(crate) fn join_new(base: &mut Base<'_>, other: &Base<'_>) -> Result<(), AllocError>
+    requires { other.now.sheet ≡ base.old.sheet }
+    ensures { OnOk result (base.new ≡ joined_with base.old other.now) }
+{
+    if base.same_as(other) {
+        let _sheet = base.sheet();
+        return Ok(());
+    }
+    base.join(other)
+}
