@@ -120,9 +120,6 @@ same_groups k (suc n) ms sorted same = λ i. same k i ++ same_groups (suc k) n m
 
 -- ---- groups by fact
 
-one_less : (m n : ℕ) → suc m ≡ n + 1 → m ≡ n
-one_less m n e = omega (arith, e)
-
 agree : (a b : Bool) → (a ≡ true → b ≡ true) → (b ≡ true → a ≡ true) → a ≡ b
 agree true b f g = sym (f refl)
 agree false true f g = g refl
@@ -130,7 +127,7 @@ agree false false f g = refl
 
 module _ (facts : List Fact) (rise : IsSet fact_cmp facts) where
   pub place_at : (i : ℕ) (d : Fact) → i < length facts → place facts (get_or facts i d) ≡ i
-  place_at i d within = one_less (place facts (get_or facts i d)) i (rank_at fact_cmp_total facts i d rise within)
+  place_at i d within = let rank : suc (place facts (get_or facts i d)) ≡ i + 1 = rank_at fact_cmp_total facts i d rise within in omega (arith, rank)
 
   pub place_within : (f : Fact) → Contains facts f → place facts f < length facts
   place_within f at =

@@ -33,9 +33,10 @@ use Rattle.oim_merge.specs.Sources.{EachFactIsSaid, EachMentionIsTold, EachObjec
 use Rattle.oim_merge.specs.Mentions.{AreOf}
 use Rattle.oim_merge.proofs.Traces.{mentions_are_of}
 use Rattle.std.proofs.lemmas.List.Edits.{swap_is}
-use Rattle.std.proofs.lemmas.List.{get_or-append-add, length-append, map-append}
+use Rattle.std.proofs.lemmas.List.{get_or-append-add, length-append, map-append, length-map}
 use Rattle.merge_laws.specs.Members.{SameMembers}
 use Rattle.fact_base.proofs.Bodies.{body_ignores_order}
+use Rattle.std.proofs.lemmas.Slice.Zip.{AllZip-long}
 
 -- ---- each object once
 
@@ -145,19 +146,11 @@ each_fact_is_said sheet reports f at =
 
 -- ---- an accepted report has as many identifiers as facts
 
-zip_long : (R : List ℕ × Data → Fact → Type 0) (objects : List (List ℕ × Data)) (fs : List Fact) → AllZip R objects fs → length (map (λ o. o.0) objects) ≡ length fs
-zip_long R [] [] zip = refl
-zip_long R (o ∷ objects) (g ∷ fs) zip = ap suc (zip_long R objects fs zip.1)
-zip_long R objects fs zip = absurd zip
-
-some_is : {A : Type 0} (a b : A) → Some a ≡ Some b → a ≡ b
-some_is a b e = cc
-
 pub as_many : (sheet : Sheet) (bytes : List ℕ) (d : Document) (is : List (List ℕ)) → outcome sheet bytes ≡ Ok d → identifiers bytes ≡ Some is → length is ≡ length d.facts
 as_many sheet bytes d is accepted e =
     let has = each_fact_has_an_identifier sheet bytes d accepted in
-    let same : is ≡ has.0 = some_is is has.0 (sym e ∙ has.1) in
-    ap length same ∙ ap length (sym has.2.are) ∙ zip_long _ _ d.facts has.2.say
+    let same : is ≡ has.0 = ap (λ o. unwrap_or o is) (sym e ∙ has.1) in
+    ap length same ∙ ap length (sym has.2.are) ∙ length-map _ _ ∙ sym (AllZip-long _ _ d.facts has.2.say)
 
 -- ---- each fact object
 

@@ -1,19 +1,11 @@
-use Rattle.std.proofs.Common.{◌≡◌, ◌∷◌, ◌++◌, false, List, [], map, sym, ap, subst, ◌∙◌, append_assoc, arith, ⊎_elim}
-use Rattle.std.proofs.lemmas.List.Elements.{All-contains}
+use Rattle.std.proofs.Common.{◌≡◌, ◌∷◌, ◌++◌, false, [], map, sym, ap, subst, ◌∙◌, append_assoc, arith}
+use Rattle.std.proofs.lemmas.List.Elements.{All-push}
 use Rattle.std.specs.List.{All}
 use Rattle.std.proofs.lemmas.List.{length-append, length-map, map_push}
 use Rattle.fact_base.specs.Rows.{Row}
 use Rattle.fact_base.specs.Shown.{rows_left, shown}
-use Rattle.fact_base.proofs.Members.{each_by_there, first_or_later, in_one_of_both, none_there}
-use Rattle.oim_value.specs.declared.level.Level.{Level}
 use Rattle.oim_merge.specs.Above.{row_is_above, some_above}
 use Rattle.oim_merge.proofs.allowed_level.first_above.Goals as goal
-
-also : (allow : Level) (done : List Row) (r : Row) → All (λ q. row_is_above allow q ≡ false) done → row_is_above allow r ≡ false → All (λ q. row_is_above allow q ≡ false) (done ++ r ∷ [])
-also allow done r within this = each_by_there (λ q. row_is_above allow q ≡ false) (done ++ r ∷ []) (λ q at.
-    ⊎_elim (All-contains (λ q. row_is_above allow q ≡ false) done q within)
-    (λ there. ⊎_elim (λ is. subst (λ p. row_is_above allow p ≡ false) is this) (none_there q) (first_or_later r [] q there))
-    ((in_one_of_both done (r ∷ []) q).0 at))
 
 pub returns-then-is_above : goal.returns-then-is_above
 returns-then-is_above c =
@@ -43,6 +35,6 @@ loop-row-preserved c =
     record {
       rows = ap (λ rs. rs ++ rest) with_row ∙ append_assoc done (r ∷ []) rest ∙ all;
       count = omega (arith, l.invariant.count, length-append l.yielded (c.in-Some.row ∷ []));
-      within = subst (All (λ q. row_is_above c.args.allow q ≡ false)) (sym with_row) (also c.args.allow done r l.invariant.within
+      within = subst (All (λ q. row_is_above c.args.allow q ≡ false)) (sym with_row) (All-push (λ q. row_is_above c.args.allow q ≡ false) done r l.invariant.within
           (ap (some_above c.args.allow) c.verdict.ensures ∙ sym c.is_above.ensures ∙ c.if-is_above.false));
     }
