@@ -30,7 +30,7 @@ use Rattle.fact_base.specs.Sets.{set_of}
 use Rattle.fact_base.proofs.Members.{each_by_there, in_one_of_both}
 use Rattle.fact_base.proofs.Sets.{is_set_of, same_sets, set_of-both, set_of_is_set}
 use Rattle.fact_base.proofs.TextOrder.{text_cmp_exact, text_cmp_total}
-use Rattle.fact_base.proofs.Unions.{rises}
+use Rattle.fact_base.proofs.EntryFacts.{rises}
 
 -- ---- sorting without repeats
 
@@ -75,7 +75,7 @@ module _ {K : Type 0} {R : K → K → Ordering} (o : IsTotalOrder R) (exact : (
 
 -- ---- the orders of the code's types are the defined ones
 
-pub derived_set : (facts : List Fact) → set_of derived_fact.it facts ≡ set_of fact_cmp facts
+derived_set : (facts : List Fact) → set_of derived_fact.it facts ≡ set_of fact_cmp facts
 derived_set facts = λ i. set_of (λ (x y : Fact). facts_agree x y i) facts
 
 pub derived_sorted : (facts : List Fact) → IsSorted derived_fact.it facts → IsSorted fact_cmp facts
@@ -103,8 +103,11 @@ document_fits sheet d facts references = gathered_fits sheet (d.facts ++ []) (d.
 pub nothing_fits : (sheet : Sheet) → Fits sheet (gathered [] [])
 nothing_fits sheet = gathered_fits sheet [] [] (λ k d within. absurd (omega (arith, within))) (λ k d within. absurd (omega (arith, within)))
 
-pub same_gathered : (facts more : List Fact) (references others : List (List ℕ)) → set_of fact_cmp facts ≡ set_of fact_cmp more → set_of text_cmp references ≡ set_of text_cmp others → gathered facts references ≡ gathered more others
+same_gathered : (facts more : List Fact) (references others : List (List ℕ)) → set_of fact_cmp facts ≡ set_of fact_cmp more → set_of text_cmp references ≡ set_of text_cmp others → gathered facts references ≡ gathered more others
 same_gathered facts more references others p q = λ i. record { facts = p i; references = q i }
+
+pub derived_gathered : (facts more : List Fact) (references others : List (List ℕ)) → set_of derived_fact.it facts ≡ set_of derived_fact.it more → set_of text_cmp references ≡ set_of text_cmp others → gathered facts references ≡ gathered more others
+derived_gathered facts more references others p q = same_gathered facts more references others (sym (derived_set facts) ∙ p ∙ derived_set more) q
 
 pub gathered_document : (facts : List Fact) (references : List (List ℕ)) (d : Document) → SameMembers facts d.facts → references ≡ d.references → gathered facts references ≡ body (d ∷ [])
 gathered_document facts references d same is = same_gathered facts (d.facts ++ []) references (d.references ++ [])

@@ -1,16 +1,15 @@
 -- The level of distinct facts, grouped by dimension sets.
-use Rattle.std.proofs.Common.{◌≡◌, ℕ, arith, max, slice_get, Bool, true, false, cond, not, ◌&&◌, ◌||◌, List, [], ◌∷◌, ◌++◌, Some, refl, sym, ap, ◌∙◌}
-use mathlib.Core.Bool.{true≢false}
-use Rattle.std.specs.Prelude.{is_some}
-use Rattle.std.specs.Option.{unwrap_or}
+use Rattle.std.proofs.Common.{◌≡◌, ℕ, arith, max, slice_get, Bool, true, false, cond, not, ◌&&◌, ◌||◌, List, [], ◌∷◌, ◌++◌, Some, refl, sym, ap, ◌∙◌, ◌≢◌}
 use Rattle.std.specs.List.{AllByRecursion, list_all}
 use Rattle.std.specs.List.Sorted.{IsStrictlySortedBy}
 use Rattle.std.specs.Cmp.{tied_itself}
-use Rattle.std.specs.Ordering.{is_eq, ord_max}
+use Rattle.std.specs.Ordering.{is_eq, ord_max, ordering_then}
 use Rattle.std.specs.declared.cmp.Ordering.{Ordering}
-use Rattle.std.specs.declared.cmp.Ordering.TheVariants.{Less}
-use Rattle.std.proofs.lemmas.Bool.{false≢true}
+use Rattle.std.specs.declared.cmp.Ordering.TheVariants.{Less, Equal, Greater}
+use Rattle.std.proofs.lemmas.Bool.{false≢true, and_from, and_parts}
 use Rattle.std.proofs.lemmas.List.Folds.{list_all-append}
+use Rattle.std.proofs.lemmas.List.Sums.{list_all-from_AllPass}
+use Rattle.std.proofs.lemmas.Option.{same_Some}
 use Rattle.merge_laws.specs.Sorted.{IsRising, IsSet, entry_key}
 use Rattle.oim_value.specs.Level.{level_cmp, level_entry, levels}
 use Rattle.oim_value.specs.ValueOrder.{value_cmp}
@@ -18,7 +17,7 @@ use Rattle.oim_value.specs.declared.level.Level.{Level}
 use Rattle.oim_value.specs.declared.level.Level.TheVariants.{Unique, Complete, Consistent, All as AllLevel}
 use Rattle.oim_value.specs.declared.value.Value.{Value}
 use Rattle.oim_dims.specs.DimensionSet.{DimensionSet}
-use Rattle.oim_dims.specs.FactOrder.{dimensions_cmp}
+use Rattle.oim_dims.specs.FactOrder.{dimensions_cmp, fact_cmp}
 use Rattle.oim_dims.specs.declared.fact.Fact.{Fact}
 use Rattle.oim_dims.proofs.Orders.{dimensions_cmp_total}
 use Rattle.oim_report.specs.Duplicates.{allows, allows_each, allows_values, level_of}
@@ -27,9 +26,10 @@ use Rattle.fact_base.specs.Entries.{Entry, facts_with, facts_of_entries, facts_o
 use Rattle.fact_base.specs.code.Judged.{level_at}
 use Rattle.fact_base.specs.Verdict.{each_meet, verdict_of}
 use Rattle.fact_base.specs.declared.verdict.Verdict.{Verdict}
-use Rattle.fact_base.specs.declared.verdict.Verdict.TheVariants.{Complete as IsComplete, Consistent as IsConsistent, Inconsistent as IsInconsistent}
-use Rattle.fact_base.proofs.EntryFacts.{from_facts_with}
-use Rattle.fact_base.proofs.Members.{each_in_turn, in_flat_map, turn_there}
+use Rattle.fact_base.specs.declared.verdict.Verdict.TheVariants.{Consistent as IsConsistent, Inconsistent as IsInconsistent}
+use Rattle.fact_base.proofs.EntryFacts.{less_than_later}
+use Rattle.fact_base.proofs.Members.{each_by_there, each_in_turn}
+use Rattle.fact_base.specs.Level.{SetsAreNeverComplete}
 
 -- ---- one dimension set
 
@@ -38,16 +38,10 @@ level_of_values (v ∷ w ∷ vs) = cond (each_meet (v ∷ w ∷ vs)) Consistent 
 level_of_values o = Unique
 
 pub level_is : (vs : List Value) (verdict : Verdict) → verdict_of vs ≡ Some verdict → level_at verdict ≡ level_of_values vs
-level_is [] verdict h = absurd (true≢false (sym (ap is_some h)))
-level_is (v ∷ []) verdict h = ap level_at (sym (given h))
+level_is [] verdict h = cc
+level_is (v ∷ []) verdict h = ap level_at (sym (same_Some _ _ h))
+level_is (v ∷ w ∷ vs) verdict h = ap level_at (sym (same_Some _ _ h)) ∙ by_test (each_meet (v ∷ w ∷ vs))
   where
-    given : Some IsComplete ≡ Some verdict → IsComplete ≡ verdict
-    given e = ap (λ o. unwrap_or o verdict) e
-level_is (v ∷ w ∷ vs) verdict h = ap level_at (sym (given h)) ∙ by_test (each_meet (v ∷ w ∷ vs))
-  where
-    given : Some (cond (each_meet (v ∷ w ∷ vs)) IsConsistent IsInconsistent) ≡ Some verdict → cond (each_meet (v ∷ w ∷ vs)) IsConsistent IsInconsistent ≡ verdict
-    given e = ap (λ o. unwrap_or o verdict) e
-
     by_test : (b : Bool) → level_at (cond b IsConsistent IsInconsistent) ≡ cond b Consistent AllLevel
     by_test true = refl
     by_test false = refl
@@ -119,18 +113,10 @@ append_allowed l (f ∷ fs) gs apart =
 apart_allowed : (l : Level) (f g : Fact) → dimensions_cmp f.dimensions g.dimensions ≡ Less → allows l f g ≡ true
 apart_allowed l f g h = ap (λ (o : Ordering). not (is_eq o) || allows_values l f.value g.value) h
 
-each_true : {A : Type 0} (p : A → Bool) (xs : List A) → AllByRecursion (λ x. p x ≡ true) xs → list_all p xs ≡ true
-each_true p [] h = refl
-each_true p (x ∷ xs) h = λ i. h.0 i && each_true p xs h.1 i
-
 apart_from_later : (l : Level) (e : Entry) (es : List Entry) → AllByRecursion (λ d. dimensions_cmp e.0 d.0 ≡ Less) es → AllByRecursion (λ f. list_all (allows l f) (facts_of_entries es) ≡ true) (facts_of_entry e)
 apart_from_later l e es below =
     each_in_turn (λ f. list_all (allows l f) (facts_of_entries es) ≡ true) (facts_of_entry e) (λ f at.
-    each_true (allows l f) (facts_of_entries es) (each_in_turn (λ g. allows l f g ≡ true) (facts_of_entries es) (λ g later.
-    let some = (in_flat_map facts_of_entry es g).0 later in
-    let here = from_facts_with e.0 e.1.0 f at in
-    let there = from_facts_with some.1.0 some.1.1.0 g some.4 in
-    apart_allowed l f g ((λ i. dimensions_cmp (sym here.0 i) (sym there.0 i)) ∙ turn_there (λ d. dimensions_cmp e.0 d.0 ≡ Less) es some.1 below (some.0, some.2, some.3)))))
+    list_all-from_AllPass (allows l f) (facts_of_entries es) (each_by_there (λ g. allows l f g ≡ true) (facts_of_entries es) (λ g later. apart_allowed l f g (less_than_later e es below f g at later))))
 
 level_of_more : (e : Entry) (es : List Entry) → IsSet value_cmp e.1.0 → AllByRecursion (λ d. dimensions_cmp e.0 d.0 ≡ Less) es → level_of (facts_of_entries (e ∷ es)) ≡ ord_max level_cmp (level_of_values e.1.0) (level_of (facts_of_entries es))
 level_of_more e es rises below =
@@ -163,7 +149,7 @@ at_place : (l : Level) → slice_get levels (place l) ≡ Some l
 at_place = each (λ l. slice_get levels (place l) ≡ Some l) refl refl refl refl
 
 same_place : (l m : Level) → place l ≡ place m → l ≡ m
-same_place l m is = ap (λ o. unwrap_or o l) (sym (at_place l) ∙ ap (slice_get levels) is ∙ at_place m)
+same_place l m is = same_Some l m (sym (at_place l) ∙ ap (slice_get levels) is ∙ at_place m)
 
 abbrev PlaceOfMax : Level → Level → Type 0
 PlaceOfMax l m = place (ord_max level_cmp l m) ≡ max (place l) (place m)
@@ -185,3 +171,36 @@ highest_is level (e ∷ es) rise sets =
     highest_is (ord_max level_cmp level (level_of_values e.1.0)) es rise.1 sets.1
     ∙ max_regroups level (level_of_values e.1.0) (level_of (facts_of_entries es))
     ∙ ap (ord_max level_cmp level) (sym (level_of_more e es sets.0 rise.0))
+
+-- ---- the level of distinct facts is not `complete`
+
+by_dimensions : (o v : Ordering) → ordering_then o v ≡ Less → (not (is_eq o) || is_eq v) ≡ true → (not (is_eq o) || false) ≡ true
+by_dimensions Equal Less less allowed = allowed
+by_dimensions Equal Equal less allowed = absurd (cc)
+by_dimensions Equal Greater less allowed = allowed
+by_dimensions o v less allowed = refl
+
+apart : (f g : Fact) → fact_cmp f g ≡ Less → allows Complete f g ≡ true → allows Unique f g ≡ true
+apart f g less allowed = by_dimensions (dimensions_cmp f.dimensions g.dimensions) (value_cmp f.value g.value) less allowed
+
+beside_later : (f : Fact) (gs : List Fact) → AllByRecursion (λ g. fact_cmp f g ≡ Less) gs → list_all (allows Complete f) gs ≡ true → list_all (allows Unique f) gs ≡ true
+beside_later f [] below allowed = refl
+beside_later f (g ∷ gs) below allowed =
+    let both = and_parts (allows Complete f g) (list_all (allows Complete f) gs) allowed in
+    and_from (allows Unique f g) (list_all (allows Unique f) gs) (apart f g below.0 both.0) (beside_later f gs below.1 both.1)
+
+each_once : (fs : List Fact) → IsSet fact_cmp fs → allows_each Complete fs ≡ true → allows_each Unique fs ≡ true
+unfolding IsStrictlySortedBy
+each_once [] rises allowed = refl
+each_once (f ∷ fs) rises allowed =
+    let both = and_parts (list_all (allows Complete f) fs) (allows_each Complete fs) allowed in
+    and_from (list_all (allows Unique f) fs) (allows_each Unique fs) (beside_later f fs rises.0 both.0) (each_once fs rises.1 both.1)
+
+not_complete : (u c s : Bool) → (c ≡ true → u ≡ true) → strictest u c s ≢ Complete
+not_complete false true s unless is = absurd (false≢true (unless refl))
+not_complete false false true unless is = absurd (cc)
+not_complete u c s unless is = absurd (cc)
+
+pub sets_are_never_complete : SetsAreNeverComplete
+sets_are_never_complete facts rises is =
+    not_complete (allows_each Unique facts) (allows_each Complete facts) (allows_each Consistent facts) (each_once facts rises) (sym (level_of_is facts) ∙ is)

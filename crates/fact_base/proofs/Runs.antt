@@ -1,15 +1,12 @@
 -- Rows whose concepts have the same URI are adjacent.
-use Rattle.std.proofs.Common.{◌≡◌, ℕ, suc, ◌+◌, ◌*◌, ◌-◌, ◌<◌, ◌≤◌, length, get_or, Bool, true, false, List, ◌∷◌, map, drop, Some, refl, sym, ap, subst, ◌∙◌, arith, ⊎_elim}
-use Rattle.std.specs.Prelude.{nat_lt, slice_get}
+use Rattle.std.proofs.Common.{◌≡◌, ℕ, suc, ◌+◌, ◌*◌, ◌-◌, ◌<◌, ◌≤◌, length, get_or, Bool, true, false, List, ◌∷◌, map, drop, Some, sym, ap, subst, ◌∙◌, arith, ⊎_elim}
+use Rattle.std.specs.Prelude.{slice_get}
 use Rattle.std.specs.Bool.{OnTrue}
 use Rattle.std.specs.List.{HoldsAt}
 use Rattle.std.specs.Str.{bytes_eq}
 use Rattle.std.specs.Cmp.{tied_itself}
-use Rattle.std.specs.Ordering.{is_gt, ordering_then}
-use Rattle.std.specs.declared.cmp.Ordering.{Ordering}
-use Rattle.std.specs.declared.cmp.Ordering.TheVariants.{Less, Equal, Greater}
-use Rattle.std.proofs.lemmas.Bool.{cases_Bool}
-use Rattle.std.proofs.lemmas.Bool.Decides.{nat_tests}
+use Rattle.std.specs.Ordering.{is_gt}
+use Rattle.std.proofs.lemmas.Bool.{cases_lt}
 use Rattle.std.proofs.lemmas.List.{get_or-drop, get_or-map, get_or-take, length-drop, length-map, length-take-le}
 use Rattle.std.proofs.lemmas.Map.Keys.{Less-from_sorted}
 use Rattle.std.proofs.lemmas.Option.{get_or_from_slice_get}
@@ -17,6 +14,7 @@ use Rattle.merge_laws.specs.Ends.{summary_of_all}
 use Rattle.merge_laws.specs.Sorted.{IsRising, entry_key}
 use Rattle.oim_dims.specs.FactOrder.{dimensions_cmp}
 use Rattle.oim_names.proofs.Bytes.{same_bytes}
+use Rattle.oim_report.proofs.Runs.{first_up, up_cases}
 use Rattle.fact_base.specs.Body.{text_cmp}
 use Rattle.fact_base.specs.Entries.{Entry}
 use Rattle.fact_base.specs.Rows.{Row}
@@ -26,30 +24,18 @@ use Rattle.fact_base.proofs.TextOrder.{text_cmp_exact, text_cmp_total}
 abbrev uri_of : Entry → List ℕ
 uri_of e = e.0.concept.uri
 
-first_not_greater : (a b c : Ordering) → ordering_then (ordering_then a b) c ≡ Less → is_gt a ≡ false
-first_not_greater Less b c below = refl
-first_not_greater Equal b c below = refl
-first_not_greater Greater b c below = cc
-
 -- only an equal text is neither below nor above
 same_text : (x y : List ℕ) → is_gt (text_cmp x y) ≡ false → is_gt (text_cmp y x) ≡ false → x ≡ y
-same_text x y up down = by_order (text_cmp x y) refl
-  where
-    by_order : (o : Ordering) → text_cmp x y ≡ o → x ≡ y
-    by_order Less is = let other = text_cmp_total.antisymm y x in cc
-    by_order Equal is = text_cmp_exact x y is
-    by_order Greater is = cc
+same_text x y up down = up_cases (text_cmp x y) up (λ less. let other = text_cmp_total.antisymm y x in cc) (text_cmp_exact x y)
 
 module _ (es : List Entry) (rises : IsRising dimensions_cmp entry_key es) where
   ascend : (i j : ℕ) (d : Entry) → i ≤ j → j < length es → is_gt (text_cmp (uri_of (get_or es i d)) (uri_of (get_or es j d))) ≡ false
   ascend i j d order within = ⊎_elim
-      (λ before.
-      let apart : i < j = grind (arith, nat_tests) in
-      first_not_greater _ _ _ (Less-from_sorted (λ e f. dimensions_cmp e.0 f.0) es i j d rises apart within))
-      (λ not_before.
-      let same : i ≡ j = grind (arith, nat_tests) in
+      (λ before. first_up _ _ (first_up _ _ (ap is_gt (Less-from_sorted (λ e f. dimensions_cmp e.0 f.0) es i j d rises before within))))
+      (λ after.
+      let same : i ≡ j = omega (arith, order, after) in
       ap (λ k. is_gt (text_cmp (uri_of (get_or es k d)) (uri_of (get_or es j d)))) same ∙ ap is_gt (tied_itself text_cmp_total (uri_of (get_or es j d))))
-      (cases_Bool (nat_lt i j))
+      (cases_lt i j)
 
   between : (i k j : ℕ) (d : Entry) (uri : List ℕ) → i ≤ k → k ≤ j → j < length es → uri_of (get_or es i d) ≡ uri → uri_of (get_or es j d) ≡ uri → uri_of (get_or es k d) ≡ uri
   between i k j d uri low high within first last =
@@ -83,11 +69,10 @@ run_further es next left count uri rises within more known last k d behind =
     let here : k < 2 * count + 1 = omega (arith, taken, behind) in
     let uri_at : (i : ℕ) → next + i < length es → (get_or rows i d).0.concept.uri ≡ uri_of (get_or es (next + i) e) = λ i h. ap (λ (r : Row). r.0.concept.uri) (row_at es next i d e h) in
     let first : uri_of (get_or es (next + 0) e) ≡ uri = ⊎_elim
-    (λ some.
-    let one : 0 < count = grind (arith, nat_tests) in
+    (λ one.
     sym (uri_at 0 (omega arith)) ∙ ap (λ (r : Row). r.0.concept.uri) (sym (get_or-take count rows 0 d one)) ∙ known 0 d (omega (arith, one, length-take-le count rows (omega (arith, long, length-drop next es)))))
-    (λ none. let same : next + 0 ≡ next + 2 * count = grind (arith, nat_tests) in ap (λ i. uri_of (get_or es i e)) same ∙ last e)
-    (cases_Bool (nat_lt 0 count)) in
+    (λ none. let same : next + 0 ≡ next + 2 * count = omega (arith, none) in ap (λ i. uri_of (get_or es i e)) same ∙ last e)
+    (cases_lt 0 count) in
     ap (λ (r : Row). r.0.concept.uri) (get_or-take (2 * count + 1) rows k d here)
     ∙ uri_at k (omega arith)
     ∙ between es rises (next + 0) (next + k) (next + 2 * count) e uri (omega arith) (omega arith) (omega arith) first (last e)

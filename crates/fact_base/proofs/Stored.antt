@@ -1,9 +1,8 @@
 -- The entries and references of a base after an addition.
-use Rattle.std.proofs.Common.{◌≡◌, ℕ, List, [], ◌∷◌, ◌++◌, append-nil, length, get_or, false, Result, Ok, Err, sym, ap, subst, ◌∙◌, inl, inr, ⊎_elim, arith}
+use Rattle.std.proofs.Common.{◌≡◌, ℕ, List, [], ◌∷◌, ◌++◌, append-nil, length, get_or, false, Result, Ok, Err, refl, sym, ap, subst, ◌∙◌, inl, inr, ⊎_elim, arith}
 use Rattle.std.proofs.lemmas.List.Elements.{All-contains}
-use Rattle.std.specs.Prelude.{Contains}
+use Rattle.std.specs.Prelude.{Contains, IfOk}
 use mathlib.Core.Bool.{true≢false}
-use Rattle.std.specs.Prelude.{IfOk}
 use Rattle.std.specs.Result.{is_err}
 use Rattle.std.specs.List.{All, HoldsAt}
 use Rattle.std.specs.List.Sorted.{IsSearchInRange}
@@ -27,9 +26,9 @@ use Rattle.fact_base.specs.Fits.{Fits}
 use Rattle.fact_base.specs.Sets.{set_of}
 use Rattle.fact_base.proofs.Bodies.{same_bodies}
 use Rattle.fact_base.proofs.Members.{each_by_there, in_flat_map, in_one_of_both}
-use Rattle.fact_base.proofs.Sets.{is_set_of, same_sets, set_of_is_set}
+use Rattle.fact_base.proofs.Sets.{is_set_of, set_of-both, set_of_is_set}
 use Rattle.fact_base.proofs.TextOrder.{text_cmp_exact, text_cmp_total}
-use Rattle.fact_base.proofs.Unions.{Fit, all_fit_together, fit_in_order, rises, union_facts}
+use Rattle.fact_base.proofs.EntryFacts.{Fit, all_fit_together, fit_in_order, rises, union_facts}
 
 pub stored_fits : (sheet : Sheet) (es : List Entry) (references : List (List ℕ)) → AreStored sheet es references → Fits sheet (record { facts = facts_of_entries es; references = references })
 stored_fits sheet es references stored = record {
@@ -42,43 +41,6 @@ stored_fits sheet es references stored = record {
     fitting ds f fit at =
         let some = (in_flat_map facts_of_entry ds f).0 at in
         All-contains (FactFits sheet) (facts_of_entry some.1) f (All-contains (λ e. EntryFits sheet e.0 e.1) ds some.1 fit (some.0, some.2, some.3)).facts some.4
-
-pub stored_together : (sheet : Sheet) (es ds : List Entry) (references others wider : List (List ℕ)) → AreStored sheet es references → IsRising dimensions_cmp entry_key ds → Fit sheet ds → All IsKeptReference others → wider ≡ set_of text_cmp (references ++ others) → AreStored sheet (map_union dimensions_cmp summed_of_both es ds) wider
-stored_together sheet es ds references others wider stored rise fit kept is =
-    let set = set_of_is_set text_cmp_total text_cmp_exact (references ++ others) in
-    record {
-      rise = (map_union_has_both dimensions_cmp_total summed_of_both es ds stored.rise rise).rises;
-      entries = all_fit_together sheet es ds stored.entries fit;
-      in_order = subst (IsSet text_cmp) (sym is) set.rises;
-      references = subst (All IsKeptReference) (sym is) (each_by_there IsKeptReference (set_of text_cmp (references ++ others)) (λ r at.
-          ⊎_elim (All-contains IsKeptReference references r stored.references) (All-contains IsKeptReference others r kept) ((in_one_of_both references others r).0 ((set.members r).0 at))));
-    }
-
-pub joined : (sheet : Sheet) (es ds : List Entry) (references others wider : List (List ℕ)) → AreStored sheet es references → AreStored sheet ds others → wider ≡ set_of text_cmp (references ++ others) → ◌≡◌ {A = Body} (record { facts = facts_of_entries (map_union dimensions_cmp summed_of_both es ds); references = wider }) (union (record { facts = facts_of_entries es; references = references }) (record { facts = facts_of_entries ds; references = others }))
-joined sheet es ds references others wider stored more is = same_bodies (union_facts sheet es ds stored.rise more.rise stored.entries more.entries) is
-
-with_set : {A : Type 0} (xs ys zs : List A) → SameMembers ys zs → SameMembers (xs ++ ys) (xs ++ zs)
-with_set xs ys zs same x = (
-  λ h. (in_one_of_both xs zs x).1 (⊎_elim inl (λ r. inr ((same x).0 r)) ((in_one_of_both xs ys x).0 h)),
-  λ h. (in_one_of_both xs ys x).1 (⊎_elim inl (λ r. inr ((same x).1 r)) ((in_one_of_both xs zs x).0 h)),
-)
-
-pub taken : (sheet : Sheet) (es ds : List Entry) (references wider : List (List ℕ)) (d : Document) → AreStored sheet es references → AreEntriesOf d.facts ds → Fit sheet ds → wider ≡ set_of text_cmp (references ++ d.references) → ◌≡◌ {A = Body} (record { facts = facts_of_entries (map_union dimensions_cmp summed_of_both es ds); references = wider }) (union (record { facts = facts_of_entries es; references = references }) (body (d ∷ [])))
-taken sheet es ds references wider d stored are fit is =
-    let facts = set_of_is_set fact_cmp_total fact_cmp_exact (d.facts ++ []) in
-    let kept = set_of_is_set text_cmp_total text_cmp_exact (d.references ++ []) in
-    same_bodies
-    (union_facts sheet es ds stored.rise are.rise stored.entries fit
-    ∙ same_sets fact_cmp_total fact_cmp_exact (facts_of_entries es ++ facts_of_entries ds) (facts_of_entries es ++ set_of fact_cmp (d.facts ++ []))
-    (with_set (facts_of_entries es) (facts_of_entries ds) (set_of fact_cmp (d.facts ++ [])) (λ f. (
-      λ h. (facts.members f).1 (subst (λ fs. Contains fs f) (sym (append-nil d.facts)) ((are.members f).0 h)),
-      λ h. (are.members f).1 (subst (λ fs. Contains fs f) (append-nil d.facts) ((facts.members f).0 h)),
-    ))))
-    (is ∙ same_sets text_cmp_total text_cmp_exact (references ++ d.references) (references ++ set_of text_cmp (d.references ++ []))
-    (with_set references d.references (set_of text_cmp (d.references ++ [])) (λ r. (
-      λ h. (kept.members r).1 (subst (λ rs. Contains rs r) (sym (append-nil d.references)) h),
-      λ h. subst (λ rs. Contains rs r) (append-nil d.references) ((kept.members r).0 h),
-    ))))
 
 -- ---- references that are added to others
 
@@ -109,24 +71,34 @@ pub record Leaves (sheet : Sheet) (es : List Entry) (texts : List (List ℕ)) (b
   pub stored : AreStored sheet es texts
   pub body : ◌≡◌ {A = Body} (record { facts = facts_of_entries es; references = texts }) b
 
+-- `b` has the facts of both lists of entries, and both lists of references
+leaves : (sheet : Sheet) (es ds new : List Entry) (references others wider : List (List ℕ)) (b : Body) → AreStored sheet es references → IsRising dimensions_cmp entry_key ds → Fit sheet ds → All IsKeptReference others → new ≡ map_union dimensions_cmp summed_of_both es ds → wider ≡ set_of text_cmp (references ++ others) → set_of fact_cmp (facts_of_entries es ++ facts_of_entries ds) ≡ b.facts → set_of text_cmp (references ++ others) ≡ b.references → Leaves sheet new wider b
+leaves sheet es ds new references others wider b stored rise fit kept put is facts texts =
+    let set = set_of_is_set text_cmp_total text_cmp_exact (references ++ others) in
+    record {
+      stored = record {
+        rise = subst (IsRising dimensions_cmp entry_key) (sym put) (map_union_has_both dimensions_cmp_total summed_of_both es ds stored.rise rise).rises;
+        entries = subst (Fit sheet) (sym put) (all_fit_together sheet es ds stored.entries fit);
+        in_order = subst (IsSet text_cmp) (sym is) set.rises;
+        references = subst (All IsKeptReference) (sym is) (each_by_there IsKeptReference (set_of text_cmp (references ++ others)) (λ r at.
+            ⊎_elim (All-contains IsKeptReference references r stored.references) (All-contains IsKeptReference others r kept) ((in_one_of_both references others r).0 ((set.members r).0 at))));
+      };
+      body = same_bodies (ap facts_of_entries put ∙ union_facts sheet es ds stored.rise rise stored.entries fit ∙ facts) (is ∙ texts);
+    }
+
 pub take_leaves : (sheet other : Sheet) (es ds new : List Entry) (references taxonomy wider : List (List ℕ)) (facts : List Fact) (d : Document) → AreStored sheet es references → other ≡ sheet → All (FactFits other) d.facts → All IsKeptReference d.references → facts ≡ d.facts → AreEntriesOf facts ds → new ≡ map_union dimensions_cmp summed_of_both es ds → taxonomy ≡ d.references → wider ≡ set_of text_cmp (references ++ taxonomy) → Leaves sheet new wider (union (record { facts = facts_of_entries es; references = references }) (body (d ∷ [])))
 take_leaves sheet other es ds new references taxonomy wider facts d stored same fits kept facts_are are put taxonomy_is is =
     let of_document : AreEntriesOf d.facts ds = subst (λ fs. AreEntriesOf fs ds) facts_are are in
     let fit = of_document.fit sheet (subst (λ s. All (FactFits s) d.facts) same fits) in
-    let together : wider ≡ set_of text_cmp (references ++ d.references) = is ∙ ap (λ rs. set_of text_cmp (references ++ rs)) taxonomy_is in
-    record {
-      stored = subst (λ xs. AreStored sheet xs wider) (sym put) (stored_together sheet es ds references d.references wider stored of_document.rise fit kept together);
-      body = ap (λ xs. let b : Body = record { facts = facts_of_entries xs; references = wider } in b) put ∙ taken sheet es ds references wider d stored of_document fit together;
-    }
+    let known : references ≡ set_of text_cmp references = is_set_of text_cmp_total text_cmp_exact references references stored.in_order (λ r. (λ h. h, λ h. h)) in
+    leaves sheet es ds new references taxonomy wider _ stored of_document.rise fit (subst (All IsKeptReference) (sym taxonomy_is) kept) put is
+    (ap (λ fs. set_of fact_cmp (facts_of_entries es ++ fs)) (is_set_of fact_cmp_total fact_cmp_exact (facts_of_entries ds) (d.facts ++ []) (rises ds of_document.rise of_document.in_order) (subst (SameMembers (facts_of_entries ds)) (sym (append-nil d.facts)) of_document.members)))
+    (set_of-both text_cmp_total text_cmp_exact references taxonomy ∙ (λ i. set_of text_cmp (sym known i ++ set_of text_cmp ((taxonomy_is ∙ sym (append-nil d.references)) i))))
 
 pub join_leaves : (sheet other : Sheet) (es ds new : List Entry) (references others taxonomy wider : List (List ℕ)) → AreStored sheet es references → AreStored other ds others → other ≡ sheet → new ≡ map_union dimensions_cmp summed_of_both es ds → taxonomy ≡ others → wider ≡ set_of text_cmp (references ++ taxonomy) → Leaves sheet new wider (union (record { facts = facts_of_entries es; references = references }) (record { facts = facts_of_entries ds; references = others }))
 join_leaves sheet other es ds new references others taxonomy wider stored more same put taxonomy_is is =
     let moved : AreStored sheet ds others = subst (λ s. AreStored s ds others) same more in
-    let together : wider ≡ set_of text_cmp (references ++ others) = is ∙ ap (λ rs. set_of text_cmp (references ++ rs)) taxonomy_is in
-    record {
-      stored = subst (λ xs. AreStored sheet xs wider) (sym put) (stored_together sheet es ds references others wider stored moved.rise moved.entries moved.references together);
-      body = ap (λ xs. let b : Body = record { facts = facts_of_entries xs; references = wider } in b) put ∙ joined sheet es ds references others wider stored moved together;
-    }
+    leaves sheet es ds new references others wider _ stored moved.rise moved.entries moved.references put (is ∙ ap (λ rs. set_of text_cmp (references ++ rs)) taxonomy_is) refl refl
 
 pub nothing_stored : (sheet : Sheet) → AreStored sheet [] []
 nothing_stored sheet = record {

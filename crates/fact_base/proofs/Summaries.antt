@@ -5,11 +5,14 @@ use mathlib.Core.Bool.{true≢false}
 use Rattle.std.specs.Prelude.{◌↔◌, ◌⊎◌, IsTrue, Contains, is_some, int_lt, ℤ, ◌≤ℤ◌, ◌<ℤ◌, IfSome}
 use Rattle.std.specs.List.{AllByRecursion, Any, list_all, list_any}
 use Rattle.std.specs.List.Sorted.{IsStrictlySortedBy}
-use Rattle.std.specs.Option.{option_and_then, unwrap_or}
+use Rattle.std.specs.Option.{option_and_then}
 use Rattle.std.specs.declared.cmp.Ordering.TheVariants.{Less}
-use Rattle.std.proofs.lemmas.Bool.{and_parts, and_from}
+use Rattle.std.proofs.lemmas.Bool.{and_parts, and_from, cases_Bool}
+use Rattle.std.proofs.lemmas.Bool.Decides.{same_from_decides}
 use Rattle.std.proofs.lemmas.Int.{ints}
+use Rattle.std.proofs.lemmas.List.Folds.{Any-from_list_any}
 use Rattle.std.proofs.lemmas.List.Kept.{AllPairs-cons}
+use Rattle.std.proofs.lemmas.Option.{none-some, option_and_then_some, same_Some}
 use Rattle.merge_laws.specs.Ends.{Summarised, TellsAll, summary_of_all}
 use Rattle.merge_laws.specs.Sorted.{IsSet}
 use Rattle.merge_laws.proofs.Ends.{summary_tells_all}
@@ -106,20 +109,13 @@ abbrev unless : Bool → Interval → Option Interval
 unless b ends = cond b None (Some ends)
 
 shared_parts : (s : Summarised) (ends : Interval) → shared_by s ≡ Some ends → (s.ends ≡ Some ends) × ((s.nil ≡ false) × (int_lt ends.high ends.low ≡ false))
-shared_parts s ends h = by_ends s.ends refl
+shared_parts s ends h = option_and_then_some (λ e. unless (s.nil || int_lt e.high e.low) e) s.ends ends h (λ found is test.
+    let parts = by_test found s.nil (int_lt found.high found.low) test in
+    (is ∙ ap Some parts.0, (parts.1.0, subst (λ e. int_lt e.high e.low ≡ false) parts.0 parts.1.1)))
   where
-    none : None ≢ Some ends
-    none is = true≢false (sym (ap is_some is))
-
     by_test : (found : Interval) (a b : Bool) → unless (a || b) found ≡ Some ends → (found ≡ ends) × ((a ≡ false) × (b ≡ false))
-    by_test found false false is = (ap (λ o. unwrap_or o found) is, (refl, refl))
-    by_test found a b is = absurd (none is)
-
-    by_ends : (a : Option Interval) → s.ends ≡ a → (s.ends ≡ Some ends) × ((s.nil ≡ false) × (int_lt ends.high ends.low ≡ false))
-    by_ends None is = absurd (none (sym (ap (option_and_then (λ e. unless (s.nil || int_lt e.high e.low) e)) is) ∙ h))
-    by_ends (Some found) is =
-        let parts = by_test found s.nil (int_lt found.high found.low) (sym (ap (option_and_then (λ e. unless (s.nil || int_lt e.high e.low) e)) is) ∙ h) in
-        (is ∙ ap Some parts.0, (parts.1.0, subst (λ e. int_lt e.high e.low ≡ false) parts.0 parts.1.1))
+    by_test found false false is = (same_Some found ends is, (refl, refl))
+    by_test found a b is = absurd (none-some ends is)
 
 at_most : (x y : ℤ) → int_lt x y ≡ false → y ≤ℤ x
 at_most x y h = grind (arith, ints)
@@ -133,11 +129,7 @@ shared_shows vs ends h =
     record { no_nil = no_nil_there vs parts.1.0; ends = told_ends vs ends parts.0; points = at_most ends.high ends.low parts.1.1 }
 
 not_nil : (vs : List Value) → (Contains vs Nil → ⊥) → (summary_of_all vs).nil ≡ false
-not_nil vs none = by_test (summary_of_all vs).nil refl
-  where
-    by_test : (b : Bool) → (summary_of_all vs).nil ≡ b → (summary_of_all vs).nil ≡ false
-    by_test true is = absurd (none ((summary_tells_all vs).nil.0 is))
-    by_test false is = is
+not_nil vs none = ⊎_elim (λ is. absurd (none ((summary_tells_all vs).nil.0 is))) (λ is. is) (cases_Bool (summary_of_all vs).nil)
 
 not_above : (x y : ℤ) → y ≤ℤ x → int_lt x y ≡ false
 not_above x y h = grind (arith, ints)
@@ -165,16 +157,20 @@ of_several : (vs : List Value) → 2 ≤ length vs → verdict_of vs ≡ Some (c
 of_several (v ∷ w ∷ vs) h = refl
 of_several vs h = absurd (omega (arith, h))
 
-pub shared_is_consistent : (vs : List Value) (s : Summarised) → AreSummarised vs s → 2 ≤ length vs → (ends : Interval) → shared_by s ≡ Some ends → verdict_of vs ≡ Some Consistent
-shared_is_consistent vs s summed several ends is =
-    of_several vs several ∙ ap (λ (b : Bool). Some (cond b Consistent Inconsistent)) ((each_meet_is vs).1 (shared_where_meet vs s summed several ends is).0)
+pub are_several : (vs : List Value) → vs ≢ [] → (length vs ≡ 1 → ⊥) → 2 ≤ length vs
+are_several [] some more = absurd (some refl)
+are_several (v ∷ []) some more = absurd (more refl)
+are_several (v ∷ w ∷ vs) some more = omega arith
 
-pub others_are_inconsistent : (vs : List Value) (s : Summarised) → AreSummarised vs s → 2 ≤ length vs → shared_by s ≡ None → verdict_of vs ≡ Some Inconsistent
-others_are_inconsistent vs s summed several is = of_several vs several ∙ by_test (each_meet vs) refl
+pub verdict_by_shared : (vs : List Value) (s : Summarised) (shared : Bool) → AreSummarised vs s → (length vs ≡ 1 → ⊥) → is_some (shared_by s) ≡ shared → verdict_of vs ≡ Some (cond shared Consistent Inconsistent)
+verdict_by_shared vs s shared summed more is =
+    let several = are_several vs summed.some more in
+    of_several vs several
+    ∙ ap (λ (b : Bool). Some (cond b Consistent Inconsistent)) (same_from_decides _ _ (each_meet_is vs) (all_meet (shared_by s) several refl, meet_where_shared vs s summed several) ∙ is)
   where
-    by_test : (b : Bool) → each_meet vs ≡ b → Some (cond (each_meet vs) Consistent Inconsistent) ≡ Some Inconsistent
-    by_test true h = absurd (true≢false (sym (meet_where_shared vs s summed several ((each_meet_is vs).0 h)) ∙ ap is_some is))
-    by_test false h = ap (λ (b : Bool). Some (cond b Consistent Inconsistent)) h
+    all_meet : (a : Option Interval) → 2 ≤ length vs → shared_by s ≡ a → is_some (shared_by s) ≡ true → EachTwoValuesMeet vs
+    all_meet None several none some = absurd (true≢false (sym some ∙ ap is_some none))
+    all_meet (Some ends) several found some = (shared_where_meet vs s summed several ends found).0
 
 -- ---- evidence
 
@@ -194,20 +190,11 @@ of_number_kind v h = absurd (omega (arith, h))
 not_Nil : (v : Value) → has_interval v ≡ true → v ≢ Nil
 not_Nil v h is = true≢false (sym h ∙ ap has_interval is)
 
-some_number : (vs : List Value) → list_any has_interval vs ≡ true → (v : Value) × (Contains vs v × (has_interval v ≡ true))
-some_number [] h = absurd (true≢false (sym h))
-some_number (v ∷ vs) h = by_test (λ later. some_number vs later) (has_interval v) refl
-  where
-    by_test : (list_any has_interval vs ≡ true → (w : Value) × (Contains vs w × (has_interval w ≡ true))) → (b : Bool) → has_interval v ≡ b → (w : Value) × (Contains (v ∷ vs) w × (has_interval w ≡ true))
-    by_test rest true is = (v, (first_there v vs, is))
-    by_test rest false is =
-        let found = rest (sym (ap (λ (b : Bool). b || list_any has_interval vs) is) ∙ h) in
-        (found.0, (later_there v vs found.0 found.1.0, found.1.1))
-
 all_numbers : (vs : List Value) → AreAlike vs → (Contains vs Nil → ⊥) → list_any has_interval vs ≡ true → (v : Value) → Contains vs v → has_interval v ≡ true
 all_numbers vs alike none some v at =
-    let found = some_number vs some in
-    of_number_kind v (alike v found.0 at found.1.0 (λ is. none (subst (Contains vs) is at)) (not_Nil found.0 found.1.1) ∙ number_kind found.0 found.1.1)
+    let found = Any-from_list_any has_interval vs some in
+    let there : Contains vs found.1 = (found.0, found.2, found.3) in
+    of_number_kind v (alike v found.1 at there (λ is. none (subst (Contains vs) is at)) (not_Nil found.1 found.4) ∙ number_kind found.1 found.4)
 
 begins : (vs : List Value) → 2 ≤ length vs → ((v : Value) → Contains vs v → has_interval v ≡ true) → begin_with_numbers vs ≡ true
 begins (v ∷ w ∷ vs) several all = and_from (has_interval v) (has_interval w) (all v (first_there v (w ∷ vs))) (all w (later_there v (w ∷ vs) w (first_there w vs)))
@@ -230,7 +217,7 @@ crossed_are_apart vs s summed several ends is no_nil apart =
     let told : (summary_of_all vs).ends ≡ Some ends = ap (λ (t : Summarised). t.ends) (sym summed.summary) ∙ is in
     let are = told_ends vs ends told in
     let none = no_nil_there vs (ap (λ (t : Summarised). t.nil) (sym summed.summary) ∙ no_nil) in
-    let over = above ends.high ends.low (crossed (int_lt ends.high ends.low) refl) in
+    let over = above ends.high ends.low (⊎_elim (λ h. h) crossed (cases_Bool (int_lt ends.high ends.low))) in
     record {
       shown = shown_numbers vs (place_of_least_high ends vs) (place_of_greatest_low ends vs) (begins vs several (all_numbers vs summed.alike none (some_ends vs ends told))) (λ others are_too.
           let same : ends ≡ others = ends_are_one (intervals_of vs) ends others are are_too in
@@ -238,11 +225,8 @@ crossed_are_apart vs s summed several ends is no_nil apart =
       apart = crossed_ends_are_apart vs ends are over;
     }
   where
-    crossed : (b : Bool) → int_lt ends.high ends.low ≡ b → int_lt ends.high ends.low ≡ true
-    crossed true h = h
-    crossed false h = absurd (true≢false (ap is_some (
-        sym ((λ i. option_and_then (λ e. unless (no_nil i || int_lt e.high e.low) e) (is i)) ∙ ap (λ b. unless b ends) h)
-        ∙ apart)))
+    crossed : int_lt ends.high ends.low ≡ false → int_lt ends.high ends.low ≡ true
+    crossed h = absurd (none-some ends (sym apart ∙ (λ i. option_and_then (λ e. unless (no_nil i || int_lt e.high e.low) e) (is i)) ∙ ap (λ b. unless b ends) h))
 
 -- ---- the first two values
 
@@ -293,24 +277,3 @@ nil_is_apart vs s summed several nil =
 pub no_number_is_apart : (vs : List Value) (s : Summarised) → AreSummarised vs s → 2 ≤ length vs → s.ends ≡ None → IsApartPair vs 0 1
 no_number_is_apart vs s summed several none =
     first_are_apart vs several summed.different (begins_with_none vs (sym (summary_tells_all vs).number ∙ ap is_some (ap (λ (t : Summarised). t.ends) (sym summed.summary) ∙ none)))
-
--- ---- whether there is a common part
-
-pub are_several : (vs : List Value) → vs ≢ [] → (length vs ≡ 1 → ⊥) → 2 ≤ length vs
-are_several [] some more = absurd (some refl)
-are_several (v ∷ []) some more = absurd (more refl)
-are_several (v ∷ w ∷ vs) some more = omega arith
-
-pub consistent_where_shared : (vs : List Value) (s : Summarised) → AreSummarised vs s → (length vs ≡ 1 → ⊥) → is_some (shared_by s) ≡ true → verdict_of vs ≡ Some Consistent
-consistent_where_shared vs s summed more some = by_shared (shared_by s) refl
-  where
-    by_shared : (a : Option Interval) → shared_by s ≡ a → verdict_of vs ≡ Some Consistent
-    by_shared None is = absurd (true≢false (sym some ∙ ap is_some is))
-    by_shared (Some ends) is = shared_is_consistent vs s summed (are_several vs summed.some more) ends is
-
-pub inconsistent_elsewhere : (vs : List Value) (s : Summarised) → AreSummarised vs s → (length vs ≡ 1 → ⊥) → is_some (shared_by s) ≡ false → verdict_of vs ≡ Some Inconsistent
-inconsistent_elsewhere vs s summed more none = by_shared (shared_by s) refl
-  where
-    by_shared : (a : Option Interval) → shared_by s ≡ a → verdict_of vs ≡ Some Inconsistent
-    by_shared None is = others_are_inconsistent vs s summed (are_several vs summed.some more) is
-    by_shared (Some ends) is = absurd (true≢false (sym (ap is_some is) ∙ none))

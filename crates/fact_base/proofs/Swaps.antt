@@ -4,6 +4,7 @@ use Rattle.std.specs.List.{IsDistinct, range_with_len}
 use Rattle.std.specs.Option.{option_cmp}
 use Rattle.std.specs.Ordering.{is_lt}
 use Rattle.std.proofs.lemmas.Bool.{cases_eq, cases_order, both_ways}
+use Rattle.std.proofs.lemmas.Cmp.{nat_eq_equiv}
 use Rattle.std.proofs.lemmas.List.{get_or_default, length-set}
 use Rattle.std.proofs.lemmas.List.Edits.{length-swap, swap_is, swapped_from_swap}
 use Rattle.std.proofs.lemmas.List.FromFn.{get_or-range_with_len, length-range_with_len}
@@ -60,12 +61,6 @@ range_once n = IsDistinct-from_apart eqb (range_with_len 0 n) (λ i j d before w
     let second = get_or-range_with_len 0 n j d there in
     ne_eqb (get_or (range_with_len 0 n) i d) (get_or (range_with_len 0 n) j d) (λ e. omega (arith, e, before, first, second)))
 
-eqb_flips : (a b : ℕ) → eqb a b ≡ eqb b a
-eqb_flips a b = elim (cases_eq a b) [
-  | inl e ↦ eq-eqb a b e ∙ sym (eq-eqb b a (sym e))
-  | inr other ↦ ne_eqb a b other ∙ sym (ne_eqb b a (λ e. other (sym e)))
-]
-
 -- ---- facts that swaps moved
 
 -- the fact that belongs at the index k is at the index `places[k]`
@@ -96,7 +91,7 @@ module _ {from : List Fact} {order : List ℕ} (ordered : IsOrderOf from order) 
     all_within = subst (λ n. All (λ p. p < n) places) (sym (as_many ∙ count)) (All-permutation (λ p. p < length from) order places moved.each_once (places_within from order ordered))
 
     once : IsDistinct eqb places
-    once = IsDistinct-IsPermutation eqb eqb_flips order places moved.each_once (IsDistinct-IsPermutation eqb eqb_flips (range_with_len 0 (length from)) order ordered.each_once (range_once (length from)))
+    once = IsDistinct-IsPermutation eqb nat_eq_equiv.symm order places moved.each_once (IsDistinct-IsPermutation eqb nat_eq_equiv.symm (range_with_len 0 (length from)) order ordered.each_once (range_once (length from)))
 
     -- two indices with one place are one index
     pub same_index : (i j : ℕ) → i < length places → j < length places → get_or places i 0 ≡ get_or places j 0 → i ≡ j
@@ -142,23 +137,14 @@ module _ {from : List Fact} {order : List ℕ} (ordered : IsOrderOf from order) 
                 let carries = swapped_from_swap now facts place next d inside goes is in
                 let old = moved.same k d old_within in
                 elim (cases_eq k i) [
-                  | inl e ↦
-                      ap (λ j. get_or facts (get_or others j 0) d) e ∙ ap (λ p. get_or facts p d) (moves.0 ∙ sym goes_at) ∙ carries.1
-                      ∙ ap (λ p. get_or now p d) at
-                      ∙ ap (λ j. get_or now (get_or places j 0) d) (sym e)
-                      ∙ old
+                  | inl e ↦ cc (moves.0, goes_at, carries.1, at, old)
                   | inr not_i ↦ elim (cases_eq k place) [
-                    | inl e ↦
-                        ap (λ j. get_or facts (get_or others j 0) d) e ∙ ap (λ p. get_or facts p d) (moves.1 ∙ sym at) ∙ carries.0
-                        ∙ ap (λ p. get_or now p d) goes_at
-                        ∙ ap (λ j. get_or now (get_or places j 0) d) (sym e)
-                        ∙ old
-                    | inr not_place ↦
-                        ap (λ p. get_or facts p d) (moves.2 k not_i not_place)
-                        ∙ carries.2 (get_or places k 0)
-                        (λ e. not_i (same_index k i old_within here (e ∙ at)))
-                        (λ e. not_place (same_index k place old_within place_within (e ∙ goes_at)))
-                        ∙ old
+                    | inl e ↦ cc (moves.1, at, carries.0, goes_at, old)
+                    | inr not_place ↦ cc (
+                      moves.2 k not_i not_place,
+                      carries.2 (get_or places k 0) (λ e. not_i (same_index k i old_within here (e ∙ at))) (λ e. not_place (same_index k place old_within place_within (e ∙ goes_at))),
+                      old,
+                    )
                   ]
                 ];
           }

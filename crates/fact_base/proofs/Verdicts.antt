@@ -1,9 +1,10 @@
 -- The verdict on a dimension set is `Inconsistent` exactly if two of its values do not meet.
-use Rattle.std.proofs.Common.{◌≡◌, ◌≢◌, Bool, true, false, cond, ◌&&◌, List, [], ◌∷◌, Some, refl, sym, ap, subst, ◌∙◌, ⊎_elim}
+use Rattle.std.proofs.Common.{◌≡◌, ◌≢◌, Bool, true, false, cond, List, [], ◌∷◌, Some, refl, sym, ap, subst, ◌∙◌, ⊎_elim}
 use mathlib.Core.Bool.{true≢false}
-use Rattle.std.specs.Prelude.{Contains, is_some}
+use Rattle.std.proofs.lemmas.Bool.{and_cases, iff_false}
+use Rattle.std.proofs.lemmas.Option.{same_Some}
+use Rattle.std.specs.Prelude.{Contains, ◌↔◌}
 use Rattle.std.specs.List.{list_all}
-use Rattle.std.specs.Option.{unwrap_or}
 use Rattle.oim_value.specs.Meets.{Meets}
 use Rattle.oim_value.specs.declared.value.Value.{Value}
 use Rattle.oim_value.proofs.Meeting.{meets_is_reflexive}
@@ -12,9 +13,27 @@ use Rattle.oim_report.specs.Duplicates.{values_meet}
 use Rattle.oim_report.proofs.ValuesMeet.{values_meet_is_meets}
 use Rattle.fact_base.specs.Rows.{values_at}
 use Rattle.fact_base.specs.Verdict.{InconsistentIsApart, each_meet, verdict_of}
-use Rattle.fact_base.specs.declared.verdict.Verdict.TheVariants.{Complete, Consistent, Inconsistent}
+use Rattle.fact_base.specs.declared.verdict.Verdict.TheVariants.{Consistent, Inconsistent}
 use Rattle.fact_base.proofs.Summaries.{each_meet_is}
 use Rattle.fact_base.proofs.Members.{first_or_later, first_there, later_there, none_there}
+use Rattle.std.proofs.lemmas.List.Elements.{All-contains}
+use Rattle.std.specs.Cmp.{Equal-is}
+use Rattle.std.specs.FinMap as map
+use Rattle.std.specs.Option.{unwrap_or}
+use Rattle.std.specs.Ordering.{is_eq}
+use Rattle.oim_value.specs.Interval.{interval}
+use Rattle.oim_value.specs.declared.value.Value.TheVariants.{Nil, Number, Text as AText, Name as AName}
+use Rattle.oim_value.proofs.Intervals.{interval_has_points, meets_by_common_point}
+use Rattle.oim_dims.specs.DimensionSet.{DimensionSet}
+use Rattle.oim_dims.specs.FactOrder.{dimensions_cmp}
+use Rattle.oim_dims.specs.declared.fact.Fact.{Fact}
+use Rattle.oim_dims.proofs.Orders.{dimensions_cmp_exact}
+use Rattle.oim_report.specs.FactFits.{FactFits, ValueFits}
+use Rattle.oim_report.specs.Sheet.{Sheet}
+use Rattle.oim_report.specs.declared.concept_kind.ConceptKind.TheVariants.{Numeric}
+use Rattle.fact_base.specs.Body.{Body}
+use Rattle.fact_base.specs.Contradiction.{Contradict, IsNumeric, NumericInconsistentIsApart}
+use Rattle.fact_base.specs.Fits.{Fits}
 
 abbrev Apart : List Value → Type 0
 Apart vs = (v w : Value) × (Contains vs v × (Contains vs w × ¬ (Meets v w)))
@@ -22,36 +41,24 @@ Apart vs = (v w : Value) × (Contains vs v × (Contains vs w × ¬ (Meets v w)))
 apart_later : (x : Value) (vs : List Value) → Apart vs → Apart (x ∷ vs)
 apart_later x vs found = (found.0, found.1, (later_there x vs found.0 found.2.0, (later_there x vs found.1 found.2.1.0, found.2.1.1)))
 
-not_so : {P : Type 0} {b : Bool} → b ≡ false → (P → b ≡ true) → ¬ P
-not_so h told p = true≢false (sym (told p) ∙ h)
-
 apart_from_one : (v : Value) (ws : List Value) → list_all (values_meet v) ws ≡ false → (w : Value) × (Contains ws w × ¬ (Meets v w))
 apart_from_one v [] h = absurd (true≢false h)
-apart_from_one v (w ∷ ws) h = by_test (λ later. apart_from_one v ws later) (values_meet v w) refl
-  where
-    by_test : (list_all (values_meet v) ws ≡ false → (x : Value) × (Contains ws x × ¬ (Meets v x))) → (b : Bool) → values_meet v w ≡ b → (x : Value) × (Contains (w ∷ ws) x × ¬ (Meets v x))
-    by_test rest false is = (w, (first_there w ws, not_so is (values_meet_is_meets v w).1))
-    by_test rest true is =
-        let found = rest (sym (ap (λ (b : Bool). b && list_all (values_meet v) ws) is) ∙ h) in
-        (found.0, (later_there w ws found.0 found.1.0, found.1.1))
+apart_from_one v (w ∷ ws) h = ⊎_elim
+    (λ here. (w, (first_there w ws, iff_false (values_meet_is_meets v w) here)))
+    (λ later. let found = apart_from_one v ws later in (found.0, (later_there w ws found.0 found.1.0, found.1.1)))
+    (and_cases (values_meet v w) (list_all (values_meet v) ws) h)
 
 two_apart : (vs : List Value) → each_meet vs ≡ false → Apart vs
 two_apart [] h = absurd (true≢false h)
-two_apart (v ∷ vs) h = by_test (λ later. two_apart vs later) (list_all (values_meet v) vs) refl
-  where
-    by_test : (each_meet vs ≡ false → Apart vs) → (b : Bool) → list_all (values_meet v) vs ≡ b → Apart (v ∷ vs)
-    by_test rest false is =
-        let found = apart_from_one v vs is in
-        (v, found.0, (first_there v vs, (later_there v vs found.0 found.1.0, found.1.1)))
-    by_test rest true is = apart_later v vs (rest (sym (ap (λ (b : Bool). b && each_meet vs) is) ∙ h))
+two_apart (v ∷ vs) h = ⊎_elim
+    (λ here. let found = apart_from_one v vs here in (v, found.0, (first_there v vs, (later_there v vs found.0 found.1.0, found.1.1))))
+    (λ later. apart_later v vs (two_apart vs later))
+    (and_cases (list_all (values_meet v) vs) (each_meet vs) h)
 
 by_verdict : (vs : List Value) → verdict_of vs ≡ Some Inconsistent → Apart vs
-by_verdict [] h = absurd (true≢false (sym (ap is_some h)))
-by_verdict (v ∷ []) h = absurd (complete_is_other (ap (λ o. unwrap_or o Complete) h))
-  where
-    complete_is_other : Complete ≢ Inconsistent
-    complete_is_other is = cc
-by_verdict (v ∷ w ∷ vs) h = two_apart (v ∷ w ∷ vs) (tested (each_meet (v ∷ w ∷ vs)) (ap (λ o. unwrap_or o Complete) h))
+by_verdict [] h = cc
+by_verdict (v ∷ []) h = cc
+by_verdict (v ∷ w ∷ vs) h = two_apart (v ∷ w ∷ vs) (tested (each_meet (v ∷ w ∷ vs)) (same_Some _ _ h))
   where
     tested : (b : Bool) → cond b Consistent Inconsistent ≡ Inconsistent → b ≡ false
     tested true is = cc
@@ -74,3 +81,53 @@ by_pair (x ∷ y ∷ vs) found = by_test (each_meet (x ∷ y ∷ vs)) refl
 
 pub inconsistent_is_apart : InconsistentIsApart
 inconsistent_is_apart facts s = (by_verdict (values_at s facts), by_pair (values_at s facts))
+
+-- ---- in a body that fits a sheet, two values of a numeric dimension set contradict each other exactly if they do not meet
+
+abbrev HasFact : DimensionSet → Value → List Fact → Type 0
+HasFact s v fs = (f : Fact) × (Contains fs f × ((s ≡ f.dimensions) × (f.value ≡ v)))
+
+fact_of_value : (s : DimensionSet) (fs : List Fact) (v : Value) → Contains (values_at s fs) v → HasFact s v fs
+fact_of_value s [] v at = none_there v at
+fact_of_value s (f ∷ fs) v at = by_test (λ there. fact_of_value s fs v there) (is_eq (dimensions_cmp s f.dimensions)) refl at
+  where
+    later : (Contains (values_at s fs) v → HasFact s v fs) → Contains (values_at s fs) v → HasFact s v (f ∷ fs)
+    later rest there = let found = rest there in (found.0, (later_there f fs found.0 found.1.0, found.1.1))
+
+    by_test : (Contains (values_at s fs) v → HasFact s v fs) → (b : Bool) → is_eq (dimensions_cmp s f.dimensions) ≡ b → Contains (cond b (f.value ∷ values_at s fs) (values_at s fs)) v → HasFact s v (f ∷ fs)
+    by_test rest true is here = ⊎_elim (λ this. (f, (first_there f fs, (dimensions_cmp_exact s f.dimensions ((Equal-is (dimensions_cmp s f.dimensions)).0 is), this)))) (later rest) (first_or_later f.value (values_at s fs) v here)
+    by_test rest false is there = later rest there
+
+numeric_value : (sheet : Sheet) (b : Body) (s : DimensionSet) → Fits sheet b → IsNumeric sheet s → (v : Value) → Contains (values_at s b.facts) v → ValueFits Numeric v
+numeric_value sheet b s fits numeric v at =
+    let found = fact_of_value s b.facts v at in
+    let fact = All-contains (FactFits sheet) b.facts found.0 fits.facts found.1.0 in
+    let listed : Some fact.kind ≡ Some Numeric = sym fact.listed ∙ ap (λ (d : DimensionSet). map.get sheet.concepts d.concept) (sym found.1.1.0) ∙ numeric in
+    subst (ValueFits Numeric) found.1.1.1 (subst (λ k. ValueFits k found.0.value) (ap (λ o. unwrap_or o Numeric) listed) fact.value)
+
+contradict_is_apart : (v w : Value) → ValueFits Numeric v → ValueFits Numeric w → (¬ (Meets v w)) ↔ Contradict v w
+contradict_is_apart Nil Nil f g = (λ apart. apart tt, λ no m. no)
+contradict_is_apart Nil (Number n e) f g = (λ apart. tt, λ is m. m)
+contradict_is_apart (Number m d) Nil f g = (λ apart. tt, λ is m. m)
+contradict_is_apart (Number m d) (Number n e) f g =
+    let meets = meets_by_common_point (interval m d) (interval n e) (interval_has_points m d) (interval_has_points n e) in
+    (λ apart common. apart (meets.1 common), λ none meet. none (meets.0 meet))
+contradict_is_apart (AText t) w f g = absurd f
+contradict_is_apart (AName n) w f g = absurd f
+contradict_is_apart v w f g = absurd g
+
+pub numeric_inconsistent_is_apart : NumericInconsistentIsApart
+numeric_inconsistent_is_apart sheet b s fits numeric =
+    let fit = numeric_value sheet b s fits numeric in
+    let is = inconsistent_is_apart b.facts s in (
+      λ inconsistent.
+          let found = is.0 inconsistent in
+          record {
+            first = found.0;
+            second = found.1;
+            first_there = found.2.0;
+            second_there = found.2.1.0;
+            contradict = (contradict_is_apart found.0 found.1 (fit found.0 found.2.0) (fit found.1 found.2.1.0)).0 found.2.1.1;
+          },
+      λ h. is.1 (h.first, h.second, (h.first_there, (h.second_there, (contradict_is_apart h.first h.second (fit h.first h.first_there) (fit h.second h.second_there)).1 h.contradict))),
+    )

@@ -1,7 +1,7 @@
 -- Loops over entries.
-use Rattle.std.proofs.Common.{◌≡◌, ◌≢◌, ℕ, zero, suc, ◌<◌, ◌≤◌, ◌+◌, length, get_or, Bool, true, false, List, [], ◌∷◌, ◌++◌, map, take, drop, Option, Some, None, refl, sym, ap, subst, ◌∙◌, arith}
+use Rattle.std.proofs.Common.{◌≡◌, ◌≢◌, ℕ, suc, ◌<◌, ◌≤◌, ◌+◌, length, get_or, Bool, true, false, List, [], ◌∷◌, ◌++◌, map, take, drop, Option, Some, None, refl, sym, ap, ◌∙◌, ⊎_elim, arith}
 use mathlib.Core.Bool.{true≢false}
-use Rattle.std.specs.Prelude.{slice_get, is_some, IsTrue, ◌↔◌}
+use Rattle.std.specs.Prelude.{slice_get, IsTrue, ◌↔◌}
 use Rattle.std.specs.List.{All, flat_map}
 use Rattle.std.specs.Str.{bytes_eq}
 use Rattle.std.specs.Cmp.Lexicographic.{bytes_decides}
@@ -9,10 +9,10 @@ use Rattle.std.specs.Option.{option_map, unwrap_or}
 use Rattle.std.specs.Cmp.{Equal-is, tied_itself}
 use Rattle.std.specs.Ordering.{is_eq, ord_max}
 use Rattle.std.specs.Bool.{Decides}
-use Rattle.std.proofs.lemmas.List.{append_assoc, drop_all, length-append, length-map, take_all}
+use Rattle.std.proofs.lemmas.List.{append_assoc, drop_all, drop_more, length-append, length-map, take_all, take_more}
 use Rattle.std.proofs.lemmas.List.Elements.{All-contains}
 use Rattle.std.proofs.lemmas.Slice.Eq.{slice_eq-Decides}
-use Rattle.std.proofs.lemmas.Option.{slice_get-map}
+use Rattle.std.proofs.lemmas.Option.{get_or_from_slice_get, slice_get-get_or, slice_get-map, slice_get_cases, slice_get_within, unwrap_or-slice_get}
 use lib.Pointwise.{pointwise}
 use Rattle.merge_laws.specs.Sorted.{IsRising, IsSet, entry_key, value_at}
 use Rattle.merge_laws.proofs.Both.{map_tells_entry}
@@ -39,20 +39,12 @@ use Rattle.fact_base.specs.Rows.{Row, rows_of, values_at}
 use Rattle.fact_base.specs.Shown.{row_of}
 use Rattle.fact_base.proofs.Fitting.{entry_summarised}
 use Rattle.fact_base.proofs.Levels.{highest, highest_is, level_of_values}
-use Rattle.fact_base.proofs.RowLists.{rows_of_entries, values_at_entries, values_in}
+use Rattle.fact_base.proofs.RowsOf.{rows_of_entries, values_at_entries, values_in}
 
 -- ---- one step
 
-drop_from : {A : Type 0} (xs : List A) (i : ℕ) (x : A) → slice_get xs i ≡ Some x → drop i xs ≡ x ∷ drop (suc i) xs
-drop_from [] i x is = absurd (true≢false (sym (ap is_some is)))
-drop_from (y ∷ ys) zero x is = ap (λ o. unwrap_or o y ∷ ys) is
-drop_from (y ∷ ys) (suc i) x is = drop_from ys i x is
-
-one_more : (i : ℕ) → suc i ≡ i + 1
-one_more i = omega arith
-
 pub next_drop : {A : Type 0} (xs : List A) (i : ℕ) (x : A) → slice_get xs i ≡ Some x → drop i xs ≡ x ∷ drop (i + 1) xs
-next_drop xs i x is = drop_from xs i x is ∙ ap (λ k. x ∷ drop k xs) (one_more i)
+next_drop xs i x is = drop_more xs i x (slice_get_within xs i x is) ∙ ap (λ y. y ∷ drop (i + 1) xs) (get_or_from_slice_get xs i x x is)
 
 -- ---- facts
 
@@ -111,17 +103,18 @@ rows_stored sheet es texts stored = rows_of_entries es stored.rise (all_in_turn 
 
 -- ---- the same rows
 
-take_to : {A : Type 0} (xs ys : List A) (i : ℕ) → length xs ≡ length ys → i < length xs → slice_get xs i ≡ slice_get ys i → take i xs ≡ take i ys → take (suc i) xs ≡ take (suc i) ys
-take_to [] ys i same within is known = absurd (omega (arith, within))
-take_to (x ∷ xs) [] i same within is known = absurd (omega (arith, same))
-take_to (x ∷ xs) (y ∷ ys) zero same within is known = ap (λ o. unwrap_or o x ∷ []) is
-take_to (x ∷ xs) (y ∷ ys) (suc i) same within is known =
-    let first : x ≡ y = ap (λ zs. unwrap_or (slice_get zs 0) x) known in
-    let rest : take (suc i) xs ≡ take (suc i) ys = take_to xs ys i (omega (arith, same)) (omega (arith, within)) is (ap (drop 1) known) in
-    λ k. first k ∷ rest k
+index_within : {A : Type 0} (xs : List A) (i : ℕ) → i < length xs → A
+index_within xs i within = ⊎_elim (λ there. there.0) (λ past. absurd (omega (arith, past.0, within))) (slice_get_cases xs i).1
+
+pub no_entry : {A P : Type 0} (xs : List A) (i : ℕ) → i < length xs → slice_get xs i ≡ None → P
+no_entry xs i within none = let some = slice_get-get_or xs i (index_within xs i within) within in absurd (cc)
 
 taken_further : {A : Type 0} (xs ys : List A) (i : ℕ) → length xs ≡ length ys → i < length xs → slice_get xs i ≡ slice_get ys i → take i xs ≡ take i ys → take (i + 1) xs ≡ take (i + 1) ys
-taken_further xs ys i same within is known = subst (λ k. take k xs ≡ take k ys) (one_more i) (take_to xs ys i same within is known)
+taken_further xs ys i same within is known =
+    let some = index_within xs i within in
+    take_more xs i some within
+    ∙ (λ k. known k ++ (sym (unwrap_or-slice_get xs i some) ∙ ap (λ o. unwrap_or o some) is ∙ unwrap_or-slice_get ys i some) k ∷ [])
+    ∙ sym (take_more ys i some (omega (arith, same, within)))
 
 abbrev derived_equal : List Value → List Value → Bool
 derived_equal = pointwise value_eq.it
@@ -136,11 +129,6 @@ pub dimensions_equal : (s : DimensionSet) → dimensions_eq.it s s ≡ true
 dimensions_equal s = equal_dimensions_tie s s ∙ ap is_eq (tied_itself dimensions_cmp_total s)
 
 -- ---- the row at an index
-
-pub no_entry : {A P : Type 0} (xs : List A) (i : ℕ) → i < length xs → slice_get xs i ≡ None → P
-no_entry [] i within is = absurd (omega (arith, within))
-no_entry (x ∷ xs) zero within is = absurd (true≢false (ap is_some is))
-no_entry (x ∷ xs) (suc i) within is = no_entry xs i (omega (arith, within)) is
 
 abbrev at_place : List Entry → ℕ → Option Row
 at_place es i = option_map row_of (slice_get es i)

@@ -3,7 +3,7 @@ use Rattle.std.specs.Prelude.{map, ℕ, List, drop, take}
 use Rattle.std.specs.List.{All}
 use Rattle.fact_base.specs.Entries.{Entry}
 use Rattle.fact_base.specs.Rows.{Row}
-use Rattle.fact_base.specs.declared.row.Row.{Row as Lent}
+use Rattle.fact_base.specs.declared.rows.Row.{Row as Lent}
 use Rattle.fact_base.specs.declared.rows.Rows.{Rows}
 
 -- an entry without its summary

@@ -1,18 +1,16 @@
 ghost use Rattle.std.specs.Prelude.{◌≡◌, ◌≢◌, ◌↔◌, [], ◌∷◌, length, is_some, IsTrue, IfOk, IfSome, MatchOption, OnOk, OnErr};
 ghost use Rattle.fact_base.specs.Body.{body, union};
-ghost use Rattle.fact_base.specs.Entries.{facts_of_entries};
-ghost use Rattle.fact_base.specs.code.Entries.{AreStored};
 ghost use Rattle.fact_base.specs.Fits.{Fits};
+ghost use Rattle.fact_base.specs.Gathered.{gathered};
 ghost use Rattle.fact_base.specs.Rows.{rows_of, values_at};
 ghost use Rattle.fact_base.specs.Shown.{rows_left};
 ghost use Rattle.fact_base.specs.Verdict.{IsEvidence, verdict};
 ghost use Rattle.oim_report.specs.Duplicates.{level_of};
 
-use crate::entries::{Entries, copied_facts, count_of, entries_from, level_of, same_rows};
+use crate::entries::{copied_facts, count_of, entries_in_order, level_of, same_rows};
 use crate::evidence::Evidence;
-use crate::references::{replace, with_all};
-use crate::row::Row;
-use crate::rows::Rows;
+use crate::ordering::{in_order, put_in_order, replace, with_all};
+use crate::rows::{Row, Rows};
 use crate::verdict::Verdict;
 use merge_laws::{Merge, SortedMap, SortedSet, Summary};
 use oim_dims::{Dimensions, Fact};
@@ -62,21 +60,24 @@ impl<'s> Base<'s> {
         }
     }
 
+    // Returns the base of these facts and references, which may be in any order and repeated.
     pub(crate) fn of(
         alloc: Global,
         sheet: &'s Sheet,
-        entries: Entries,
-        references: SortedSet<Text>,
-    ) -> Base<'s>
-        requires { AreStored sheet.now entries references }
-        ensures { result ≡ record { sheet = sheet.now; body = record { facts = facts_of_entries entries; references = references } } }
+        mut facts: Vec<Fact>,
+        mut references: Vec<Text>,
+    ) -> Result<Base<'s>, AllocError>
+        requires { Fits sheet.now (gathered facts.items references.items) }
+        ensures { IfOk result (λ base. base ≡ record { sheet = sheet.now; body = gathered facts.items references.items }) }
     {
-        Base {
+        put_in_order(&mut references)?;
+        facts.sort()?;
+        Ok(Base {
             alloc,
             sheet,
-            entries,
-            references,
-        }
+            entries: entries_in_order(alloc, facts)?,
+            references: SortedSet::of_rising(references),
+        })
     }
 
     /// Returns the base's sheet. The contract also states that each fact of the base fits the
@@ -109,7 +110,7 @@ impl<'s> Base<'s> {
         let references = with_all(self.alloc, &self.references, report.taxonomy())?;
         let facts = copies_of(self.alloc, report.facts(), 0)?;
         let order = Vec::from_slice(self.alloc, report.order())?;
-        let entries = entries_from(self.alloc, facts, order)?;
+        let entries = entries_in_order(self.alloc, in_order(facts, order))?;
         self.entries.absorb(entries)?;
         replace(&mut self.references, references);
         Ok(())
@@ -126,7 +127,7 @@ impl<'s> Base<'s> {
         report.known();
         let wider = with_all(self.alloc, &self.references, report.taxonomy())?;
         let (facts, order) = report.into_facts();
-        let moved = entries_from(self.alloc, facts, order)?;
+        let moved = entries_in_order(self.alloc, in_order(facts, order))?;
         self.entries.absorb(moved)?;
         replace(&mut self.references, wider);
         Ok(())

@@ -1,19 +1,16 @@
-ghost use Rattle.std.specs.Prelude.{map, ◌≡◌, ◌↔◌, [], ◌∷◌, ◌++◌, if◌then◌else◌, length, IsTrue, IfOk, OnOk, slice_get};
+ghost use Rattle.std.specs.Prelude.{map, ◌≡◌, ◌↔◌, ◌++◌, length, IsTrue, IfOk, OnOk, slice_get};
 ghost use Rattle.std.specs.List.{All};
 ghost use Rattle.std.specs.List.Sorted.{IsSorted};
 ghost use Rattle.std.specs.Option.{option_map};
 ghost use Rattle.fact_base.specs.Entries.{facts_of_entries, facts_with};
-ghost use Rattle.fact_base.specs.code.Entries.{AreEntriesOf, NoneAbove, entry_of, with_fact, with_value};
+ghost use Rattle.fact_base.specs.code.Entries.{AreEntriesOf, NoneAbove, with_fact, with_value};
 ghost use Rattle.fact_base.specs.code.Judged.{AreSummarised, level_at};
 ghost use Rattle.fact_base.specs.Shown.{row_of};
 ghost use Rattle.merge_laws.specs.Sorted.{IsRising, entry_key};
 ghost use Rattle.oim_dims.specs.FactOrder.{dimensions_cmp, fact_cmp};
 ghost use Rattle.oim_report.specs.Duplicates.{level_of};
-ghost use Rattle.oim_report.specs.Report.{IsOrderOf};
 
-use crate::judging::verdict_of;
-use crate::ordering::in_order;
-use crate::verdict::Verdict;
+use crate::verdict::{Verdict, verdict_of};
 use merge_laws::{Merge, SortedMap, SortedSet, Summary};
 use oim_dims::{Dimensions, Fact};
 use oim_names::Copied;
@@ -27,20 +24,6 @@ type Entry = (Dimensions, (SortedSet<Value>, Summary));
 
 // The number of facts whose memory is given back at once.
 const FREED_AT_ONCE: usize = 4096;
-
-/// Returns the entries of the facts. `order` visits each fact once, in ascending order. Each fact
-/// is therefore added to the last entry or after it, without a look-up.
-pub(crate) fn entries_from(
-    alloc: Global,
-    facts: Vec<Fact>,
-    order: Vec<usize>,
-) -> Result<Entries, AllocError>
-    requires { IsOrderOf facts.items order.items }
-    ensures { IfOk result (AreEntriesOf facts.items) }
-{
-    let sorted = in_order(facts, order);
-    entries_in_order(alloc, sorted)
-}
 
 /// Returns the entries of the facts, which must be in order. Frees the list of facts piece by piece
 /// while it is emptied, so that its memory and the memory of all entries are not needed together.
@@ -67,31 +50,20 @@ fn free_spare(facts: &mut Vec<Fact>)
     }
 }
 
+// Adds the value to the last entry if that has the fact's dimensions. Otherwise adds an entry.
 fn push_given(alloc: Global, entries: &mut Vec<Entry>, fact: Fact) -> Result<(), AllocError>
     requires rise { IsRising dimensions_cmp entry_key entries.old.items }
     requires below { NoneAbove fact.dimensions entries.old.items }
     ensures { OnOk result (entries.new.items ≡ with_fact fact entries.old.items) }
 {
-    if !joins_last(alloc, entries, &fact)? {
-        entries.push(entry_given(alloc, fact))?;
-    }
-    Ok(())
-}
-
-// If there is a last entry and it has the fact's dimensions, adds the value to it and returns true.
-// Otherwise returns false.
-fn joins_last(alloc: Global, entries: &mut Vec<Entry>, fact: &Fact) -> Result<bool, AllocError>
-    requires rise { IsRising dimensions_cmp entry_key entries.old.items }
-    requires below { NoneAbove fact.now.dimensions entries.old.items }
-    ensures { IfOk result (λ joins. with_fact fact.now entries.old.items
-        ≡ (if joins then entries.new.items else entries.new.items ++ entry_of fact.now ∷ [])) }
-{
+    let Fact { dimensions, value } = fact;
     match entries.len().checked_sub(1) {
-        Some(last) if entries[last].0 == fact.dimensions => {
-            add(alloc, &mut entries[last].1, &fact.value)?;
-            Ok(true)
+        Some(last) if entries[last].0 == dimensions => add(alloc, &mut entries[last].1, &value),
+        _ => {
+            let summary = Summary::of(&value);
+            entries.push((dimensions, (SortedSet::of_one(alloc, value), summary)))?;
+            Ok(())
         }
-        _ => Ok(false),
     }
 }
 
@@ -104,14 +76,6 @@ fn add(
 {
     kept.0.insert(value)?;
     kept.1.merge(alloc, &Summary::of(value))
-}
-
-fn entry_given(alloc: Global, fact: Fact) -> Entry
-    ensures { result ≡ entry_of fact }
-{
-    let Fact { dimensions, value } = fact;
-    let summary = Summary::of(&value);
-    (dimensions, (SortedSet::of_one(alloc, value), summary))
 }
 
 /// Returns copies of all facts, in order.

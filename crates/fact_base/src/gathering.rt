@@ -1,12 +1,10 @@
-ghost use Rattle.std.specs.Prelude.{◌≡◌, ◌+◌, ◌-◌, ◌^◌, [], ◌∷◌, length, min, IfOk, OnOk, OnErr};
+ghost use Rattle.std.specs.Prelude.{◌≡◌, [], ◌∷◌, IfOk, OnOk, OnErr};
 ghost use Rattle.fact_base.specs.Body.{body, union};
 ghost use Rattle.fact_base.specs.Fits.{Fits};
 ghost use Rattle.fact_base.specs.Gathered.{gathered};
 
 use crate::base::Base;
-use crate::entries::entries_in_order;
-use crate::ordering::{in_order, put_in_order, settle};
-use merge_laws::SortedSet;
+use crate::ordering::{in_order, settle};
 use oim_dims::Fact;
 use oim_names::{Text, copies_of};
 use oim_report::{Report, Sheet};
@@ -89,19 +87,13 @@ impl<'s> Gathering<'s> {
         ensures ok { OnOk result (self.new ≡ record self.old { body = union self.old.body (body (report.entry.document ∷ [])) }) }
         ensures err { OnErr result (self.new ≡ self.old) }
     {
-        if self.size / 2 > size_of_report(&report) {
+        let references = report.taxonomy().len() as u128;
+        if self.size / 2 > (report.facts().len() as u128).saturating_add(references) {
             return self.gather(report);
         }
-        self.absorb(report)
-    }
-
-    fn absorb(&mut self, report: Report<'_>) -> Result<(), AllocError>
-        requires { report.sheet ≡ self.old.sheet }
-        ensures ok { OnOk result (self.new ≡ record self.old { body = union self.old.body (body (report.entry.document ∷ [])) }) }
-        ensures err { OnErr result (self.new ≡ self.old) }
-    {
         self.base.absorb_report(report)?;
-        self.size = size_of(&self.base);
+        let references = self.base.taxonomy().len() as u128;
+        self.size = self.base.fact_count().saturating_add(references);
         Ok(())
     }
 
@@ -147,8 +139,8 @@ impl<'s> Gathering<'s> {
         let Gathering {
             alloc,
             mut base,
-            facts,
-            references,
+            mut facts,
+            mut references,
             ..
         } = self;
         let sheet = base.sheet();
@@ -156,56 +148,13 @@ impl<'s> Gathering<'s> {
             return Ok(base);
         }
         if base.fact_count() < facts.len() as u128 {
-            return base_of_all(alloc, base, facts, references);
+            // Copying the base's facts to the longer list needs less memory than absorbing its
+            // entries.
+            facts.append(&mut base.copied_facts()?)?;
+            references.append(&mut copies_of(alloc, base.taxonomy(), 0)?)?;
+            return Base::of(alloc, sheet, facts, references);
         }
-        base.absorb(base_of(alloc, sheet, facts, references)?)?;
+        base.absorb(Base::of(alloc, sheet, facts, references)?)?;
         Ok(base)
     }
-}
-
-fn size_of(base: &Base<'_>) -> u128
-    ensures { result ≡ min (length base.now.body.facts + length base.now.body.references) (2 ^ 128 - 1) }
-{
-    let references = base.taxonomy().len() as u128;
-    base.fact_count().saturating_add(references)
-}
-
-fn size_of_report(report: &Report<'_>) -> u128
-    ensures { result ≡ min (length report.now.document.facts + length report.now.document.references) (2 ^ 128 - 1) }
-{
-    let references = report.taxonomy().len() as u128;
-    (report.facts().len() as u128).saturating_add(references)
-}
-
-fn base_of<'s>(
-    alloc: Global,
-    sheet: &'s Sheet,
-    mut facts: Vec<Fact>,
-    mut references: Vec<Text>,
-) -> Result<Base<'s>, AllocError>
-    requires { Fits sheet.now (gathered facts.items references.items) }
-    ensures { IfOk result (λ base. base ≡ record { sheet = sheet.now; body = gathered facts.items references.items }) }
-{
-    put_in_order(&mut references)?;
-    facts.sort()?;
-    let entries = entries_in_order(alloc, facts)?;
-    let references = SortedSet::of_rising(references);
-    Ok(Base::of(alloc, sheet, entries, references))
-}
-
-// Adds copies of the base's facts and references to the lists. If the lists are longer than the
-// base, this needs less memory than absorbing their entries.
-fn base_of_all<'s>(
-    alloc: Global,
-    base: Base<'s>,
-    mut facts: Vec<Fact>,
-    mut references: Vec<Text>,
-) -> Result<Base<'s>, AllocError>
-    requires { Fits base.sheet (gathered facts.items references.items) }
-    ensures { IfOk result (λ all. all ≡ record { sheet = base.entry.sheet; body = union base.entry.body (gathered facts.items references.items) }) }
-{
-    let sheet = base.sheet();
-    facts.append(&mut base.copied_facts()?)?;
-    references.append(&mut copies_of(alloc, base.taxonomy(), 0)?)?;
-    base_of(alloc, sheet, facts, references)
 }

@@ -1,12 +1,15 @@
-ghost use Rattle.std.specs.Prelude.{◌≡◌, OnOk, OnErr};
+ghost use Rattle.std.specs.Prelude.{◌≡◌, ◌++◌, All, Contains, IfOk, IsTrue, OnOk, OnErr};
 ghost use Rattle.std.specs.List.Sorted.{IsPermutation, IsSorted};
+ghost use Rattle.std.specs.Option.{unwrap_or};
 ghost use Rattle.oim_dims.specs.FactOrder.{fact_cmp};
 ghost use Rattle.oim_report.specs.Report.{IsOrderOf};
+ghost use Rattle.fact_base.specs.Body.{text_cmp};
 ghost use Rattle.fact_base.specs.Sets.{set_of};
 
+use merge_laws::{Merge, SortedSet};
 use oim_dims::Fact;
-use oim_names::Key;
-use std::alloc::AllocError;
+use oim_names::{Copied, Key, Text, copies_of};
+use std::alloc::{AllocError, Global};
 
 /// Returns the facts in order. Swaps move them without copying or comparing them.
 pub(crate) fn in_order(mut facts: Vec<Fact>, order: Vec<usize>) -> Vec<Fact>
@@ -54,4 +57,43 @@ pub(crate) fn put_in_order<T: Key>(items: &mut Vec<T>) -> Result<(), AllocError>
     items.sort()?;
     items.dedup();
     Ok(())
+}
+
+/// Returns None if `references` include all of `others`, which saves a copy. Otherwise returns the
+/// union of both lists. `others` may be in any order.
+pub(crate) fn with_all(
+    alloc: Global,
+    references: &SortedSet<Text>,
+    others: &[Text],
+) -> Result<Option<SortedSet<Text>>, AllocError>
+    ensures { IfOk result (λ wider. unwrap_or wider references.now ≡ set_of text_cmp (references.now ++ others.now)) }
+{
+    references.known();
+    if has_all(references.as_slice(), others) {
+        return Ok(None);
+    }
+    let mut wider = references.copied(alloc)?;
+    let mut added = copies_of(alloc, others, 0)?;
+    put_in_order(&mut added)?;
+    wider.absorb(SortedSet::of_rising(added))?;
+    Ok(Some(wider))
+}
+
+fn has_all(references: &[Text], others: &[Text]) -> bool
+    ensures { IsTrue result → All (Contains references.now) others.now }
+{
+    for other in others {
+        if references.binary_search(other).is_err() {
+            return false;
+        }
+    }
+    true
+}
+
+pub(crate) fn replace(references: &mut SortedSet<Text>, wider: Option<SortedSet<Text>>)
+    ensures { references.new ≡ unwrap_or wider references.old }
+{
+    if let Some(wider) = wider {
+        *references = wider;
+    }
 }

@@ -1,11 +1,41 @@
 ghost use Rattle.std.proofs.Props.{props};
+ghost use Rattle.std.specs.Prelude.{◌≡◌};
 ghost use Rattle.std.specs.List.{All};
 ghost use Rattle.fact_base.specs.code.Judged.{AreSummarised};
+ghost use Rattle.fact_base.specs.Verdict.{IsEvidence, verdict_of};
 
-use crate::row::Row;
+use crate::evidence::Evidence;
+use crate::verdict::{Verdict, evidence_of, verdict_of};
 use merge_laws::{SortedMap, SortedSet, Summary};
 use oim_dims::Dimensions;
 use oim_value::Value;
+
+/// A dimension set with the values that are reported for it.
+#[derive(Clone, Copy, Debug)]
+pub struct Row<'b> {
+    /// The dimensions that all facts of the row have.
+    pub dimensions: &'b Dimensions,
+    /// The distinct values in order.
+    pub values: &'b [Value],
+    pub(crate) summary: &'b Summary,
+    ghost summed: { AreSummarised values.now summary.now } by { Prim.hlevel props },
+}
+
+impl Row<'_> {
+    /// Returns the verdict on the facts of the row.
+    pub fn verdict(&self) -> Verdict
+        ensures { verdict_of self.now.values.now ≡ Some result }
+    {
+        verdict_of(self.values, self.summary)
+    }
+
+    /// Returns the evidence for the verdict. Indices in the evidence refer to `values`.
+    pub fn evidence(&self) -> Evidence
+        ensures { IsEvidence self.now.values.now result }
+    {
+        evidence_of(self.values, self.summary)
+    }
+}
 
 /// An iterator over the rows of a base, in the order of dimension sets.
 #[derive(Clone, Copy)]
@@ -36,5 +66,36 @@ impl<'b> Iterator for Rows<'b> {
             values: values.as_slice(),
             summary,
         })
+    }
+}
+
+impl Rows<'_> {
+    ghost use Rattle.std.specs.Bool.{OnTrue};
+    ghost use Rattle.std.specs.List.{HoldsAt};
+    ghost use Rattle.fact_base.specs.Shown.{HoldForUris, rows_left};
+
+    /// Returns a number of next rows whose concepts have this URI. More such rows may follow.
+    ///
+    /// At most half of them are left out. URIs may be long, so few are compared: rows ascend by these
+    /// URIs first, so if the rows at two distances have the URI, all rows between have it.
+    pub fn uri_run(&self, uri: &str) -> usize
+        ensures { HoldForUris (λ u. u ≡ uri.now) result (rows_left self.now) }
+    {
+        let left = self.entries.len().saturating_sub(self.next);
+        let mut count = 0;
+        while count < left - count && self.has_uri(self.next + 2 * count, uri) {
+            count = 2 * count + 1;
+        }
+        count
+    }
+
+    // Returns whether the row at an index of the base has a concept with this URI.
+    fn has_uri(&self, place: usize, uri: &str) -> bool
+        ensures { OnTrue result (HoldsAt (λ e. e.0.concept.uri ≡ uri.now) self.now.entries.now place) }
+    {
+        match self.entries.at(place) {
+            Some((dimensions, _)) => dimensions.concept().uri() == uri,
+            None => false,
+        }
     }
 }

@@ -1,9 +1,7 @@
-use Rattle.std.proofs.Common.{◌≡◌, length, slice_get, ◌+◌, ◌<◌, ◌≤◌}
+use Rattle.std.proofs.Common.{◌≡◌, length, slice_get, ◌+◌, ◌<◌, ◌≤◌, Some, sym, ap, subst, ◌∙◌, arith}
 use Rattle.std.specs.Option.{option_map}
-use Rattle.fact_base.specs.Entries.{facts_of_entries}
+use Rattle.fact_base.specs.Entries.{facts_of_entries, Entry}
 use Rattle.fact_base.proofs.entries.count_of.Goals as goal
-use Rattle.std.proofs.Common.{Some, sym, ap, subst, ◌∙◌, arith}
-use Rattle.fact_base.specs.Entries.{Entry}
 use Rattle.fact_base.proofs.Walks.{count_ends, count_further, no_entry}
 use Rattle.fact_base.proofs.entries.count_of.Goals.{in-Some, in_default}
 

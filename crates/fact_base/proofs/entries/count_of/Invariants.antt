@@ -1,6 +1,5 @@
-use Rattle.std.proofs.Common.{◌≡◌, length, ◌+◌, ◌*◌, ◌≤◌}
+use Rattle.std.proofs.Common.{◌≡◌, length, ◌+◌, ◌*◌, ◌≤◌, drop}
 use Rattle.fact_base.specs.Entries.{facts_of_entries}
-use Rattle.std.proofs.Common.{drop}
 use Rattle.fact_base.proofs.entries.count_of.Given as goal
 
 abbrev pub invariant-loop-place : goal.invariant-loop-place

@@ -1,6 +1,5 @@
-use Rattle.std.proofs.Common.{map, ◌≡◌, length}
+use Rattle.std.proofs.Common.{map, ◌≡◌, length, take}
 use Rattle.fact_base.specs.Shown.{row_of}
-use Rattle.std.proofs.Common.{take}
 use Rattle.fact_base.proofs.entries.same_rows.Given as goal
 
 abbrev pub invariant-loop-place : goal.invariant-loop-place

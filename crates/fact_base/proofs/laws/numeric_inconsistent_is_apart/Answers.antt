@@ -1,4 +1,4 @@
-use Rattle.fact_base.proofs.Contradictions.{numeric_inconsistent_is_apart}
+use Rattle.fact_base.proofs.Verdicts.{numeric_inconsistent_is_apart}
 use Rattle.fact_base.proofs.laws.numeric_inconsistent_is_apart.Goals as goal
 
 pub returns : goal.returns

@@ -1,4 +1,4 @@
-use Rattle.fact_base.proofs.NeverComplete.{sets_are_never_complete}
+use Rattle.fact_base.proofs.Levels.{sets_are_never_complete}
 use Rattle.fact_base.proofs.laws.sets_are_never_complete.Goals as goal
 
 pub returns : goal.returns

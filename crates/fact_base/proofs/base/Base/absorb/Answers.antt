@@ -1,7 +1,6 @@
-use Rattle.std.proofs.Common.{◌≡◌}
+use Rattle.std.proofs.Common.{◌≡◌, sym, ap, ◌∙◌}
 use Rattle.fact_base.specs.Body.{union}
 use Rattle.fact_base.proofs.base.Base.absorb.Goals as goal
-use Rattle.std.proofs.Common.{sym, ap, ◌∙◌}
 use Rattle.fact_base.specs.Contents.{Contents}
 use Rattle.fact_base.specs.Entries.{facts_of_entries}
 use Rattle.fact_base.proofs.Derived.{union_is}

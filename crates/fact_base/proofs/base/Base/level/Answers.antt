@@ -1,7 +1,7 @@
 use Rattle.std.proofs.Common.{◌∙◌, sym}
 use Rattle.fact_base.specs.Entries.{facts_of_entries}
 use Rattle.fact_base.proofs.base.Base.level.Goals as goal
-use Rattle.fact_base.proofs.NeverComplete.{sets_are_never_complete}
+use Rattle.fact_base.proofs.Levels.{sets_are_never_complete}
 use Rattle.fact_base.proofs.Stored.{stored_fits}
 use Rattle.fact_base.proofs.Walks.{all_summarised}
 

@@ -1,7 +1,6 @@
-use Rattle.std.proofs.Common.{length}
+use Rattle.std.proofs.Common.{length, sym, ap, ◌∙◌}
 use Rattle.fact_base.specs.Rows.{rows_of}
 use Rattle.fact_base.proofs.base.Base.row_count.Goals as goal
-use Rattle.std.proofs.Common.{sym, ap, ◌∙◌}
 use Rattle.std.proofs.lemmas.List.{length-map}
 use Rattle.fact_base.specs.Contents.{Contents}
 use Rattle.fact_base.specs.Shown.{row_of}

@@ -1,7 +1,6 @@
-use Rattle.std.proofs.Common.{◌≡◌, refl}
+use Rattle.std.proofs.Common.{◌≡◌, refl, sym, ap, ◌∙◌}
 use Rattle.fact_base.specs.Rows.{rows_of}
 use Rattle.fact_base.proofs.base.Base.same_as.Goals as goal
-use Rattle.std.proofs.Common.{sym, ap, ◌∙◌}
 use mathlib.Core.Bool.{true≢false}
 use Rattle.fact_base.specs.Body.{Body}
 use Rattle.fact_base.specs.Contents.{Contents}

@@ -1,6 +1,5 @@
-use Rattle.std.proofs.Common.{◌≡◌, ◌+◌, List, ◌∷◌}
+use Rattle.std.proofs.Common.{◌≡◌, ◌+◌, List, ◌∷◌, Some, map, drop, sym, ap, ◌∙◌}
 use Rattle.fact_base.proofs.rows.RowsIterator.next.Goals as goal
-use Rattle.std.proofs.Common.{◌≡◌, ◌∷◌, ◌+◌, List, Some, map, drop, sym, ap, ◌∙◌}
 use Rattle.std.specs.Prelude.{slice_get}
 use Rattle.std.specs.Option.{option_map}
 use Rattle.oim_value.specs.declared.value.Value.{Value}

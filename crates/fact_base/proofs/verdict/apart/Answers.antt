@@ -1,6 +1,5 @@
-use Rattle.std.proofs.Common.{◌≡◌, Some, false}
-use Rattle.fact_base.proofs.judging.apart.Goals as goal
-use Rattle.std.proofs.Common.{sym, subst, ◌∙◌}
+use Rattle.std.proofs.Common.{◌≡◌, Some, false, sym, subst, ◌∙◌}
+use Rattle.fact_base.proofs.verdict.apart.Goals as goal
 use Rattle.oim_value.specs.SeveralMeet.{place_of_least_high}
 use Rattle.fact_base.specs.Verdict.{IsApartPair}
 use Rattle.fact_base.proofs.Summaries.{crossed_are_apart, nil_is_apart, no_number_is_apart}

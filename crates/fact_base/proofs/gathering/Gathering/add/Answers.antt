@@ -3,7 +3,7 @@ use Rattle.fact_base.specs.Body.{Body, body, union}
 use Rattle.fact_base.specs.Contents.{Contents}
 use Rattle.fact_base.specs.Gathered.{gathered}
 use Rattle.fact_base.proofs.Gathers.{union_swaps}
-use Rattle.fact_base.proofs.gathering.Gathering.absorb.Goals as goal
+use Rattle.fact_base.proofs.gathering.Gathering.add.Goals as goal
 
 pub returns-clause-ok : goal.returns-clause-ok
 returns-clause-ok c =

@@ -1,4 +1,4 @@
-use Rattle.fact_base.proofs.judging.evidence_of.Goals as goal
+use Rattle.fact_base.proofs.verdict.evidence_of.Goals as goal
 use Rattle.std.proofs.Common.{sym, ◌∙◌}
 use Rattle.fact_base.proofs.Summaries.{are_several, shared_is_common}
 

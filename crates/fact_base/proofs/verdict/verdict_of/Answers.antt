@@ -1,0 +1,10 @@
+use Rattle.std.proofs.Common.{sym, ap, ◌∙◌}
+use Rattle.std.specs.Prelude.{is_some}
+use Rattle.fact_base.proofs.Summaries.{verdict_by_shared}
+use Rattle.fact_base.proofs.verdict.verdict_of.Goals as goal
+
+pub returns-then-is_some : goal.returns-then-is_some
+returns-then-is_some c = verdict_by_shared c.args.values.now c.args.summary.now _ c.requires c.if-values-eq1.false (ap is_some (sym c.shared_by.ensures) ∙ sym c.if-is_some.ensures)
+
+pub returns-else-is_some : goal.returns-else-is_some
+returns-else-is_some c = verdict_by_shared c.args.values.now c.args.summary.now _ c.requires c.if-values-eq1.false (ap is_some (sym c.shared_by.ensures) ∙ sym c.if-is_some.ensures)
