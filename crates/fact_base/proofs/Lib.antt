@@ -8,11 +8,8 @@ pub mod Levels
 pub mod Verdicts
 pub mod RowsOf
 pub mod Fitting
-pub mod Puts
 pub mod Stored
 pub mod Gathers
-pub mod Derived
-pub mod Runs
 pub mod Walks
 pub mod Passed
 pub mod Swaps

@@ -1,4 +1,4 @@
-use Rattle.std.proofs.Common.{◌≡◌, ℕ, suc, ◌+◌, ◌<◌, List, [], ◌∷◌, ◌++◌, length, get_or, inr, Option, refl, sym, ap, subst, ◌∙◌, append_assoc, append-nil, arith}
+use Rattle.std.proofs.Common.{◌≡◌, ℕ, suc, ◌+◌, ◌<◌, ◌≤◌, List, [], ◌∷◌, ◌++◌, length, get_or, inr, Option, refl, sym, ap, subst, ◌∙◌, append_assoc, append-nil, arith}
 use Rattle.std.proofs.lemmas.List.Elements.{All-contains}
 use Rattle.std.specs.Prelude.{◌≢◌, Contains}
 use Rattle.std.proofs.lemmas.List.{get_or-append-add, get_or-map, get_or_append_left, length-append, length-map}
@@ -19,7 +19,7 @@ use Rattle.fact_base.proofs.Members.{first_there, in_one_of_both, later_there}
 use Rattle.fact_base.proofs.RowsOf.{rows_tell_facts}
 use Rattle.oim_write.specs.Rank.{padded, width}
 use Rattle.oim_write.specs.Tree.{identifier}
-use Rattle.oim_write.proofs.NumberedFacts.{row_facts, rows_facts, rows_facts_are}
+use Rattle.oim_write.proofs.NumberedFacts.{length-next_row, row_facts, rows_facts, rows_facts_are}
 use Rattle.oim_write.proofs.Ranks.{rank_at}
 use Rattle.oim_merge.specs.Lines.{AreRowsFrom, AreRowsOf, HasOneText, IsRow, LinesAreOne, RowText, identifier_at, line_text}
 use Rattle.oim_merge.specs.Judged.{DependsOnItsNames}
@@ -130,3 +130,14 @@ module _ (b : Body) (rises : IsSet fact_cmp b.facts) (done rest : List Row) (r :
         ∙ names (named (length (rows_facts done)) (length b.facts)) (identifier_at b.facts r) number r e row_filled (places_within r.1 e shows)
         (named_is b.facts rises (rows_facts done) r (rows_facts rest) facts_split);
   }
+
+module _ (before : ℕ) (fs : List Fact) (done rows rest : List Row) (r : Row) (all : done ++ rows ≡ rows_of fs) (next : rows ≡ r ∷ rest) (count : before ≡ length (rows_facts done)) where
+  length-facts : (front back : List Row) → length (rows_facts (front ++ back)) ≡ length (rows_facts front) + length (rows_facts back)
+  length-facts front back = ap length (flat_map-append row_facts front back) ∙ length-append (rows_facts front) (rows_facts back)
+
+  -- the facts up to the end of the row are among all facts, so their count does not overflow
+  pub row_within : before + length r.1 ≤ length fs
+  row_within = omega (arith, count, ap length (sym (rows_facts_are fs) ∙ ap rows_facts (sym all)), length-facts done rows, length-next_row rows rest r next)
+
+  pub count_with_row : before + length r.1 ≡ length (rows_facts (done ++ r ∷ []))
+  count_with_row = omega (arith, count, length-facts done (r ∷ []), length-next_row (r ∷ []) [] r refl)

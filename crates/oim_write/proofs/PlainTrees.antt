@@ -24,10 +24,8 @@ use Rattle.oim_write.specs.Bytes.{TreesArePlain}
 use Rattle.oim_write.specs.Prefixes.{bindings_of}
 use Rattle.oim_write.specs.Tree.{facts_object, features_member, identifier, info_object, members_before, name_text, namespaces_object, prefix, text_items, xbrl_member}
 use Rattle.oim_write.specs.Uris.{uris}
-use Rattle.oim_write.proofs.Namespaces.{uris_are_namespaces}
-use Rattle.oim_write.proofs.LabelTexts.{numbered_rise, numbered_utf8}
-use Rattle.oim_write.proofs.SpelledFacts.{facts_are_spelled}
-use Rattle.oim_write.proofs.UrisOfFacts.{uris_rise}
+use Rattle.oim_write.proofs.Namespaces.{uris_are_namespaces, uris_rise}
+use Rattle.oim_write.proofs.SpelledFacts.{numbered_rise, numbered_utf8, facts_are_spelled}
 
 -- ---- plain values and members of bounded depth
 

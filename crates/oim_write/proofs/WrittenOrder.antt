@@ -18,8 +18,8 @@ use Rattle.fact_base.proofs.Members.{first_there, later_there}
 use Rattle.oim_write.specs.Ordered.{FactsAreWrittenInOrder, decimals_member, defined_members, ordered_dimensions, text_member}
 use Rattle.oim_write.specs.Tree.{name_text}
 use Rattle.oim_write.specs.Uris.{uris}
-use Rattle.oim_write.proofs.NameOrder.{names_keep_order}
-use Rattle.oim_write.proofs.UrisOfFacts.{defined_there, uri_there, uris_rise}
+use Rattle.oim_write.proofs.Ranks.{names_keep_order}
+use Rattle.oim_write.proofs.Namespaces.{defined_there, uri_there, uris_rise}
 
 -- ---- one more member
 

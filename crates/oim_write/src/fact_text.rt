@@ -90,8 +90,7 @@ fn write_others<S: Spelling>(
     write_entity(json, spelling, text, dimensions.entity())?;
     write_text(json, "language", dimensions.language())?;
     write_defined(json, spelling, text, dimensions.members())?;
-    let place = periods.spell(*alloc, dimensions.period())?;
-    write_text(json, "period", periods.text(place))?;
+    write_text(json, "period", periods.text(*alloc, dimensions.period())?)?;
     write_unit_member(json, spelling, text, dimensions.unit())
 }
 

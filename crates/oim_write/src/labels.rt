@@ -5,7 +5,7 @@ use oim_names::Text;
 use std::alloc::{AllocError, Global};
 
 /// The initial capacity of a label in bytes; few labels are longer.
-const LABEL: usize = 16;
+pub(crate) const LABEL: usize = 16;
 
 /// Returns a fact's identifier in a canonical text: the letter `f`, then the fact's rank, padded
 /// with zeros to as many digits as `count` has (own). Ranks begin at 1. If the rank has more digits
@@ -15,7 +15,8 @@ const LABEL: usize = 16;
 pub fn identifier(alloc: Global, rank: u128, count: u128) -> Result<Text, AllocError>
     ensures { IfOk result (λ text. text ≡ 102 ∷ padded (width count) rank) }
 {
-    let text = label(alloc, "f", width_of(count), rank)?;
+    let mut text = String::with_capacity(alloc, LABEL)?;
+    push_label(&mut text, "f", width_of(count), rank)?;
     Text::new(alloc, text.as_str())
 }
 
@@ -30,19 +31,6 @@ pub(crate) fn width_of(number: u128) -> usize
         digits += 1;
     }
     digits
-}
-
-pub(crate) fn label(
-    alloc: Global,
-    front: &str,
-    digits: usize,
-    number: u128,
-) -> Result<String, AllocError>
-    ensures { IfOk result (λ text. string_bytes text ≡ front.now ++ padded digits number) }
-{
-    let mut text = String::with_capacity(alloc, LABEL)?;
-    push_label(&mut text, front, digits, number)?;
-    Ok(text)
 }
 
 pub(crate) fn push_label(

@@ -3,7 +3,7 @@ ghost use Rattle.serde_json.specs.Data.{string};
 ghost use Rattle.serde_json.specs.Written.{comma_if};
 ghost use Rattle.json.specs.Print.{quoted};
 ghost use Rattle.oim_write.specs.Ordered.{ordered_fact};
-ghost use Rattle.oim_write.specs.code.Parts.{has_some, head_text, namespace_members, part, parts};
+ghost use Rattle.oim_write.specs.code.Parts.{head_text, namespace_members, part, parts};
 ghost use Rattle.oim_write.specs.Rank.{padded};
 ghost use Rattle.oim_write.specs.Tree.{name_text, prefix};
 
@@ -41,18 +41,9 @@ pub(crate) fn head(alloc: Global, level: Level, table: &PrefixTable) -> Result<V
     text.extend_from_slice(level.text().as_bytes())?;
     text.extend_from_slice(b"\"},\"namespaces\":{")?;
     append_namespaces(alloc, &mut text, table)?;
-    append_comma(&mut text, has_uris(table))?;
+    append_comma(&mut text, !table.uris().is_empty())?;
     text.extend_from_slice(b"\"xbrl\":\"https://xbrl.org/2021\"},\"taxonomy\":[")?;
     Ok(text)
-}
-
-fn has_uris(table: &PrefixTable) -> bool
-    ensures { result ≡ has_some table.now }
-{
-    match table.uris() {
-        [] => false,
-        [_, ..] => true,
-    }
 }
 
 fn append_namespaces(

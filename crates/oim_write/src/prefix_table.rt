@@ -1,15 +1,17 @@
 ghost use Rattle.std.specs.Prelude.{◌≡◌, ◌++◌, length, map, IfOk, OnOk, string_bytes};
+ghost use Rattle.oim_names.specs.Bindings.{bound};
 ghost use Rattle.fact_base.specs.Body.{text_cmp};
 ghost use Rattle.fact_base.specs.Passed.{IsSet};
+ghost use Rattle.oim_write.specs.Prefixes.{bindings_of};
 ghost use Rattle.oim_write.specs.Rank.{rank, width};
 ghost use Rattle.oim_write.specs.Tree.{prefix};
 ghost use Rattle.oim_write.specs.Uris.{uris};
 
-use crate::labels::{label, push_label, width_of};
+use crate::labels::{LABEL, push_label, width_of};
 use crate::spelling::Spelling;
 use crate::uri_set::UriSet;
 use fact_base::Base;
-use oim_names::{Name, PositionCache, Text};
+use oim_names::{Aliases, Name, PositionCache, Text};
 use std::alloc::{AllocError, Global};
 use std::marker::Model;
 
@@ -107,7 +109,9 @@ fn prefixes_of(alloc: Global, uris: &[Text], digits: usize) -> Result<Vec<String
 {
     let mut prefixes = Vec::with_capacity(alloc, uris.len())?;
     for index in 0..uris.len() {
-        prefixes.push(label(alloc, "n", digits, 1 + index as u128)?)?;
+        let mut prefix = String::with_capacity(alloc, LABEL)?;
+        push_label(&mut prefix, "n", digits, 1 + index as u128)?;
+        prefixes.push(prefix)?;
     }
     Ok(prefixes)
 }
@@ -120,4 +124,34 @@ fn places_of(uris: &[Text]) -> PositionCache {
         cache.set(uri.as_str(), place);
     }
     cache
+}
+
+/// Returns the prefixes of the names in a base's text: `n1`, `n2` and so on, in the byte order of
+/// their URIs. All numbers are padded with zeros to the same width (own). The prefix `xbrl`, which
+/// the text also binds, is left out.
+///
+/// Errors: out of memory.
+pub fn prefixes(alloc: Global, base: &Base<'_>) -> Result<Aliases, AllocError>
+    ensures { IfOk result (λ aliases. aliases ≡ bindings_of (uris base.now.body.facts)) }
+{
+    let table = PrefixTable::of(alloc, base)?;
+    let mut aliases = Aliases::new(alloc);
+    for uri in table.uris() {
+        bind(alloc, &mut aliases, &table, uri.as_str())?;
+    }
+    Ok(aliases)
+}
+
+// The prefix is well-formed and not bound yet, and the URI is not empty. So `add` fails only if
+// memory is refused.
+fn bind(
+    alloc: Global,
+    aliases: &mut Aliases,
+    table: &PrefixTable,
+    uri: &str,
+) -> Result<(), AllocError>
+    ensures { OnOk result (aliases.new ≡ bound aliases.old (prefix table.now uri.now) uri.now) }
+{
+    let prefix = table.prefix(alloc, uri)?;
+    aliases.add(&prefix, uri).map_err(|_| AllocError)
 }

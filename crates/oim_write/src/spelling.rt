@@ -32,6 +32,7 @@ pub fn spell<S: Spelling>(text: &mut String, spelling: &S, name: &Name) -> Resul
 /// keep their order in the unit.
 ///
 /// Errors: out of memory.
+#[tactic(auto, unfolding(oim_dims::specs::Unit::unit_text))]
 pub fn spell_unit<S: Spelling>(
     text: &mut String,
     spelling: &S,
@@ -40,13 +41,6 @@ pub fn spell_unit<S: Spelling>(
     ensures { OnOk result (string_bytes text.new ≡ unit_text (S.spelled spelling.now) unit.now) }
 {
     text.clear();
-    push_unit(text, spelling, unit)
-}
-
-#[tactic(auto, unfolding(oim_dims::specs::Unit::unit_text))]
-fn push_unit<S: Spelling>(text: &mut String, spelling: &S, unit: &Unit) -> Result<(), AllocError>
-    ensures { OnOk result (string_bytes text.new ≡ string_bytes text.old ++ unit_text (S.spelled spelling.now) unit.now) }
-{
     if unit.denominators().is_empty() {
         return push_product(text, spelling, unit.numerators());
     }

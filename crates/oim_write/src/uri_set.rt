@@ -5,7 +5,7 @@ ghost use Rattle.fact_base.specs.Passed.{IsSet};
 ghost use Rattle.fact_base.specs.Sets.{set_of};
 ghost use Rattle.fact_base.specs.Shown.{HoldForUris, rows_left, shown};
 ghost use Rattle.oim_write.specs.Uris.{defined_names, entity_names, unit_names, value_names};
-ghost use Rattle.oim_write.specs.code.Table.{Gains, other_names, row_names};
+ghost use Rattle.oim_write.specs.code.Table.{Gains, row_names};
 
 use fact_base::{Row, Rows};
 use oim_dims::{Dimensions, Member};
@@ -57,9 +57,9 @@ impl UriSet {
         uris
     }
 
-    /// Adds the URIs of a row's names. `rows` has the rows after it. The set must contain the URIs of
-    /// the concepts in the next `known` rows, of which this row is the first. Returns the same number
-    /// for the rows after it.
+    /// Adds the URIs of all names in a row. `rows` has the rows after it. URIs of concepts may be
+    /// long, so `known` counts the next rows, from this row on, whose concepts' URIs the set contains
+    /// already. If it is at least 1, this row's concept is skipped. Returns that number for `rows`.
     pub(crate) fn add_row(
         &mut self,
         alloc: Global,
@@ -71,39 +71,17 @@ impl UriSet {
         ensures gains { OnOk result (Gains self.old (row_names (shown row.entry)) self.new) }
         ensures known { IfOk result (λ known. HoldForUris (Contains self.new) known (rows_left rows.now)) }
     {
-        let known = self.add_concept(alloc, row, rows, known)?;
-        self.add_others(alloc, row.dimensions)?;
+        let dimensions = row.dimensions;
+        self.add_entity(alloc, dimensions)?;
+        self.add_unit(alloc, dimensions)?;
+        self.add_members(alloc, dimensions.members())?;
         self.add_values(alloc, row.values)?;
-        Ok(known)
-    }
-
-    // Looks up the URI only if it is not known, since it may be long.
-    fn add_concept(
-        &mut self,
-        alloc: Global,
-        row: Row<'_>,
-        rows: &Rows<'_>,
-        known: usize,
-    ) -> Result<usize, AllocError>
-        requires { HoldForUris (Contains self.old) known (shown row ∷ rows_left rows.now) }
-        ensures gains { OnOk result (Gains self.old (row.entry.dimensions.now.concept ∷ []) self.new) }
-        ensures known { IfOk result (λ known. HoldForUris (Contains self.new) known (rows_left rows.now)) }
-    {
         if known > 0 {
             return Ok(known - 1);
         }
-        let concept = row.dimensions.concept();
+        let concept = dimensions.concept();
         self.add(alloc, concept)?;
         Ok(rows.uri_run(concept.uri()))
-    }
-
-    // Adds the URIs of all names in the dimensions except the concept.
-    fn add_others(&mut self, alloc: Global, dimensions: &Dimensions) -> Result<(), AllocError>
-        ensures { OnOk result (Gains self.old (other_names dimensions.now) self.new) }
-    {
-        self.add_entity(alloc, dimensions)?;
-        self.add_unit(alloc, dimensions)?;
-        self.add_members(alloc, dimensions.members())
     }
 
     fn add_entity(&mut self, alloc: Global, dimensions: &Dimensions) -> Result<(), AllocError>
@@ -139,38 +117,24 @@ impl UriSet {
     fn add_members(&mut self, alloc: Global, members: &[(Name, Member)]) -> Result<(), AllocError>
         ensures { OnOk result (Gains self.old (flat_map defined_names members.now) self.new) }
     {
-        for member in members {
-            self.add_defined(alloc, member)?;
+        for (name, member) in members {
+            self.add(alloc, name)?;
+            if let Member::Name(name) = member {
+                self.add(alloc, name)?;
+            }
         }
         Ok(())
-    }
-
-    fn add_defined(&mut self, alloc: Global, defined: &(Name, Member)) -> Result<(), AllocError>
-        ensures { OnOk result (Gains self.old (defined_names defined.now) self.new) }
-    {
-        self.add(alloc, &defined.0)?;
-        match &defined.1 {
-            Member::Name(name) => self.add(alloc, name),
-            Member::Nil | Member::Text(_) => Ok(()),
-        }
     }
 
     fn add_values(&mut self, alloc: Global, values: &[Value]) -> Result<(), AllocError>
         ensures { OnOk result (Gains self.old (flat_map value_names values.now) self.new) }
     {
         for value in values {
-            self.add_value(alloc, value)?;
+            if let Value::Name(name) = value {
+                self.add(alloc, name)?;
+            }
         }
         Ok(())
-    }
-
-    fn add_value(&mut self, alloc: Global, value: &Value) -> Result<(), AllocError>
-        ensures { OnOk result (Gains self.old (value_names value.now) self.new) }
-    {
-        match value {
-            Value::Name(name) => self.add(alloc, name),
-            Value::Nil | Value::Number(..) | Value::Text(_) => Ok(()),
-        }
     }
 
     // For most names, the cache has the index of the URI, so no memory is requested.
@@ -208,16 +172,10 @@ impl UriSet {
         let place = self.uris.len();
         self.uris.push(Text::new(alloc, uri)?)?;
         if place / 2 > self.ordered {
-            self.put_in_order();
+            put_in_order(&mut self.uris);
+            self.ordered = self.uris.len();
         }
         Ok(place)
-    }
-
-    fn put_in_order(&mut self)
-        ensures { self.new ≡ self.old }
-    {
-        put_in_order(&mut self.uris);
-        self.ordered = self.uris.len();
     }
 }
 

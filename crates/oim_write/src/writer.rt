@@ -2,7 +2,7 @@ ghost use Rattle.std.specs.Prelude.{◌≡◌, ◌+◌, ◌-◌, ◌^◌, ◌<�
 ghost use Rattle.std.specs.Io.KnownBytes.{Appends};
 ghost use Rattle.fact_base.specs.Entries.{facts_with};
 ghost use Rattle.oim_write.specs.Bytes.{canonical};
-ghost use Rattle.oim_write.specs.code.Parts.{facts_text, numbered_text, parts_text, text_parts};
+ghost use Rattle.oim_write.specs.code.Parts.{facts_text, numbered_text, text_parts};
 ghost use Rattle.oim_write.specs.SinkBuffer.{Breaks, Passes};
 ghost use Rattle.oim_write.specs.Sink.{AppendsFront, failures_after_write, written_of};
 ghost use Rattle.oim_write.specs.Tree.{name_text};
@@ -10,11 +10,10 @@ ghost use Rattle.oim_write.specs.Tree.{name_text};
 use crate::concept_texts::ConceptTexts;
 use crate::encoded::Encoded;
 use crate::labels::width_of;
-use crate::memory_sink::MemorySink;
 use crate::parts::{Labels, append_fact, append_reference, head};
 use crate::prefix_table::PrefixTable;
 use crate::scratch::Scratch;
-use crate::sink::Sink;
+use crate::sink::{Sink, StdSink};
 use crate::sink_buffer::SinkBuffer;
 use crate::write_fault::WriteFault;
 use fact_base::{Base, Row};
@@ -29,9 +28,9 @@ use std::alloc::{AllocError, Global};
 pub fn text(alloc: Global, base: &Base<'_>) -> Result<Encoded, AllocError>
     ensures { IfOk result (λ text. text ≡ canonical base.now.body) }
 {
-    let mut sink = MemorySink::new(alloc);
+    let mut sink = StdSink::new(Vec::new(alloc));
     match write_to(alloc, base, &mut sink) {
-        Ok(()) => Ok(Encoded::from_vec(sink.bytes)),
+        Ok(()) => Ok(Encoded::from_vec(sink.into_inner())),
         Err(_) => Err(AllocError),
     }
 }
@@ -59,31 +58,12 @@ pub fn write_to<S: Sink>(alloc: Global, base: &Base<'_>, out: &mut S) -> Result<
     let Ok(mut buffer) = SinkBuffer::new(alloc) else {
         return Err(WriteFault::OutOfMemory(0));
     };
-    write_parts(alloc, &mut buffer, out, &head, &table, base)?;
-    buffer.flush(out)
-}
-
-// The six parameters are separate, since a struct would serve only this call.
-fn write_parts<S: Sink>(
-    alloc: Global,
-    buffer: &mut SinkBuffer,
-    out: &mut S,
-    head: &[u8],
-    table: &PrefixTable,
-    base: &Base<'_>,
-) -> Result<(), WriteFault>
-    requires { S.failures out.old < 2 ^ 64 - 1 }
-    ensures ok { OnOk result (Passes (S.told out.old) (S.told out.new) buffer.old buffer.new
-        (parts_text head.now table.now base.now.body)) }
-    ensures err { IfErr result (λ fault. Breaks (S.told out.old) (S.told out.new) buffer.old
-        (parts_text head.now table.now base.now.body) (written_of fault)) }
-    ensures failures { S.failures out.new ≡ failures_after_write result (S.failures out.old) }
-{
-    buffer.push(out, head)?;
-    write_references(alloc, buffer, out, base.taxonomy())?;
+    buffer.push(out, &head)?;
+    write_references(alloc, &mut buffer, out, base.taxonomy())?;
     buffer.push(out, b"]},\"facts\":{")?;
-    write_facts(alloc, buffer, out, table, base)?;
-    buffer.push(out, b"}}")
+    write_facts(alloc, &mut buffer, out, &table, base)?;
+    buffer.push(out, b"}}")?;
+    buffer.flush(out)
 }
 
 // Writes the references one by one, since each may be long.

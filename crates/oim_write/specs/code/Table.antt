@@ -8,18 +8,13 @@ use Rattle.fact_base.specs.Rows.{Row}
 use Rattle.fact_base.specs.Shown.{HoldForUris}
 use Rattle.oim_write.specs.Rank.{width}
 use Rattle.oim_write.specs.Tree.{prefix}
-use Rattle.oim_dims.specs.DimensionSet.{DimensionSet}
-use Rattle.oim_write.specs.Uris.{defined_names, dimension_names, entity_names, unit_names, uris_of_names, value_names}
+use Rattle.oim_write.specs.Uris.{dimension_names, uris_of_names, value_names}
 
 -- the invariant of a table of prefixes: the URIs ascend, `digits` is the width of the number of URIs, and `prefixes` lists the prefixes of the URIs in order
 pub record IsTable (us : List (List ℕ)) (prefixes : List (String Global)) (digits : ℕ) : Type 0 where
   pub rises : IsSet text_cmp us
   pub enough : digits ≡ width (length us)
   pub spelled : map string_bytes prefixes ≡ map (prefix us) us
-
--- the names in a dimension set except its concept
-abbrev pub other_names : DimensionSet → List QName
-other_names d = entity_names d.entity ++ (unit_names d.unit ++ flat_map defined_names d.members)
 
 -- the names in a row's dimensions and values
 abbrev pub row_names : Row → List QName

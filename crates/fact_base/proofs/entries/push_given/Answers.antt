@@ -5,7 +5,7 @@ use Rattle.std.proofs.lemmas.Result.{on_ok_weaker}
 use Rattle.oim_dims.specs.FactOrder.{dimensions_cmp}
 use Rattle.oim_report.proofs.Ties.{equal_dimensions, equal_dimensions_tie}
 use Rattle.fact_base.specs.Entries.{Entry}
-use Rattle.fact_base.proofs.Puts.{AllBelow, all_below, none_below, put_behind, put_last}
+use Rattle.fact_base.proofs.Stored.{AllBelow, all_below, none_below, put_behind, put_last}
 use Rattle.fact_base.proofs.entries.push_given.Goals as goal
 use Rattle.fact_base.proofs.entries.push_given.Goals.{in_default-via-in-Some+else-eq, in_default-via-in_default}
 

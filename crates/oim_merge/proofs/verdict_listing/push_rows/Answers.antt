@@ -3,10 +3,10 @@ use Rattle.std.proofs.lemmas.List.{length-append, length-map, map_push}
 use Rattle.std.proofs.lemmas.Result.{err_from_is_err_and}
 use Rattle.fact_base.specs.Rows.{Row, rows_of}
 use Rattle.fact_base.specs.Shown.{rows_left, shown}
-use Rattle.oim_write.proofs.NumberedFacts.{count_with_row, row_within, rows_facts}
+use Rattle.oim_write.proofs.NumberedFacts.{rows_facts}
 use Rattle.oim_write.proofs.Passing.{Breaks-more, Breaks-trans, Passes-nil, Passes-trans}
 use Rattle.oim_merge.specs.Lines.{AreRowsFrom, IsRow}
-use Rattle.oim_merge.proofs.RowLists.{left_exist, one_row, places_within, row_filled, row_is, rows_both}
+use Rattle.oim_merge.proofs.RowLists.{count_with_row, left_exist, one_row, places_within, row_filled, row_is, row_within, rows_both}
 use Rattle.oim_merge.proofs.verdict_listing.push_rows.Goals as goal
 
 left_behind : (done rest : List Row) (r : Row) (rows : List Row) → done ++ (r ∷ rest) ≡ rows → (done ++ r ∷ []) ++ rest ≡ rows

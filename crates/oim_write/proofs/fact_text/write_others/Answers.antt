@@ -9,7 +9,7 @@ use Rattle.oim_write.proofs.fact_text.write_others.Goals as goal
 pub returns : goal.returns
 returns g c =
     let spelled = g.S.Spelling.spelled c.args.spelling.now in
-    let period = c.text.ensures c.period.result ∙ ap period_text (c.in_ok-place.ensures.is c.period.result ∙ c.period.ensures) in
+    let period = c.in_ok-text.ensures ∙ ap period_text c.period.ensures in
     on_ok_weaker c.write_unit_member.result
     (λ unit.
     then_text (codes "entity") _ (ap (option_spelled spelled) c.entity.ensures) c.in_ok-write_entity.ensures

@@ -1,5 +1,5 @@
 use Rattle.std.proofs.Common.{◌+◌, ◌-◌, ◌^◌, ◌/◌, ◌<◌, subst, arith}
-use Rattle.oim_write.proofs.Digits.{fewer_digits, width_large, width_small}
+use Rattle.oim_write.proofs.Ranks.{fewer_digits, width_large, width_small}
 use Rattle.oim_write.proofs.labels.width_of.Goals as goal
 
 pub loop-rest-preserved : goal.loop-rest-preserved

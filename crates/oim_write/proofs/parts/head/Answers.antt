@@ -1,8 +1,12 @@
-use Rattle.std.proofs.Common.{◌≡◌, ℕ, List, ◌++◌, codes, append_assoc, ap, ◌∙◌, false}
+use Rattle.std.proofs.Common.{ne_eqb, arith, [], ◌∷◌, not, length, ◌==◌, refl, ◌≡◌, ℕ, List, ◌++◌, codes, append_assoc, ap, ◌∙◌, false}
 use Rattle.serde_json.specs.Written.{comma_if}
 use Rattle.oim_value.specs.Level.{level_entry}
 use Rattle.oim_write.specs.code.Parts.{has_some, namespace_members, parts}
 use Rattle.oim_write.proofs.parts.head.Goals as goal
+
+some_is : (us : List (List ℕ)) → not (length us == 0) ≡ has_some us
+some_is [] = refl
+some_is (u ∷ us) = ap not (ne_eqb (length (u ∷ us)) 0 (λ e. omega (arith, e)))
 
 rejoin : (first level middle names comma bound : List ℕ) →
     ((((first ++ level) ++ middle) ++ names) ++ comma) ++ bound
@@ -21,5 +25,5 @@ returns c =
     ∙ (λ i. (c.in_ok-append_namespaces.ensures
     ∙ ap (λ t. t ++ names) (c.in_ok-extend_from_slice-3.ensures.items
     ∙ ap (λ t. t ++ middle) (c.in_ok-extend_from_slice-2.ensures.items
-    ∙ (λ j. (c.in_ok-extend_from_slice.ensures.items ∙ ap (λ t. t ++ first) c.new-text.ensures.items) j ++ (c.as_bytes.ensures.value ∙ c.text.ensures) j)))) i ++ comma_if (c.has_uris.ensures i)))
+    ∙ (λ j. (c.in_ok-extend_from_slice.ensures.items ∙ ap (λ t. t ++ first) c.new-text.ensures.items) j ++ (c.as_bytes.ensures.value ∙ c.text.ensures) j)))) i ++ comma_if ((ap not c.is_empty.ensures ∙ some_is c.uris.result.now ∙ ap has_some c.uris.ensures) i)))
     ∙ rejoin first level middle names (comma_if (has_some c.args.table.now)) bound

@@ -15,9 +15,9 @@ loop-index-preserved c =
     let l = c.loop-index in
     let within : l.index < length us = c.loop-index-test.true in
     let uri = get_or us l.index [] in
-    let own = c.in_ok-label.field-0 in
+    let own = c.push_label.new.text in
     let spelled : string_bytes own ≡ prefix us uri
-    = c.in_ok-label.ensures ∙ (λ i. 110 ∷ padded (c.requires.digits i) ((other_side l.index ∙ sym (rank_at text_cmp_total us l.index [] c.requires.rises within)) i)) in
+    = c.in_ok-push_label.ensures ∙ ap (λ t. t ++ 110 ∷ padded c.args.digits (1 + l.index)) c.in_ok-prefix.ensures.bytes ∙ (λ i. 110 ∷ padded (c.requires.digits i) ((other_side l.index ∙ sym (rank_at text_cmp_total us l.index [] c.requires.rises within)) i)) in
     ap (map string_bytes) c.in_ok-push.ensures.items
     ∙ map-append string_bytes l.prefixes.items (own ∷ [])
     ∙ (λ i. l.invariant i ++ spelled i ∷ [])

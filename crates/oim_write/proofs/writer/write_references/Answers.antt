@@ -1,12 +1,10 @@
-use Rattle.std.proofs.Common.{◌≡◌, ◌+◌, ◌∷◌, ◌++◌, [], drop, true, refl, sym, ap, subst, ◌∙◌, append-nil, arith}
-use Rattle.std.proofs.lemmas.List.{drop_all, drop_more}
+use Rattle.std.proofs.Common.{◌++◌, [], refl, sym, ap, subst, ◌∙◌, append-nil, append_assoc, arith}
+use Rattle.std.proofs.lemmas.List.{drop_all}
 use Rattle.std.proofs.lemmas.Result.{err_from_is_err_and}
-use Rattle.json.specs.Print.{quoted}
-use Rattle.serde_json.specs.Written.{comma_if}
 use Rattle.oim_write.specs.code.Parts.{text_parts}
 use Rattle.oim_write.specs.Sink.{written_of}
 use Rattle.oim_write.specs.SinkBuffer.{Breaks, Passes}
-use Rattle.oim_write.proofs.PartTexts.{behind_nothing, next_part}
+use Rattle.oim_write.proofs.PartTexts.{behind_nothing, left_texts}
 use Rattle.oim_write.proofs.Passing.{Breaks-more, Breaks-trans, Passes-nil, Passes-trans, holds_where_ok}
 use Rattle.oim_write.proofs.writer.write_references.Goals as goal
 
@@ -15,41 +13,28 @@ loop-reference-init g c = record { passed = ([], Passes-nil _ _, refl); failures
 
 pub returns-then-is_err-clause-err : goal.returns-then-is_err-clause-err
 returns-then-is_err-clause-err g c =
-    let l = c.loop-reference in
-    let so_far = l.invariant.passed in
+    let so_far = c.loop-reference.invariant.passed in
     subst (λ text. Breaks (g.S.Sink.told c.args.out.now) (g.S.Sink.told c.stop.new.sink) c.args.buffer.now text (written_of c.stop.result)) so_far.2
-    (Breaks-trans so_far.1 (Breaks-more (text_parts l.later (drop l.reference-index c.args.references.now)) c.stop.ensures.broken))
+    (Breaks-trans so_far.1 (Breaks-more _ c.stop.ensures.broken))
 
 pub returns-in_err-push-clause-err : goal.returns-in_err-push-clause-err
 returns-in_err-push-clause-err g c =
     let l = c.loop-reference in
-    let so_far = l.invariant.passed in
-    let all = c.args.references.now in
-    let reference = c.reference-item.result in
-    let rest = drop (l.reference-index + 1) all in
-    let here : drop l.reference-index all ≡ reference ∷ rest = drop_more all l.reference-index reference (omega arith) ∙ ap (λ t. t ∷ rest) (sym c.reference-item.is) in
     let written = c.deref.ensures.value ∙ behind_nothing (holds_where_ok c.append_reference-written.result c.if-is_err.ensures.value c.append_reference-written.ensures) c.clear.ensures.items in
     let p = err_from_is_err_and c.from_residual.result c.from_residual.ensures.1 in rw (p.1, p.2)
     (subst (λ text. Breaks (g.S.Sink.told c.args.out.now) (g.S.Sink.told c.push.new.sink) c.args.buffer.now text (written_of c.in_err-push.field-0.0))
-    (ap (λ t. so_far.0 ++ (t ++ text_parts true rest)) written ∙ ap (λ ts. so_far.0 ++ text_parts l.later ts) (sym here) ∙ so_far.2)
-    (Breaks-trans so_far.1 (Breaks-more (text_parts true rest) c.in_err-push.ensures.err)))
+    (left_texts _ l.later c.args.references.now l.reference-index c.reference-item.result (omega arith) c.reference-item.is written l.invariant.passed.2)
+    (Breaks-trans l.invariant.passed.1 (Breaks-more _ c.in_err-push.ensures.err)))
 
 pub loop-reference-preserved : goal.loop-reference-preserved
 loop-reference-preserved g c =
     let l = c.loop-reference in
-    let so_far = l.invariant.passed in
-    let all = c.args.references.now in
-    let reference = c.reference-item.result in
-    let rest = drop (l.reference-index + 1) all in
-    let here : drop l.reference-index all ≡ reference ∷ rest = drop_more all l.reference-index reference (omega arith) ∙ ap (λ t. t ∷ rest) (sym c.reference-item.is) in
     let written = c.deref.ensures.value ∙ behind_nothing (holds_where_ok c.append_reference-written.result c.if-is_err.ensures.value c.append_reference-written.ensures) c.clear.ensures.items in
     record {
       passed = (
-        so_far.0 ++ c.deref.result.now,
-        Passes-trans so_far.1 c.in_ok-push.ensures.ok,
-        next_part so_far.0 _ _ (comma_if l.later ++ quoted reference) (text_parts true rest)
-            (ap (λ t. so_far.0 ++ t) written)
-            (ap (λ ts. so_far.0 ++ text_parts l.later ts) (sym here) ∙ so_far.2),
+        _,
+        Passes-trans l.invariant.passed.1 c.in_ok-push.ensures.ok,
+        append_assoc l.invariant.passed.0 _ _ ∙ left_texts _ l.later c.args.references.now l.reference-index c.reference-item.result (omega arith) c.reference-item.is written l.invariant.passed.2,
       );
       failures = c.in_ok-push.ensures.failures ∙ l.invariant.failures;
     }

@@ -3,8 +3,7 @@ use Rattle.fact_base.specs.Body.{union}
 use Rattle.fact_base.proofs.base.Base.absorb.Goals as goal
 use Rattle.fact_base.specs.Contents.{Contents}
 use Rattle.fact_base.specs.Entries.{facts_of_entries}
-use Rattle.fact_base.proofs.Derived.{union_is}
-use Rattle.fact_base.proofs.Stored.{Leaves, join_leaves}
+use Rattle.fact_base.proofs.Stored.{union_is, Leaves, join_leaves}
 
 pub invariant_of-self-2 : goal.invariant_of-self-2
 invariant_of-self-2 c =

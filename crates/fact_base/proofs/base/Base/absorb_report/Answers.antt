@@ -3,9 +3,7 @@ use Rattle.fact_base.specs.Body.{body, union}
 use Rattle.fact_base.proofs.base.Base.absorb_report.Goals as goal
 use Rattle.fact_base.specs.Contents.{Contents}
 use Rattle.fact_base.specs.Entries.{facts_of_entries}
-use Rattle.fact_base.proofs.Derived.{union_is}
-use Rattle.fact_base.proofs.Puts.{all_moved}
-use Rattle.fact_base.proofs.Stored.{Leaves, take_leaves}
+use Rattle.fact_base.proofs.Stored.{union_is, Leaves, take_leaves, all_moved}
 
 leaves : (c : goal.After-replace) → Leaves c.self.inside.sheet.now c.absorb.new.self c.replace.new.references (union (record { facts = facts_of_entries c.self.inside.entries; references = c.self.inside.references }) (body (c.args.report.document ∷ [])))
 leaves c =

@@ -6,7 +6,7 @@ use Rattle.oim_dims.specs.FactOrder.{dimensions_cmp}
 use Rattle.fact_base.specs.Contents.{Contents}
 use Rattle.fact_base.specs.Rows.{values_at}
 use Rattle.fact_base.specs.code.Judged.{AreSummarised}
-use Rattle.fact_base.proofs.Derived.{value_at_is}
+use Rattle.fact_base.proofs.Stored.{value_at_is}
 use Rattle.fact_base.proofs.Walks.{found_entry, values_found}
 use Rattle.fact_base.proofs.base.Base.row.Goals as goal
 

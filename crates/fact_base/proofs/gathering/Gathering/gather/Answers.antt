@@ -6,7 +6,7 @@ use Rattle.fact_base.specs.Contents.{Contents}
 use Rattle.fact_base.specs.Fits.{Fits}
 use Rattle.fact_base.specs.Gathered.{gathered}
 use Rattle.fact_base.proofs.Gathers.{document_fits, gathered_document}
-use Rattle.fact_base.proofs.Puts.{same_moved}
+use Rattle.fact_base.proofs.Stored.{same_moved}
 use Rattle.fact_base.proofs.gathering.Gathering.gather.Goals as goal
 
 pub append-requires : goal.append-requires

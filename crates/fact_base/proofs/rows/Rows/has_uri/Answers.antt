@@ -3,7 +3,7 @@ use Rattle.std.specs.Prelude.{slice_get}
 use Rattle.std.specs.Option.{option_map}
 use Rattle.oim_names.specs.QName.{QName}
 use Rattle.fact_base.specs.Entries.{Entry}
-use Rattle.fact_base.proofs.Runs.{told_uri}
+use Rattle.fact_base.proofs.Walks.{told_uri}
 use Rattle.fact_base.proofs.rows.Rows.has_uri.Goals as goal
 
 pub returns-in-Some : goal.returns-in-Some

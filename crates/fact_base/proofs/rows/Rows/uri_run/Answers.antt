@@ -1,6 +1,6 @@
 use Rattle.std.proofs.Common.{arith}
-use Rattle.fact_base.proofs.Derived.{rises_as_derived}
-use Rattle.fact_base.proofs.Runs.{run_further}
+use Rattle.fact_base.proofs.Stored.{rises_as_derived}
+use Rattle.fact_base.proofs.Walks.{run_further}
 use Rattle.fact_base.proofs.rows.Rows.uri_run.Goals as goal
 
 pub loop-count-preserved : goal.loop-count-preserved

@@ -1,6 +1,6 @@
 use Rattle.std.proofs.Common.{◌≡◌, ◌++◌, string_bytes, sym, ap, ◌∙◌}
 use Rattle.fact_base.specs.Shown.{rows_left, shown}
-use Rattle.fact_base.proofs.Runs.{first_holds, others_hold}
+use Rattle.fact_base.proofs.Walks.{first_holds, others_hold}
 use Rattle.oim_names.specs.QName.{QName}
 use Rattle.oim_write.specs.Tree.{prefix}
 use Rattle.oim_write.proofs.concept_texts.ConceptTexts.find_prefix.Goals as goal

@@ -4,8 +4,7 @@ use Rattle.fact_base.specs.Body.{text_cmp}
 use Rattle.fact_base.specs.Passed.{IsSet}
 use Rattle.fact_base.specs.Shown.{HoldForUris, rows_left}
 use Rattle.oim_write.specs.code.Table.{Gains, row_names}
-use Rattle.oim_write.proofs.RowNames.{uris_gained}
-use Rattle.oim_write.proofs.UriSets.{gains_both, gains_none}
+use Rattle.oim_write.proofs.UriSets.{uris_gained, gains_both, gains_none}
 use Rattle.oim_write.proofs.prefix_table.PrefixTable.of.Goals as goal
 
 pub loop-row-init : goal.loop-row-init

@@ -4,5 +4,5 @@ use Rattle.oim_write.specs.Uris.{defined_names}
 use Rattle.oim_write.specs.code.Table.{Gains}
 use Rattle.oim_write.proofs.uri_set.UriSet.add_members.Given as goal
 
-abbrev pub invariant-loop-member : goal.invariant-loop-member
-invariant-loop-member l = Gains l.initial.self (flat_map defined_names (take l.member-index l.members)) l.self
+abbrev pub invariant-loop-name : goal.invariant-loop-name
+invariant-loop-name l = Gains l.initial.self (flat_map defined_names (take l.name-index l.members)) l.self

@@ -1,6 +1,8 @@
 use Rattle.std.proofs.Common.{◌≡◌, List, ℕ, [], ◌∷◌, ◌++◌, sym, ap, subst, ◌∙◌}
 use Rattle.fact_base.specs.Body.{text_cmp}
 use Rattle.fact_base.specs.Sets.{set_of}
+use Rattle.fact_base.proofs.Gathers.{set_of_set}
+use Rattle.fact_base.proofs.TextOrder.{text_cmp_exact, text_cmp_total}
 use Rattle.oim_names.specs.QName.{QName}
 use Rattle.oim_write.specs.code.Table.{Gains}
 use Rattle.oim_write.proofs.UriSets.{gains_one}
@@ -14,7 +16,7 @@ gained us new old n uri pushed view put made named =
 
 pub returns-then-place-self : goal.returns-then-place-self
 returns-then-place-self c =
-    subst (Gains c.args.self.now (c.args.name.now ∷ [])) (sym c.put_in_order.ensures)
+    subst (Gains c.args.self.now (c.args.name.now ∷ [])) (sym (ap (set_of text_cmp) c.put_in_order.ensures ∙ set_of_set text_cmp_total text_cmp_exact c.push.new.self.items))
     (gained c.self.inside.uris.items c.push.new.self.items c.args.self.now c.args.name.now c.uri-uri.result.now c.in_ok-new.field-0 c.self.view_is c.in_ok-push.ensures.items c.in_ok-new.ensures c.uri-uri.ensures)
 
 pub returns-else-place-self : goal.returns-else-place-self

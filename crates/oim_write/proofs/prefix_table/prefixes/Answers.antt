@@ -5,8 +5,8 @@ use Rattle.fact_base.specs.Body.{text_cmp}
 use Rattle.fact_base.specs.Passed.{IsSet}
 use Rattle.oim_write.specs.Prefixes.{bindings_of}
 use Rattle.oim_write.specs.Tree.{prefix}
-use Rattle.oim_write.proofs.LabelTexts.{bound_more}
-use Rattle.oim_write.proofs.bindings.prefixes.Goals as goal
+use Rattle.oim_write.proofs.SpelledFacts.{bound_more}
+use Rattle.oim_write.proofs.prefix_table.prefixes.Goals as goal
 
 pub loop-uri-preserved : goal.loop-uri-preserved
 loop-uri-preserved c =

@@ -1,6 +1,6 @@
 use Rattle.std.proofs.Common.{◌≡◌, map, take}
 use Rattle.oim_write.specs.Tree.{prefix}
-use Rattle.oim_write.proofs.bindings.prefixes.Given as goal
+use Rattle.oim_write.proofs.prefix_table.prefixes.Given as goal
 
 -- the URIs so far are bound to their prefixes
 abbrev pub invariant-loop-uri : goal.invariant-loop-uri

@@ -1,5 +1,5 @@
 use Rattle.std.proofs.Common.{◌+◌, ◌-◌, vec_len}
-use Rattle.oim_write.proofs.period_texts.reach.Given as goal
+use Rattle.oim_write.proofs.scratch.reach.Given as goal
 
 abbrev pub decreases-loop-texts : goal.decreases-loop-texts
 decreases-loop-texts l = l.class + 1 - vec_len l.texts
