@@ -2,7 +2,7 @@ use super::escaped::Escaped;
 use super::file_kind::{kind_of_bytes, kind_of_sheet, kind_of_tree};
 use super::finding::{Finding, Subject};
 use super::lines::{Explained, Input, Lines};
-use super::repeated::{Role, push_repeated};
+use super::repeated::push_repeated;
 use oim_names::Reason;
 use oim_report::{
     Part, Place, Refusal, Sheet, after_mark, document_part, fact_part, facts_apart, read_report,
@@ -40,7 +40,7 @@ pub fn explain(
             }
         }
     }
-    push_repeated(&mut lines, Role::Report, bytes)?;
+    push_repeated(&mut lines, Subject::Report, bytes)?;
     Ok(lines.explained)
 }
 
@@ -188,6 +188,6 @@ pub fn explain_repeated(
     bytes: &[u8],
 ) -> Result<Explained, AllocError> {
     let mut lines = Lines::new(alloc, input);
-    push_repeated(&mut lines, Role::Sheet, bytes)?;
+    push_repeated(&mut lines, Subject::Sheet, bytes)?;
     Ok(lines.explained)
 }

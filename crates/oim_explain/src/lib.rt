@@ -10,7 +10,6 @@
 
 mod escaped;
 mod explained;
-mod fault;
 mod file_kind;
 mod finding;
 mod lines;

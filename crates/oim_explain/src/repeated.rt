@@ -1,21 +1,15 @@
-use super::finding::push_text;
+use super::finding::{Subject, push_text};
 use super::lines::Lines;
 use json::{Error, Scratch, Value};
 use oim_report::after_mark;
 use std::alloc::{AllocError, Global};
 use std::str;
 
-#[derive(Clone, Copy)]
-pub(crate) enum Role {
-    Report,
-    Sheet,
-}
-
 /// Adds a line for each key that is repeated in an object that `push_report` or `push_sheet`
 /// visits. If the file is not JSON, no line is added.
 pub(crate) fn push_repeated(
     lines: &mut Lines<'_>,
-    role: Role,
+    subject: Subject<'_>,
     bytes: &[u8],
 ) -> Result<(), AllocError> {
     let Ok(text) = str::from_utf8(after_mark(bytes)) else {
@@ -23,18 +17,15 @@ pub(crate) fn push_repeated(
     };
     // only a file with repeated members is parsed a second time
     match Value::parse_strict(lines.alloc, text, &mut Scratch::new(lines.alloc)) {
-        Err(Error::DuplicateKey) => push_of_text(lines, role, text),
-        Err(Error::OutOfMemory) => Err(AllocError),
-        _ => Ok(()),
+        Err(Error::DuplicateKey) => {}
+        Err(Error::OutOfMemory) => return Err(AllocError),
+        _ => return Ok(()),
     }
-}
-
-fn push_of_text(lines: &mut Lines<'_>, role: Role, text: &str) -> Result<(), AllocError> {
     let mut scratch = Scratch::new(lines.alloc);
     match Value::parse(lines.alloc, text, &mut scratch) {
-        Ok(tree) => match role {
-            Role::Report => push_report(lines, &tree),
-            Role::Sheet => push_sheet(lines, &tree),
+        Ok(tree) => match subject {
+            Subject::Sheet => push_sheet(lines, &tree),
+            _ => push_report(lines, &tree),
         },
         Err(Error::OutOfMemory) => Err(AllocError),
         Err(_) => Ok(()),

@@ -29,19 +29,13 @@ pub(crate) fn around(
 
 /// Appends the whole sentence of a fault whose part is not shown.
 pub(crate) fn push_alone(line: &mut String, reason: Reason) -> Result<(), AllocError> {
-    match reason {
-        Reason::NotJson => {
-            write!(
-                line,
-                "the file cannot be read as JSON of at most {MOST_LEVELS} levels"
-            )
-        }
-        _ => line.push_str(alone_of(reason)),
+    if reason == Reason::NotJson {
+        return write!(
+            line,
+            "the file cannot be read as JSON of at most {MOST_LEVELS} levels"
+        );
     }
-}
-
-fn alone_of(reason: Reason) -> &'static str {
-    match reason {
+    line.push_str(match reason {
         Reason::DocumentType => {
             "\"documentType\" is missing; it must be \"https://xbrl.org/2021/xbrl-json\""
         }
@@ -53,7 +47,7 @@ fn alone_of(reason: Reason) -> &'static str {
             "\"decimals\" is only for concepts that are numeric in the sheet"
         }
         _ => "the part at fault cannot be shown",
-    }
+    })
 }
 
 /// Appends the last words of the sentence if they contain a limit, and nothing otherwise.
