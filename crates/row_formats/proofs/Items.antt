@@ -1,13 +1,15 @@
-use Rattle.std.proofs.Common.{◌≡◌, ℕ, suc, ◌+◌, List, [], ◌∷◌, ◌++◌, length, append_assoc, append-nil, Result, Ok, Err, codes, refl, sym, ap, ◌∙◌, arith}
+use Rattle.std.proofs.Common.{◌≡◌, ℕ, suc, ◌+◌, List, [], ◌∷◌, ◌++◌, length, append_assoc, append-nil, false, Result, Ok, Err, codes, refl, sym, ap, ◌∙◌, arith}
 use Rattle.std.specs.Prelude.{OnOk}
 use Rattle.std.proofs.lemmas.Result.{on_ok_weaker}
 use Rattle.json.specs.Token.{begin_array, begin_object, end_array, end_object, key}
 use Rattle.json.specs.Tree as tree
+use Rattle.json.specs.Print.{print}
 use Rattle.json.specs.Written.{Writes, Written}
 use Rattle.serde_json.specs.Data.{Data, array, object, Items, no_items, item, no_members, member}
-use Rattle.serde_json.specs.Written.{items_outline, outline}
+use Rattle.serde_json.specs.Written.{compact_text, items_outline, outline}
 use Rattle.oim_value.specs.declared.value.Value.{Value}
 use Rattle.oim_write.specs.Tokens.{Adds, AddsMembers, AddsValue}
+use Rattle.oim_write.proofs.PartTexts.{behind, item_is}
 use Rattle.oim_write.proofs.Tokens.{Adds-is, Adds-none, Adds-one, Adds-trans, closed_object, then_member}
 use Rattle.row_formats.specs.JsonRows.{evidence_member, fact_data, fact_items}
 use Rattle.row_formats.specs.code.Items.{item_tokens}
@@ -33,3 +35,7 @@ pub closed_evidence : {E : Type 0} {a b c e f g : Written} (r : Result (Unit {0}
 closed_evidence r k d name begun inner value closed =
     on_ok_weaker r (λ all. then_member (codes "evidence") (object (member k d no_members)) no_members name all Adds-none)
     (closed_object r (member k d no_members) begun (then_member k d no_members inner value Adds-none) closed)
+
+-- a writer that begins with nothing produces the text of a value
+pub whole_text : {begun done : Written} {text : List ℕ} (d : Data) → begun.before ≡ [] → begun.tokens ≡ [] → AddsValue begun done d → text ≡ done.before ++ print done.tokens → text ≡ compact_text d
+whole_text {done = done} d before tokens added is = is ∙ item_is [] done.before false d done.tokens (added.before ∙ before) (behind _ added.tokens tokens)

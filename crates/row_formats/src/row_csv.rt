@@ -8,24 +8,21 @@ ghost use Rattle.serde_json.specs.Data.{no_members, object};
 ghost use Rattle.serde_json.specs.Written.{compact_text};
 ghost use Rattle.oim_value.specs.Plain.{plain};
 ghost use Rattle.oim_write.specs.Ordered.{defined_members};
-ghost use Rattle.oim_write.specs.Tokens.{AddsValue};
 ghost use Rattle.oim_merge.specs.Lines.{verdict_shown, verdict_word};
 ghost use Rattle.oim_merge.specs.Judged.{IsJudged, judged_text, names_of};
-ghost use Rattle.oim_merge.specs.Named.{named};
 ghost use Rattle.row_formats.specs.CsvRows.{columns, csv_row, decimals_text, defined_text, dimension_fields, evidence_fields, fact_fields, or_empty, record_text, value_fields};
+ghost use Rattle.row_formats.specs.SourceRows.{csv_source, source_columns};
 ghost use Rattle.row_formats.specs.Spelled.{braced};
 
-use crate::braced::Braced;
-use crate::csv_record::{push_three, text_of_record};
-use crate::formulas::guard;
-use crate::row_json::{high_text, low_text, word_of};
+use crate::csv_record::{guard, push_three, text_of_record};
+use crate::row_json::{Braced, word_of};
 use csv::StringRecord;
 use fact_base::Evidence;
 use json::Writer;
 use oim_dims::{Dimensions, Member, Period, Unit, write_period};
-use oim_merge::{Identifiers, JudgedRow};
+use oim_merge::JudgedRow;
 use oim_names::{Name, Text};
-use oim_value::{Decimals, Fixed, Interval, Value, write_fixed};
+use oim_value::{Decimals, Fixed, Value, write_fixed, write_units};
 use oim_write::{spell, spell_unit, write_defined};
 use std::alloc::{AllocError, Global};
 use std::str;
@@ -163,10 +160,8 @@ fn push_text(fields: &mut StringRecord, text: Option<&Text>) -> Result<(), Alloc
 fn push_period(alloc: Global, fields: &mut StringRecord, period: Period) -> Result<(), AllocError>
     ensures { OnOk result (fields_of fields.new ≡ fields_of fields.old ++ or_empty (period_text period) ∷ []) }
 {
-    match write_period(alloc, &period)? {
-        Some(text) => fields.push_field(text.as_str()),
-        None => fields.push_field(""),
-    }
+    let text = write_period(alloc, &period)?;
+    push_text(fields, text.as_ref())
 }
 
 fn push_unit(
@@ -254,39 +249,17 @@ fn push_evidence(fields: &mut StringRecord, judged: &JudgedRow<'_>) -> Result<()
     let identifiers = &judged.identifiers;
     match judged.evidence {
         Evidence::Alike => push_four(fields, "", "", "", ""),
-        Evidence::Common(common) => push_common(identifiers.alloc, fields, &common),
-        Evidence::Apart(first, second) => push_apart(fields, identifiers, first, second),
+        Evidence::Common(common) => {
+            let low = write_units(identifiers.alloc, common.low)?;
+            let high = write_units(identifiers.alloc, common.high)?;
+            push_four(fields, low.as_str(), high.as_str(), "", "")
+        }
+        Evidence::Apart(first, second) => {
+            let first = identifiers.at(first)?;
+            let second = identifiers.at(second)?;
+            push_four(fields, "", "", first.as_str(), second.as_str())
+        }
     }
-}
-
-fn push_common(
-    alloc: Global,
-    fields: &mut StringRecord,
-    common: &Interval,
-) -> Result<(), AllocError>
-    ensures { OnOk result (fields_of fields.new ≡ fields_of fields.old
-        ++ plain common.now.low ∷ plain common.now.high ∷ [] ∷ [] ∷ []) }
-{
-    let low = low_text(alloc, common)?;
-    let high = high_text(alloc, common)?;
-    push_four(fields, low.as_str(), high.as_str(), "", "")
-}
-
-fn push_apart(
-    fields: &mut StringRecord,
-    identifiers: &Identifiers,
-    first: usize,
-    second: usize,
-) -> Result<(), AllocError>
-    requires first { identifiers.now.before + first < identifiers.now.count }
-    requires second { identifiers.now.before + second < identifiers.now.count }
-    ensures { OnOk result (fields_of fields.new ≡ fields_of fields.old ++ [] ∷ []
-        ∷ named identifiers.now.before identifiers.now.count first
-        ∷ named identifiers.now.before identifiers.now.count second ∷ []) }
-{
-    let first = identifiers.at(first)?;
-    let second = identifiers.at(second)?;
-    push_four(fields, "", "", first.as_str(), second.as_str())
 }
 
 fn push_four(
@@ -310,18 +283,33 @@ fn members_json(
     ensures { IfOk result (λ text. text.items ≡ compact_text (object (defined_members braced members.now no_members))) }
 {
     let mut json = Writer::new(Vec::new(alloc));
-    write_object(&mut json, room, members)?;
+    json.begin_object()?;
+    write_defined(&mut json, &Braced, room, members)?;
+    json.end_object()?;
     Ok(json.into_inner())
 }
 
-fn write_object(
-    json: &mut Writer,
-    room: &mut String,
-    members: &[(Name, Member)],
-) -> Result<(), AllocError>
-    ensures { OnOk result (AddsValue json.old json.new (object (defined_members braced members.now no_members))) }
+pub(crate) fn source_header(alloc: Global) -> Result<Vec<u8>, AllocError>
+    ensures { IfOk result (λ text. text.items ≡ record_text source_columns) }
 {
-    json.begin_object()?;
-    write_defined(json, &Braced, room, members)?;
-    json.end_object()
+    let mut record = StringRecord::new(alloc);
+    push_three(&mut record, "fact", "report", "identifier")?;
+    text_of_record(alloc, &record)
+}
+
+pub(crate) fn csv_source(
+    alloc: Global,
+    spreadsheet: bool,
+    fact: &str,
+    report: u64,
+    own: &str,
+) -> Result<Vec<u8>, AllocError>
+    ensures { IfOk result (λ text. text.items ≡ csv_source spreadsheet fact.now report own.now) }
+{
+    let report = format!(in alloc; "{report}")?;
+    let mut guarded = String::new(alloc);
+    guard(&mut guarded, spreadsheet, own)?;
+    let mut record = StringRecord::new(alloc);
+    push_three(&mut record, fact, report.as_str(), guarded.as_str())?;
+    text_of_record(alloc, &record)
 }

@@ -1,3 +1,9 @@
+use crate::row_csv::{csv_header, csv_row, csv_source, source_header};
+use crate::row_json::{json_row, json_source};
+use oim_merge::{JudgedRow, PlacedMention, SourceFormat, VerdictFormat};
+use oim_write::Scratch;
+use std::alloc::{AllocError, Global};
+
 /// A format of verdicts and sources for other programs (own). In each format, a row has a number
 /// (from 1), a verdict, dimensions, facts and, if it has several facts, evidence.
 #[derive(Clone, Copy, Debug, PartialEq, Eq)]
@@ -9,4 +15,60 @@ pub enum RowFormat {
     /// CSV for a spreadsheet: a `'` precedes each text value (verdicts), or each identifier in a
     /// report (sources), that may be read as a formula.
     SpreadsheetCsv,
+}
+
+impl VerdictFormat for RowFormat {
+    ghost use Rattle.row_formats.specs.Rows.{header, row_text};
+    ghost use Rattle.row_formats.specs.code.SameRows.{same_row};
+
+    ghost header = { header };
+
+    ghost row_text = { row_text };
+
+    ghost names = { same_row };
+
+    fn header(&self, alloc: Global) -> Result<Vec<u8>, AllocError> {
+        match self {
+            RowFormat::Json => Ok(Vec::new(alloc)),
+            RowFormat::Csv | RowFormat::SpreadsheetCsv => csv_header(alloc),
+        }
+    }
+
+    fn row(&self, scratch: &mut Scratch, judged: &JudgedRow<'_>) -> Result<Vec<u8>, AllocError> {
+        match self {
+            RowFormat::Json => json_row(scratch, judged),
+            RowFormat::Csv => csv_row(false, judged),
+            RowFormat::SpreadsheetCsv => csv_row(true, judged),
+        }
+    }
+}
+
+impl SourceFormat for RowFormat {
+    ghost use Rattle.row_formats.specs.SourceRows.{source_header, source_text};
+
+    ghost header = { source_header };
+
+    ghost source_text = { source_text };
+
+    fn header(&self, alloc: Global) -> Result<Vec<u8>, AllocError> {
+        match self {
+            RowFormat::Json => Ok(Vec::new(alloc)),
+            RowFormat::Csv | RowFormat::SpreadsheetCsv => source_header(alloc),
+        }
+    }
+
+    fn source(
+        &self,
+        alloc: Global,
+        fact: &str,
+        mention: &PlacedMention,
+    ) -> Result<Vec<u8>, AllocError> {
+        let report = mention.report;
+        let own = mention.identifier.as_str();
+        match self {
+            RowFormat::Json => json_source(alloc, fact, report, own),
+            RowFormat::Csv => csv_source(alloc, false, fact, report, own),
+            RowFormat::SpreadsheetCsv => csv_source(alloc, true, fact, report, own),
+        }
+    }
 }

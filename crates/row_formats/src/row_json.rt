@@ -1,25 +1,40 @@
-ghost use Rattle.std.specs.Prelude.{◌≡◌, ◌+◌, ◌<◌, ◌≤◌, codes, length, IfOk, OnOk};
+ghost use Rattle.std.specs.Prelude.{◌≡◌, ◌+◌, ◌<◌, ◌≤◌, length, IfOk, OnOk};
 ghost use Rattle.serde_json.specs.Data.{array};
-ghost use Rattle.oim_value.specs.Plain.{plain};
 ghost use Rattle.fact_base.specs.Shown.{shown};
-ghost use Rattle.oim_write.specs.Tokens.{Adds, AddsMembers, AddsValue};
+ghost use Rattle.oim_write.specs.Tokens.{AddsMembers, AddsValue};
 ghost use Rattle.oim_merge.specs.Lines.{verdict_shown, verdict_word};
 ghost use Rattle.oim_merge.specs.Judged.{IsJudged, judged_text, names_of};
 ghost use Rattle.oim_merge.specs.Named.{named};
-ghost use Rattle.row_formats.specs.JsonRows.{apart_data, common_data, evidence_member, evidence_members, fact_data, fact_items, json_row, row_data};
-ghost use Rattle.row_formats.specs.code.Items.{item_tokens};
+ghost use Rattle.row_formats.specs.JsonRows.{apart_data, common_data, evidence_members, fact_data, fact_items, json_row, row_data};
+ghost use Rattle.row_formats.specs.SourceRows.{json_source, source_data};
 
-use crate::braced::Braced;
 use fact_base::Evidence;
 use json::Writer;
 use oim_merge::{Identifiers, JudgedRow};
-use oim_names::Text;
+use oim_names::Name;
 use oim_value::{Interval, Value, write_units};
-use oim_write::{Scratch, write_decimals, write_dimensions, write_value};
+use oim_write::{Scratch, Spelling, write_decimals, write_dimensions, write_value};
 use std::alloc::{AllocError, Global};
 
 /// The initial capacity of a line, in bytes. Most lines fit into this capacity.
 const LINE: usize = 1 << 9;
+
+/// Spells a name as `{URI}local`, which needs no prefix.
+#[derive(Clone, Copy, Debug)]
+pub(crate) struct Braced;
+
+impl Spelling for Braced {
+    ghost use Rattle.row_formats.specs.Spelled.{braced};
+
+    ghost spelled = { λ spelling. braced };
+
+    fn push_name(&self, text: &mut String, name: &Name) -> Result<(), AllocError> {
+        text.push_str("{")?;
+        text.push_str(name.uri())?;
+        text.push_str("}")?;
+        text.push_str(name.local())
+    }
+}
 
 pub(crate) fn json_row(scratch: &mut Scratch, judged: &JudgedRow<'_>) -> Result<Vec<u8>, AllocError>
     requires { IsJudged judged.now }
@@ -75,24 +90,10 @@ fn write_facts(
         (array (fact_items (named identifiers.now.before identifiers.now.count) 0 values.now))) }
 {
     json.begin_array()?;
-    write_items(json, scratch, identifiers, values)?;
-    json.end_array()
-}
-
-fn write_items(
-    json: &mut Writer,
-    scratch: &mut Scratch,
-    identifiers: &Identifiers,
-    values: &[Value],
-) -> Result<(), AllocError>
-    requires { identifiers.now.before + length values.now ≤ identifiers.now.count }
-    ensures { OnOk result (Adds json.old json.new
-        (item_tokens (fact_items (named identifiers.now.before identifiers.now.count) 0 values.now))) }
-{
     for (place, value) in values.iter().enumerate() {
         write_fact(json, scratch, identifiers, place, value)?;
     }
-    Ok(())
+    json.end_array()
 }
 
 fn write_fact(
@@ -125,65 +126,34 @@ fn write_evidence(json: &mut Writer, judged: &JudgedRow<'_>) -> Result<(), Alloc
     let identifiers = &judged.identifiers;
     match judged.evidence {
         Evidence::Alike => Ok(()),
-        Evidence::Common(common) => write_common(identifiers.alloc, json, &common),
-        Evidence::Apart(first, second) => write_apart(json, identifiers, first, second),
+        Evidence::Common(common) => {
+            json.key("evidence")?;
+            json.begin_object()?;
+            json.key("common")?;
+            write_interval(identifiers.alloc, json, &common)?;
+            json.end_object()
+        }
+        Evidence::Apart(first, second) => {
+            json.key("evidence")?;
+            json.begin_object()?;
+            json.key("apart")?;
+            write_pair(json, identifiers, first, second)?;
+            json.end_object()
+        }
     }
-}
-
-fn write_common(alloc: Global, json: &mut Writer, common: &Interval) -> Result<(), AllocError>
-    ensures { OnOk result (AddsMembers json.old json.new
-        (evidence_member (codes "common") (common_data common.now))) }
-{
-    json.key("evidence")?;
-    json.begin_object()?;
-    json.key("common")?;
-    write_interval(alloc, json, common)?;
-    json.end_object()
-}
-
-fn write_apart(
-    json: &mut Writer,
-    identifiers: &Identifiers,
-    first: usize,
-    second: usize,
-) -> Result<(), AllocError>
-    requires first { identifiers.now.before + first < identifiers.now.count }
-    requires second { identifiers.now.before + second < identifiers.now.count }
-    ensures { OnOk result (AddsMembers json.old json.new
-        (evidence_member (codes "apart") (apart_data
-        (named identifiers.now.before identifiers.now.count first)
-        (named identifiers.now.before identifiers.now.count second)))) }
-{
-    json.key("evidence")?;
-    json.begin_object()?;
-    json.key("apart")?;
-    write_pair(json, identifiers, first, second)?;
-    json.end_object()
 }
 
 fn write_interval(alloc: Global, json: &mut Writer, common: &Interval) -> Result<(), AllocError>
     ensures { OnOk result (AddsValue json.old json.new (common_data common.now)) }
 {
-    let low = low_text(alloc, common)?;
-    let high = high_text(alloc, common)?;
+    let low = write_units(alloc, common.low)?;
+    let high = write_units(alloc, common.high)?;
     json.begin_object()?;
     json.key("low")?;
     json.string(low.as_str())?;
     json.key("high")?;
     json.string(high.as_str())?;
     json.end_object()
-}
-
-pub(crate) fn low_text(alloc: Global, interval: &Interval) -> Result<Text, AllocError>
-    ensures { IfOk result (λ text. text ≡ plain interval.now.low) }
-{
-    write_units(alloc, interval.low)
-}
-
-pub(crate) fn high_text(alloc: Global, interval: &Interval) -> Result<Text, AllocError>
-    ensures { IfOk result (λ text. text ≡ plain interval.now.high) }
-{
-    write_units(alloc, interval.high)
 }
 
 fn write_pair(
@@ -204,4 +174,32 @@ fn write_pair(
     json.string(first.as_str())?;
     json.string(second.as_str())?;
     json.end_array()
+}
+
+pub(crate) fn json_source(
+    alloc: Global,
+    fact: &str,
+    report: u64,
+    own: &str,
+) -> Result<Vec<u8>, AllocError>
+    ensures { IfOk result (λ line. line.items ≡ json_source fact.now report own.now) }
+{
+    let mut json = Writer::new(Vec::new(alloc));
+    write_source(&mut json, fact, report, own)?;
+    let mut line = json.into_inner();
+    line.push(b'\n')?;
+    Ok(line)
+}
+
+fn write_source(json: &mut Writer, fact: &str, report: u64, own: &str) -> Result<(), AllocError>
+    ensures { OnOk result (AddsValue json.old json.new (source_data fact.now report own.now)) }
+{
+    json.begin_object()?;
+    json.key("fact")?;
+    json.string(fact)?;
+    json.key("report")?;
+    json.u64(report)?;
+    json.key("identifier")?;
+    json.string(own)?;
+    json.end_object()
 }

@@ -1,4 +1,4 @@
-use Rattle.std.proofs.Common.{[], ◌∷◌, codes, ap, ◌∙◌}
+use Rattle.std.proofs.Common.{◌≡◌, [], ◌∷◌, codes, ap, ◌∙◌, rules}
 use Rattle.json.specs.Token.{Token}
 use Rattle.serde_json.specs.Data.{member, no_members, string}
 use Rattle.oim_value.specs.Plain.{plain}
@@ -7,8 +7,10 @@ use Rattle.row_formats.proofs.row_json.write_interval.Goals as goal
 
 pub returns : goal.returns
 returns c =
-    let low = Adds-is (ap (λ t. Token.string t ∷ []) (c.as_str.ensures.bytes ∙ c.in_ok-low.ensures)) (Adds-one c.in_ok-string.ensures) in
-    let high = Adds-is (ap (λ t. Token.string t ∷ []) (c.as_str-2.ensures.bytes ∙ c.in_ok-high.ensures)) (Adds-one c.in_ok-string-2.ensures) in
+    let low_is : c.in_ok-low.low ≡ plain c.args.common.now.low = search rules in
+    let high_is : c.in_ok-high.high ≡ plain c.args.common.now.high = search rules in
+    let low = Adds-is (ap (λ t. Token.string t ∷ []) (c.as_str.ensures.bytes ∙ low_is)) (Adds-one c.in_ok-string.ensures) in
+    let high = Adds-is (ap (λ t. Token.string t ∷ []) (c.as_str-2.ensures.bytes ∙ high_is)) (Adds-one c.in_ok-string-2.ensures) in
     let rest = member (codes "high") (string (plain c.args.common.now.high)) no_members in
     closed_object c.end_object.result (member (codes "low") (string (plain c.args.common.now.low)) rest) (Adds-one c.in_ok-begin_object.ensures)
     (then_member (codes "low") (string (plain c.args.common.now.low)) rest (Adds-one c.in_ok-key.ensures) low

@@ -3,8 +3,8 @@ use Rattle.oim_write.specs.Tokens.{Adds}
 use Rattle.oim_merge.specs.Named.{named}
 use Rattle.row_formats.specs.JsonRows.{fact_items}
 use Rattle.row_formats.specs.code.Items.{item_tokens}
-use Rattle.row_formats.proofs.row_json.write_items.Given as goal
+use Rattle.row_formats.proofs.row_json.write_facts.Given as goal
 
 -- the facts so far are written
 abbrev pub invariant-loop-place : goal.invariant-loop-place
-invariant-loop-place l = Adds l.fn.json l.json (item_tokens (fact_items (named l.identifiers.before l.identifiers.count) 0 (take l.place l.values)))
+invariant-loop-place l = Adds l.initial.json l.json (item_tokens (fact_items (named l.identifiers.before l.identifiers.count) 0 (take l.place l.values)))

@@ -1,6 +1,6 @@
 use Rattle.std.proofs.Common.{◌≡◌, drop}
 use Rattle.row_formats.specs.CsvRows.{begins_formula}
-use Rattle.row_formats.proofs.formulas.begins_formula.Given as goal
+use Rattle.row_formats.proofs.csv_record.begins_formula.Given as goal
 
 -- skipping the bytes so far does not change the result
 abbrev pub invariant-loop-byte : goal.invariant-loop-byte

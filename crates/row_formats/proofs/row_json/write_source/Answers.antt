@@ -1,7 +1,7 @@
 use Rattle.std.proofs.Common.{codes}
 use Rattle.serde_json.specs.Data.{member, no_members, number, string, unsigned}
 use Rattle.oim_write.proofs.Tokens.{Adds-none, Adds-one, closed_object, then_member}
-use Rattle.row_formats.proofs.source_row.write_source.Goals as goal
+use Rattle.row_formats.proofs.row_json.write_source.Goals as goal
 
 pub returns : goal.returns
 returns c =
