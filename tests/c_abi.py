@@ -65,12 +65,16 @@ def calls_of_header():
     return {name: (taken[name], result) for result, name, _ in found}
 
 
+def files_of_crate():
+    return [content(f"{CRATE}/{name}") for name in sorted(os.listdir(CRATE)) if name.endswith(".rt")]
+
+
 def calls_of_crate():
     """Returns the C types of each export's arguments and result. The type of an allocator has size 0, so C passes
     no argument for it."""
     calls = {}
-    for path in sorted(os.listdir(CRATE)):
-        for name, words, result in re.findall(r'extern "C" fn (\w+)\((.*?)\) -> (\w+)', content(f"{CRATE}/{path}"), re.DOTALL):
+    for text in files_of_crate():
+        for name, words, result in re.findall(r'extern "C" fn (\w+)\((.*?)\) -> (\w+)', text, re.DOTALL):
             types = [it.partition(": ")[2].strip() for it in words.split(",") if ": " in it]
             calls[name] = (", ".join(CROSSES[it] for it in types if it != "Global"), CROSSES[result])
     return calls
@@ -79,7 +83,7 @@ def calls_of_crate():
 def rows_agree():
     """Checks the header: its records and statuses must equal the crate's, and its levels must be 0 to 3."""
     for source, name in ROWS.items():
-        text = next(it for it in (content(f"{CRATE}/{path}") for path in sorted(os.listdir(CRATE))) if f"pub struct {source} " in it)
+        text = next(it for it in files_of_crate() if f"pub struct {source} " in it)
         fields = re.findall(r"pub (\w+): (u\d+)", text.partition(f"pub struct {source} ")[2].partition("}")[0])
         body = next(it for it in re.findall(r"typedef struct \{(.*?)\} (\w+);", header(), re.DOTALL) if it[1] == name)[0]
         told = [(field, kind) for kind, field in re.findall(r"uint(\d+)_t (\w+);", body)]

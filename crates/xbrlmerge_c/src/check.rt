@@ -1,15 +1,13 @@
-ghost use Rattle.std.specs.Prelude.{◌≡◌, ◌≢◌, ◌≤◌, Err, IfOk, MatchResult};
-ghost use Rattle.oim_merge.specs.Checked.{IsChecked};
-ghost use Rattle.oim_report.specs.Outcome.{outcome};
-ghost use Rattle.xbrlmerge_c.specs.Checks.{IsRowOf, Accepts, Refuses, RefusesSheet};
+ghost use Rattle.std.specs.Prelude.{◌≡◌, ◌≢◌, ◌≤◌};
+ghost use Rattle.xbrlmerge_c.specs.Checks.{Accepts, Refuses, RefusesSheet};
 ghost use Rattle.xbrlmerge_c.specs.Statuses.{done, no_memory, refused_some, sheet_refused, too_loose, too_short};
 
 use crate::output::{DONE, NO_MEMORY, REFUSED, RefusedReport, SHEET_REFUSED};
 use crate::reports::read_sheet;
-use oim_merge::{Checked, Fault, check_report};
+use oim_merge::{Fault, check_report};
 use oim_names::Reason;
-use oim_report::{Refusal, Sheet};
-use std::alloc::{AllocError, Global};
+use oim_report::Refusal;
+use std::alloc::Global;
 
 /// The result for an accepted report, as numbers.
 #[repr(C)]
@@ -21,18 +19,6 @@ pub struct CheckedReport {
     pub level: u32,
     /// 1 if the report's bytes are the canonical text of its facts and references, otherwise 0.
     pub canonical: u32,
-}
-
-impl CheckedReport {
-    pub(crate) fn new(checked: &Checked) -> CheckedReport
-        ensures { IsRowOf checked.now result }
-    {
-        CheckedReport {
-            facts: checked.facts,
-            level: checked.level as u32,
-            canonical: u32::from(checked.canonical),
-        }
-    }
 }
 
 /// Checks one report, as `oim_merge::check_report` does. `checked` gets the result for an accepted
@@ -64,31 +50,19 @@ pub extern "C" fn xbrlmerge_check(
         }
         Err(_) => return NO_MEMORY,
     };
-    match checked_or_refused(alloc, &sheet, report) {
-        Ok(Ok(found)) => {
-            *checked = CheckedReport::new(&found);
+    match check_report(alloc, &sheet, report) {
+        Ok(found) => {
+            *checked = CheckedReport {
+                facts: found.facts,
+                level: found.level as u32,
+                canonical: u32::from(found.canonical),
+            };
             DONE
         }
-        Ok(Err(told)) => {
+        Err(told) if told.reason == Reason::OutOfMemory => NO_MEMORY,
+        Err(told) => {
             *refusal = RefusedReport::new(1, &told);
             REFUSED
         }
-        Err(_) => NO_MEMORY,
-    }
-}
-
-/// `check_report` returns out of memory as a refusal; this function returns it as an error.
-fn checked_or_refused(
-    alloc: Global,
-    sheet: &Sheet,
-    bytes: &[u8],
-) -> Result<Result<Checked, Refusal>, AllocError>
-    ensures { IfOk result (λ found. MatchResult found
-        (IsChecked sheet.now bytes.now) (λ refusal. outcome sheet.now bytes.now ≡ Err refusal)) }
-{
-    match check_report(alloc, sheet, bytes) {
-        Ok(checked) => Ok(Ok(checked)),
-        Err(refusal) if refusal.reason == Reason::OutOfMemory => Err(AllocError),
-        Err(refusal) => Ok(Err(refusal)),
     }
 }

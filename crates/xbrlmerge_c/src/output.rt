@@ -1,5 +1,5 @@
 ghost use Rattle.std.specs.Prelude.{◌≡◌, ◌≤◌, ◌++◌, drop, length, true, false};
-ghost use Rattle.xbrlmerge_c.specs.code.Answers.{Answers, AnswersRow, AnswersText};
+ghost use Rattle.xbrlmerge_c.specs.code.Answers.{Answers, AnswersText};
 ghost use Rattle.xbrlmerge_c.specs.Room.{IsHanded, IsTooShort, room};
 ghost use Rattle.xbrlmerge_c.specs.Rows.{row, rows_of};
 
@@ -105,7 +105,11 @@ pub(crate) fn answer(
     match made {
         Ok(made) => answer_text(&made, out, needed, rows, refused),
         Err(Fault::TooLoose { row, refused: told }) => {
-            answer_row(row, &told, out, needed, rows, refused)
+            if !hand_over(b"", told.as_slice(), out, needed, rows, refused) {
+                return TOO_SHORT;
+            }
+            *needed = row as usize;
+            TOO_LOOSE
         }
         Err(Fault::Sheet(reason)) => {
             *needed = usize::from(reason.number());
@@ -132,22 +136,4 @@ fn answer_text(
         return TOO_SHORT;
     }
     if told.is_empty() { DONE } else { REFUSED }
-}
-
-fn answer_row(
-    row: u64,
-    told: &Refusals,
-    out: &mut [u8],
-    needed: &mut usize,
-    rows: &mut [RefusedReport],
-    refused: &mut usize,
-) -> u32
-    ensures { AnswersRow row told.now (room out.old needed.old rows.old refused.old)
-        (room out.new needed.new rows.new refused.new) result }
-{
-    if !hand_over(b"", told.as_slice(), out, needed, rows, refused) {
-        return TOO_SHORT;
-    }
-    *needed = row as usize;
-    TOO_LOOSE
 }

@@ -1,0 +1,283 @@
+use crate::calls::{
+    xbrlmerge_merge, xbrlmerge_sources, xbrlmerge_sources_json, xbrlmerge_verdicts,
+    xbrlmerge_verdicts_json,
+};
+use crate::check::{CheckedReport, xbrlmerge_check};
+use crate::output::{
+    BAD_ENDS, BAD_LEVEL, DONE, NO_MEMORY, REFUSED, RefusedReport, SHEET_REFUSED, TOO_LOOSE,
+    TOO_SHORT,
+};
+use crate::refusal_name::xbrlmerge_refusal_name;
+use std::alloc::Global;
+use std::test::Fail;
+
+// The tests make each call, and cause each status except `NO_MEMORY`. If memory is refused, the
+// call is repeated.
+
+const SHEET: &str = r#"{"namespaces":{"eg":"http://example.org/t"},"concepts":{"eg:A":"numeric"}}"#;
+
+const BAD_SHEET: &str = r#"{"concepts":{"eg:A":"numeric"}}"#;
+
+const HUNDRED: &str =
+    r#"{"documentInfo":{"documentType":"https://xbrl.org/2021/xbrl-json","namespaces":{"eg":"http://example.org/t"}},"facts":{"a":{"value":"100","decimals":0,"dimensions":{"concept":"eg:A"}}}}"#;
+
+/// An accepted report, a report refused for an unbound prefix, and an accepted report that
+/// contradicts the first.
+const REPORTS: &str =
+    r#"{"documentInfo":{"documentType":"https://xbrl.org/2021/xbrl-json","namespaces":{"eg":"http://example.org/t"}},"facts":{"a":{"value":"100","decimals":0,"dimensions":{"concept":"eg:A"}}}}{"documentInfo":{"documentType":"https://xbrl.org/2021/xbrl-json","namespaces":{"eg":"http://example.org/t"}},"facts":{"a":{"value":"1","dimensions":{"concept":"q:A"}}}}{"documentInfo":{"documentType":"https://xbrl.org/2021/xbrl-json","namespaces":{"eg":"http://example.org/t"}},"facts":{"b":{"value":"102","decimals":0,"dimensions":{"concept":"eg:A"}}}}"#;
+
+const ENDS: [usize; 3] = [185, 354, 539];
+
+const TEXT: &[u8] =
+    br#"{"documentInfo":{"documentType":"https://xbrl.org/2021/xbrl-json","features":{"xbrl:allowedDuplicates":"all"},"namespaces":{"n1":"http://example.org/t","xbrl":"https://xbrl.org/2021"},"taxonomy":[]},"facts":{"f1":{"decimals":0,"dimensions":{"concept":"n1:A"},"value":"100"},"f2":{"decimals":0,"dimensions":{"concept":"n1:A"},"value":"102"}}}"#;
+
+const VERDICTS: &[u8] = b"1 f1 f2 inconsistent apart f1 f2\n";
+
+const SOURCES: &[u8] = b"f1 1 \"a\"\nf2 3 \"b\"\n";
+
+const VERDICTS_JSON: &[u8] =
+    b"{\"row\":1,\"verdict\":\"inconsistent\",\"dimensions\":{\"concept\":\"{http://example.org/t}A\"},\"facts\":[{\"identifier\":\"f1\",\"value\":\"100\",\"decimals\":0},{\"identifier\":\"f2\",\"value\":\"102\",\"decimals\":0}],\"evidence\":{\"apart\":[\"f1\",\"f2\"]}}\n";
+
+const SOURCES_JSON: &[u8] =
+    b"{\"fact\":\"f1\",\"report\":1,\"identifier\":\"a\"}\n{\"fact\":\"f2\",\"report\":3,\"identifier\":\"b\"}\n";
+
+/// The content of each output record before a call.
+const BEFORE: RefusedReport = RefusedReport {
+    report: 7,
+    fact: 7,
+    number: 7,
+};
+
+/// The refusal of the second report: its first fact has a prefix that is not bound.
+const UNBOUND: RefusedReport = RefusedReport {
+    report: 2,
+    fact: 1,
+    number: 13,
+};
+
+#[derive(Clone, Copy)]
+enum Call {
+    Merge(u32),
+    Verdicts,
+    VerdictsJson,
+    Sources,
+    SourcesJson,
+}
+
+/// The status and the caller's memory after a call.
+#[derive(Drop)]
+struct Left {
+    status: u32,
+    out: [u8; 400],
+    needed: usize,
+    rows: [RefusedReport; 2],
+    refused: usize,
+}
+
+/// Makes a call with an output buffer of `room` bytes, at most 400.
+fn called_once(alloc: Global, call: Call, sheet: &str, ends: &[usize], room: usize) -> Left {
+    let (mut out, mut rows) = ([7; 400], [BEFORE; 2]);
+    let (mut needed, mut refused) = (7, 7);
+    let (sheet, reports, told) = (sheet.as_bytes(), REPORTS.as_bytes(), rows.as_mut_slice());
+    let status = match (call, out.get_mut(..room)) {
+        (_, None) => NO_MEMORY,
+        (Call::Merge(allow), Some(out)) => xbrlmerge_merge(
+            alloc,
+            sheet,
+            reports,
+            ends,
+            allow,
+            out,
+            &mut needed,
+            told,
+            &mut refused,
+        ),
+        (Call::Verdicts, Some(out)) => {
+            xbrlmerge_verdicts(
+                alloc,
+                sheet,
+                reports,
+                ends,
+                out,
+                &mut needed,
+                told,
+                &mut refused,
+            )
+        }
+        (Call::VerdictsJson, Some(out)) => {
+            xbrlmerge_verdicts_json(
+                alloc,
+                sheet,
+                reports,
+                ends,
+                out,
+                &mut needed,
+                told,
+                &mut refused,
+            )
+        }
+        (Call::Sources, Some(out)) => {
+            xbrlmerge_sources(
+                alloc,
+                sheet,
+                reports,
+                ends,
+                out,
+                &mut needed,
+                told,
+                &mut refused,
+            )
+        }
+        (Call::SourcesJson, Some(out)) => {
+            xbrlmerge_sources_json(
+                alloc,
+                sheet,
+                reports,
+                ends,
+                out,
+                &mut needed,
+                told,
+                &mut refused,
+            )
+        }
+    };
+    Left {
+        status,
+        out,
+        needed,
+        rows,
+        refused,
+    }
+}
+
+/// Does the same as `called_once`, and repeats the call if memory was refused.
+fn called(rt: &HostRuntime, call: Call, sheet: &str, ends: &[usize], room: usize) -> Left {
+    let left = called_once(rt.alloc(), call, sheet, ends, room);
+    if left.status != NO_MEMORY {
+        return left;
+    }
+    let _ = eprintln!(rt; "refused");
+    called_once(rt.alloc(), call, sheet, ends, room)
+}
+
+fn has_all(left: &Left, text: &[u8]) -> bool {
+    left.status == REFUSED
+        && left.needed == text.len()
+        && left.out.get(..text.len()) == Some(text)
+        && left.out.get(text.len()) == Some(&7)
+        && left.refused == 1
+        && left.rows == [UNBOUND, BEFORE]
+}
+
+#[test]
+fn texts_and_rows_are_handed_over(rt: HostRuntime) -> Result<(), Fail> {
+    let ends = ENDS.as_slice();
+    assert!(rt; has_all(&called(&rt, Call::Merge(3), SHEET, ends, 400), TEXT));
+    assert!(rt; has_all(&called(&rt, Call::Verdicts, SHEET, ends, 400), VERDICTS));
+    assert!(rt;
+        has_all(
+            &called(&rt, Call::VerdictsJson, SHEET, ends, 400),
+            VERDICTS_JSON
+        )
+    );
+    assert!(rt; has_all(&called(&rt, Call::Sources, SHEET, ends, 400), SOURCES));
+    assert!(rt;
+        has_all(
+            &called(&rt, Call::SourcesJson, SHEET, ends, 400),
+            SOURCES_JSON
+        )
+    );
+    Ok(())
+}
+
+#[test]
+fn a_row_above_the_level_is_told(rt: HostRuntime) -> Result<(), Fail> {
+    let left = called(&rt, Call::Merge(2), SHEET, ENDS.as_slice(), 0);
+    assert!(rt; left.status == TOO_LOOSE && left.needed == 1);
+    assert!(rt; left.refused == 1 && left.rows == [UNBOUND, BEFORE]);
+    Ok(())
+}
+
+#[test]
+fn a_short_room_is_told(rt: HostRuntime) -> Result<(), Fail> {
+    let left = called(
+        &rt,
+        Call::Sources,
+        SHEET,
+        ENDS.as_slice(),
+        SOURCES.len() - 1,
+    );
+    assert!(rt; left.status == TOO_SHORT && left.needed == SOURCES.len());
+    assert!(rt; left.refused == 1 && left.rows == [BEFORE, BEFORE] && left.out == [7; 400]);
+    Ok(())
+}
+
+#[test]
+fn a_refused_sheet_is_told(rt: HostRuntime) -> Result<(), Fail> {
+    let left = called(&rt, Call::Verdicts, BAD_SHEET, ENDS.as_slice(), 400);
+    assert!(rt; left.status == SHEET_REFUSED && left.needed == 13 && left.refused == 0);
+    Ok(())
+}
+
+#[test]
+fn bad_ends_and_levels_are_told(rt: HostRuntime) -> Result<(), Fail> {
+    let falling = called(&rt, Call::Merge(3), SHEET, [2, 1].as_slice(), 400);
+    assert!(rt; falling.status == BAD_ENDS && falling.needed == 7 && falling.refused == 7);
+    let beyond = called(
+        &rt,
+        Call::Sources,
+        SHEET,
+        [REPORTS.len() + 1].as_slice(),
+        400,
+    );
+    assert!(rt; beyond.status == BAD_ENDS);
+    let level = called(&rt, Call::Merge(4), SHEET, ENDS.as_slice(), 400);
+    assert!(rt; level.status == BAD_LEVEL && level.needed == 7);
+    Ok(())
+}
+
+#[test]
+fn no_report_is_done(rt: HostRuntime) -> Result<(), Fail> {
+    let left = called(&rt, Call::Verdicts, SHEET, [].as_slice(), 0);
+    assert!(rt; left.status == DONE && left.needed == 0 && left.refused == 0);
+    Ok(())
+}
+
+/// Checks a report, and repeats the call if memory was refused.
+fn checked(rt: &HostRuntime, report: &[u8]) -> (u32, CheckedReport, RefusedReport) {
+    let mut checked = CheckedReport {
+        facts: 7,
+        level: 7,
+        canonical: 7,
+    };
+    let mut row = BEFORE;
+    let sheet = SHEET.as_bytes();
+    let mut status = xbrlmerge_check(rt.alloc(), sheet, report, &mut checked, &mut row);
+    if status == NO_MEMORY {
+        let _ = eprintln!(rt; "refused");
+        status = xbrlmerge_check(rt.alloc(), sheet, report, &mut checked, &mut row);
+    }
+    (status, checked, row)
+}
+
+#[test]
+fn a_report_is_checked(rt: HostRuntime) -> Result<(), Fail> {
+    let (status, found, row) = checked(&rt, HUNDRED.as_bytes());
+    assert!(rt; status == DONE && row == BEFORE);
+    assert!(rt; found.facts == 1 && found.level == 0 && found.canonical == 0);
+    let (status, found, _) = checked(&rt, TEXT);
+    assert!(rt; status == DONE && found.facts == 2 && found.level == 3 && found.canonical == 1);
+    let (status, found, row) = checked(&rt, b"{");
+    assert!(rt; status == REFUSED && found.facts == 7);
+    assert!(rt; row.report == 1 && row.fact == 0 && row.number == 1);
+    Ok(())
+}
+
+#[test]
+fn refusals_have_names(rt: HostRuntime) -> Result<(), Fail> {
+    let mut out = [7; 14];
+    assert!(rt; xbrlmerge_refusal_name(13, out.as_mut_slice()) == 13);
+    assert!(rt; out.as_slice() == b"UnboundPrefix\x07".as_slice());
+    assert!(rt; xbrlmerge_refusal_name(33, out.as_mut_slice()) == 0);
+    Ok(())
+}
