@@ -18,12 +18,32 @@ pub(crate) const QUIET: &str = "quiet";
 
 pub(crate) const OUTPUT: &str = "output";
 
+pub(crate) const FORMAT: &str = "format";
+
+/// Returns an option with a value.
+pub(crate) fn option<'w>(alloc: Global, name: &'w str, value: &'w str, help: &'w str) -> Arg<'w> {
+    Arg::new(alloc, name)
+        .long(name)
+        .value_name(value)
+        .help(help)
+}
+
+/// Returns an option without a value.
+pub(crate) fn flag<'w>(alloc: Global, name: &'w str, help: &'w str) -> Arg<'w> {
+    Arg::new(alloc, name)
+        .long(name)
+        .action(ArgAction::SetTrue)
+        .help(help)
+}
+
 pub(crate) fn output_argument<'w>(alloc: Global) -> Arg<'w> {
-    Arg::new(alloc, OUTPUT)
-        .short('o')
-        .long(OUTPUT)
-        .value_name("FILE")
-        .help("Write the complete output to FILE, or nothing")
+    option(
+        alloc,
+        OUTPUT,
+        "FILE",
+        "Write the complete output to FILE, or nothing",
+    )
+    .short('o')
 }
 
 /// Returns a command with this name and help, and the option for a sheet.
@@ -33,18 +53,11 @@ pub(crate) fn command<'w>(
     about: &'w str,
     more: &'w str,
 ) -> Result<Command<'w>, AllocError> {
+    let help = "The sheet: a file that lists the concepts and dimensions that reports may use";
     Command::new(alloc, name)
         .about(about)
         .after_help(more)
-        .arg(sheet_argument(alloc))
-}
-
-fn sheet_argument<'w>(alloc: Global) -> Arg<'w> {
-    Arg::new(alloc, SHEET)
-        .long(SHEET)
-        .value_name("SHEET")
-        .required(true)
-        .help("The sheet: a file that lists the concepts and dimensions that reports may use")
+        .arg(option(alloc, SHEET, "SHEET", help).required(true))
 }
 
 /// Adds the arguments for any number of reports, for the output file and for the progress line.
@@ -52,47 +65,15 @@ pub(crate) fn with_reports<'w>(
     alloc: Global,
     command: Command<'w>,
 ) -> Result<Command<'w>, AllocError> {
-    let null = null_argument(alloc)?;
-    let arguments = vec![in alloc;
-        list_argument(alloc),
-        null,
-        output_argument(alloc),
-        quiet_argument(alloc),
-        reports_argument(alloc),
-    ]?;
-    command.args(arguments)
-}
-
-fn list_argument<'w>(alloc: Global) -> Arg<'w> {
-    Arg::new(alloc, LIST).long(LIST).value_name("FILE").help(
-        "Also read the reports named in FILE, one per line; - is standard input",
-    )
-}
-
-fn null_argument<'w>(alloc: Global) -> Result<Arg<'w>, AllocError> {
-    Arg::new(alloc, NULL)
-        .short('0')
-        .long(NULL)
-        .action(ArgAction::SetTrue)
-        .help("Names in the file of --reports-from end with NUL, not with a line end")
-        .requires_arg(LIST)
-}
-
-fn quiet_argument<'w>(alloc: Global) -> Arg<'w> {
-    Arg::new(alloc, QUIET)
-        .long(QUIET)
-        .action(ArgAction::SetTrue)
-        .help("Do not show progress on a terminal")
-}
-
-fn reports_argument<'w>(alloc: Global) -> Arg<'w> {
-    Arg::new(alloc, REPORT)
+    let list_help = "Also read the reports named in FILE, one per line; - is standard input";
+    let null_help = "Names in the file of --reports-from end with NUL, not with a line end";
+    let reports = Arg::new(alloc, REPORT)
         .num_args(0..)
-        .help("The report files, counted from 1 in this order")
-}
-
-pub(crate) fn report_argument<'w>(alloc: Global) -> Arg<'w> {
-    Arg::new(alloc, REPORT)
-        .required(true)
-        .help("The report file")
+        .help("The report files, counted from 1 in this order");
+    command
+        .arg(option(alloc, LIST, "FILE", list_help))?
+        .arg(flag(alloc, NULL, null_help).short('0').requires_arg(LIST)?)?
+        .arg(output_argument(alloc))?
+        .arg(flag(alloc, QUIET, "Do not show progress on a terminal"))?
+        .arg(reports)
 }

@@ -1,23 +1,20 @@
-//! The commands, one in each file of the folder `commands`.
+//! The commands, in the files of the folder `commands`.
 
-ghost use Rattle.std.specs.Prelude.{◌-◌, ◌^◌, ◌<◌};
+ghost use Rattle.std.specs.Prelude.{◌≡◌, ◌-◌, ◌^◌, ◌<◌, OnOk};
 
 pub(crate) mod check;
 pub(crate) mod explain;
 pub(crate) mod merge;
 pub(crate) mod replay;
-pub(crate) mod sources;
-pub(crate) mod verdicts;
+pub(crate) mod rows;
 
+use crate::commands::rows::PrintFormat;
 use crate::error::{Error, Success};
 use crate::inputs::Inputs;
-use crate::lines::put_text;
 use crate::request::{Request, Subcommand};
-use crate::row_format::PrintFormat;
 use oim_merge::{Refusals, SourceLines, consolidate_bundle};
 use oim_report::Sheet;
-use oim_write::Sink;
-use std::alloc::Global;
+use oim_write::{Sink, WriteFault, put_all};
 use std::io::Write;
 use std::rt::Files;
 
@@ -33,7 +30,11 @@ pub(crate) fn execute<'n, F: Files, E: Write, S: Sink>(
         Request::Bundle => {
             Ok(Success::Refusals(consolidate_bundle(inputs.alloc, inputs.bundle, out)?))
         }
-        Request::Help(text) => show(inputs.alloc, text, out),
+        Request::Help(text) => {
+            let text = format!(in inputs.alloc; "{text}")?;
+            put_text(out, text.as_str())?;
+            Ok(Success::Refusals(Refusals::new(inputs.alloc)))
+        }
         Request::Explain(sheet, format) => explain::run(sheet, *format, inputs, out),
         Request::Under(sheet, subcommand) => {
             let sheet = inputs.read_sheet(sheet)?;
@@ -73,11 +74,12 @@ fn execute_under<'n, F: Files, E: Write, S: Sink>(
     }))
 }
 
-/// Writes help or the version, which clap returns as an error.
-fn show<'n, S: Sink>(alloc: Global, text: &clap::Error, out: &mut S) -> Result<Success, Error<'n>>
+fn put_text<S: Sink>(out: &mut S, text: &str) -> Result<(), WriteFault>
     requires { S.failures out.old < 2 ^ 64 - 1 }
+    ensures { OnOk result (S.failures out.new ≡ S.failures out.old) }
 {
-    let text = format!(in alloc; "{text}")?;
-    put_text(out, text.as_str())?;
-    Ok(Success::Refusals(Refusals::new(alloc)))
+    match put_all(out, text.as_bytes()) {
+        Ok(()) => Ok(()),
+        Err(taken) => Err(WriteFault::Device(taken as u64)),
+    }
 }

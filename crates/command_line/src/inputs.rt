@@ -1,5 +1,3 @@
-ghost use Rattle.std.specs.Prelude.{◌≡◌};
-
 use crate::console::Console;
 use crate::error::Error;
 use oim_merge::{Consolidation, ReadFault, StdSource, TracedMerge, read_all};
@@ -66,37 +64,23 @@ impl<'n, F: Files, E: Write> Inputs<'n, F, E> {
         sheet: &'s Sheet,
     ) -> Result<Consolidation<'s>, Error<'n>> {
         let mut consolidation = Consolidation::new(self.alloc, sheet);
-        self.add_reports(&mut consolidation)?;
-        Ok(consolidation)
-    }
-
-    fn add_reports(&mut self, consolidation: &mut Consolidation<'_>) -> Result<(), Error<'n>>
-        requires { consolidation.old.reports ≡ 0 }
-    {
         let names = self.names;
         for place in 0..names.len() {
             consolidation.add_owned(self.read_report(names[place])?)?;
         }
         self.console.clear();
-        Ok(())
+        Ok(consolidation)
     }
 
     /// Does the same as `consolidate`, and stores where each fact was reported.
     pub(crate) fn trace<'s>(&mut self, sheet: &'s Sheet) -> Result<TracedMerge<'s>, Error<'n>> {
         let mut merge = TracedMerge::new(self.alloc, sheet);
-        self.trace_reports(&mut merge)?;
-        Ok(merge)
-    }
-
-    fn trace_reports(&mut self, merge: &mut TracedMerge<'_>) -> Result<(), Error<'n>>
-        requires { merge.old.added.reports ≡ 0 }
-    {
         let names = self.names;
         for place in 0..names.len() {
             merge.add(self.read_report(names[place])?.as_bytes())?;
         }
         self.console.clear();
-        Ok(())
+        Ok(merge)
     }
 }
 
@@ -108,43 +92,33 @@ pub(crate) fn sheet_of<'n>(alloc: Global, bytes: &[u8]) -> Result<Sheet, Error<'
     }
 }
 
-pub(crate) fn read_input<'n, R: Read + Drop>(
-    alloc: Global,
-    input: R,
-) -> Result<Encoded, Error<'n>> {
-    read_bytes(alloc, input).map_err(|fault| unread(STANDARD_INPUT, fault))
-}
-
 pub(crate) fn read_file<'n, F: Files>(
     alloc: Global,
     files: &F,
     name: &'n str,
 ) -> Result<Encoded, Error<'n>> {
-    match open_and_read(alloc, files, name) {
+    let read = match File::open(files, name) {
+        Ok(file) => read_bytes(alloc, file, name),
+        Err(_) => Err(Error::Unread(name, None)),
+    };
+    match read {
+        Err(Error::Unread(..)) => Err(Error::Unread(name, why_unread(files, name))),
+        read => read,
+    }
+}
+
+/// Reads the file with this name to its end.
+pub(crate) fn read_bytes<'n, R: Read + Drop>(
+    alloc: Global,
+    reader: R,
+    name: &'n str,
+) -> Result<Encoded, Error<'n>> {
+    match read_all(alloc, &mut StdSource::new(reader), MOST_BYTES) {
         Ok(bytes) => Ok(bytes),
-        Err(ReadFault::Device(_)) => Err(Error::Unread(name, why_unread(files, name))),
-        Err(fault) => Err(unread(name, fault)),
+        Err(ReadFault::OutOfMemory) => Err(Error::OutOfMemory),
+        Err(ReadFault::TooLong) => Err(Error::TooLong(name)),
+        Err(ReadFault::Device(_)) => Err(Error::Unread(name, None)),
     }
-}
-
-fn unread(name: &str, fault: ReadFault) -> Error<'_> {
-    match fault {
-        ReadFault::OutOfMemory => Error::OutOfMemory,
-        ReadFault::TooLong => Error::TooLong(name),
-        ReadFault::Device(_) => Error::Unread(name, None),
-    }
-}
-
-fn open_and_read<F: Files>(alloc: Global, files: &F, name: &str) -> Result<Encoded, ReadFault> {
-    match File::open(files, name) {
-        Ok(file) => read_bytes(alloc, file),
-        Err(_) => Err(ReadFault::Device(0)),
-    }
-}
-
-fn read_bytes<R: Read + Drop>(alloc: Global, reader: R) -> Result<Encoded, ReadFault> {
-    let mut source = StdSource::new(reader);
-    read_all(alloc, &mut source, MOST_BYTES)
 }
 
 fn why_unread<F: Files>(files: &F, name: &str) -> Option<&'static str> {

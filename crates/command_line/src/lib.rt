@@ -7,12 +7,9 @@ mod commands;
 mod console;
 mod error;
 mod inputs;
-mod lines;
 mod output;
 mod program;
-mod report_names;
 mod request;
-mod row_format;
 mod words;
 
 pub use program::{Streams, run};

@@ -23,13 +23,6 @@ pub(crate) fn write_out<'n, F: Files, E: Write, O: Write + Drop>(
 ) -> Result<Success, Error<'n>> {
     let mut sink = StdSink::new(out);
     let done = execute(request, inputs, &mut sink);
-    flush(done, sink)
-}
-
-fn flush<'n, O: Write + Drop>(
-    done: Result<Success, Error<'n>>,
-    sink: StdSink<O>,
-) -> Result<Success, Error<'n>> {
     let written = sink.taken();
     match done {
         Err(Error::Device(_)) => Err(Error::Device(written)),
@@ -53,7 +46,7 @@ pub(crate) fn write_file<'n, F: Files, E: Write>(
     let done = execute(request, inputs, &mut sink);
     let done = settle(files, done, sink.into_inner(), &beside, name);
     if done.is_err() {
-        remove(files, &beside);
+        let _ = fs::remove_file(files, beside.as_str());
     }
     done
 }
@@ -89,12 +82,10 @@ fn new_beside<'w, F: Files>(
     name: &'w str,
 ) -> Result<Named<F::File>, Error<'w>> {
     let kept = old_mode(files, name)?;
-    let Some((beside, file)) = first_new(alloc, files, name)? else {
-        return Err(Error::Unwritten(name));
-    };
+    let (beside, file) = first_new(alloc, files, name)?;
     if let Some(mode) = kept {
         if file.set_permissions(mode).is_err() {
-            remove(files, &beside);
+            let _ = fs::remove_file(files, beside.as_str());
             return Err(Error::Unwritten(name));
         }
     }
@@ -112,10 +103,6 @@ fn put_in_place<F: Files>(
     fs::rename(files, beside, name)
 }
 
-fn remove<F: Files>(files: &F, name: &str) {
-    let _ = fs::remove_file(files, name);
-}
-
 /// Returns the bits of the file's mode within `KEPT_BITS`; None if no file has this name.
 ///
 /// Errors: `Unwritten` if the name is empty, cannot be looked up, or belongs to a symbolic link or
@@ -131,24 +118,24 @@ fn old_mode<'w, F: Files>(files: &F, name: &'w str) -> Result<Option<Permissions
     }
 }
 
-/// Creates a file whose name has the first free number; None if the file cannot be created. Files
-/// with lower numbers belong to programs that still run, or that were interrupted.
+/// Creates a file whose name has the first free number. Files with lower numbers belong to programs
+/// that still run, or that were interrupted.
 ///
-/// Errors: out of memory.
-fn first_new<F: Files>(
+/// Errors: `Unwritten` if the file cannot be created; out of memory.
+fn first_new<'w, F: Files>(
     alloc: Global,
     files: &F,
-    name: &str,
-) -> Result<Option<Named<F::File>>, AllocError> {
+    name: &'w str,
+) -> Result<Named<F::File>, Error<'w>> {
     for number in 0..u32::MAX {
         let beside = name_beside(alloc, name, number)?;
         match File::create_new(files, beside.as_str()) {
-            Ok(file) => return Ok(Some((beside, file))),
+            Ok(file) => return Ok((beside, file)),
             Err(fault) if fault.kind() == ErrorKind::AlreadyExists => {}
             Err(_) => break,
         }
     }
-    Ok(None)
+    Err(Error::Unwritten(name))
 }
 
 fn name_beside(alloc: Global, name: &str, number: u32) -> Result<String, AllocError> {

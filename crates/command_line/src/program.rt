@@ -81,7 +81,7 @@ fn run_named<'n, F: Files, O: Write + Drop, E: Write>(
     out: O,
     console: &'n mut Console<E>,
 ) -> u8 {
-    match args.reports.names(alloc, bytes) {
+    match args.names(alloc, bytes) {
         Ok(names) => {
             let mut inputs = Inputs {
                 alloc,

@@ -1,7 +1,6 @@
+use crate::commands::rows::PrintFormat;
 use crate::error::Error;
-use crate::inputs::{STANDARD_INPUT, read_file, read_input};
-use crate::report_names::ReportNames;
-use crate::row_format::PrintFormat;
+use crate::inputs::{STANDARD_INPUT, read_bytes, read_file};
 use oim_explain::Format;
 use oim_value::Level;
 use oim_write::Encoded;
@@ -13,7 +12,12 @@ use std::rt::Files;
 #[derive(Drop)]
 pub(crate) struct Args<'w> {
     pub request: Request<'w>,
-    pub reports: ReportNames<'w>,
+    /// The report names in the arguments. They precede the names in the file.
+    pub words: Vec<&'w str>,
+    /// The file that lists more report names; it may be standard input.
+    pub list: Option<&'w str>,
+    /// The character after each name in the file. It may be missing after the last name.
+    pub end: char,
     /// The name of the output file; None for standard output.
     pub output: Option<&'w str>,
     /// True if the progress line is suppressed.
@@ -32,13 +36,41 @@ impl<'w> Args<'w> {
     ) -> Result<Encoded, Error<'w>> {
         let name = match &self.request {
             Request::Bundle => Some(STANDARD_INPUT),
-            _ => self.reports.list,
+            _ => self.list,
         };
         match name {
             None => Ok(Encoded::from_vec(Vec::new(alloc))),
-            Some(STANDARD_INPUT) => read_input(alloc, input),
+            Some(STANDARD_INPUT) => read_bytes(alloc, input, STANDARD_INPUT),
             Some(file) => read_file(alloc, files, file),
         }
+    }
+
+    /// Returns the names of all reports, given the bytes of the file of names. Empty names in the
+    /// file are skipped.
+    ///
+    /// Errors: `Unread` if the file is not UTF-8; `NoNames` if there is a file of names, but no
+    /// report is named; out of memory.
+    pub(crate) fn names<'n>(
+        &'n self,
+        alloc: Global,
+        bytes: &'n [u8],
+    ) -> Result<Vec<&'n str>, Error<'w>> {
+        let mut all = Vec::from_slice(alloc, self.words.as_slice())?;
+        let Some(list) = self.list else {
+            return Ok(all);
+        };
+        let Ok(text) = str::from_utf8(bytes) else {
+            return Err(Error::Unread(list, None));
+        };
+        for name in text.split(self.end) {
+            if !name.is_empty() {
+                all.push(name)?;
+            }
+        }
+        if all.is_empty() {
+            return Err(Error::NoNames(list));
+        }
+        Ok(all)
     }
 }
 

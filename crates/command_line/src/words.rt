@@ -1,12 +1,12 @@
-use crate::arguments::{OUTPUT, QUIET, SHEET};
-use crate::commands::{check, explain, merge, replay, sources, verdicts};
+use crate::arguments::{LIST, NULL, OUTPUT, QUIET, REPORT, SHEET};
+use crate::commands::rows::{self, print_format_of};
+use crate::commands::{check, explain, merge, replay};
 use crate::error::Error;
-use crate::report_names::ReportNames;
 use crate::request::{Args, Request, Subcommand};
-use crate::row_format::print_format_of;
 use clap::error::ErrorKind;
 use clap::{ArgMatches, Command};
 use oim_explain::Escaped;
+use oim_value::Level;
 use std::alloc::{AllocError, Global};
 use std::convert::AsStr;
 
@@ -31,16 +31,6 @@ Status of each command; if several apply, the highest:
   2  `merge` wrote nothing, because a row exceeds --allow
   3  not done, or not completed: invalid arguments, a refused sheet or event, a file or device
      that failed, or out of memory";
-
-/// The commands, in the order of the help.
-const COMMANDS: [&str; 6] = [
-    merge::NAME,
-    verdicts::NAME,
-    sources::NAME,
-    check::NAME,
-    explain::NAME,
-    replay::NAME,
-];
 
 /// Parses the arguments after the program's name.
 ///
@@ -69,10 +59,7 @@ fn error_shown<W: AsStr>(
     raw: clap::Error,
 ) -> Result<clap::Error, AllocError> {
     let escaped = escape_each(alloc, words)?;
-    match parse(alloc, escaped.as_slice()) {
-        Ok(_) => Ok(raw),
-        Err(error) => Ok(error),
-    }
+    Ok(parse(alloc, escaped.as_slice()).err().unwrap_or(raw))
 }
 
 fn escape_each<W: AsStr>(alloc: Global, words: &[W]) -> Result<Vec<String>, AllocError> {
@@ -87,7 +74,9 @@ fn escape_each<W: AsStr>(alloc: Global, words: &[W]) -> Result<Vec<String>, Allo
 fn alone(alloc: Global, request: Request<'_>) -> Args<'_> {
     Args {
         request,
-        reports: ReportNames::none(alloc),
+        words: Vec::new(alloc),
+        list: None,
+        end: '\n',
         output: None,
         is_quiet: false,
     }
@@ -95,19 +84,11 @@ fn alone(alloc: Global, request: Request<'_>) -> Args<'_> {
 
 fn parse<W: AsStr>(alloc: Global, words: &[W]) -> Result<Args<'_>, clap::Error> {
     let mut program = program(alloc)?;
-    match match_words(alloc, &mut program, words)? {
+    let matches = program.try_get_matches_from_mut(words)?;
+    match args_of(alloc, &matches)? {
         Some(args) => Ok(args),
         None => Err(program.error(ErrorKind::MissingSubcommand, "a command is missing")?),
     }
-}
-
-fn match_words<'w, W: AsStr>(
-    alloc: Global,
-    program: &mut Command<'w>,
-    words: &'w [W],
-) -> Result<Option<Args<'w>>, clap::Error> {
-    let matches = program.try_get_matches_from_mut(words)?;
-    Ok(args_of(alloc, &matches)?)
 }
 
 fn args_of<'w>(alloc: Global, matches: &ArgMatches<'w>) -> Result<Option<Args<'w>>, AllocError> {
@@ -119,7 +100,9 @@ fn args_of<'w>(alloc: Global, matches: &ArgMatches<'w>) -> Result<Option<Args<'w
     };
     Ok(Some(Args {
         request,
-        reports: ReportNames::of(alloc, matches)?,
+        words: Vec::from_slice(alloc, matches.get_strs(REPORT).unwrap_or(&[]))?,
+        list: matches.get_str(LIST),
+        end: if matches.get_flag(NULL) { '\0' } else { '\n' },
         output: matches.get_str(OUTPUT),
         is_quiet: matches.get_flag(QUIET),
     }))
@@ -128,42 +111,32 @@ fn args_of<'w>(alloc: Global, matches: &ArgMatches<'w>) -> Result<Option<Args<'w
 fn request_of<'w>(name: &str, matches: &ArgMatches<'w>) -> Option<Request<'w>> {
     let sheet = matches.get_str(SHEET)?;
     let subcommand = match name {
-        merge::NAME => merge::of(matches)?,
-        verdicts::NAME => Subcommand::Verdicts(print_format_of(matches)?),
-        sources::NAME => Subcommand::Sources(print_format_of(matches)?),
-        check::NAME => check::of(matches)?,
+        merge::NAME => Subcommand::Merge(matches.get_str(merge::ALLOW).and_then(Level::read)?),
+        rows::VERDICTS => Subcommand::Verdicts(print_format_of(matches)?),
+        rows::SOURCES => Subcommand::Sources(print_format_of(matches)?),
+        check::NAME => Subcommand::Check(matches.get_str(REPORT)?),
         explain::NAME => return Some(Request::Explain(sheet, explain::format_of(matches))),
-        replay::NAME => replay::of(matches)?,
+        replay::NAME => {
+            let replicas = matches.get_one(replay::REPLICAS)?;
+            Subcommand::Replay(replicas, matches.get_str(replay::EVENTS)?)
+        }
         _ => return None,
     };
     Some(Request::Under(sheet, subcommand))
 }
 
-fn described<'w>(alloc: Global) -> Result<Command<'w>, AllocError> {
-    let program = Command::new(alloc, PROGRAM)
+// The help lists the commands in this order.
+fn program<'w>(alloc: Global) -> Result<Command<'w>, AllocError> {
+    Command::new(alloc, PROGRAM)
         .no_binary_name(true)
         .version(VERSION)
         .about(ABOUT)
-        .after_help(MORE);
-    program.bin_name(PROGRAM)
-}
-
-fn program<'w>(alloc: Global) -> Result<Command<'w>, AllocError> {
-    let mut program = described(alloc)?;
-    for name in COMMANDS {
-        program = program.subcommand(words_of(alloc, name)?)?;
-    }
-    Ok(program)
-}
-
-/// `name` must be in `COMMANDS`.
-fn words_of<'w>(alloc: Global, name: &str) -> Result<Command<'w>, AllocError> {
-    match name {
-        merge::NAME => merge::words(alloc),
-        verdicts::NAME => verdicts::words(alloc),
-        sources::NAME => sources::words(alloc),
-        check::NAME => check::words(alloc),
-        explain::NAME => explain::words(alloc),
-        _ => replay::words(alloc),
-    }
+        .after_help(MORE)
+        .bin_name(PROGRAM)?
+        .subcommand(merge::words(alloc)?)?
+        .subcommand(rows::verdicts_words(alloc)?)?
+        .subcommand(rows::sources_words(alloc)?)?
+        .subcommand(check::words(alloc)?)?
+        .subcommand(explain::words(alloc)?)?
+        .subcommand(replay::words(alloc)?)
 }

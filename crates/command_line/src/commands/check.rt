@@ -1,14 +1,13 @@
 ghost use Rattle.std.specs.Prelude.{◌-◌, ◌^◌, ◌<◌};
 
-use crate::arguments::{REPORT, command, output_argument, report_argument};
+use crate::arguments::{REPORT, command, output_argument};
+use crate::commands::put_text;
 use crate::error::Error;
 use crate::inputs::Inputs;
-use crate::lines::put_text;
-use crate::request::Subcommand;
-use clap::{ArgMatches, Command};
+use clap::{Arg, Command};
 use oim_merge::{Checked, Refusals, check_report};
 use oim_names::Reason;
-use oim_report::{Refusal, Sheet};
+use oim_report::Sheet;
 use oim_write::Sink;
 use std::alloc::{AllocError, Global};
 use std::io::Write;
@@ -45,14 +44,12 @@ Status:
 
 /// Returns the arguments of this command, with its help.
 pub(crate) fn words<'w>(alloc: Global) -> Result<Command<'w>, AllocError> {
+    let report = Arg::new(alloc, REPORT)
+        .required(true)
+        .help("The report file");
     command(alloc, NAME, ABOUT, MORE)?
         .arg(output_argument(alloc))?
-        .arg(report_argument(alloc))
-}
-
-/// Returns the command, or None if a required argument is missing.
-pub(crate) fn of<'w>(matches: &ArgMatches<'w>) -> Option<Subcommand<'w>> {
-    matches.get_str(REPORT).map(Subcommand::Check)
+        .arg(report)
 }
 
 /// Reads the report with this name and writes a line to `out` if the report is accepted. A refusal
@@ -68,20 +65,9 @@ pub(crate) fn run<'n, F: Files, E: Write, S: Sink>(
     requires { S.failures out.old < 2 ^ 64 - 1 }
 {
     let bytes = inputs.read(report)?;
-    let checked = check_report(inputs.alloc, sheet, bytes.as_bytes());
-    put_checked(inputs.alloc, out, checked)
-}
-
-fn put_checked<'n, S: Sink>(
-    alloc: Global,
-    out: &mut S,
-    checked: Result<Checked, Refusal>,
-) -> Result<Refusals, Error<'n>>
-    requires { S.failures out.old < 2 ^ 64 - 1 }
-{
-    let mut refusals = Refusals::new(alloc);
-    match checked {
-        Ok(checked) => put_accepted(alloc, out, &checked)?,
+    let mut refusals = Refusals::new(inputs.alloc);
+    match check_report(inputs.alloc, sheet, bytes.as_bytes()) {
+        Ok(checked) => put_accepted(inputs.alloc, out, &checked)?,
         Err(refusal) if refusal.reason == Reason::OutOfMemory => return Err(Error::OutOfMemory),
         Err(refusal) => refusals.push(1, refusal)?,
     }

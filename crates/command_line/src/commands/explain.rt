@@ -1,11 +1,11 @@
 ghost use Rattle.std.specs.Prelude.{◌≡◌, ◌-◌, ◌^◌, ◌<◌, OnOk};
 
-use crate::arguments::{command, with_reports};
+use crate::arguments::{FORMAT, command, option, with_reports};
+use crate::commands::put_text;
 use crate::error::{Error, Success};
 use crate::inputs::{Inputs, sheet_of};
-use crate::lines::put_text;
 use clap::builder::ValueParser;
-use clap::{Arg, ArgMatches, Command};
+use clap::{ArgMatches, Command};
 use oim_explain::{Explained, Format, Input, explain, explain_repeated, explain_sheet};
 use oim_report::Sheet;
 use oim_write::Sink;
@@ -14,8 +14,6 @@ use std::io::Write;
 use std::rt::Files;
 
 pub(crate) const NAME: &str = "explain";
-
-const FORMAT: &str = "format";
 
 const JSON: &str = "json";
 
@@ -67,17 +65,10 @@ Status:
 
 /// Returns the arguments of this command, with its help.
 pub(crate) fn words<'w>(alloc: Global) -> Result<Command<'w>, AllocError> {
-    let command = command(alloc, NAME, ABOUT, MORE)?;
-    with_reports(alloc, command.arg(format_argument(alloc))?)
-}
-
-fn format_argument<'w>(alloc: Global) -> Arg<'w> {
-    Arg::new(alloc, FORMAT)
-        .long(FORMAT)
-        .value_name("FORMAT")
+    let format = option(alloc, FORMAT, "FORMAT", "The output format")
         .value_parser(ValueParser::Names(FORMATS.as_slice()))
-        .default_value(TEXT)
-        .help("The output format")
+        .default_value(TEXT);
+    with_reports(alloc, command(alloc, NAME, ABOUT, MORE)?.arg(format)?)
 }
 
 pub(crate) fn format_of(found: &ArgMatches<'_>) -> Format {
@@ -101,24 +92,15 @@ pub(crate) fn run<'n, F: Files, E: Write, S: Sink>(
     requires { S.failures out.old < 2 ^ 64 - 1 }
 {
     let bytes = inputs.read(name)?;
-    let counts = put_under(name, format, bytes.as_bytes(), inputs, out)?;
+    let Counts { faulty, faults } = put_under(name, format, bytes.as_bytes(), inputs, out)?;
     if let Format::Text = format {
-        put_counts(inputs.alloc, inputs.names.len(), counts, out)?;
+        let (alloc, reports) = (inputs.alloc, inputs.names.len());
+        let line = format!(in alloc;
+            "reports: {reports}, with faults: {faulty}, faults: {faults}\n"
+        )?;
+        put_text(out, line.as_str())?;
     }
-    Ok(Success::Faults(counts.faults))
-}
-
-fn put_counts<'n, S: Sink>(
-    alloc: Global,
-    reports: usize,
-    counts: Counts,
-    out: &mut S,
-) -> Result<(), Error<'n>>
-    requires { S.failures out.old < 2 ^ 64 - 1 }
-{
-    let (faulty, faults) = (counts.faulty, counts.faults);
-    let line = format!(in alloc; "reports: {reports}, with faults: {faulty}, faults: {faults}\n")?;
-    Ok(put_text(out, line.as_str())?)
+    Ok(Success::Faults(faults))
 }
 
 fn put_under<'n, F: Files, E: Write, S: Sink>(

@@ -1,13 +1,11 @@
-use crate::arguments::{command, with_reports};
-use crate::request::Subcommand;
+use crate::arguments::{command, option, with_reports};
+use clap::Command;
 use clap::builder::ValueParser;
-use clap::{Arg, ArgMatches, Command};
-use oim_value::Level;
 use std::alloc::{AllocError, Global};
 
 pub(crate) const NAME: &str = "merge";
 
-const ALLOW: &str = "allow";
+pub(crate) const ALLOW: &str = "allow";
 
 static LEVELS: [&str; 4] = ["none", "complete", "consistent", "all"];
 
@@ -36,17 +34,13 @@ Status:
 
 /// Returns the arguments of this command, with its help.
 pub(crate) fn words<'w>(alloc: Global) -> Result<Command<'w>, AllocError> {
-    let allow = Arg::new(alloc, ALLOW)
-        .long(ALLOW)
-        .value_name("LEVEL")
-        .value_parser(ValueParser::Names(LEVELS.as_slice()))
-        .default_value("all")
-        .help("The loosest level that a row may have");
+    let allow = option(
+        alloc,
+        ALLOW,
+        "LEVEL",
+        "The loosest level that a row may have",
+    )
+    .value_parser(ValueParser::Names(LEVELS.as_slice()))
+    .default_value("all");
     with_reports(alloc, command(alloc, NAME, ABOUT, MORE)?.arg(allow)?)
-}
-
-/// Returns the command, or None if the arguments contain no level.
-pub(crate) fn of<'w>(matches: &ArgMatches<'w>) -> Option<Subcommand<'w>> {
-    let allow = matches.get_str(ALLOW).and_then(Level::read)?;
-    Some(Subcommand::Merge(allow))
 }

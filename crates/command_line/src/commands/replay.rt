@@ -1,12 +1,11 @@
-ghost use Rattle.std.specs.Prelude.{◌≡◌, ◌-◌, ◌^◌, ◌<◌, OnOk};
+ghost use Rattle.std.specs.Prelude.{◌-◌, ◌^◌, ◌<◌};
 
-use crate::arguments::{command, with_reports};
+use crate::arguments::{command, option, with_reports};
+use crate::commands::put_text;
 use crate::error::Error;
 use crate::inputs::Inputs;
-use crate::lines::put_text;
-use crate::request::Subcommand;
+use clap::Command;
 use clap::builder::ValueParser;
-use clap::{Arg, ArgMatches, Command};
 use fact_base::Base;
 use oim_merge::{Events, Refusals, Replayed, read_events, replay};
 use oim_report::Sheet;
@@ -17,9 +16,9 @@ use std::rt::Files;
 
 pub(crate) const NAME: &str = "replay";
 
-const REPLICAS: &str = "replicas";
+pub(crate) const REPLICAS: &str = "replicas";
 
-const EVENTS: &str = "events";
+pub(crate) const EVENTS: &str = "events";
 
 const MOST_REPLICAS: i64 = 64;
 
@@ -55,17 +54,13 @@ Status:
 
 /// Returns the arguments of this command, with its help.
 pub(crate) fn words<'w>(alloc: Global) -> Result<Command<'w>, AllocError> {
-    let command = command(alloc, NAME, ABOUT, MORE)?
-        .arg(replicas_argument(alloc))?
-        .arg(events_argument(alloc))?;
-    with_reports(alloc, command)
-}
-
-/// Returns the command, or None if a required argument is missing.
-pub(crate) fn of<'w>(matches: &ArgMatches<'w>) -> Option<Subcommand<'w>> {
-    let replicas = matches.get_one(REPLICAS)?;
-    let events = matches.get_str(EVENTS)?;
-    Some(Subcommand::Replay(replicas, events))
+    let replicas = option(alloc, REPLICAS, "N", "The number of replicas, from 1 to 64")
+        .required(true)
+        .value_parser(ValueParser::Signed(1, MOST_REPLICAS));
+    let command = command(alloc, NAME, ABOUT, MORE)?.arg(replicas)?;
+    let help = "The file of the schedule, with one event per line";
+    let events = option(alloc, EVENTS, "EVENTS", help).required(true);
+    with_reports(alloc, command.arg(events)?)
 }
 
 /// Reads the schedule and the reports, runs the schedule on the replicas and writes the text of
@@ -112,23 +107,6 @@ fn put_replayed<S: Sink>(
     Ok(refused)
 }
 
-fn replicas_argument<'w>(alloc: Global) -> Arg<'w> {
-    Arg::new(alloc, REPLICAS)
-        .long(REPLICAS)
-        .value_name("N")
-        .required(true)
-        .value_parser(ValueParser::Signed(1, MOST_REPLICAS))
-        .help("The number of replicas, from 1 to 64")
-}
-
-fn events_argument<'w>(alloc: Global) -> Arg<'w> {
-    Arg::new(alloc, EVENTS)
-        .long(EVENTS)
-        .value_name("EVENTS")
-        .required(true)
-        .help("The file of the schedule, with one event per line")
-}
-
 /// Errors: out of memory, and `Device` with the number of bytes that `out` took of the text or line
 /// end that failed. `write_out` replaces this number with the number of bytes taken of all texts.
 fn put_replicas<S: Sink>(
@@ -139,15 +117,8 @@ fn put_replicas<S: Sink>(
     requires { S.failures out.old < 2 ^ 64 - 1 }
 {
     for base in replicas {
-        put_replica(alloc, out, base)?;
+        write_to(alloc, base, out)?;
+        put_text(out, "\n")?;
     }
     Ok(())
-}
-
-fn put_replica<S: Sink>(alloc: Global, out: &mut S, base: &Base<'_>) -> Result<(), WriteFault>
-    requires { S.failures out.old < 2 ^ 64 - 1 }
-    ensures { OnOk result (S.failures out.new ≡ S.failures out.old) }
-{
-    write_to(alloc, base, out)?;
-    put_text(out, "\n")
 }

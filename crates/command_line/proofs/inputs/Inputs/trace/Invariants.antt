@@ -1,5 +1,5 @@
 use Rattle.std.proofs.Common.{◌≡◌}
-use Rattle.command_line.proofs.inputs.Inputs.trace_reports.Given as goal
+use Rattle.command_line.proofs.inputs.Inputs.trace.Given as goal
 
 -- the merge has counted each report that was read so far
 abbrev pub invariant-loop-place : goal.invariant-loop-place

@@ -1,5 +1,5 @@
 use Rattle.std.proofs.Common.{◌≡◌}
-use Rattle.command_line.proofs.inputs.Inputs.add_reports.Given as goal
+use Rattle.command_line.proofs.inputs.Inputs.consolidate.Given as goal
 
 -- the consolidation has counted each report that was read so far
 abbrev pub invariant-loop-place : goal.invariant-loop-place

@@ -1,0 +1,118 @@
+use crate::arguments::{FORMAT, command, flag, option, with_reports};
+use clap::builder::ValueParser;
+use clap::{ArgMatches, Command};
+use row_formats::RowFormat;
+use std::alloc::{AllocError, Global};
+
+// The commands that print rows.
+
+pub(crate) const VERDICTS: &str = "verdicts";
+
+pub(crate) const SOURCES: &str = "sources";
+
+/// The format of printed rows.
+#[derive(Clone, Copy, Debug)]
+pub(crate) enum PrintFormat {
+    /// Lines for people.
+    Lines,
+    /// JSON or CSV, for other programs.
+    Rows(RowFormat),
+}
+
+/// The option that puts a `'` before each text in CSV that a spreadsheet may read as a formula.
+const SPREADSHEET: &str = "spreadsheet";
+
+static FORMATS: [&str; 3] = ["lines", "json", "csv"];
+
+const VERDICTS_ABOUT: &str = "Prints a verdict for each set of facts with the same dimensions";
+
+const VERDICTS_MORE: &str =
+    "Each line describes a row: all facts with the same dimensions in the output of `merge`. It shows
+whether they agree exactly, agree within rounding, or contradict each other, with the evidence.
+
+  ROW FIRST LAST complete
+  ROW FIRST LAST consistent common LOW HIGH
+  ROW FIRST LAST inconsistent apart I J
+
+  ROW           the number of the row, from 1
+  FIRST LAST    its first and last fact, by their identifiers in that output
+  complete      the row has one fact: all providers that report it agree exactly
+  consistent    the row has several numbers, which agree within rounding
+  LOW HIGH      the lowest and the highest number that fit all of them
+  inconsistent  the row has facts that contradict each other
+  I J           two of these facts
+
+FORMAT is one of:
+  lines  as above
+  json   a JSON object per line, with the dimensions and the facts of the row
+  csv    a header and a record for each fact, quoted as in RFC 4180
+
+Example:
+  xbrlmerge verdicts --sheet examples/sheet.json examples/issuer.json examples/statfeed.json
+
+Status:
+  0  every report was judged, whatever the verdicts are
+  1  a report was refused, and standard error shows why; the others were judged
+  3  not done, or not completed: invalid arguments, a refused sheet, a file or device that
+     failed, or out of memory";
+
+const SOURCES_ABOUT: &str = "Lists the reports that contain each fact, and its identifiers there";
+
+const SOURCES_MORE: &str =
+    "A merged report contains each fact once, under a new identifier, even if several reports contain
+it. Each line names one report that contains a fact:
+
+  FACT REPORT IDENTIFIER
+
+  FACT        the fact, by its identifier in the output of `merge`
+  REPORT      the number of the report, from 1, in the order of the arguments
+  IDENTIFIER  the fact's identifier in that report, as a JSON string
+
+Lines are sorted by fact, report and identifier. Each fact object of each accepted report has one
+line. If several lines have the same FACT, several reports agree exactly, or one report repeats the
+fact.
+
+FORMAT is one of:
+  lines  as above
+  json   a JSON object per line
+  csv    a header and a record for each line, quoted as in RFC 4180
+
+Example:
+  xbrlmerge sources --sheet examples/sheet.json examples/issuer.json examples/statfeed.json
+
+Status:
+  0  every report was read
+  1  a report was refused, and standard error shows why; the others were read
+  3  not done, or not completed: invalid arguments, a refused sheet, a file or device that
+     failed, or out of memory";
+
+pub(crate) fn verdicts_words<'w>(alloc: Global) -> Result<Command<'w>, AllocError> {
+    with_format(
+        alloc,
+        command(alloc, VERDICTS, VERDICTS_ABOUT, VERDICTS_MORE)?,
+    )
+}
+
+pub(crate) fn sources_words<'w>(alloc: Global) -> Result<Command<'w>, AllocError> {
+    with_format(alloc, command(alloc, SOURCES, SOURCES_ABOUT, SOURCES_MORE)?)
+}
+
+/// Adds the options for the format, and the arguments for reports.
+fn with_format<'w>(alloc: Global, command: Command<'w>) -> Result<Command<'w>, AllocError> {
+    let format = option(alloc, FORMAT, "FORMAT", "The output format")
+        .value_parser(ValueParser::Names(FORMATS.as_slice()))
+        .default_value("lines");
+    let help = "In CSV, put a ' before each text that a spreadsheet may read as a formula";
+    let spreadsheet = flag(alloc, SPREADSHEET, help).requires_arg(FORMAT)?;
+    with_reports(alloc, command.arg(format)?.arg(spreadsheet)?)
+}
+
+pub(crate) fn print_format_of(found: &ArgMatches<'_>) -> Option<PrintFormat> {
+    match (found.get_str(FORMAT)?, found.get_flag(SPREADSHEET)) {
+        ("lines", _) => Some(PrintFormat::Lines),
+        ("json", _) => Some(PrintFormat::Rows(RowFormat::Json)),
+        ("csv", false) => Some(PrintFormat::Rows(RowFormat::Csv)),
+        ("csv", true) => Some(PrintFormat::Rows(RowFormat::SpreadsheetCsv)),
+        _ => None,
+    }
+}
