@@ -53,12 +53,19 @@ const FACT: &str =
 // The end of a report after its facts.
 const END: &str = "}}";
 
-// The expected outcome of a report.
+// Constants contain no enum with data beside texts: the proof of a function that names such a
+// constant takes time that grows with the square of the number of its rows.
+
+/// The number of the reason for which a report is refused, or 0 if it is read, and the number of the
+/// refused fact, or 0 if the document is refused.
+type Outcome = (u8, u64);
+
+const READ: Outcome = (0, 0);
+
+// The expected answer to a report.
+#[derive(Clone, Copy)]
 enum Answer<'t> {
-    /// The document is refused for the reason with this number.
-    InDocument(u8),
-    InFact(u8, u64),
-    Read,
+    Comes(Outcome),
     /// The report declares `all` or no level, and has this number of facts; the facts have this
     /// level.
     HasLevel(usize, Level),
@@ -69,22 +76,24 @@ enum Answer<'t> {
     Sorts(&'t [&'t str], &'t [usize]),
 }
 
-use Answer::{Declares, HasLevel, InDocument, InFact, Keeps, Read, Sorts};
+use Answer::{Comes, Declares, HasLevel, Keeps, Sorts};
 
-// Texts between two parts of a report, and their outcomes.
-struct Table<'t> {
+// Texts between two parts of a report, and what is expected of each report.
+struct Table<'t, A> {
     start: &'t str,
-    rows: &'t [(Answer<'t>, &'t [&'t str])],
+    rows: &'t [(A, &'t [&'t str])],
     end: &'t str,
 }
 
 fn is_so_refused(refusal: Refusal, answer: &Answer) -> bool {
-    let number = refusal.reason.number();
-    match answer {
-        InDocument(wanted) => number == *wanted && refusal.place == Place::Document,
-        InFact(wanted, place) => number == *wanted && refusal.place == Place::Fact(*place),
-        _ => false,
-    }
+    let Comes((number, fact)) = answer else {
+        return false;
+    };
+    let place = match fact {
+        0 => Place::Document,
+        _ => Place::Fact(*fact),
+    };
+    refusal.reason.number() == *number && refusal.place == place
 }
 
 fn are_spelled(found: &[Text], texts: &[&str]) -> bool {
@@ -107,8 +116,7 @@ fn are_of(facts: &[Fact], concepts: &[&str]) -> bool {
 
 fn is_so_read(report: &Report, answer: &Answer) -> bool {
     match answer {
-        InDocument(_) | InFact(..) => false,
-        Read => true,
+        Comes(outcome) => *outcome == READ,
         HasLevel(count, level) => {
             report.facts().len() == *count
                 && report.level() == *level
@@ -138,15 +146,16 @@ fn is_answer(rt: &HostRuntime, sheet: &Sheet, bytes: &[u8], answer: &Answer) -> 
     }
 }
 
+// Returns whether this is the answer to each of the texts, between the two parts of a report.
 fn row_holds(
     rt: &HostRuntime,
     sheet: &Sheet,
-    table: &Table,
+    parts: (&str, &str),
     answer: &Answer,
     texts: &[&str],
 ) -> Result<bool, AllocError> {
     for text in texts {
-        let report = joined(rt, &[table.start, text, table.end])?;
+        let report = joined(rt, &[parts.0, text, parts.1])?;
         let holds = is_answer(rt, sheet, &report, answer);
         if !told(rt, holds, text) {
             return Ok(false);
@@ -155,16 +164,20 @@ fn row_holds(
     Ok(true)
 }
 
-fn table_holds(rt: &HostRuntime, sheet: &Sheet, table: &Table) -> Result<bool, AllocError> {
-    for (answer, texts) in table.rows {
-        if !row_holds(rt, sheet, table, answer, texts)? {
+fn table_holds(
+    rt: &HostRuntime,
+    sheet: &Sheet,
+    table: &Table<Outcome>,
+) -> Result<bool, AllocError> {
+    for (outcome, texts) in table.rows {
+        if !row_holds(rt, sheet, (table.start, table.end), &Comes(*outcome), texts)? {
             return Ok(false);
         }
     }
     Ok(true)
 }
 
-fn hold(rt: &HostRuntime, sheet: &Sheet, tables: &[Table]) -> Result<bool, AllocError> {
+fn hold(rt: &HostRuntime, sheet: &Sheet, tables: &[Table<Outcome>]) -> Result<bool, AllocError> {
     for table in tables {
         if !table_holds(rt, sheet, table)? {
             return Ok(false);

@@ -7,12 +7,9 @@ use test_helpers::asked_again::{SHEET, read_sheet};
 
 type Said = (Verdict, Evidence);
 
-// Values of one dimension set, in any order, with their verdict and evidence.
-type Row<'t> = (&'t [&'t str], Said);
-
-const ALIKE: Said = (Verdict::Complete, Evidence::Alike);
-
-const NUMBERS: [Row<'static>; 19] = [
+// Numbers of one dimension set, in any order, that are consistent, and the ends of their common
+// interval.
+const COMMON: [(&[&str], i128, i128); 6] = [
     // values that meet are consistent
     // half a unit in the eighteenth decimal place is five steps of 10^-19
     (
@@ -20,53 +17,34 @@ const NUMBERS: [Row<'static>; 19] = [
             r#""value":"0.000000000000000001","decimals":18"#,
             r#""value":"0.000000000000000002","decimals":18"#,
         ],
-        (
-            Verdict::Consistent,
-            Evidence::Common(Interval { low: 15, high: 15 }),
-        ),
+        15,
+        15,
     ),
     (
         &[
             r#""value":"-500000000000000000","decimals":-18"#,
             r#""value":"500000000000000000","decimals":-18"#,
         ],
-        (
-            Verdict::Consistent,
-            Evidence::Common(Interval { low: 0, high: 0 }),
-        ),
+        0,
+        0,
     ),
     (
         &[
             r#""value":"101","decimals":0"#,
             r#""value":"100","decimals":0"#,
         ],
-        (
-            Verdict::Consistent,
-            Evidence::Common(Interval {
-                low: 1_005_000_000_000_000_000_000,
-                high: 1_005_000_000_000_000_000_000,
-            }),
-        ),
+        1_005_000_000_000_000_000_000,
+        1_005_000_000_000_000_000_000,
     ),
     (
         &[r#""value":"1234567","decimals":-3"#, r#""value":"1234067""#],
-        (
-            Verdict::Consistent,
-            Evidence::Common(Interval {
-                low: 12_340_670_000_000_000_000_000_000,
-                high: 12_340_670_000_000_000_000_000_000,
-            }),
-        ),
+        12_340_670_000_000_000_000_000_000,
+        12_340_670_000_000_000_000_000_000,
     ),
     (
         &[r#""value":"1","decimals":0"#, r#""value":"1""#],
-        (
-            Verdict::Consistent,
-            Evidence::Common(Interval {
-                low: 10_000_000_000_000_000_000,
-                high: 10_000_000_000_000_000_000,
-            }),
-        ),
+        10_000_000_000_000_000_000,
+        10_000_000_000_000_000_000,
     ),
     (
         &[
@@ -74,113 +52,117 @@ const NUMBERS: [Row<'static>; 19] = [
             r#""value":"100","decimals":-1"#,
             r#""value":"101","decimals":-2"#,
         ],
-        (
-            Verdict::Consistent,
-            Evidence::Common(Interval {
-                low: 995_000_000_000_000_000_000,
-                high: 1_005_000_000_000_000_000_000,
-            }),
-        ),
+        995_000_000_000_000_000_000,
+        1_005_000_000_000_000_000_000,
     ),
+];
+
+// How a report ends, and values of one dimension set, in any order, that are inconsistent. The value
+// that ends first and the value that begins last are apart.
+const APART: [(&str, &[&str], usize, usize); 13] = [
     // the value that ends first and the value that begins last are apart
     (
+        OF_A,
         &[
             r#""value":"0.000000000000000001","decimals":18"#,
             r#""value":"0.000000000000000003","decimals":18"#,
         ],
-        (Verdict::Inconsistent, Evidence::Apart(0, 1)),
+        0,
+        1,
     ),
     (
+        OF_A,
         &[
             r#""value":"-500000000000000000","decimals":-18"#,
             r#""value":"500000000000000001","decimals":-18"#,
         ],
-        (Verdict::Inconsistent, Evidence::Apart(0, 1)),
+        0,
+        1,
     ),
     (
+        OF_A,
         &[
             r#""value":"102","decimals":0"#,
             r#""value":"100","decimals":0"#,
             r#""value":"101","decimals":0"#,
         ],
-        (Verdict::Inconsistent, Evidence::Apart(0, 2)),
+        0,
+        2,
     ),
     (
+        OF_A,
         &[
             r#""value":"1234567","decimals":-3"#,
             r#""value":"1234066.9""#,
         ],
-        (Verdict::Inconsistent, Evidence::Apart(0, 1)),
+        0,
+        1,
     ),
     (
+        OF_A,
         &[
             r#""value":"104","decimals":-2"#,
             r#""value":"103","decimals":0"#,
             r#""value":"100","decimals":0"#,
         ],
-        (Verdict::Inconsistent, Evidence::Apart(0, 1)),
+        0,
+        1,
     ),
     (
+        OF_A,
         &[
             r#""value":"100","decimals":0"#,
             r#""value":"102""#,
             r#""value":"100.5""#,
         ],
-        (Verdict::Inconsistent, Evidence::Apart(0, 2)),
+        0,
+        2,
     ),
     // nil is apart from numbers
+    (OF_A, &[r#""value":"5""#, r#""value":null"#], 0, 1),
     (
-        &[r#""value":"5""#, r#""value":null"#],
-        (Verdict::Inconsistent, Evidence::Apart(0, 1)),
-    ),
-    (
+        OF_A,
         &[r#""value":"9""#, r#""value":"5""#, r#""value":null"#],
-        (Verdict::Inconsistent, Evidence::Apart(0, 1)),
+        0,
+        1,
     ),
-    (&[r#""value":null"#, r#""value":null"#], ALIKE),
+    (
+        OF_A,
+        &[r#""value":"1","decimals":0"#, r#""value":"3""#],
+        0,
+        1,
+    ),
+    // texts and names meet if they are equal
+    (
+        OF_T,
+        &[r#""value":"b""#, r#""value":"a""#, r#""value":null"#],
+        0,
+        1,
+    ),
+    (OF_T, &[r#""value":"b""#, r#""value":"b ""#], 0, 1),
+    (OF_Q, &[r#""value":"eg:B""#, r#""value":null"#], 0, 1),
+    (OF_Q, &[r#""value":"eg:B""#, r#""value":"eg:A""#], 0, 1),
+];
+
+// How a report ends, and equal values.
+const ALIKE: [(&str, &[&str]); 5] = [
+    (OF_A, &[r#""value":null"#, r#""value":null"#]),
     // equal facts are one
     (
+        OF_A,
         &[
             r#""value":"-0""#,
             r#""value":"+0.00""#,
             r#""value":".0""#,
             r#""value":"0""#,
         ],
-        ALIKE,
     ),
-    (&[r#""value":"999999999999999999","decimals":-12"#], ALIKE),
+    (OF_A, &[r#""value":"999999999999999999","decimals":-12"#]),
     (
+        OF_A,
         &[r#""value":"1","decimals":0"#, r#""value":"1","decimals":0"#],
-        ALIKE,
     ),
-    (
-        &[r#""value":"1","decimals":0"#, r#""value":"3""#],
-        (Verdict::Inconsistent, Evidence::Apart(0, 1)),
-    ),
-];
-
-// Texts and names meet if they are equal.
-const TEXTS: [Row<'static>; 3] = [
-    (
-        &[r#""value":"b""#, r#""value":"a""#, r#""value":null"#],
-        (Verdict::Inconsistent, Evidence::Apart(0, 1)),
-    ),
-    (
-        &[r#""value":"b""#, r#""value":"b ""#],
-        (Verdict::Inconsistent, Evidence::Apart(0, 1)),
-    ),
-    (&[r#""value":"b""#, r#""value":"b""#], ALIKE),
-];
-
-const NAMES: [Row<'static>; 2] = [
-    (
-        &[r#""value":"eg:B""#, r#""value":null"#],
-        (Verdict::Inconsistent, Evidence::Apart(0, 1)),
-    ),
-    (
-        &[r#""value":"eg:B""#, r#""value":"eg:A""#],
-        (Verdict::Inconsistent, Evidence::Apart(0, 1)),
-    ),
+    (OF_T, &[r#""value":"b""#, r#""value":"b""#]),
 ];
 
 // The level of the facts if none is repeated.
@@ -202,18 +184,42 @@ fn judged(base: &Base<'_>) -> Option<Said> {
     (judged == found && base.level() == level_of(judged.0)).then_some(judged)
 }
 
-fn is_said(rt: &HostRuntime, sheet: &Sheet, end: &str, row: &Row<'_>) -> bool {
-    match base_between(rt, sheet, FACT, row.0, end) {
-        Some(base) => judged(&base) == Some(row.1),
+fn is_said(rt: &HostRuntime, sheet: &Sheet, end: &str, values: &[&str], said: Said) -> bool {
+    match base_between(rt, sheet, FACT, values, end) {
+        Some(base) => judged(&base) == Some(said),
         None => false,
     }
 }
 
 // Returns the index of the first row with an unexpected verdict or evidence, or None if there is no
 // such row.
-fn first_other(rt: &HostRuntime, sheet: &Sheet, end: &str, rows: &[Row<'_>]) -> Option<usize> {
-    for (place, row) in rows.iter().enumerate() {
-        if !is_said(rt, sheet, end, row) {
+fn first_not_common(rt: &HostRuntime, sheet: &Sheet) -> Option<usize> {
+    for (place, (values, low, high)) in COMMON.iter().enumerate() {
+        let common = Interval {
+            low: *low,
+            high: *high,
+        };
+        let said = (Verdict::Consistent, Evidence::Common(common));
+        if !is_said(rt, sheet, OF_A, values, said) {
+            return Some(place);
+        }
+    }
+    None
+}
+
+fn first_not_apart(rt: &HostRuntime, sheet: &Sheet) -> Option<usize> {
+    for (place, (end, values, first, second)) in APART.iter().enumerate() {
+        let said = (Verdict::Inconsistent, Evidence::Apart(*first, *second));
+        if !is_said(rt, sheet, end, values, said) {
+            return Some(place);
+        }
+    }
+    None
+}
+
+fn first_not_alike(rt: &HostRuntime, sheet: &Sheet) -> Option<usize> {
+    for (place, (end, values)) in ALIKE.iter().enumerate() {
+        if !is_said(rt, sheet, end, values, (Verdict::Complete, Evidence::Alike)) {
             return Some(place);
         }
     }
@@ -223,8 +229,8 @@ fn first_other(rt: &HostRuntime, sheet: &Sheet, end: &str, rows: &[Row<'_>]) -> 
 #[test]
 fn rows_have_verdicts_and_evidence(rt: HostRuntime) -> Result<(), Fail> {
     let sheet = read_sheet(&rt, SHEET)?;
-    assert_eq!(rt; first_other(&rt, &sheet, OF_A, &NUMBERS), None);
-    assert_eq!(rt; first_other(&rt, &sheet, OF_T, &TEXTS), None);
-    assert_eq!(rt; first_other(&rt, &sheet, OF_Q, &NAMES), None);
+    assert_eq!(rt; first_not_common(&rt, &sheet), None);
+    assert_eq!(rt; first_not_apart(&rt, &sheet), None);
+    assert_eq!(rt; first_not_alike(&rt, &sheet), None);
     Ok(())
 }

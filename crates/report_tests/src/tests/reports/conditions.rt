@@ -1,12 +1,12 @@
-use super::{END, FACT, InFact, Table};
+use super::{END, FACT, Outcome, Table};
 
-pub(super) const TABLES: &[Table] = &[
+pub(super) const TABLES: &[Table<Outcome>] = &[
     Table {
         start: FACT,
         rows: &[
             // the form of a fact
             (
-                InFact(2, 1), // MemberForm
+                (2, 1), // MemberForm
                 &[
                     r#"{"dimensions":{"concept":"eg:A"}}"#,
                     "[]",
@@ -21,7 +21,7 @@ pub(super) const TABLES: &[Table] = &[
                 ],
             ),
             (
-                InFact(3, 1), // UnknownMember
+                (3, 1), // UnknownMember
                 &[
                     r#"{"value":"1","dimensions":{"concept":"eg:A","colour":"red"}}"#,
                     r#"{"value":"1","colour":"red","dimensions":{"concept":"eg:A"}}"#,
@@ -29,20 +29,20 @@ pub(super) const TABLES: &[Table] = &[
                 ],
             ),
             (
-                InFact(9, 1), // Links
+                (9, 1), // Links
                 &[r#"{"value":"1","dimensions":{"concept":"eg:A"},"links":{"eg:l":{}}}"#],
             ),
             (
-                InFact(10, 1), // Notes
+                (10, 1), // Notes
                 &[
                     r#"{"value":"1","dimensions":{"concept":"eg:A","noteId":"k1"}}"#,
                     r#"{"value":"1","dimensions":{"concept":"eg:A","noteId":null}}"#,
                 ],
             ),
-            (InFact(11, 1), &[r#"{"value":"1"}"#]),
+            ((11, 1), &[r#"{"value":"1"}"#]),
             // the form of each name of a fact
             (
-                InFact(12, 1), // NameForm
+                (12, 1), // NameForm
                 &[
                     r#"{"value":"1","dimensions":{"concept":"A"}}"#,
                     r#"{"value":"1","dimensions":{"concept":"eg:A",":":"red"}}"#,
@@ -54,7 +54,7 @@ pub(super) const TABLES: &[Table] = &[
             ),
             // each prefix of a fact is bound, and not to the reserved namespace
             (
-                InFact(13, 1), // UnboundPrefix
+                (13, 1), // UnboundPrefix
                 &[
                     r#"{"value":"1","dimensions":{"concept":"q:A"}}"#,
                     r#"{"value":"1","dimensions":{"concept":"eg:A","q:Reg":"eg:North"}}"#,
@@ -65,27 +65,27 @@ pub(super) const TABLES: &[Table] = &[
                 ],
             ),
             (
-                InFact(14, 1), // ReservedNamespace
+                (14, 1), // ReservedNamespace
                 &[
                     r#"{"value":"1","dimensions":{"concept":"xbrl:note"}}"#,
                     r#"{"value":"1","dimensions":{"concept":"eg:A","entity":"xbrl:1"}}"#,
                 ],
             ),
             // the concept and the taxonomy-defined dimensions of a fact
-            (InFact(15, 1), &[r#"{"value":"1","dimensions":{}}"#]),
+            ((15, 1), &[r#"{"value":"1","dimensions":{}}"#]),
             (
-                InFact(16, 1), // UnknownConcept
+                (16, 1), // UnknownConcept
                 &[
                     r#"{"value":"1","dimensions":{"concept":"eg:Z"}}"#,
                     r#"{"value":"1","dimensions":{"concept":"x:A"}}"#,
                 ],
             ),
             (
-                InFact(17, 1), // UnknownDimension
+                (17, 1), // UnknownDimension
                 &[r#"{"value":"1","dimensions":{"concept":"eg:A","eg:Colour":"red"}}"#],
             ),
             (
-                InFact(18, 1), // DimensionValue
+                (18, 1), // DimensionValue
                 &[
                     r#"{"value":"1","dimensions":{"concept":"eg:A","eg:Reg":null}}"#,
                     r#"{"value":"1","dimensions":{"concept":"eg:A","eg:Sku":1}}"#,
@@ -94,52 +94,52 @@ pub(super) const TABLES: &[Table] = &[
             ),
             // the period, the unit and the language of a fact
             (
-                InFact(19, 1), // PeriodForm
+                (19, 1), // PeriodForm
                 &[r#"{"value":"1","dimensions":{"concept":"eg:A","period":"2020-12-31"}}"#],
             ),
             (
-                InFact(20, 1), // PeriodOrder
+                (20, 1), // PeriodOrder
                 &[
                     r#"{"value":"1","dimensions":{"concept":"eg:A","period":"2021-01-01T00:00:00/2020-01-01T00:00:00"}}"#,
                 ],
             ),
             (
-                InFact(21, 1), // UnitForm
+                (21, 1), // UnitForm
                 &[r#"{"value":"1","dimensions":{"concept":"eg:A","unit":"x:a/"}}"#],
             ),
             (
-                InFact(22, 1), // UnitOnOther
+                (22, 1), // UnitOnOther
                 &[
                     r#"{"value":"1","dimensions":{"concept":"eg:T","unit":"xbrli:pure"}}"#,
                     r#"{"value":"x:a","dimensions":{"concept":"eg:Q","unit":"x:a"}}"#,
                 ],
             ),
             (
-                InFact(23, 1), // LanguageForm
+                (23, 1), // LanguageForm
                 &[r#"{"value":"1","dimensions":{"concept":"eg:T","language":"en_GB"}}"#],
             ),
             (
-                InFact(24, 1), // LanguageOnNumeric
+                (24, 1), // LanguageOnNumeric
                 &[r#"{"value":"1","dimensions":{"concept":"eg:A","language":"en"}}"#],
             ),
             // the value and the decimals of a fact
             (
-                InFact(25, 1), // ValueForm
+                (25, 1), // ValueForm
                 &[
                     r#"{"value":1,"dimensions":{"concept":"eg:A"}}"#,
                     r#"{"value":true,"dimensions":{"concept":"eg:T"}}"#,
                 ],
             ),
             (
-                InFact(26, 1), // NumberForm
+                (26, 1), // NumberForm
                 &[r#"{"value":"1e2","dimensions":{"concept":"eg:A"}}"#],
             ),
             (
-                InFact(27, 1), // NumberDigits
+                (27, 1), // NumberDigits
                 &[r#"{"value":"1000000000000000000","dimensions":{"concept":"eg:A"}}"#],
             ),
             (
-                InFact(28, 1), // DecimalsForm
+                (28, 1), // DecimalsForm
                 &[
                     r#"{"value":"1","decimals":"0","dimensions":{"concept":"eg:A"}}"#,
                     r#"{"value":"1","decimals":null,"dimensions":{"concept":"eg:A"}}"#,
@@ -148,14 +148,14 @@ pub(super) const TABLES: &[Table] = &[
                 ],
             ),
             (
-                InFact(29, 1), // DecimalsRange
+                (29, 1), // DecimalsRange
                 &[
                     r#"{"value":"1","decimals":18446744073709551615,"dimensions":{"concept":"eg:A"}}"#,
                     r#"{"value":"1","decimals":19,"dimensions":{"concept":"eg:A"}}"#,
                 ],
             ),
             (
-                InFact(30, 1), // DecimalsOnOther
+                (30, 1), // DecimalsOnOther
                 &[
                     r#"{"value":"1","decimals":0,"dimensions":{"concept":"eg:T"}}"#,
                     r#"{"value":null,"decimals":0,"dimensions":{"concept":"eg:Q"}}"#,
@@ -169,104 +169,104 @@ pub(super) const TABLES: &[Table] = &[
         start: FACT,
         rows: &[
             (
-                InFact(2, 1), // MemberForm
+                (2, 1), // MemberForm
                 &[r#"{"colour":"red","dimensions":{"concept":"eg:A"}}"#],
             ),
             (
-                InFact(3, 1), // UnknownMember
+                (3, 1), // UnknownMember
                 &[
                     r#"{"value":"1","colour":"red","dimensions":{"concept":"eg:A"},"links":{"eg:l":{}}}"#,
                 ],
             ),
             (
-                InFact(9, 1), // Links
+                (9, 1), // Links
                 &[
                     r#"{"value":"1","dimensions":{"concept":"eg:A","noteId":"k1"},"links":{"eg:l":{}}}"#,
                     r#"{"value":"1","links":{"eg:l":{}}}"#,
                 ],
             ),
             (
-                InFact(10, 1), // Notes
+                (10, 1), // Notes
                 &[r#"{"value":"1","dimensions":{"concept":"A","noteId":"k1"}}"#],
             ),
             (
-                InFact(12, 1), // NameForm
+                (12, 1), // NameForm
                 &[r#"{"value":"1","dimensions":{"concept":"q:A","entity":"x"}}"#],
             ),
             (
-                InFact(13, 1), // UnboundPrefix
+                (13, 1), // UnboundPrefix
                 &[r#"{"value":"1","dimensions":{"concept":"xbrl:note","unit":"q:a"}}"#],
             ),
             (
-                InFact(14, 1), // ReservedNamespace
+                (14, 1), // ReservedNamespace
                 &[r#"{"value":"1","dimensions":{"entity":"xbrl:1"}}"#],
             ),
             (
-                InFact(15, 1), // MissingConcept
+                (15, 1), // MissingConcept
                 &[r#"{"value":"1","dimensions":{"eg:Colour":"red"}}"#],
             ),
             (
-                InFact(16, 1), // UnknownConcept
+                (16, 1), // UnknownConcept
                 &[r#"{"value":"1","dimensions":{"concept":"eg:Z","eg:Colour":"red"}}"#],
             ),
             (
-                InFact(17, 1), // UnknownDimension
+                (17, 1), // UnknownDimension
                 &[
                     r#"{"value":"1","dimensions":{"concept":"eg:A","eg:Reg":null,"x:Colour":"red"}}"#,
                 ],
             ),
             (
-                InFact(18, 1), // DimensionValue
+                (18, 1), // DimensionValue
                 &[r#"{"value":"1","dimensions":{"concept":"eg:A","eg:Reg":null,"period":"2020"}}"#],
             ),
             (
-                InFact(19, 1), // PeriodForm
+                (19, 1), // PeriodForm
                 &[r#"{"value":"1","dimensions":{"concept":"eg:A","period":"2020","unit":"x:a/"}}"#],
             ),
             (
-                InFact(20, 1), // PeriodOrder
+                (20, 1), // PeriodOrder
                 &[
                     r#"{"value":"1","dimensions":{"concept":"eg:A","period":"2021-01-01T00:00:00/2020-01-01T00:00:00","unit":"x:a/"}}"#,
                 ],
             ),
             (
-                InFact(21, 1), // UnitForm
+                (21, 1), // UnitForm
                 &[r#"{"value":"1","dimensions":{"concept":"eg:T","unit":"x:a/"}}"#],
             ),
             (
-                InFact(22, 1), // UnitOnOther
+                (22, 1), // UnitOnOther
                 &[
                     r#"{"value":"1","dimensions":{"concept":"eg:T","unit":"x:a","language":"en_GB"}}"#,
                 ],
             ),
             (
-                InFact(23, 1), // LanguageForm
+                (23, 1), // LanguageForm
                 &[r#"{"value":"1","dimensions":{"concept":"eg:A","language":"en_GB"}}"#],
             ),
             (
-                InFact(24, 1), // LanguageOnNumeric
+                (24, 1), // LanguageOnNumeric
                 &[r#"{"value":1,"dimensions":{"concept":"eg:A","language":"en"}}"#],
             ),
             (
-                InFact(25, 1), // ValueForm
+                (25, 1), // ValueForm
                 &[r#"{"value":1,"decimals":"0","dimensions":{"concept":"eg:A"}}"#],
             ),
             (
-                InFact(26, 1), // NumberForm
+                (26, 1), // NumberForm
                 &[r#"{"value":"","decimals":"0","dimensions":{"concept":"eg:A"}}"#],
             ),
             (
-                InFact(27, 1), // NumberDigits
+                (27, 1), // NumberDigits
                 &[
                     r#"{"value":"1000000000000000000","decimals":"0","dimensions":{"concept":"eg:A"}}"#,
                 ],
             ),
             (
-                InFact(28, 1), // DecimalsForm
+                (28, 1), // DecimalsForm
                 &[r#"{"value":"1","decimals":"0","dimensions":{"concept":"eg:T"}}"#],
             ),
             (
-                InFact(29, 1), // DecimalsRange
+                (29, 1), // DecimalsRange
                 &[r#"{"value":"1","decimals":19,"dimensions":{"concept":"eg:T"}}"#],
             ),
         ],

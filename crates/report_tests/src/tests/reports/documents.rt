@@ -1,5 +1,5 @@
 use super::{
-    BOUND, InDocument, InFact, NO_FACTS, Read, SHEET, TYPED, Table, hold, is_answer, read_sheet,
+    BOUND, Comes, NO_FACTS, Outcome, READ, SHEET, TYPED, Table, hold, is_answer, read_sheet,
 };
 use oim_report::Sheet;
 use std::test::Fail;
@@ -7,18 +7,18 @@ use std::test::Fail;
 const EMPTY: &str =
     r#"{"documentInfo":{"documentType":"https://xbrl.org/2021/xbrl-json","namespaces":{},"taxonomy":[]},"facts":{}}"#;
 
-const TABLES: &[Table] = &[
+const TABLES: &[Table<Outcome>] = &[
     // a document is a JSON text
     Table {
         start: "",
-        rows: &[(InDocument(1), &["", "{}{}", "\u{feff}\u{feff}{}"])],
+        rows: &[((1, 0), &["", "{}{}", "\u{feff}\u{feff}{}"])],
         end: "",
     },
     Table {
         start: r#"{"documentInfo":{"documentType":"https://xbrl.org/2021/xbrl-json"},"eg:x":"#,
         rows: &[
-            (InDocument(1), &["1e999", r#""\ud800""#, "\"\u{1}\""]),
-            (Read, &["0e999", r#""\ud800\udc00""#]),
+            ((1, 0), &["1e999", r#""\ud800""#, "\"\u{1}\""]),
+            (READ, &["0e999", r#""\ud800\udc00""#]),
         ],
         end: "}",
     },
@@ -26,8 +26,8 @@ const TABLES: &[Table] = &[
     Table {
         start: "",
         rows: &[
-            (Read, &["", "\u{feff}"]),
-            (InDocument(1), &["\u{feff}\u{feff}", " \u{feff}"]),
+            (READ, &["", "\u{feff}"]),
+            ((1, 0), &["\u{feff}\u{feff}", " \u{feff}"]),
         ],
         end: EMPTY,
     },
@@ -35,9 +35,9 @@ const TABLES: &[Table] = &[
     Table {
         start: "",
         rows: &[
-            (InDocument(2), &["[]", "7", "null", "{}", r#"{"facts":{}}"#]),
+            ((2, 0), &["[]", "7", "null", "{}", r#"{"facts":{}}"#]),
             (
-                InDocument(2),
+                (2, 0),
                 &[r#"{"documentInfo":[]}"#, r#"{"documentInfo":null}"#],
             ),
         ],
@@ -47,7 +47,7 @@ const TABLES: &[Table] = &[
         start: TYPED,
         rows: &[
             (
-                InDocument(2),
+                (2, 0),
                 &[
                     r#","namespaces":[]}"#,
                     r#","namespaces":null}"#,
@@ -60,7 +60,7 @@ const TABLES: &[Table] = &[
                 ],
             ),
             (
-                Read,
+                READ,
                 &[
                     "}",
                     r#","namespaces":{},"features":{},"taxonomy":[]},"facts":{}"#,
@@ -74,15 +74,12 @@ const TABLES: &[Table] = &[
         start: TYPED,
         rows: &[
             (
-                InDocument(3),
+                (3, 0),
                 &[r#"},"colour":1"#, r#"},"":1"#, r#"},"namespaces":{}"#],
             ),
+            ((3, 0), &[r#","colour":1}"#, r#","":1}"#, r#","facts":{}}"#]),
             (
-                InDocument(3),
-                &[r#","colour":1}"#, r#","":1}"#, r#","facts":{}}"#],
-            ),
-            (
-                Read,
+                READ,
                 &[
                     r#","q:x":1,":":[]},"q:y":{"z":null},":":1"#,
                     r#","linkTypes":7,"linkGroups":null}"#,
@@ -96,7 +93,7 @@ const TABLES: &[Table] = &[
         start: r#"{"documentInfo":{"#,
         rows: &[
             (
-                InDocument(4),
+                (4, 0),
                 &[
                     "",
                     r#""documentType":null"#,
@@ -106,7 +103,7 @@ const TABLES: &[Table] = &[
                 ],
             ),
             (
-                Read,
+                READ,
                 &[
                     r#""documentType":"https://xbrl.org/2021/xbrl-json""#,
                     r#""documentType":"https:\/\/xbrl.org/2021/xbrl\u002djson""#,
@@ -120,7 +117,7 @@ const TABLES: &[Table] = &[
         start: r#"{"documentInfo":{"documentType":"https://xbrl.org/2021/xbrl-json","namespaces":{"#,
         rows: &[
             (
-                InDocument(5),
+                (5, 0),
                 &[
                     r#""":"u:t""#,
                     r#""a b":"u:t""#,
@@ -132,7 +129,7 @@ const TABLES: &[Table] = &[
                 ],
             ),
             (
-                Read,
+                READ,
                 &[
                     r#""a\u000b":"u:t""#,
                     "\"a\u{a0}*\":\" \"",
@@ -147,7 +144,7 @@ const TABLES: &[Table] = &[
         start: BOUND,
         rows: &[
             (
-                InDocument(6),
+                (6, 0),
                 &[
                     r#","baseURL":"d/r.json""#,
                     r#","baseURL":"""#,
@@ -157,7 +154,7 @@ const TABLES: &[Table] = &[
                     r#","baseURL":7"#,
                 ],
             ),
-            (Read, &[r#","baseURL":"HTTPS://x.org""#]),
+            (READ, &[r#","baseURL":"HTTPS://x.org""#]),
         ],
         end: NO_FACTS,
     },
@@ -166,7 +163,7 @@ const TABLES: &[Table] = &[
         start: BOUND,
         rows: &[
             (
-                InDocument(7),
+                (7, 0),
                 &[
                     r#","taxonomy":[null]"#,
                     r#","taxonomy":["a.xsd",1]"#,
@@ -176,7 +173,7 @@ const TABLES: &[Table] = &[
                 ],
             ),
             (
-                Read,
+                READ,
                 &[
                     r#","taxonomy":["http://["]"#,
                     r#","taxonomy":["urn:x:Y","a.xsd",""],"baseURL":"http://x.org/""#,
@@ -191,7 +188,7 @@ const TABLES: &[Table] = &[
         start: "",
         rows: &[
             (
-                InDocument(2),
+                (2, 0),
                 &[
                     r#"{"documentInfo":7,"colour":1}"#,
                     r#"{"documentInfo":{"features":[]},"colour":1}"#,
@@ -199,25 +196,22 @@ const TABLES: &[Table] = &[
                 ],
             ),
             (
-                InDocument(3),
+                (3, 0),
                 &[
                     r#"{"documentInfo":{"colour":1}}"#,
                     r#"{"documentInfo":{},"colour":1}"#,
                 ],
             ),
-            (
-                InDocument(4),
-                &[r#"{"documentInfo":{"namespaces":{"":"u:t"}}}"#],
-            ),
+            ((4, 0), &[r#"{"documentInfo":{"namespaces":{"":"u:t"}}}"#]),
         ],
         end: "",
     },
     Table {
         start: TYPED,
         rows: &[
-            (InDocument(5), &[r#","namespaces":{"":"u:t"},"baseURL":1"#]),
+            ((5, 0), &[r#","namespaces":{"":"u:t"},"baseURL":1"#]),
             (
-                InDocument(6),
+                (6, 0),
                 &[
                     r#","baseURL":"d","taxonomy":[1]"#,
                     r#","baseURL":"d","taxonomy":["a.xsd"]"#,
@@ -229,7 +223,7 @@ const TABLES: &[Table] = &[
     Table {
         start: BOUND,
         rows: &[(
-            InDocument(7),
+            (7, 0),
             &[r#","taxonomy":[1],"features":{"xbrl:allowedDuplicates":1}"#],
         )],
         end: NO_FACTS,
@@ -238,12 +232,12 @@ const TABLES: &[Table] = &[
     Table {
         start: BOUND,
         rows: &[
-            (InFact(2, 1), &[""]),
-            (InDocument(3), &[r#","colour":1"#]),
-            (InDocument(6), &[r#","baseURL":1"#]),
-            (InDocument(7), &[r#","taxonomy":[1]"#]),
+            ((2, 1), &[""]),
+            ((3, 0), &[r#","colour":1"#]),
+            ((6, 0), &[r#","baseURL":1"#]),
+            ((7, 0), &[r#","taxonomy":[1]"#]),
             (
-                InDocument(8),
+                (8, 0),
                 &[r#","features":{"xbrl:allowedDuplicates":"some"}"#],
             ),
         ],
@@ -254,11 +248,11 @@ const TABLES: &[Table] = &[
 fn no_prefix_is_read(rt: &HostRuntime, sheet: &Sheet, bytes: &[u8]) -> bool {
     for (count, _) in bytes.iter().enumerate() {
         let prefix = bytes.get(..count).unwrap_or(bytes);
-        if !is_answer(rt, sheet, prefix, &InDocument(1)) {
+        if !is_answer(rt, sheet, prefix, &Comes((1, 0))) {
             return false;
         }
     }
-    is_answer(rt, sheet, bytes, &Read)
+    is_answer(rt, sheet, bytes, &Comes(READ))
 }
 
 const HUNDRED: &str =
@@ -269,7 +263,7 @@ fn documents_are_answered_as_wanted(rt: HostRuntime) -> Result<(), Fail> {
     let sheet = read_sheet(&rt, SHEET)?;
     assert!(rt; hold(&rt, &sheet, TABLES)?);
     // a document is UTF-8
-    assert!(rt; is_answer(&rt, &sheet, b"{\"eg:x\":\"\xff\"}", &InDocument(1)));
+    assert!(rt; is_answer(&rt, &sheet, b"{\"eg:x\":\"\xff\"}", &Comes((1, 0))));
     assert!(rt; no_prefix_is_read(&rt, &sheet, HUNDRED.as_bytes()));
     Ok(())
 }

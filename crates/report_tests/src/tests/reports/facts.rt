@@ -1,26 +1,24 @@
-use super::{
-    FACTS, InDocument, InFact, Read, SHEET, Table, conditions, hold, read_sheet, table_holds,
-};
+use super::{FACTS, Outcome, READ, SHEET, Table, conditions, hold, read_sheet, table_holds};
 use std::test::Fail;
 
-const TABLES: &[Table] = &[
+const TABLES: &[Table<Outcome>] = &[
     // the first refused fact is reported with its place
     Table {
         start: FACTS,
         rows: &[
             (
-                InFact(13, 2),
+                (13, 2),
                 &[
                     r#""a":{"value":"1","dimensions":{"concept":"eg:A"}},"b":{"value":"1","dimensions":{"concept":"q:A"}},"c":{"value":"2","dimensions":{"concept":"eg:A"}}"#,
                     r#""b":{"value":"1","dimensions":{"concept":"q:A"}},"a":{"value":"1","dimensions":{"concept":"eg:A"}}"#,
                 ],
             ),
             (
-                InFact(2, 1),
+                (2, 1),
                 &[r#""a":7,"b":{"value":"1","dimensions":{"concept":"q:A"}}"#],
             ),
             (
-                InFact(13, 1),
+                (13, 1),
                 &[r#""b":7,"a":{"value":"1","dimensions":{"concept":"q:A"}}"#],
             ),
         ],
@@ -31,7 +29,7 @@ const TABLES: &[Table] = &[
         start: FACTS,
         rows: &[
             (
-                InFact(2, 1),
+                (2, 1),
                 &[
                     r#""a":{"value":"1"},"B":7"#,
                     r#""f9":{"value":"1"},"f10":7"#,
@@ -39,7 +37,7 @@ const TABLES: &[Table] = &[
                     "\"\u{10000}\":{\"value\":\"1\"},\"\u{e000}\":7",
                 ],
             ),
-            (InFact(11, 1), &[r#""f":7,"eg:f":{"value":"1"}"#]),
+            ((11, 1), &[r#""f":7,"eg:f":{"value":"1"}"#]),
         ],
         end: "}}",
     },
@@ -48,32 +46,32 @@ const TABLES: &[Table] = &[
         start: FACTS,
         rows: &[
             (
-                InFact(22, 2),
+                (22, 2),
                 &[
                     r#""a":{"value":"1","dimensions":{"concept":"eg:A","unit":"x:a"}},"b":{"value":"x","dimensions":{"concept":"eg:T","unit":"x:a"}}"#,
                 ],
             ),
             (
-                InFact(12, 2),
+                (12, 2),
                 &[
                     r#""a":{"value":"1","dimensions":{"concept":"eg:A","entity":"x:a b"}},"b":{"value":"1","dimensions":{"concept":"eg:A","eg:Reg":"x:a b"}}"#,
                     r#""a":{"value":"1","dimensions":{"concept":"eg:A","eg:Sku":"North"}},"b":{"value":"1","dimensions":{"concept":"eg:A","eg:Reg":"North"}}"#,
                 ],
             ),
             (
-                InFact(17, 2),
+                (17, 2),
                 &[
                     r#""a":{"value":"1","dimensions":{"concept":"eg:A","eg:Reg":"eg:B"}},"b":{"value":"1","dimensions":{"concept":"eg:A","eg:B":"eg:Reg"}}"#,
                 ],
             ),
             (
-                InFact(16, 2),
+                (16, 2),
                 &[
                     r#""a":{"value":"1","dimensions":{"concept":"eg:A","eg:Reg":"eg:North"}},"b":{"value":"1","dimensions":{"concept":"eg:North"}}"#,
                 ],
             ),
             (
-                Read,
+                READ,
                 &[
                     r#""a":{"value":"1","dimensions":{"concept":"eg:A","entity":"x:1","unit":"x:a"}},"b":{"value":"1","dimensions":{"concept":"eg:A","entity":"x:a","unit":"x:1","eg:Reg":"x:a","eg:Sku":"x:1"}}"#,
                 ],
@@ -86,15 +84,15 @@ const TABLES: &[Table] = &[
         start: r#"{"documentInfo":{"documentType":"https://xbrl.org/2021/xbrl-json","namespaces":{"eg":"http://example.org/t"}},"facts":{"a":"#,
         rows: &[
             (
-                InFact(10, 1),
+                (10, 1),
                 &[r#"{"value":"1","dimensions":{"concept":"eg:A","noteId":"k1"}}"#],
             ),
             (
-                InFact(9, 1),
+                (9, 1),
                 &[r#"{"value":"1","dimensions":{"concept":"eg:A"},"links":{"eg:l":{}}}"#],
             ),
             (
-                Read,
+                READ,
                 &[r#"{"value":"1","dimensions":{"concept":"eg:A"},"links":{}}"#],
             ),
         ],
@@ -105,7 +103,7 @@ const TABLES: &[Table] = &[
         start: r#"{"documentInfo":{"documentType":"https://xbrl.org/2021/xbrl-json","namespaces":{"eg":"http://example.org/t"}},"facts":{"a":"#,
         rows: &[
             (
-                Read,
+                READ,
                 &[
                     r#"{"value":"x","value":"1","dimensions":{"concept":"eg:A"}}"#,
                     r#"{"value":"1","dimensions":{"concept":"q:A"},"dimensions":{"concept":"eg:A"}}"#,
@@ -116,7 +114,7 @@ const TABLES: &[Table] = &[
                 ],
             ),
             (
-                InFact(13, 1),
+                (13, 1),
                 &[
                     r#"{"value":"1","dimensions":{"concept":"eg:A"},"dimensions":{"concept":"q:A"}}"#,
                     r#"{"value":"1","dimensions":{"concept":"eg:A","concept":"q:A"}}"#,
@@ -124,7 +122,7 @@ const TABLES: &[Table] = &[
                 ],
             ),
             (
-                InFact(9, 1),
+                (9, 1),
                 &[
                     r#"{"value":"1","links":{},"links":{"eg:l":{}},"dimensions":{"concept":"eg:A"}}"#,
                 ],
@@ -138,19 +136,16 @@ const TABLES: &[Table] = &[
         start: r#"{"documentInfo":{"documentType":"https://xbrl.org/2021/xbrl-json","namespaces":{"eg":"http://example.org/t"}},"facts":{"a":{"dimensions":{"concept":"eg:A"},"value":""#,
         rows: &[
             (
-                Read,
+                READ,
                 &[
                     "999999999999999999",
                     "000999999999999999999",
                     "0.000000000000000001",
                 ],
             ),
-            (Read, &["0.10000000000000000000", "1."]),
-            (
-                InFact(27, 1),
-                &["1000000000000000000", "0.0000000000000000001"],
-            ),
-            (InFact(26, 1), &["", ".", "+", "1e2", "INF", " 1"]),
+            (READ, &["0.10000000000000000000", "1."]),
+            ((27, 1), &["1000000000000000000", "0.0000000000000000001"]),
+            ((26, 1), &["", ".", "+", "1e2", "INF", " 1"]),
         ],
         end: r#""}}}"#,
     },
@@ -158,9 +153,9 @@ const TABLES: &[Table] = &[
     Table {
         start: r#"{"documentInfo":{"documentType":"https://xbrl.org/2021/xbrl-json","namespaces":{"eg":"http://example.org/t"}},"facts":{"a":{"dimensions":{"concept":"eg:A"},"value":"1","decimals":"#,
         rows: &[
-            (Read, &["12", "-12", "13", "-13", "18", "-18"]),
+            (READ, &["12", "-12", "13", "-13", "18", "-18"]),
             (
-                InFact(29, 1),
+                (29, 1),
                 &[
                     "19",
                     "-19",
@@ -172,11 +167,11 @@ const TABLES: &[Table] = &[
                 ],
             ),
             (
-                InFact(28, 1),
+                (28, 1),
                 &["18446744073709551616", "-9223372036854775809", "0.5", "1.0"],
             ),
-            (InFact(28, 1), &["1e0", "-0", "null"]),
-            (InDocument(1), &["1e999"]),
+            ((28, 1), &["1e0", "-0", "null"]),
+            ((1, 0), &["1e999"]),
         ],
         end: "}}}",
     },
@@ -185,7 +180,7 @@ const TABLES: &[Table] = &[
         start: r#"{"documentInfo":{"documentType":"https://xbrl.org/2021/xbrl-json","namespaces":{"eg":"http://example.org/t"}},"facts":{"a":{"value":"1","dimensions":{"concept":"eg:A","period":""#,
         rows: &[
             (
-                Read,
+                READ,
                 &[
                     "0001-01-01T00:00:00",
                     "9999-12-30T24:00:00",
@@ -193,21 +188,15 @@ const TABLES: &[Table] = &[
                 ],
             ),
             (
-                Read,
+                READ,
                 &[
                     "2021-01-01T24:00:00",
                     "2021-01-01T00:00:00/2020-12-31T24:00:00",
                 ],
             ),
-            (
-                InFact(19, 1),
-                &["0000-01-01T00:00:00", "9999-12-31T24:00:00"],
-            ),
-            (
-                InFact(19, 1),
-                &["2021-02-29T00:00:00", "2021-01-01T24:00:01", ""],
-            ),
-            (InFact(20, 1), &["2021-01-01T00:00:00/2020-12-31T23:59:59"]),
+            ((19, 1), &["0000-01-01T00:00:00", "9999-12-31T24:00:00"]),
+            ((19, 1), &["2021-02-29T00:00:00", "2021-01-01T24:00:01", ""]),
+            ((20, 1), &["2021-01-01T00:00:00/2020-12-31T23:59:59"]),
         ],
         end: r#""}}}}"#,
     },
@@ -215,10 +204,10 @@ const TABLES: &[Table] = &[
     Table {
         start: r#"{"documentInfo":{"documentType":"https://xbrl.org/2021/xbrl-json","namespaces":{"eg":"http://example.org/t","x":"http://example.org/u","xbrli":"http://www.xbrl.org/2003/instance"}},"facts":{"a":{"value":"1","dimensions":{"concept":"eg:A","unit":""#,
         rows: &[
-            (Read, &["x:a*x:b/x:c", "(x:b*x:a)/(x:c)", "xbrli:pure/x:c"]),
-            (InFact(21, 1), &["x:a/", "x:a/x:b/x:c", "(x:a", ""]),
-            (InFact(12, 1), &["a/x:b"]),
-            (InFact(13, 1), &["q:a"]),
+            (READ, &["x:a*x:b/x:c", "(x:b*x:a)/(x:c)", "xbrli:pure/x:c"]),
+            ((21, 1), &["x:a/", "x:a/x:b/x:c", "(x:a", ""]),
+            ((12, 1), &["a/x:b"]),
+            ((13, 1), &["q:a"]),
         ],
         end: r#""}}}}"#,
     },
@@ -228,34 +217,41 @@ const TABLES: &[Table] = &[
 fn facts_are_answered_by_their_places(rt: HostRuntime) -> Result<(), Fail> {
     let sheet = read_sheet(&rt, SHEET)?;
     assert!(rt; hold(&rt, &sheet, TABLES)?);
+    Ok(())
+}
+
+// Each large table has its own test: a function that names two takes far longer to prove.
+#[test]
+fn the_first_condition_that_holds_is_answered(rt: HostRuntime) -> Result<(), Fail> {
+    let sheet = read_sheet(&rt, SHEET)?;
     assert!(rt; hold(&rt, &sheet, conditions::TABLES)?);
     Ok(())
 }
 
-const NAMES: Table = Table {
+const NAMES: Table<Outcome> = Table {
     start: r#"{"documentInfo":{"documentType":"https://xbrl.org/2021/xbrl-json","namespaces":{"eg":"http://example.org/t","x":"http://example.org/u","xbrli":"http://www.xbrl.org/2003/instance","xbrl":"https://xbrl.org/2021"}},"facts":{"a":{"value":"1","dimensions":{"concept":""#,
     rows: &[
-        (Read, &["eg:A"]),
-        (InFact(12, 1), &["A", "eg:", "eg:A:B", "eg:A B", ":A"]),
-        (InFact(13, 1), &["EG:A"]),
-        (InFact(14, 1), &["xbrl:A"]),
-        (InFact(16, 1), &["eg:T"]),
+        (READ, &["eg:A"]),
+        ((12, 1), &["A", "eg:", "eg:A:B", "eg:A B", ":A"]),
+        ((13, 1), &["EG:A"]),
+        ((14, 1), &["xbrl:A"]),
+        ((16, 1), &["eg:T"]),
     ],
     end: r#""}}}}"#,
 };
 
 // Outcomes under an empty sheet.
-const UNKNOWN: Table = Table {
+const UNKNOWN: Table<Outcome> = Table {
     start: FACTS,
     rows: &[(
-        InFact(16, 1),
+        (16, 1),
         &[r#""a":{"value":"1","dimensions":{"concept":"eg:A"}}"#],
     )],
     end: "}}",
 };
 
 // A sheet that binds another prefix, and one that lists no concept.
-const SHEETS: [(&str, Table); 2] = [
+const SHEETS: [(&str, Table<Outcome>); 2] = [
     (
         r#"{"namespaces":{"zz":"http://example.org/t"},"concepts":{"zz:A":"numeric"}}"#,
         NAMES,

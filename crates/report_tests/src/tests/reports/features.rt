@@ -1,4 +1,4 @@
-use super::{BOUND, InDocument, InFact, Read, Table};
+use super::{BOUND, Outcome, READ, Table};
 
 // Two equal facts, which `none` does not allow.
 const REPEATED: &str =
@@ -7,17 +7,17 @@ const REPEATED: &str =
 const DECLARED: &str =
     r#"{"documentInfo":{"documentType":"https://xbrl.org/2021/xbrl-json","namespaces":{"eg":"http://example.org/t","xbrl":"https://xbrl.org/2021"},"features":{"xbrl:allowedDuplicates":"#;
 
-pub(super) const TABLES: &[Table] = &[
+pub(super) const TABLES: &[Table<Outcome>] = &[
     // a declared level is one of four texts
     Table {
         start: r#"{"documentInfo":{"documentType":"https://xbrl.org/2021/xbrl-json","namespaces":{"xbrl":"https://xbrl.org/2021"},"features":{"xbrl:allowedDuplicates":"#,
         rows: &[
             (
-                Read,
+                READ,
                 &[r#""none""#, r#""complete""#, r#""consistent""#, r#""all""#],
             ),
             (
-                InDocument(8),
+                (8, 0),
                 &[
                     r#""""#,
                     r#""None""#,
@@ -36,14 +36,14 @@ pub(super) const TABLES: &[Table] = &[
         start: r#"{"documentInfo":{"documentType":"https://xbrl.org/2021/xbrl-json","namespaces":{"eg":"http://example.org/t","#,
         rows: &[
             (
-                InDocument(31),
+                (31, 0),
                 &[
                     r#""y":"https://xbrl.org/2021"},"features":{"y:allowedDuplicates":"none"}"#,
                     r#""xbrl":"https://xbrl.org/2021"},"features":{"xbrl:allowedDuplicates":"none"}"#,
                 ],
             ),
             (
-                Read,
+                READ,
                 &[
                     r#""y":"https://xbrl.org/2021"},"features":{"xbrl:allowedDuplicates":"none"}"#,
                     r#""xbrl":"http://example.org/u"},"features":{"xbrl:allowedDuplicates":"none"}"#,
@@ -57,7 +57,7 @@ pub(super) const TABLES: &[Table] = &[
     Table {
         start: BOUND,
         rows: &[(
-            Read,
+            READ,
             &[
                 r#","features":{}"#,
                 r#","features":{"x:allowedDuplicates":"none"}"#,
@@ -76,14 +76,14 @@ pub(super) const TABLES: &[Table] = &[
         start: r#"{"documentInfo":{"documentType":"https://xbrl.org/2021/xbrl-json","namespaces":{"xbrl":"https://xbrl.org/2021","y":"https://xbrl.org/2021"},"features":{"#,
         rows: &[
             (
-                InDocument(8),
+                (8, 0),
                 &[
                     r#""xbrl:allowedDuplicates":"all","y:allowedDuplicates":"all""#,
                     r#""xbrl:allowedDuplicates":"all","y:allowedDuplicates":"none""#,
                     r#""xbrl:allowedDuplicates":"all","y:allowedDuplicates":7"#,
                 ],
             ),
-            (Read, &[r#""y:allowedDuplicates":"all""#]),
+            (READ, &[r#""y:allowedDuplicates":"all""#]),
         ],
         end: "}}}",
     },
@@ -91,8 +91,8 @@ pub(super) const TABLES: &[Table] = &[
     Table {
         start: DECLARED,
         rows: &[
-            (InDocument(31), &[r#""none""#]),
-            (Read, &[r#""complete""#, r#""consistent""#, r#""all""#]),
+            ((31, 0), &[r#""none""#]),
+            (READ, &[r#""complete""#, r#""consistent""#, r#""all""#]),
         ],
         end: r#"}},"facts":{"a":{"value":"1","decimals":0,"dimensions":{"concept":"eg:A"}},"b":{"value":"1","decimals":0,"dimensions":{"concept":"eg:A"}}}}"#,
     },
@@ -100,8 +100,8 @@ pub(super) const TABLES: &[Table] = &[
     Table {
         start: DECLARED,
         rows: &[
-            (InDocument(31), &[r#""none""#, r#""complete""#]),
-            (Read, &[r#""consistent""#, r#""all""#]),
+            ((31, 0), &[r#""none""#, r#""complete""#]),
+            (READ, &[r#""consistent""#, r#""all""#]),
         ],
         end: r#"}},"facts":{"a":{"value":"1","decimals":0,"dimensions":{"concept":"eg:A"}},"b":{"value":"1","dimensions":{"concept":"eg:A"}}}}"#,
     },
@@ -109,11 +109,8 @@ pub(super) const TABLES: &[Table] = &[
     Table {
         start: DECLARED,
         rows: &[
-            (
-                InDocument(31),
-                &[r#""none""#, r#""complete""#, r#""consistent""#],
-            ),
-            (Read, &[r#""all""#]),
+            ((31, 0), &[r#""none""#, r#""complete""#, r#""consistent""#]),
+            (READ, &[r#""all""#]),
         ],
         end: r#"}},"facts":{"a":{"value":"1","dimensions":{"concept":"eg:A"}},"b":{"value":null,"dimensions":{"concept":"eg:A"}}}}"#,
     },
@@ -121,7 +118,7 @@ pub(super) const TABLES: &[Table] = &[
     Table {
         start: DECLARED,
         rows: &[(
-            Read,
+            READ,
             &[r#""none""#, r#""complete""#, r#""consistent""#, r#""all""#],
         )],
         end: r#"}},"facts":{"a":{"value":"1","dimensions":{"concept":"eg:A"}},"b":{"value":"1","dimensions":{"concept":"eg:B"}}}}"#,
@@ -129,10 +126,7 @@ pub(super) const TABLES: &[Table] = &[
     // duplicates are tested last
     Table {
         start: DECLARED,
-        rows: &[
-            (InFact(2, 3), &[r#""none""#]),
-            (InDocument(8), &[r#""some""#]),
-        ],
+        rows: &[((2, 3), &[r#""none""#]), ((8, 0), &[r#""some""#])],
         end: r#"}},"facts":{"a":{"value":"1","dimensions":{"concept":"eg:A"}},"b":{"value":"1","dimensions":{"concept":"eg:A"}},"c":7}}"#,
     },
 ];

@@ -1,4 +1,4 @@
-use super::{Answer, InDocument, Read, SHEET, is_answer, joined, read_sheet, repeated, told};
+use super::{Comes, Outcome, READ, SHEET, is_answer, joined, read_sheet, repeated, told};
 use oim_report::Sheet;
 use std::alloc::AllocError;
 use std::test::Fail;
@@ -10,7 +10,7 @@ struct Long<'t> {
     piece: &'t str,
     closing: &'t str,
     end: &'t str,
-    counts: &'t [(usize, Answer<'t>)],
+    counts: &'t [(usize, Outcome)],
 }
 
 const LIMITS: [Long; 5] = [
@@ -20,12 +20,7 @@ const LIMITS: [Long; 5] = [
         piece: "[",
         closing: "]",
         end: "}",
-        counts: &[
-            (100, Read),
-            (126, Read),
-            (127, InDocument(1)),
-            (128, InDocument(1)),
-        ],
+        counts: &[(100, READ), (126, READ), (127, (1, 0)), (128, (1, 0))],
     },
     // a reference has at most 65,536 bytes, as written and as a URL
     Long {
@@ -33,14 +28,14 @@ const LIMITS: [Long; 5] = [
         piece: "a",
         closing: "",
         end: r#""]}}"#,
-        counts: &[(65_536, Read), (65_537, InDocument(7))],
+        counts: &[(65_536, READ), (65_537, (7, 0))],
     },
     Long {
         start: r#"{"documentInfo":{"documentType":"https://xbrl.org/2021/xbrl-json","taxonomy":["http://x.org/"#,
         piece: "^",
         closing: "",
         end: r#""]}}"#,
-        counts: &[(21_841, Read), (21_842, InDocument(7))],
+        counts: &[(21_841, READ), (21_842, (7, 0))],
     },
     // a base URL has at most 65,536 bytes
     Long {
@@ -48,7 +43,7 @@ const LIMITS: [Long; 5] = [
         piece: "a",
         closing: "",
         end: r#""},"facts":{}}"#,
-        counts: &[(65_523, Read), (65_524, InDocument(6))],
+        counts: &[(65_523, READ), (65_524, (6, 0))],
     },
     // the limit of a reference also applies to the URL that the reference resolves to
     Long {
@@ -56,7 +51,7 @@ const LIMITS: [Long; 5] = [
         piece: "a",
         closing: "",
         end: r#""]}}"#,
-        counts: &[(65_523, Read), (65_524, InDocument(7))],
+        counts: &[(65_523, READ), (65_524, (7, 0))],
     },
 ];
 
@@ -71,15 +66,15 @@ fn count_holds(
     sheet: &Sheet,
     long: &Long,
     count: usize,
-    answer: &Answer,
+    outcome: Outcome,
 ) -> Result<bool, AllocError> {
     let report = report(rt, long, count)?;
-    Ok(is_answer(rt, sheet, &report, answer))
+    Ok(is_answer(rt, sheet, &report, &Comes(outcome)))
 }
 
 fn limit_holds(rt: &HostRuntime, sheet: &Sheet, long: &Long) -> Result<bool, AllocError> {
-    for (count, answer) in long.counts {
-        if !count_holds(rt, sheet, long, *count, answer)? {
+    for (count, outcome) in long.counts {
+        if !count_holds(rt, sheet, long, *count, *outcome)? {
             return Ok(told(rt, false, long.start));
         }
     }

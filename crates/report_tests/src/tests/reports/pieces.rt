@@ -1,40 +1,48 @@
 use super::{
-    Answer, HasLevel, InDocument, InFact, SHEET, is_answer, read_sheet, repeated, tell_refused_here,
+    Answer, Comes, HasLevel, Outcome, SHEET, is_answer, read_sheet, repeated, tell_refused_here,
 };
 use oim_report::Sheet;
+use oim_value::Level;
 use oim_value::Level::{All, Unique};
 use std::alloc::AllocError;
 use std::test::Fail;
 
 // Reports that are long enough to be read in pieces. Each `@` is replaced by 70,000 bytes of
 // letters.
-const LONG: [(Answer, &str); 6] = [
+// The number of facts of each report, their level, and the report.
+const LEVELS: [(usize, Level, &str); 3] = [
     // members in any order, and with spaces
     (
-        HasLevel(2, Unique),
+        2,
+        Unique,
         r#"{"facts":{"a":{"value":"@","dimensions":{"concept":"eg:T"}},"b":{"dimensions":{"concept":"eg:T","language":"en"},"links":{},"value":"@"}},"documentInfo":{"documentType":"https://xbrl.org/2021/xbrl-json","namespaces":{"eg":"http://example.org/t"}},"eg:note":[1,"}"],"eg:more":{"facts":{}}}"#,
     ),
     (
-        HasLevel(2, Unique),
+        2,
+        Unique,
         "\n{ \"documentInfo\" : {\n \"documentType\" : \"https://xbrl.org/2021/xbrl-json\", \"namespaces\" : {\n \"eg\" : \"http://example.org/t\" } },\n \"facts\" : {\n \"a\" : {\n \"value\" : \"@\",\n \"dimensions\" : { \"concept\" : \"eg:T\" }\n },\n \"b\" : { \"value\" : \"@\",\n \"dimensions\" : { \"concept\" : \"eg:T\", \"language\" : \"en\" }\n }\n } }\n",
     ),
     // values and identifiers that look like the start or the end of a fact; one identifier is
     // repeated
     (
-        HasLevel(7, All),
+        7,
+        All,
         r#"{"documentInfo":{"documentType":"https://xbrl.org/2021/xbrl-json","namespaces":{"eg":"http://example.org/t"}},"facts":{"f,":{"value":"@},","dimensions":{"concept":"eg:T"}},"f}":{"value":"@\"","dimensions":{"concept":"eg:T"}},"f},":{"value":"@\\","dimensions":{"concept":"eg:T"}},"f\"":{"value":"@},\"","dimensions":{"concept":"eg:T"}},"f}},":{"value":"@\\\"","dimensions":{"concept":"eg:T"}},"f{":{"value":"@:{","dimensions":{"concept":"eg:T"}},"f},\"":{"value":"@[","dimensions":{"concept":"eg:T"}},"f}":{"value":"}},","dimensions":{"concept":"eg:T"}}}}"#,
     ),
-    // a refusal has its place in the whole report
+];
+
+// A refusal has its place in the whole report.
+const REFUSED: [(Outcome, &str); 3] = [
     (
-        InFact(2, 2),
+        (2, 2),
         r#"{"documentInfo":{"documentType":"https://xbrl.org/2021/xbrl-json","namespaces":{"eg":"http://example.org/t"}},"facts":{"b":{"value":"@","dimensions":{"concept":"eg:T"}},"c":{},"a":{"value":"@","dimensions":{"concept":"eg:T"}},"b":{}}}"#,
     ),
     (
-        InDocument(1),
+        (1, 0),
         r#"{"documentInfo":{"documentType":"https://xbrl.org/2021/xbrl-json","namespaces":{"eg":"http://example.org/t"}},"facts":{"a":{"value":"@","dimensions":{"concept":"eg:T"}},"b":{"value":"@","dimensions":{"concept":"eg:T"}},}}"#,
     ),
     (
-        InDocument(3),
+        (3, 0),
         r#"{"documentInfo":{"documentType":"https://xbrl.org/2021/xbrl-json","namespaces":{"eg":"http://example.org/t"}},"facts":{"a":{"value":"@","dimensions":{"concept":"eg:T"}},"b":{"value":"@","dimensions":{"concept":"eg:T"}}},"facets":{}}"#,
     ),
 ];
@@ -53,10 +61,11 @@ fn is_long_answer(
     rt: &HostRuntime,
     sheet: &Sheet,
     letters: &str,
-    row: &(Answer, &str),
+    text: &str,
+    answer: &Answer,
 ) -> Result<bool, AllocError> {
-    let report = replaced(rt, row.1, letters)?;
-    Ok(is_answer(rt, sheet, report.as_bytes(), &row.0))
+    let report = replaced(rt, text, letters)?;
+    Ok(is_answer(rt, sheet, report.as_bytes(), answer))
 }
 
 #[test]
@@ -65,8 +74,19 @@ fn long_reports_are_read_like_short_ones(rt: HostRuntime) -> Result<(), Fail> {
     // the search for the end of a piece may start inside a letter of two bytes
     for (letter, count) in [("x", 70_000), ("é", 35_000)] {
         let letters = repeated(&rt, letter, count)?;
-        for row in &LONG {
-            assert!(rt; is_long_answer(&rt, &sheet, &letters, row)?, "{}", row.1);
+        for (count, level, text) in &LEVELS {
+            let answer = HasLevel(*count, *level);
+            assert!(rt;
+                is_long_answer(&rt, &sheet, &letters, text, &answer)?,
+                "{text}"
+            );
+        }
+        for (outcome, text) in &REFUSED {
+            let answer = Comes(*outcome);
+            assert!(rt;
+                is_long_answer(&rt, &sheet, &letters, text, &answer)?,
+                "{text}"
+            );
         }
     }
     Ok(())

@@ -1,34 +1,33 @@
-use super::{InDocument, Keeps, Read, Table};
+use super::{Outcome, READ, Table};
 
-pub(super) const TABLES: &[Table] = &[
+/// The text of a report with a base URL, up to its reference.
+const ON_BASE: &str =
+    r#"{"documentInfo":{"documentType":"https://xbrl.org/2021/xbrl-json","baseURL":"http://x.org/d/r.json?q#f","taxonomy":[""#;
+
+/// References in a report, and the references that are kept.
+pub(super) const KEPT: &[Table<&[&str]>] = &[
     // references without a base URL
     Table {
         start: r#"{"documentInfo":{"documentType":"https://xbrl.org/2021/xbrl-json","taxonomy":[""#,
         rows: &[
-            (Keeps(&["a.xsd"]), &["a.xsd"]),
+            (&["a.xsd"], &["a.xsd"]),
             (
-                Keeps(&["http://x.org/b.xsd"]),
+                &["http://x.org/b.xsd"],
                 &["HTTP://X.org/b.xsd", "http://x.org/b.xsd"],
             ),
-            (Keeps(&["urn:x:Y"]), &["urn:x:Y"]),
-            (Keeps(&["FTP://X.org/"]), &["FTP://X.org/"]),
+            (&["urn:x:Y"], &["urn:x:Y"]),
+            (&["FTP://X.org/"], &["FTP://X.org/"]),
+            (&["http://x.org/"], &[" http://x.org/ ", "http://x.org/"]),
+            (&[" urn:x "], &[" urn:x "]),
+            (&[""], &[""]),
+            (&["http://foo/"], &["http:foo", "http://foo/"]),
+            (&["https://c.xsd/"], &["https:c.xsd", "https://c.xsd/"]),
+            (&["http:"], &["http:"]),
+            (&["http://["], &["http://["]),
+            (&["http://x.org:99999/"], &["http://x.org:99999/"]),
+            (&["//["], &["//["]),
             (
-                Keeps(&["http://x.org/"]),
-                &[" http://x.org/ ", "http://x.org/"],
-            ),
-            (Keeps(&[" urn:x "]), &[" urn:x "]),
-            (Keeps(&[""]), &[""]),
-            (Keeps(&["http://foo/"]), &["http:foo", "http://foo/"]),
-            (
-                Keeps(&["https://c.xsd/"]),
-                &["https:c.xsd", "https://c.xsd/"],
-            ),
-            (Keeps(&["http:"]), &["http:"]),
-            (Keeps(&["http://["]), &["http://["]),
-            (Keeps(&["http://x.org:99999/"]), &["http://x.org:99999/"]),
-            (Keeps(&["//["]), &["//["]),
-            (
-                Keeps(&["http://x.org/%5E"]),
+                &["http://x.org/%5E"],
                 &["http://x.org/^", "http://x.org/%5E"],
             ),
         ],
@@ -36,20 +35,28 @@ pub(super) const TABLES: &[Table] = &[
     },
     // references that are resolved against a base URL
     Table {
-        start: r#"{"documentInfo":{"documentType":"https://xbrl.org/2021/xbrl-json","baseURL":"http://x.org/d/r.json?q#f","taxonomy":[""#,
+        start: ON_BASE,
         rows: &[
-            (Keeps(&["http://x.org/d/a.xsd"]), &["a.xsd"]),
-            (Keeps(&["http://x.org/a.xsd"]), &["/a.xsd"]),
-            (Keeps(&["http://x.org/b.xsd"]), &["HTTP://X.org/b.xsd"]),
-            (Keeps(&["urn:x:Y"]), &["urn:x:Y"]),
-            (Keeps(&[" urn:x "]), &[" urn:x "]),
-            (Keeps(&["http://x.org/d/r.json?q"]), &["", "http:"]),
-            (Keeps(&["http://foo/"]), &["http:foo"]),
-            (
-                InDocument(7),
-                &["http://[", "//[", "http://x.org:99999/", "https:"],
-            ),
+            (&["http://x.org/d/a.xsd"], &["a.xsd"]),
+            (&["http://x.org/a.xsd"], &["/a.xsd"]),
+            (&["http://x.org/b.xsd"], &["HTTP://X.org/b.xsd"]),
+            (&["urn:x:Y"], &["urn:x:Y"]),
+            (&[" urn:x "], &[" urn:x "]),
+            (&["http://x.org/d/r.json?q"], &["", "http:"]),
+            (&["http://foo/"], &["http:foo"]),
         ],
+        end: r#""]}}"#,
+    },
+];
+
+pub(super) const TABLES: &[Table<Outcome>] = &[
+    // a reference is resolved against a base URL
+    Table {
+        start: ON_BASE,
+        rows: &[(
+            (7, 0),
+            &["http://[", "//[", "http://x.org:99999/", "https:"],
+        )],
         end: r#""]}}"#,
     },
     // a base URL is an http or https URL
@@ -57,11 +64,11 @@ pub(super) const TABLES: &[Table] = &[
         start: r#"{"documentInfo":{"documentType":"https://xbrl.org/2021/xbrl-json","baseURL":""#,
         rows: &[
             (
-                Read,
+                READ,
                 &["http://x.org/d/r.json", " HTTPS://X.org ", "http:foo"],
             ),
             (
-                InDocument(6),
+                (6, 0),
                 &[
                     "d/r.json",
                     "",

@@ -3,12 +3,12 @@ use oim_names::{Aliases, Name, Reason};
 use oim_report::{ConceptKind, DimensionKind, Sheet};
 use std::test::Fail;
 
-// Sheets, grouped by the reason why they are refused, if any.
-const SHEETS: [(Option<Reason>, &[&str]); 9] = [
-    (Some(Reason::NotJson), &["", "{"]),
+// Sheets, grouped by the reason why they are refused.
+const REFUSED: [(Reason, &[&str]); 8] = [
+    (Reason::NotJson, &["", "{"]),
     // the form of a sheet
     (
-        Some(Reason::MemberForm),
+        Reason::MemberForm,
         &[
             "[]",
             r#"{"namespaces":null}"#,
@@ -18,11 +18,11 @@ const SHEETS: [(Option<Reason>, &[&str]); 9] = [
         ],
     ),
     (
-        Some(Reason::UnknownMember),
+        Reason::UnknownMember,
         &[r#"{"colour":1}"#, r#"{"namespaces":{"":""},"colour":1}"#],
     ),
     (
-        Some(Reason::Namespace),
+        Reason::Namespace,
         &[
             r#"{"namespaces":{"":"u:t"}}"#,
             r#"{"namespaces":{"eg":1}}"#,
@@ -32,7 +32,7 @@ const SHEETS: [(Option<Reason>, &[&str]); 9] = [
     ),
     // concepts and dimensions are names
     (
-        Some(Reason::NameForm),
+        Reason::NameForm,
         &[
             r#"{"concepts":{"A":"numeric"}}"#,
             r#"{"dimensions":{"A":"typed"}}"#,
@@ -40,7 +40,7 @@ const SHEETS: [(Option<Reason>, &[&str]); 9] = [
         ],
     ),
     (
-        Some(Reason::UnboundPrefix),
+        Reason::UnboundPrefix,
         &[
             r#"{"concepts":{"eg:A":"text"}}"#,
             r#"{"dimensions":{"eg:A":"typed"}}"#,
@@ -48,7 +48,7 @@ const SHEETS: [(Option<Reason>, &[&str]); 9] = [
         ],
     ),
     (
-        Some(Reason::ReservedNamespace),
+        Reason::ReservedNamespace,
         &[
             r#"{"namespaces":{"xbrl":"https://xbrl.org/2021"},"concepts":{"xbrl:A":"name"}}"#,
             r#"{"namespaces":{"xbrl":"https://xbrl.org/2021"},"dimensions":{"xbrl:A":"typed"}}"#,
@@ -56,7 +56,7 @@ const SHEETS: [(Option<Reason>, &[&str]); 9] = [
         ],
     ),
     (
-        Some(Reason::SheetKind),
+        Reason::SheetKind,
         &[
             // a concept has one of three kinds, and a dimension has one of two others
             r#"{"namespaces":{"eg":"u:t"},"concepts":{"eg:A":"typed"}}"#,
@@ -71,19 +71,17 @@ const SHEETS: [(Option<Reason>, &[&str]); 9] = [
             r#"{"namespaces":{"eg":"u:t","zz":"u:t"},"dimensions":{"eg:A":"typed","zz:A":"explicit"}}"#,
         ],
     ),
-    (
-        None,
-        &[
-            r#"{"namespaces":{"eg":"u:t","zz":"u:t"},"concepts":{"eg:A":"numeric","zz:A":"numeric"}}"#,
-            r#"{"namespaces":{"eg":"u:t","zz":"u:t"},"dimensions":{"eg:A":"typed","zz:A":"typed"}}"#,
-            r#"{"namespaces":{"eg":"u:t"},"concepts":{"eg:A":"numeric"},"dimensions":{"eg:A":"typed"}}"#,
-        ],
-    ),
 ];
 
-fn are_answered(rt: &HostRuntime, reason: Option<Reason>, texts: &[&str]) -> bool {
+const ACCEPTED: [&str; 3] = [
+    r#"{"namespaces":{"eg":"u:t","zz":"u:t"},"concepts":{"eg:A":"numeric","zz:A":"numeric"}}"#,
+    r#"{"namespaces":{"eg":"u:t","zz":"u:t"},"dimensions":{"eg:A":"typed","zz:A":"typed"}}"#,
+    r#"{"namespaces":{"eg":"u:t"},"concepts":{"eg:A":"numeric"},"dimensions":{"eg:A":"typed"}}"#,
+];
+
+fn are_refused(rt: &HostRuntime, reason: Reason, texts: &[&str]) -> bool {
     for text in texts {
-        if !told(rt, read_sheet(rt, text).err() == reason, text) {
+        if !told(rt, read_sheet(rt, text).err() == Some(reason), text) {
             return false;
         }
     }
@@ -92,8 +90,11 @@ fn are_answered(rt: &HostRuntime, reason: Option<Reason>, texts: &[&str]) -> boo
 
 #[test]
 fn the_first_fault_of_a_sheet_is_answered(rt: HostRuntime) {
-    for (reason, texts) in &SHEETS {
-        assert!(rt; are_answered(&rt, *reason, texts));
+    for (reason, texts) in &REFUSED {
+        assert!(rt; are_refused(&rt, *reason, texts));
+    }
+    for text in &ACCEPTED {
+        assert!(rt; read_sheet(&rt, text).is_ok(), "{text}");
     }
 }
 
@@ -134,22 +135,29 @@ fn kinds(rt: &HostRuntime, sheet: &Sheet, aliases: &Aliases, text: &str) -> Resu
     Ok((sheet.concept(&name), sheet.dimension(&name)))
 }
 
-const KINDS: [(&str, Kinds); 6] = [
-    ("z:N", (Some(ConceptKind::Numeric), None)),
-    ("m:N", (Some(ConceptKind::Text), None)),
-    ("z:M", (Some(ConceptKind::Name), None)),
-    ("m:M", (None, None)),
-    ("z:D", (None, Some(DimensionKind::Typed))),
-    ("m:D", (None, Some(DimensionKind::Explicit))),
+const CONCEPTS: [(&str, ConceptKind); 3] = [
+    ("z:N", ConceptKind::Numeric),
+    ("m:N", ConceptKind::Text),
+    ("z:M", ConceptKind::Name),
+];
+
+const DIMENSIONS: [(&str, DimensionKind); 2] = [
+    ("z:D", DimensionKind::Typed),
+    ("m:D", DimensionKind::Explicit),
 ];
 
 fn lists_kinds(rt: &HostRuntime, sheet: &Sheet, aliases: &Aliases) -> Result<bool, Reason> {
-    for (text, wanted) in &KINDS {
-        if kinds(rt, sheet, aliases, text)? != *wanted {
+    for (text, kind) in &CONCEPTS {
+        if kinds(rt, sheet, aliases, text)? != (Some(*kind), None) {
             return Ok(told(rt, false, text));
         }
     }
-    Ok(true)
+    for (text, kind) in &DIMENSIONS {
+        if kinds(rt, sheet, aliases, text)? != (None, Some(*kind)) {
+            return Ok(told(rt, false, text));
+        }
+    }
+    Ok(kinds(rt, sheet, aliases, "m:M")? == (None, None))
 }
 
 #[test]
