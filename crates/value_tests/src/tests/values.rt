@@ -166,6 +166,7 @@ fn levels_have_their_texts(rt: HostRuntime) {
     assert!(rt; Level::Unique < Level::Complete && Level::Consistent < Level::All);
 }
 
+/// Returns the decimals with this number, or infinite decimals if the number is out of range.
 pub(crate) fn finite(number: i64) -> Decimals {
     match Decimals::finite(number) {
         Ok(decimals) => decimals,
@@ -173,24 +174,22 @@ pub(crate) fn finite(number: i64) -> Decimals {
     }
 }
 
-/// Without a number of places, the decimals are infinite.
-fn decimals(places: Option<i64>) -> Decimals {
-    match places {
-        Some(number) => finite(number),
-        None => Decimals::INFINITE,
-    }
-}
+// A number of decimals that is out of range, for infinite decimals.
+pub(crate) const EXACT: i64 = i64::MAX;
 
-enum Spelled {
+enum Kind {
     Nil,
-    Number(&'static str, Option<i64>),
-    Text(&'static str),
-    Name(&'static str),
+    Number,
+    Text,
+    Name,
 }
 
-fn number(text: &str, places: Option<i64>) -> Value {
+// The kind of a value, its text, and the decimals of a number.
+type Spelled = (Kind, &'static str, i64);
+
+fn number(text: &str, places: i64) -> Value {
     match read_fixed(text) {
-        Ok(number) => Value::Number(number, decimals(places)),
+        Ok(number) => Value::Number(number, finite(places)),
         Err(_) => Value::Nil,
     }
 }
@@ -215,29 +214,29 @@ fn name(rt: &HostRuntime, text: &str) -> Value {
 }
 
 fn value(rt: &HostRuntime, spelled: &Spelled) -> Value {
-    match spelled {
-        Spelled::Nil => Value::Nil,
-        Spelled::Number(spelled, places) => number(spelled, *places),
-        Spelled::Text(spelled) => text(rt, spelled),
-        Spelled::Name(spelled) => name(rt, spelled),
+    match spelled.0 {
+        Kind::Nil => Value::Nil,
+        Kind::Number => number(spelled.1, spelled.2),
+        Kind::Text => text(rt, spelled.1),
+        Kind::Name => name(rt, spelled.1),
     }
 }
 
 // Values in ascending order. Two values meet if they have the same number here.
 const RISING: [(u8, Spelled); 13] = [
-    (0, Spelled::Nil),
-    (1, Spelled::Number("-2", None)),
-    (2, Spelled::Number("-1.5", Some(12))),
-    (3, Spelled::Number("0", Some(0))),
-    (3, Spelled::Number("0", Some(12))),
-    (3, Spelled::Number("0", None)),
-    (3, Spelled::Number("0.000000000000000001", Some(0))),
-    (4, Spelled::Text("")),
-    (5, Spelled::Text("10")),
-    (6, Spelled::Text("9")),
-    (7, Spelled::Text("é")),
-    (8, Spelled::Name("b:y")),
-    (9, Spelled::Name("a:x")),
+    (0, (Kind::Nil, "", 0)),
+    (1, (Kind::Number, "-2", EXACT)),
+    (2, (Kind::Number, "-1.5", 12)),
+    (3, (Kind::Number, "0", 0)),
+    (3, (Kind::Number, "0", 12)),
+    (3, (Kind::Number, "0", EXACT)),
+    (3, (Kind::Number, "0.000000000000000001", 0)),
+    (4, (Kind::Text, "", 0)),
+    (5, (Kind::Text, "10", 0)),
+    (6, (Kind::Text, "9", 0)),
+    (7, (Kind::Text, "é", 0)),
+    (8, (Kind::Name, "b:y", 0)),
+    (9, (Kind::Name, "a:x", 0)),
 ];
 
 /// Returns whether the first value is at most the second, and whether the values meet.
