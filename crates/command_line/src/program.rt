@@ -73,6 +73,7 @@ fn run_args<F: Files, R: Read + Drop, O: Write + Drop, E: Write>(
     }
 }
 
+// `bytes` outlives the inputs, which borrow the names of the reports from it.
 fn run_named<'n, F: Files, O: Write + Drop, E: Write>(
     alloc: Global,
     files: &'n F,

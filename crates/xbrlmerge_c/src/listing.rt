@@ -69,6 +69,7 @@ fn listed(
     })
 }
 
+// C passes the reports as one slice of bytes and the index after each report.
 fn write<S: Sink>(
     alloc: Global,
     listing: Listing,
