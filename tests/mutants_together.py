@@ -4,8 +4,9 @@
     tests/mutants_together [CRATE ..]
 
 Edits of different functions are made together in a copy of the crates, and `rt check` then proves the crate once. Each edited
-function must lose its own proof: it is not enough that it calls a function that is not proved. Edits of definitions and types,
-and edits that replace several texts in turn, are made alone. If an edited crate does not compile, each edit is made alone.
+function must lose its own proof: it is not enough that it calls a function that is not proved. An edit is made alone if it
+changes a definition or a type, replaces several texts in turn, does not compile with others, or is not judged because its
+function calls another edited one.
 
 A line for each edit that is not refused shows why. Status 0: each edit is refused. 1: an edit is not refused, cannot be made or
 does not compile, or a CRATE has no edits.
@@ -22,6 +23,7 @@ from support import TOP, content
 
 FUNCTION = re.compile(r'^ *(?:pub(?:\([a-z]+\))? )?(?:const )?(?:extern "C" )?fn (\w+)', re.MULTILINE)
 REFUSED = re.compile(r"^fn \S*?(\w+): (?:not proved|no proof: .*did not prove)", re.MULTILINE)
+UNPROVED = re.compile(r"^fn \S*?(\w+): (?:not proved|no proof)", re.MULTILINE)
 UNCOMPILED = re.compile(r"^src/.*: error\[", re.MULTILINE)
 
 
@@ -125,7 +127,13 @@ def faults(folder, edits):
     refused = set(REFUSED.findall(said))
     if functions == [None]:
         return [] if refused else [f"{edits[0].name}: no function loses its proof"]
-    return [f"{edit.name}: `{name}` is proved" for edit, (_, name) in zip(edits, functions) if name not in refused]
+    found, unproved = [], set(UNPROVED.findall(said))
+    for edit, (_, name) in zip(edits, functions):
+        if name in unproved - refused and len(edits) > 1:
+            found += faults(folder, [edit])
+        elif name not in refused:
+            found.append(f"{edit.name}: `{name}` does not lose its own proof")
+    return found
 
 
 def tried(crate, room):

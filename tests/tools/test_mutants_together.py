@@ -14,6 +14,10 @@ fi
 for name in one two; do
     if grep -A1 "fn $name" src/lib.rt | grep -q wrong; then echo "fn low::$name: not proved"; fi
 done
+if grep -q calls src/lib.rt; then
+    if grep -q wrong src/lib.rt; then said="no proof: it calls \\`low::one\\`"; else said="not proved"; fi
+    echo "fn low::two: $said"
+fi
 """
 CODE = "fn one() {\n    first\n}\n\npub fn two() {\n    second\n}\n"
 
@@ -51,8 +55,13 @@ class MutantsTogether(unittest.TestCase):
     def test_an_edit_that_is_not_refused(self):
         self.edit("first_is_wrong", "first", "wrong")
         self.edit("second_is_other", "second", "other")
-        lines = ["low/second_is_other: `two` is proved", "low: 1 of 2 refused"]
+        lines = ["low/second_is_other: `two` does not lose its own proof", "low: 1 of 2 refused"]
         self.assertEqual(self.tried(), (1, lines, 1))
+
+    def test_an_edit_of_a_function_that_calls_another_edited_one(self):
+        self.edit("first_is_wrong", "first", "wrong")
+        self.edit("second_calls_the_first", "second", "calls")
+        self.assertEqual(self.tried(), (0, ["low: 2 of 2 refused"], 2))
 
     def test_edits_that_cannot_be_made_or_do_not_compile(self):
         self.edit("first_is_wrong", "first", "wrong")
