@@ -1,5 +1,5 @@
 -- The result of a merge is the union.
-use Rattle.std.proofs.Common.{◌≡◌, cond, List, [], ◌∷◌, ◌++◌, length, arith, Option, Some, None, Result, Ok, Err, OnOk, OnErr, refl, sym, ap, subst, ◌∙◌}
+use Rattle.std.proofs.Common.{◌≡◌, ℕ, cond, List, [], ◌∷◌, ◌++◌, length, arith, Option, Some, None, Result, Ok, Err, OnOk, OnErr, refl, sym, ap, subst, ◌∙◌}
 use Rattle.std.specs.Prelude.{reverse}
 use Rattle.std.specs.Option.{option_or}
 use Rattle.std.specs.declared.cmp.Ordering.{Ordering}
@@ -10,6 +10,7 @@ use Rattle.merge_laws.specs.Sorted.{IsRising, IsSet, IsMap, item_at, itself, ent
 use Rattle.merge_laws.specs.Union.{either_or_both, older, merged_entries, set_union, map_union}
 use Rattle.merge_laws.specs.code.Items.{same_items, rises_union, item_at-union}
 use Rattle.merge_laws.specs.code.UnionLaws.{set_closed, map_closed, map_commutes}
+use Rattle.std.proofs.lemmas.Result.{on_ok_weaker}
 use Rattle.merge_laws.proofs.Rising.{none_rise}
 use Rattle.merge_laws.proofs.Taking.{takes_all}
 use Rattle.merge_laws.proofs.Values.{revalued, IsRevalued, revalues_all}
@@ -51,6 +52,11 @@ module _ {K V : Type 0} {R : K → K → Ordering} (o : IsTotalOrder R) (merged 
       ∙ ap (λ a. option_or a (item_at R entry_key q fs)) (is.at q)
       ∙ revalued_or (item_at R entry_key q es) (item_at R entry_key q fs)
       ∙ sym (item_at-union entry_key o (merged_entries merged) (λ _ _. refl) q es fs g h))
+
+  -- the changes that another map makes, once they are made
+  pub map_changed : {A B : Type 0} (r : Result A B) (es fs gs : List (K × V)) (values : List (ℕ × V)) (news : List (ℕ × (K × V))) → values ≡ new_values R merged es fs → news ≡ new_items R entry_key es fs → IsRising R entry_key es → IsRising R entry_key fs → OnOk r (gs ≡ inserted (with_values es values) (reverse news)) → OnOk r (gs ≡ map_union R merged es fs)
+  map_changed r es fs gs values news is_values is_news g h =
+      on_ok_weaker r (λ done. done ∙ (λ i. inserted (with_values es (is_values i)) (reverse (is_news i))) ∙ map_taken es fs g h)
 
   pub map_stays : {A B : Type 0} (P : V → Type 0) (closed : (v w : V) → P v → P w → P (merged v w)) (r : Result A B) (es fs gs : List (K × V)) → IsMap R P es → IsMap R P fs → OnOk r (gs ≡ map_union R merged es fs) → OnErr r (gs ≡ es) → IsMap R P gs
   map_stays P closed (Ok a) es fs gs g h made kept = subst (IsMap R P) (sym made) (map_closed o P merged closed es fs g h)

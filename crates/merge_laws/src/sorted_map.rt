@@ -129,7 +129,7 @@ fn know_values<K, V: Merge>(entries: &[(K, V)])
     }
 }
 
-/// A merged map has the keys of both maps. The other map is copied first.
+/// A merged map has the keys of both maps.
 impl<K: Key, V: Merge> Merge for SortedMap<K, V> {
     ghost use Rattle.merge_laws.specs.Sorted.{IsMap};
     ghost use Rattle.merge_laws.specs.Union.{map_union};
@@ -148,7 +148,8 @@ impl<K: Key, V: Merge> Merge for SortedMap<K, V> {
     ghost idempotent = { map_idempotent K.total V.is_known V.merged V.idempotent };
 
     fn merge(&mut self, alloc: Global, other: &Self) -> Result<(), AllocError> {
-        self.absorb(other.copied(alloc)?)
+        let changes = changes_by(alloc, self.entries.as_slice(), other.entries.as_slice())?;
+        changes.make(&mut self.entries)
     }
 
     fn known(&self) {
@@ -165,7 +166,40 @@ struct Changes<K: Drop, V: Drop> {
     new_entries: Vec<(usize, (K, V))>,
 }
 
-// The other entries are consumed, so that none of them is copied.
+// Copies the own values that change, and the other entries that are new.
+fn changes_by<K: Key, V: Merge>(
+    alloc: Global,
+    entries: &[(K, V)],
+    others: &[(K, V)],
+) -> Result<Changes<K, V>, AllocError>
+    requires entries { IsRising K.cmp entry_key entries.now }
+    requires others { IsRising K.cmp entry_key others.now }
+    ensures values { IfOk result (λ changes. changes.values.items ≡ new_values K.cmp V.merged entries.now others.now) }
+    ensures new_entries { IfOk result (λ changes. changes.new_entries.items ≡ new_items K.cmp entry_key entries.now others.now) }
+{
+    let mut changes = Changes {
+        values: Vec::new(alloc),
+        new_entries: Vec::new(alloc),
+    };
+    let mut from = 0;
+    for other in others {
+        match find_from(entries, &other.0, from) {
+            Ok(place) => {
+                let mut value = entries[place].1.copied(alloc)?;
+                value.merge(alloc, &other.1)?;
+                changes.values.push((place, value))?;
+                from = place;
+            }
+            Err(place) => {
+                changes.new_entries.push((place, other.copied(alloc)?))?;
+                from = place;
+            }
+        }
+    }
+    Ok(changes)
+}
+
+// Does the same as `changes_by`, but consumes the other entries, so that none of them is copied.
 fn changes_of<K: Key, V: Merge>(
     alloc: Global,
     entries: &[(K, V)],

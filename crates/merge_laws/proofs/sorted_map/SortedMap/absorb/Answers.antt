@@ -1,12 +1,11 @@
 use Rattle.std.proofs.Common.{◌≡◌, ◌<◌, OnOk, length, vec_len, arith, sym, subst, ◌∙◌}
-use Rattle.std.specs.Prelude.{reverse}
 use Rattle.std.specs.List.{AllByRecursion}
-use Rattle.merge_laws.specs.code.Insertions.{IsFirstLeast, inserted, new_items, new_values, with_values}
+use Rattle.merge_laws.specs.code.Insertions.{IsFirstLeast, new_items, new_values}
 use Rattle.merge_laws.specs.Sorted.{entry_key}
 use Rattle.merge_laws.specs.Union.{map_union}
 use Rattle.std.proofs.lemmas.Bool.Decides.{nat_tests}
 use Rattle.merge_laws.proofs.Taking.{first_least}
-use Rattle.merge_laws.proofs.Unions.{map_of_other, map_stays, map_taken}
+use Rattle.merge_laws.proofs.Unions.{map_changed, map_of_other, map_stays}
 use Rattle.merge_laws.proofs.Values.{values_within}
 use Rattle.merge_laws.proofs.sorted_map.SortedMap.absorb.Goals as goal
 use Rattle.std.proofs.lemmas.Result.{on_ok_weaker}
@@ -26,14 +25,9 @@ make-requires-clause-new_entries g c =
 
 made : (g : _) (c : goal.After-make g) → OnOk c.make.result (c.make.new.entries.items ≡ map_union g.K.Ord.cmp g.V.Merge.merged c.self.inside.entries.items c.other.inside.entries.items)
 made g c =
-    let es = c.self.inside.entries.items in
-    let fs = c.other.inside.entries.items in
     let values = c.in_ok-moved.ensures.values ∙ (λ i. new_values g.K.Ord.cmp g.V.Merge.merged (c.as_slice.ensures.value i) c.other.inside.entries.items) in
     let news = c.in_ok-moved.ensures.new_entries ∙ (λ i. new_items g.K.Ord.cmp entry_key (c.as_slice.ensures.value i) c.other.inside.entries.items) in
-    on_ok_weaker c.make.result (λ done.
-    done
-    ∙ (λ i. inserted (with_values es (values i)) (reverse (news i)))
-    ∙ map_taken g.met.K.Ord.total g.V.Merge.merged es fs c.self.invariant.rises c.other.invariant.rises) c.make.ensures.ok
+    map_changed g.met.K.Ord.total g.V.Merge.merged c.make.result c.self.inside.entries.items c.other.inside.entries.items _ _ _ values news c.self.invariant.rises c.other.invariant.rises c.make.ensures.ok
 
 pub invariant_of-self-2 : goal.invariant_of-self-2
 invariant_of-self-2 g c = map_stays g.met.K.Ord.total g.V.Merge.merged g.V.Merge.is_known g.met.V.Merge.closed c.make.result c.self.inside.entries.items c.other.inside.entries.items c.make.new.entries.items c.self.invariant c.other.invariant (made g c) c.make.ensures.err
