@@ -1,7 +1,7 @@
 -- The items of a union, and look-ups in sets and maps.
 use Rattle.std.proofs.Common.{◌≡◌, Bool, true, false, cond, List, [], ◌∷◌, Option, Some, None, refl, sym, ap, ◌∙◌, inl, inr, ⊎_elim, ℕ, zero, suc, ◌<◌, length, get_or, subst, arith}
 use mathlib.Core.Bool.{◌||◌, true≢false}
-use Rattle.std.specs.Prelude.{◌⊎◌, Contains, is_some, unwrap_or}
+use Rattle.std.specs.Prelude.{Contains, is_some, unwrap_or}
 use Rattle.std.specs.Option.{option_map}
 use Rattle.std.specs.List.{list_any}
 use Rattle.std.specs.Ordering.{eq_by_cmp, is_eq}

@@ -1,5 +1,5 @@
 -- The moments of a period that was read are in range, and a duration ends after its start.
-use Rattle.std.proofs.Common.{◌≡◌, ℕ, ◌<◌, ◌≤◌, Bool, true, false, List, length, refl, subst, arith, ℤ, pos, neg_ℤ, ◌<ℤ◌}
+use Rattle.std.proofs.Common.{◌≡◌, ℕ, ◌<◌, ◌≤◌, true, false, List, length, refl, subst, arith, ℤ, pos, neg_ℤ, ◌<ℤ◌}
 use Rattle.std.specs.Prelude.{Option, Some, Result, Ok, Err, nat_le, int_le, int_lt, ◌&&◌, if◌then◌else◌, slice_range}
 use Rattle.std.proofs.lemmas.Bool.{and_parts, leb-true}
 use Rattle.std.specs.Int.{is_in_range}

@@ -1,5 +1,5 @@
 -- The numbers that digits denote.
-use Rattle.std.proofs.Common.{◌≡◌, ℕ, ◌+◌, ◌*◌, ◌^◌, ◌<◌, ◌≤◌, Bool, true, false, cond, eqb, List, [], ◌∷◌, ◌++◌, length, get_or, take, drop, length-append, refl, sym, ap, ◌∙◌, arith, suc, subst}
+use Rattle.std.proofs.Common.{◌≡◌, ℕ, ◌+◌, ◌*◌, ◌^◌, ◌<◌, ◌≤◌, true, false, cond, eqb, List, [], ◌∷◌, ◌++◌, length, get_or, take, drop, length-append, refl, sym, ap, ◌∙◌, arith, suc, subst}
 use Rattle.std.specs.Prelude.{nat_lt}
 use mathlib.Core.Bool.{◌&&◌}
 use Rattle.std.proofs.lemmas.Bool.{and_parts, eqb-true}

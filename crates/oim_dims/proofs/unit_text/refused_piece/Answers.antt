@@ -1,5 +1,5 @@
-use Rattle.std.proofs.Common.{Bor, None, Some, Option, List, ℕ, Bool, ap, sym, ◌∙◌}
-use Rattle.std.specs.Prelude.{MatchOption, option_map}
+use Rattle.std.proofs.Common.{Bor, None, List, ℕ, Bool, ap, sym, ◌∙◌}
+use Rattle.std.specs.Prelude.{option_map}
 use Rattle.std.specs.List.{find}
 use Rattle.oim_names.specs.Expansion.{a_name, refuses}
 use Rattle.oim_dims.specs.Unit.{denominator_pieces, numerator_pieces}

@@ -1,5 +1,5 @@
-use Rattle.std.proofs.Common.{◌≡◌, ◌||◌, ℕ, List, Some, codes, option_map, option_and_then, rules, sym, ap, ◌∙◌}
-use Rattle.serde_json.specs.Find.{as_object, get, get_member}
+use Rattle.std.proofs.Common.{◌≡◌, ◌||◌, Some, codes, option_map, option_and_then, rules, sym, ap, ◌∙◌}
+use Rattle.serde_json.specs.Find.{as_object}
 use Rattle.serde_json.specs.View.{view, members_view}
 use Rattle.oim_report.specs.Json.{any_member, given_of, has_member, is_no_object, is_unknown}
 use Rattle.oim_report.specs.Parts.{dimension_parts, fact_keys, parts_of}
