@@ -166,7 +166,7 @@ struct Changes<K: Drop, V: Drop> {
     new_entries: Vec<(usize, (K, V))>,
 }
 
-// Copies the own values that change, and the other entries that are new.
+// Copies the own values at common keys, and the other entries with new keys.
 fn changes_by<K: Key, V: Merge>(
     alloc: Global,
     entries: &[(K, V)],

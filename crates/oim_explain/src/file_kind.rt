@@ -52,7 +52,7 @@ pub(crate) fn kind_of_tree(tree: &Value) -> Option<&'static str> {
     if is_csv(tree) {
         Some("the metadata of an xBRL-CSV report: convert it to xBRL-JSON with another program")
     } else if tree.get("documentInfo").is_none() && tree.get("concepts").is_some() {
-        Some("a concept sheet, not a report")
+        Some("a sheet, not a report")
     } else {
         None
     }
@@ -67,9 +67,9 @@ fn is_csv(tree: &Value) -> bool {
 /// Guesses the kind of a JSON file that was passed as a sheet but looks like another kind of file.
 pub(crate) fn kind_of_sheet(tree: &Value) -> Option<&'static str> {
     if is_csv(tree) {
-        Some("the metadata of an xBRL-CSV report, not a concept sheet")
+        Some("the metadata of an xBRL-CSV report, not a sheet")
     } else if tree.get("documentInfo").is_some() {
-        Some("a report, not a concept sheet")
+        Some("a report, not a sheet")
     } else {
         None
     }

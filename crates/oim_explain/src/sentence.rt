@@ -22,7 +22,7 @@ pub(crate) fn around(
             "",
             " is not an entity such as prefix:identifier",
         ),
-        (_, Reason::UnknownMember, Subject::Sheet) => (before(reason), " in a concept sheet"),
+        (_, Reason::UnknownMember, Subject::Sheet) => (before(reason), " in a sheet"),
         _ => (before(reason), behind(reason)),
     }
 }
@@ -119,7 +119,9 @@ fn behind(reason: Reason) -> &'static str {
         Reason::UnboundPrefix => " is not bound",
         Reason::ReservedNamespace => " is bound to https://xbrl.org/2021, which is reserved",
         Reason::UnknownConcept | Reason::UnknownDimension => " is not in the sheet",
-        Reason::DimensionValue => " does not have a value of the kind that the sheet lists",
+        Reason::DimensionValue => {
+            " does not fit the sheet: an explicit dimension takes a name such as prefix:local, a typed dimension a string or null"
+        }
         _ => behind_content(reason),
     }
 }

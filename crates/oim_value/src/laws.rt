@@ -1,7 +1,7 @@
 ghost use Rattle.std.specs.Prelude.{◌≡◌, None};
 ghost use Rattle.oim_value.specs.declared.value.Value.{Value as Seen};
 ghost use Rattle.oim_value.specs.Bounds.{IntervalEndsAreBounded};
-ghost use Rattle.oim_value.specs.Ends.{AllMeetIffEndsMeet, EndsAreCommonInterval, EndsAreOne, EndsExist, WithinEndsIsWithinEach};
+ghost use Rattle.oim_value.specs.Ends.{EndsAreCommonInterval, EndsAreOne, EndsExist, WithinEndsIsWithinEach};
 ghost use Rattle.oim_value.specs.Interval.{CommonIsAssociative, CommonIsBoth, CommonIsCommutative, CommonIsIdempotent, HalfAfterPoint, HalfBeforePoint, IntervalHasNumber, IntervalHasPoints, MeetsByCommonPart, MeetsByCommonPoint, WithinIsNear};
 ghost use Rattle.oim_value.specs.declared.level.Level.{Level as SeenLevel};
 ghost use Rattle.oim_value.specs.Level.{LevelsStandApart, level_cmp};
@@ -145,12 +145,6 @@ pub fn ends_are_common_interval()
     ensures one { EndsAreOne }
     ensures within { WithinEndsIsWithinEach }
     ensures common { EndsAreCommonInterval }
-{}
-
-/// If no interval is empty, every two intervals meet exactly if the greatest low end is at most the
-/// least high end.
-pub fn all_meet_iff_ends_meet()
-    ensures { AllMeetIffEndsMeet }
 {}
 
 /// Take two or more different values: one may be nil, and all others are of one kind. They meet

@@ -95,7 +95,7 @@ const TABLES: [Table<'static>; 3] = [
             ),
             (
                 SHEET,
-                "r: 2 MemberForm: \"documentInfo\" is missing; the file looks like a concept sheet, not a report\nr: 3 UnknownMember: the format has no member \"concepts\"\n",
+                "r: 2 MemberForm: \"documentInfo\" is missing; the file looks like a sheet, not a report\nr: 3 UnknownMember: the format has no member \"concepts\"\n",
             ),
             (
                 r#"{"documentInfo":{"documentType":"https://xbrl.org/2021/xbrl-csv"},"tables":{}}"#,
@@ -171,7 +171,7 @@ const TABLES: [Table<'static>; 3] = [
             ),
             (
                 r#""a":{"value":"1","dimensions":{"concept":"eg:Z","eg:Hue":"red","eg:Reg":null}}"#,
-                "r: fact \"a\": 16 UnknownConcept: the concept \"eg:Z\" is not in the sheet\nr: fact \"a\": 17 UnknownDimension: the dimension \"eg:Hue\" is not in the sheet\nr: fact \"a\": 18 DimensionValue: the dimension \"eg:Reg\": null does not have a value of the kind that the sheet lists\n",
+                "r: fact \"a\": 16 UnknownConcept: the concept \"eg:Z\" is not in the sheet\nr: fact \"a\": 17 UnknownDimension: the dimension \"eg:Hue\" is not in the sheet\nr: fact \"a\": 18 DimensionValue: the dimension \"eg:Reg\": null does not fit the sheet: an explicit dimension takes a name such as prefix:local, a typed dimension a string or null\n",
             ),
             (
                 r#""a":{"value":"1","dimensions":{"concept":"eg:A","eg:Sku":"b","zz:Sku":"b"}}"#,
@@ -247,7 +247,7 @@ const BYTES: [(&[u8], &str); 5] = [
 const SHEETS: [(&str, &str); 7] = [
     (
         r#"{"documentInfo":{}}"#,
-        "s: the format has no member \"documentInfo\" in a concept sheet; the file looks like a report, not a concept sheet\n",
+        "s: the format has no member \"documentInfo\" in a sheet; the file looks like a report, not a sheet\n",
     ),
     (
         "<xml>",

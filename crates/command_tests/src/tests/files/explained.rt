@@ -34,7 +34,7 @@ pub(super) const EXPLAINED: [Row; 13] = [
         "explain --sheet 100 100",
         3,
         &[],
-        "sheet: 3 UnknownMember\n100: the format has no member \"documentInfo\" in a concept sheet; the file looks like a report, not a concept sheet\n",
+        "sheet: 3 UnknownMember\n100: the format has no member \"documentInfo\" in a sheet; the file looks like a report, not a sheet\n",
     ),
     (
         "explain --sheet doubled 100",
