@@ -26,7 +26,9 @@ Example:
 
 Status:
   0  every report was merged
-  1  a report was refused, and standard error shows why; the others were merged
+  1  a report was refused; the others were merged. Standard error has `report R: NUMBER NAME at
+     PLACE`. R counts the arguments, then the names of --reports-from, from 1. `explain` shows the
+     file and what is at fault
   2  a row exceeds LEVEL: nothing was written, and standard error has the number of the first
      such row, as `verdicts` counts rows
   3  not done, or not completed: invalid arguments, a refused sheet, a file or device that

@@ -52,7 +52,7 @@ Example:
 
 Status:
   0  every report was judged, whatever the verdicts are
-  1  a report was refused, and standard error shows why; the others were judged
+  1  a report was refused, and standard error has its line, as for `merge`; the others were judged
   3  not done, or not completed: invalid arguments, a refused sheet, a file or device that
      failed, or out of memory";
 
@@ -82,7 +82,7 @@ Example:
 
 Status:
   0  every report was read
-  1  a report was refused, and standard error shows why; the others were read
+  1  a report was refused, and standard error has its line, as for `merge`; the others were read
   3  not done, or not completed: invalid arguments, a refused sheet, a file or device that
      failed, or out of memory";
 
