@@ -22,7 +22,7 @@ pub fn read_language(alloc: Global, text: &str) -> Result<Text, Reason>
     }
     let mut lower = String::from_str(alloc, text)?;
     lower.make_ascii_lowercase();
-    Ok(Text::new(alloc, lower.as_str())?)
+    Ok(Text::from_string(alloc, lower)?)
 }
 
 /// Returns whether a text has the form of a language. The call does not allocate.

@@ -79,11 +79,11 @@ pub fn write_period(alloc: Global, period: &Period) -> Result<Option<Text>, Allo
         Period::Forever => Ok(None),
         Period::Instant(moment) => {
             let text = format!(in alloc; "{moment}")?;
-            Ok(Some(Text::new(alloc, text.as_str())?))
+            Ok(Some(Text::from_string(alloc, text)?))
         }
         Period::Duration(start, end) => {
             let text = format!(in alloc; "{start}/{end}")?;
-            Ok(Some(Text::new(alloc, text.as_str())?))
+            Ok(Some(Text::from_string(alloc, text)?))
         }
     }
 }

@@ -218,7 +218,7 @@ pub fn write_unit(alloc: Global, aliases: &Aliases, unit: &Unit) -> Result<Text,
     unit.known();
     let mut text = String::new(alloc);
     push_unit(&mut text, aliases, unit.numerators(), unit.denominators())?;
-    Text::new(alloc, text.as_str())
+    Text::from_string(alloc, text)
 }
 
 /// Returns whether each measure's URI has a prefix, and the first prefix that was bound to that URI

@@ -1,4 +1,4 @@
-ghost use Rattle.std.specs.Prelude.{◌≡◌, ◌<◌, ◌≤◌};
+ghost use Rattle.std.specs.Prelude.{ℕ, List, ◌≡◌, ◌<◌, ◌≤◌};
 ghost use Rattle.oim_names.specs.Places.{byte_from_end, place_in, text_class};
 
 use std::marker::Model;
@@ -26,7 +26,9 @@ impl Model for PositionCache {
 
 impl PositionCache {
     /// Returns a cache in which each class has index 0.
-    pub fn new() -> PositionCache {
+    pub fn new() -> PositionCache
+        ensures { (text : List ℕ) → place_in result text ≡ 0 }
+    {
         PositionCache {
             places: [0; CLASSES],
         }
@@ -41,7 +43,8 @@ impl PositionCache {
 
     /// Stores the index for the class of the text. An index above 65,535 is not stored.
     pub fn set(&mut self, text: &str, place: usize)
-        ensures { place ≤ 65535 → place_in self.new text.now ≡ place }
+        ensures stored { place ≤ 65535 → place_in self.new text.now ≡ place }
+        ensures kept { 65535 < place → self.new ≡ self.old }
     {
         if let Ok(place) = u16::try_from(place) {
             self.places[class_of(text)] = place;

@@ -1,4 +1,5 @@
 use Rattle.std.proofs.Common.{◌≡◌, List, ℕ, sym, subst, ◌∙◌, rules}
+use Rattle.std.specs.String.{string_bytes}
 use Rattle.std.proofs.lemmas.Result.{IfOk-weaker}
 use Rattle.oim_dims.specs.Unit.{DenotesUnit, measure_text, unit_text}
 use Rattle.oim_dims.proofs.UnitText.{bindings_spell, unit_back}
@@ -6,8 +7,8 @@ use Rattle.oim_dims.proofs.unit_text.write_unit.Goals as goal
 
 pub returns-clause-reads_back : goal.returns-clause-reads_back
 returns-clause-reads_back c =
-    let written : c.as_str.result.now ≡ unit_text (measure_text c.args.aliases.now) c.args.unit.now = search rules in
+    let written : string_bytes c.push_unit.new.text ≡ unit_text (measure_text c.args.aliases.now) c.args.unit.now = search rules in
     let unit = c.known-2.ensures in
     let spells = bindings_spell c.args.aliases.now c.args.unit.now c.known.ensures unit c.requires in
     let P : List ℕ → Type 0 = λ t. DenotesUnit c.args.aliases.now t c.args.unit.now in
-    IfOk-weaker c.new.result _ P (λ t e. subst P (sym (e ∙ written)) (unit_back c.args.aliases.now (measure_text c.args.aliases.now) c.args.unit.now unit spells)) c.new.ensures
+    IfOk-weaker c.from_string.result _ P (λ t e. subst P (sym (e ∙ written)) (unit_back c.args.aliases.now (measure_text c.args.aliases.now) c.args.unit.now unit spells)) c.from_string.ensures
