@@ -313,7 +313,7 @@ def page_of_vendors(program):
             package.writestr("taxonomy/core.xsd", SCHEMA)
         words = [*options, "--taxonomy", f"{room}/taxonomy.zip", "-o", f"{room}/out"]
         ran = subprocess.run([os.path.join(TOP, "tools", "contradictions"), *words], capture_output=True, text=True)
-        told = f"3 rows: 0 contradictions, 0 consistent, 3 reported once; 1 report refused; page: {room}/out/page.html\n"
+        told = f"3 rows: 0 contradictions, 0 consistent, 3 with one fact; 1 report refused; page: {room}/out/page.html\n"
         if (ran.returncode, ran.stdout) != (1, told):
             return [f"tools/contradictions ends with {ran.returncode} on the reports of vendors: {ran.stdout}{ran.stderr}"]
         sheet, merged = content(f"{room}/out/sheet.json").replace("n1:", "v:").replace('"n1"', '"v"'), content(f"{room}/out/merged.json")

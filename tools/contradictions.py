@@ -166,7 +166,7 @@ def summary(reader: Reader) -> str:
     """Returns the total number of rows, and the number for each verdict, as text."""
     of = reader.counts
     rows = counted(of["inconsistent"] + of["consistent"] + of["complete"], "row")
-    return f"{rows}: {counted(of['inconsistent'], 'contradiction')}, {of['consistent']} consistent, {of['complete']} reported once"
+    return f"{rows}: {counted(of['inconsistent'], 'contradiction')}, {of['consistent']} consistent, {of['complete']} with one fact"
 
 
 if __name__ == "__main__":

@@ -83,7 +83,7 @@ class Pages(ToolTest):
 
     def test_counts_come_first(self):
         start = self.words.index("6contradictions")
-        self.assertIn("6contradictions1consistent within rounding1reported once", self.words)
+        self.assertIn("6contradictions1consistent within rounding1with one fact", self.words)
         self.assertLess(start, self.words.index("Auditor"))
 
     def test_periods_are_told_by_days(self):

@@ -18,7 +18,7 @@ from test_contradictions_sources import example
 
 REPORTS = [os.path.realpath(example(f"{name}.json")) for name in ("issuer", "ledgerline", "statfeed")]
 SHEET = example("sheet.json")
-SUMMARY = "64 rows: 3 contradictions, 45 consistent, 16 reported once"
+SUMMARY = "64 rows: 3 contradictions, 45 consistent, 16 with one fact"
 SCHEMA = """<xs:schema xmlns:xs="http://www.w3.org/2001/XMLSchema" xmlns:xbrli="http://www.xbrl.org/2003/instance"
     targetNamespace="http://made.example/t">
     <xs:element name="Sales" type="xbrli:monetaryItemType" substitutionGroup="xbrli:item"/>%s</xs:schema>"""
@@ -99,7 +99,7 @@ class Files(Stubbed):
         self.assertEqual(told["f066"], ("issuer: f33; statfeed: TS08474", "2 of 3"))
         self.assertEqual(self.log(), [(command, REPORTS) for command in ("merge", "verdicts", "sources")])
         for text in ("<title>Contradictions</title>", "<h1>Contradictions</h1>", "<b>3</b>contradictions",
-                     "<b>45</b>consistent within rounding", "<b>16</b>reported once", "<dt>Reported by<dd>2 of 3"):
+                     "<b>45</b>consistent within rounding", "<b>16</b>with one fact", "<dt>Reported by<dd>2 of 3"):
             self.assertIn(text, content(self.page))
 
     def test_inputs_may_be_in_the_folder_if_they_are_not_written(self):
@@ -129,7 +129,7 @@ class Files(Stubbed):
         self.prints_nothing()
         done = self.run_on(*REPORTS)
         self.assertEqual((done.returncode, done.stderr), (0, ""))
-        self.assertTrue(done.stdout.startswith("0 rows: 0 contradictions, 0 consistent, 0 reported once; page: "))
+        self.assertTrue(done.stdout.startswith("0 rows: 0 contradictions, 0 consistent, 0 with one fact; page: "))
 
     def test_names_are_those_of_the_files_or_are_given(self):
         self.run_on(f"A={REPORTS[0]}", f"B; \u00e4={REPORTS[1]}", f"A={REPORTS[2]}")

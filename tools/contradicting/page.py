@@ -24,7 +24,7 @@ Labels = Mapping[Name, str]
 FIRST = 100  # rows before the index; the browser paints these rows at once, and loads the others on request
 CHUNK = 100  # the most rows of one concept that are loaded together
 HERE = os.path.dirname(os.path.abspath(__file__))
-WORDS = {"inconsistent": "contradictions", "consistent": "consistent within rounding", "complete": "reported once"}
+WORDS = {"inconsistent": "contradictions", "consistent": "consistent within rounding", "complete": "with one fact"}
 ROW_HEAD = '<table cellspacing="0"><tr><th>Fact<th>Reported by<th>Value<th>Decimals<th>From<th>To'
 
 
@@ -43,8 +43,7 @@ def page(rows: list[Row], reader: Reader, labels: Labels, refusals: Refusals) ->
 <meta name="viewport" content="width=device-width"><style>{part("page.css")}</style></head><body><h1>Contradictions</h1>
 <p class="counts">{"".join(f"<span><b>{count}</b>{word}</span>" for count, word in counts(reader, refusals))}</p>
 <p>A value with decimals represents all numbers within half of its last decimal place. The two facts in red contradict each
-other. A row that is reported once has one value, from one provider or several. Long texts are cut to {MOST_CHARACTERS}
-characters near the first difference; contradictions.csv has them whole.</p>
+other. Long texts are cut to {MOST_CHARACTERS} characters near the first difference; contradictions.csv has them whole.</p>
 """
     yield from refused(refusals)
     yield """<p class="filter" hidden><label>Rows with the words <input type="search"></label> <output></output></p>
