@@ -3,7 +3,7 @@
 
     tools/contradictions --sheet SHEET -o DIR [options] [NAME=]REPORT ..
     tools/contradictions --taxonomy PACKAGE -o DIR [options] [NAME=]REPORT ..
-    tools/contradictions --from MERGED SHEET VERDICTS -o DIR [options] [PROVIDER=TEXT ..]
+    tools/contradictions --from MERGED SHEET VERDICTS -o DIR [options] [PROVIDER=MERGED ..]
 
 The first two forms run `xbrlmerge` on the reports. Each form writes these files into the folder DIR, except that --from writes
 no merged.json:
@@ -22,12 +22,13 @@ options of tools/normalise that lose something, such as --drop-notes. A report t
 
 --near NEAR.csv writes a table of pairs of rows that differ in one dimension only, perhaps by mistake: the same name or
 identifier in another namespace or scheme, other letter case or white space, dates at most a day apart, another unit or
-language, or a dimension that one row lacks. Pairs are left out if one provider reports both rows. For each set of rows that
-differ in the same dimension, at most 1,000 pairs are compared, fewer if the pairs found have more than 10,000 facts.
+language, or a dimension that one row lacks. Pairs are left out if one provider reports both rows. Rows that are similar in one
+dimension and equal in all others form a group. In each group, at most 1,000 pairs are compared, fewer if the pairs found have
+more than 10,000 facts.
 
 --from uses the earlier output of `xbrlmerge merge` and `xbrlmerge verdicts`. --sources uses the output of `xbrlmerge sources`,
-and --names lists the providers in the order of the reports. Instead of --sources and --names, PROVIDER=TEXT names a provider
-and the merged report of its own reports; repeat it for each provider.
+and --names lists the providers in the order of the reports. Instead of --sources and --names, PROVIDER=MERGED names a
+provider and the merged report of its own reports; repeat it for each provider.
 
 The page and changes.csv show at most 80 characters of an identifier, a URI or a text; the other tables contain them whole.
 In the tables, a ' precedes anything that a spreadsheet might read as a formula.
@@ -79,7 +80,7 @@ def read_options() -> argparse.Namespace:
     parser.add_argument("--sources", metavar="SOURCES", help="with --from: the output of `xbrlmerge sources`")
     parser.add_argument("--names", metavar="NAME,..", help="with --sources: the providers, in the order of the reports")
     parser.add_argument("words", nargs="*", metavar="[NAME=]REPORT",
-                        help="the reports; with --from, PROVIDER=TEXT for each provider")
+                        help="the reports; with --from, PROVIDER=MERGED for each provider")
     add_losses(parser, "options of --normalise that lose something")
     options = parser.parse_intermixed_args()
     check(parser, options)
@@ -92,7 +93,7 @@ def check(parser: argparse.ArgumentParser, options: argparse.Namespace) -> None:
         if options.normalise or options.program:
             parser.error("--from takes neither --normalise nor --program")
         if bool(options.sources) != bool(options.names) or options.sources and options.words:
-            parser.error("use --sources and --names together, and without PROVIDER=TEXT")
+            parser.error("use --sources and --names together, and without PROVIDER=MERGED")
         if options.names and not all(options.names.split(",")):
             parser.error("a name in --names is empty")
     elif not options.words or options.sources or options.names:

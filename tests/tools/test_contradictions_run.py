@@ -95,7 +95,7 @@ class Files(Stubbed):
         self.assertEqual(sorted(os.listdir(self.output)), ["contradictions.csv", "merged.json", "page.html", "rows.csv"])
         self.assertEqual(content(os.path.join(self.output, "merged.json")), content(example("merged.json")))
         self.assertEqual(len(self.cells("rows.csv")), 64)
-        told = {cell["fact"]: (cell["identifiers"], cell["said_by"]) for cell in self.cells("contradictions.csv")}
+        told = {cell["fact"]: (cell["identifiers"], cell["reported_by"]) for cell in self.cells("contradictions.csv")}
         self.assertEqual(told["f066"], ("issuer: f33; statfeed: TS08474", "2 of 3"))
         self.assertEqual(self.log(), [(command, REPORTS) for command in ("merge", "verdicts", "sources")])
         for text in ("<title>Contradictions</title>", "<h1>Contradictions</h1>", "<b>3</b>contradictions",
@@ -133,7 +133,7 @@ class Files(Stubbed):
 
     def test_names_are_those_of_the_files_or_are_given(self):
         self.run_on(f"A={REPORTS[0]}", f"B; \u00e4={REPORTS[1]}", f"A={REPORTS[2]}")
-        told = {cell["fact"]: (cell["identifiers"], cell["said_by"]) for cell in self.cells("contradictions.csv")}
+        told = {cell["fact"]: (cell["identifiers"], cell["reported_by"]) for cell in self.cells("contradictions.csv")}
         self.assertEqual((told["f066"], told["f065"][0][:6]), (("A: f33, TS08474", "1 of 2"), "B; \u00e4: "))
 
     def test_a_path_may_have_an_equals_sign(self):

@@ -22,7 +22,7 @@ class Sources(ToolTest):
 
     def test_who_said_a_value_is_told_with_its_identifier(self):
         page, cells = self.written(*self.inputs, *self.words())
-        told = {cell["fact"]: (cell["providers"], cell["identifiers"], cell["said_by"]) for cell in cells}
+        told = {cell["fact"]: (cell["providers"], cell["identifiers"], cell["reported_by"]) for cell in cells}
         self.assertEqual(told["f018"], ("issuer", "issuer: f56", "1 of 3"))
         self.assertEqual(told["f019"], ("statfeed", "statfeed: TS08780", "1 of 3"))
         self.assertEqual(told["f066"], ("issuer, statfeed", "issuer: f33; statfeed: TS08474", "2 of 3"))
@@ -34,13 +34,13 @@ class Sources(ToolTest):
         with open(self.listed, encoding="utf-8-sig", newline="") as file:
             listed = {row["row"]: row for row in csv.DictReader(file)}
         self.assertEqual(len(listed), 64)
-        self.assertEqual((listed["10"]["verdict"], listed["10"]["said_by"]), ("complete", "2 of 3"))
-        self.assertEqual((listed["11"]["verdict"], listed["11"]["said_by"]), ("complete", "1 of 3"))
+        self.assertEqual((listed["10"]["verdict"], listed["10"]["reported_by"]), ("complete", "2 of 3"))
+        self.assertEqual((listed["11"]["verdict"], listed["11"]["reported_by"]), ("complete", "1 of 3"))
         self.assertEqual((listed["11"]["first"], listed["11"]["providers"]), ("f017", "statfeed"))
 
     def test_a_provider_may_have_several_reports(self):
         _, cells = self.written(*self.inputs, *self.words(names="A,B,A"))
-        told = {cell["fact"]: (cell["identifiers"], cell["said_by"]) for cell in cells}
+        told = {cell["fact"]: (cell["identifiers"], cell["reported_by"]) for cell in cells}
         self.assertEqual(told["f066"], ("A: f33, TS08474", "1 of 2"))
 
     def test_identifiers_are_texts(self):

@@ -62,7 +62,7 @@ def counts(reader: Reader, refusals: Refusals) -> Iterator[tuple[int, str]]:
     known), and the refused reports (if there are any)."""
     yield from ((reader.counts[verdict], word) for verdict, word in WORDS.items())
     if reader.providers:
-        yield reader.counts["alone"], f"of these reported by {reader.said_by(1)}"
+        yield reader.counts["alone"], f"of these reported by {reader.reported_by(1)}"
     if refusals.reports:
         yield len(refusals.reports), "refused reports"
 
@@ -143,8 +143,8 @@ def section(row: Row, reader: Reader, labels: Labels) -> Iterator[str]:
     terms = dict(details(row))
     kind = "number" if "Unit" in terms else "text"
     yield f'<section class="row {kind}" id="row{row.number}">{heading(dimensions.concept, labels, "h3")}<dl>'
-    said_by = reader.said_by(len(names_of(row.holders)))
-    yield "".join(f"<dt>{term}<dd>{text}" for term, text in (*terms.items(), *[("Reported by", said_by)] * bool(said_by)))
+    reported_by = reader.reported_by(len(names_of(row.holders)))
+    yield "".join(f"<dt>{term}<dd>{text}" for term, text in (*terms.items(), *[("Reported by", reported_by)] * bool(reported_by)))
     yield "</dl>" + ROW_HEAD
     start = start_of_cut(fact.value for fact in row.facts.values())
     for name, fact in row.facts.items():

@@ -151,9 +151,9 @@ class Reader:
         self.counts[verdict] += 1
         self.counts["alone"] += verdict == "complete" and len(who) == 1
         names = [*row.holders]
-        self.listed.append((row.number, verdict, names[0], names[-1], self.said_by(len(who)), ", ".join(sorted(who))))
+        self.listed.append((row.number, verdict, names[0], names[-1], self.reported_by(len(who)), ", ".join(sorted(who))))
 
-    def said_by(self, count: int) -> str:
+    def reported_by(self, count: int) -> str:
         """Returns a text such as "2 of 3" if 2 of 3 providers report a row or a fact; an empty text if no provider is known."""
         return f"{count} of {self.providers}" if self.providers else ""
 

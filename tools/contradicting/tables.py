@@ -19,8 +19,8 @@ SKIPPED = "[\\s\x00-\x20\ufeff'\"]+"  # characters that a spreadsheet may skip b
 BEFORE_FORMULA = re.compile(f"{SKIPPED}|(?<![^;|])(?=[{re.escape(SIGNS)}])")
 SEPARATOR = re.compile("[\t\r\n]")
 DIMENSIONS = "concept entity period unit language dimensions".split()
-COLUMNS = ["row", "fact", *DIMENSIONS, *"value decimals low high evidence providers identifiers said_by label".split()]
-LISTED = "row verdict first last said_by providers".split()
+COLUMNS = ["row", "fact", *DIMENSIONS, *"value decimals low high evidence providers identifiers reported_by label".split()]
+LISTED = "row verdict first last reported_by providers".split()
 LONGEST_ROW, LONGEST_TABLE = 1 << 24, 1 << 30  # the most characters of the dimensions in one row, and in a whole table
 
 Cell = Union[Value, int]
@@ -102,7 +102,7 @@ def table(rows: Sequence[Row], labels: Mapping[Name, str], reader: Reader) -> It
             for name, fact in row.facts.items():
                 who = row.holders[name]
                 value: list[Cell] = [fact.value, *fact.precision(), "pair" * (name in row.pair)]
-                told = providers(who), identifiers(who), reader.said_by(len(who)), label
+                told = providers(who), identifiers(who), reader.reported_by(len(who)), label
                 yield [cell(row.number), cell(name), *dimensions, *map(cell, [*value, *told])]
 
 
