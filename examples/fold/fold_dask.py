@@ -1,7 +1,7 @@
 #!/usr/bin/env python3
-"""Merges reports in two levels on Dask: examples/fold/fold_dask.py [--calls] SHEET OUT WIDTH FILE ..
+"""Merges reports in two rounds on Dask: examples/fold/fold_dask.py [--calls] SHEET OUT WIDTH FILE ..
 
-Each step of the first level merges up to WIDTH files, and the last step merges their results. Without --calls, a step is a
+Each step of the first round merges up to WIDTH files, and the last step merges their results. Without --calls, a step is a
 process that writes to a file. With --calls, a step is a call of the Python module xbrlmerge, and its result goes to the last
 step as bytes. On a cluster, make a Client first, and let all machines share SHEET and the files. Without --calls, let them also
 share OUT and examples/fold, set TMPDIR to a folder that all machines share, and install the program on each machine. With
@@ -23,7 +23,7 @@ NODE = os.path.join(os.path.dirname(os.path.abspath(__file__)), "merge_files")
 
 @dask.delayed
 def merge(sheet, out, files, most, _after=()):
-    """Merges files after the earlier steps. `most` is the highest allowed status: 1 on the first level, where reports may be
+    """Merges files after the earlier steps. `most` is the highest allowed status: 1 in the first round, where reports may be
     refused, and 0 in the last step, because the output of a step is not refused."""
     status = subprocess.run([NODE, sheet, out, *files]).returncode
     if not 0 <= status <= most:
@@ -49,7 +49,7 @@ def merge_here(sheet, files):
 
 @dask.delayed
 def join_here(sheet, lower):
-    """Merges the results of the first level with a call. A merged report is never refused under the same sheet."""
+    """Merges the results of the first round with a call. A merged report is never refused under the same sheet."""
     import xbrlmerge
 
     merged = xbrlmerge.merge(sheet, [text for text, _ in lower])
