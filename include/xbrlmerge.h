@@ -86,7 +86,7 @@ uint32_t xbrlmerge_verdicts(const uint8_t *sheet, size_t sheet_length, const uin
                             xbrlmerge_refusal *refusals, size_t refusals_length, size_t *refused);
 
 /* Lists the sources of each fact, as `sources` does: `out` gets a line for each fact object of the accepted reports.
-   Otherwise the call is like xbrlmerge_verdicts. The call copies the reports. */
+   Otherwise the call is like xbrlmerge_verdicts. */
 uint32_t xbrlmerge_sources(const uint8_t *sheet, size_t sheet_length, const uint8_t *reports, size_t reports_length,
                            const size_t *ends, size_t ends_length, uint8_t *out, size_t out_length, size_t *needed,
                            xbrlmerge_refusal *refusals, size_t refusals_length, size_t *refused);
