@@ -2,6 +2,7 @@ use std::alloc::AllocError;
 use std::test::Fail;
 use std::{env, fs};
 use test_helpers::asked_again::{INFO, OPEN_INFO, SHEET, joined, repeated};
+use test_helpers::canonical_parts::HEAD;
 
 /// Two reports with this many spaces each are together larger than a megabyte.
 const SPACES: usize = 600_000;
@@ -13,8 +14,8 @@ const OTHER_INFO: &str =
     r#"{"documentInfo":{"documentType":"https://xbrl.org/2021/xbrl-json","namespaces":{"zz":"http://example.org/t"}},"facts":{"#;
 
 /// The name of each file, and its text in two parts. The file `zz` has the same fact as the file
-/// `100`, with another prefix.
-const FILES: [(&str, &str, &str); 24] = [
+/// `100`, with another prefix. The file `canonical` is the merged text without facts.
+const FILES: [(&str, &str, &str); 25] = [
     ("sheet", "", SHEET),
     (
         "doubled",
@@ -53,6 +54,11 @@ const FILES: [(&str, &str, &str); 24] = [
         "102",
         INFO,
         r#""a":{"value":"102","decimals":0,"dimensions":{"concept":"eg:A"}}}}"#,
+    ),
+    (
+        "canonical",
+        HEAD,
+        r#""xbrl":"https://xbrl.org/2021"},"taxonomy":[]},"facts":{}}"#,
     ),
     (
         "wrong",

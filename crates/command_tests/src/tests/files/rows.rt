@@ -141,7 +141,13 @@ pub(super) const JUDGED: [Row; 11] = [
     ),
 ];
 
-pub(super) const CHECKED: [Row; 7] = [
+pub(super) const CHECKED: [Row; 8] = [
+    (
+        "check --sheet sheet canonical",
+        0,
+        &["accepted 0 none canonical\n"],
+        "",
+    ),
     (
         "check --sheet sheet twice",
         0,
