@@ -1,6 +1,6 @@
 use crate::error::{Error, Success};
 use oim_explain::Escaped;
-use oim_merge::{ReadFault, Refusals};
+use oim_merge::Refusals;
 use oim_report::{Place, Refusal};
 use std::io::Write;
 
@@ -129,7 +129,7 @@ fn print_error<E: Write>(err: &mut E, is_terminal: bool, error: &Error<'_>) {
                 _ => return,
             }
         }
-        Error::TooLong(file) => writeln!(err, "file {}: {}", Escaped(file), ReadFault::TooLong),
+        Error::TooLong(file) => writeln!(err, "file {}: too long", Escaped(file)),
         Error::NoNames(file) => writeln!(err, "file {}: names no report", Escaped(file)),
         Error::Unwritten(file) => writeln!(err, "file {}: cannot be written", Escaped(file)),
         Error::Event(line) => writeln!(err, "event {line}: refused"),
