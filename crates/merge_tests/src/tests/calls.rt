@@ -24,7 +24,8 @@ pub(crate) const AT_FIRST_FACT: Refusal = Refusal {
     place: Place::Fact(1),
 };
 
-fn report(alloc: Global, facts: &str) -> Result<Encoded, AllocError> {
+/// A report with these facts.
+pub(crate) fn report(alloc: Global, facts: &str) -> Result<Encoded, AllocError> {
     let text = format!(in alloc; "{INFO}{facts}{END}")?;
     Encoded::new(alloc, text.as_bytes())
 }

@@ -1,5 +1,5 @@
-use super::{HUNDRED_ONE, NINE_EVENTS, are_parts, played, with_memory, writes};
-use crate::tests::calls::{ABOVE, AT_FIRST_FACT, HUNDRED, UNBOUND};
+use super::{HUNDRED_ONE, NINE_EVENTS, THREE, are_parts, played, with_memory, writes};
+use crate::tests::calls::{AT_FIRST_FACT, HUNDRED, UNBOUND};
 use crate::tests::sinks::sheet;
 use fact_base::{Base, Evidence};
 use oim_merge::{ReplayFault, Replayed};
@@ -27,8 +27,6 @@ const ALL_THREE: Parts = &[
     r#","f3":{"decimals":0,"dimensions":{"concept":"n1:A"},"value":"102"}"#,
     END,
 ];
-
-const THREE: &[&str] = &[HUNDRED, HUNDRED_ONE, ABOVE];
 
 /// A schedule and its result. The schedule contains the facts of the reports and the lines of the
 /// events. The result contains the texts of the replicas, the sent texts, and for each refused take
