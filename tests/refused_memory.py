@@ -10,14 +10,14 @@ none. Each later run refuses one request. A test must pass and print that a call
 setup got none (`refused here`). If the test prints neither, the request counts as passed over. The program runs on each
 command line in LINES. The program must print the line `out of memory` and end with status 3, or end as if nothing was refused.
 Before `out of memory`, the program may write a first part of its text. Some requests may be refused without harm: those for
-reading a report in pieces, since the report is then read whole, and for clap's search for similar words. So in the tests of
-crates that read reports or command lines, no request counts as passed over. The same holds for the tests in DEVICE_FAILS_TOO. JOBS processes run in
+reading a report in pieces, since the report is then read whole; for a cache; for a smaller block, which returns unused memory;
+and for clap's search for similar words. If a test in DOES_WITHOUT prints neither line, the request counts as a whole answer;
+a line reports how many there are. In the tests in DEVICE_FAILS_TOO, no request counts as passed over. JOBS processes run in
 parallel, as many as there are processors by default. If a test makes more than 5,000 requests, only each 7th is refused from
-request 2,001 on. Fewer are refused if a test makes more than 50,000 requests, or if its runs are long. If some requests are
-left out, a line reports which were refused.
+request 2,001 on. Fewer are refused if a test makes more than 50,000 requests, or if its runs are long. A line reports which.
 
-Status 0: nothing failed and nothing was passed over. 1: something failed or was passed over. 2: a name is unknown, there is no
-cc, or tests or the program are not built or are older than the sources.
+Status 0: nothing failed and nothing was passed over. 1: something failed or was passed over, or no run of a crate in
+WRITES_FRONTS had written a first part. 2: a name is unknown, there is no cc, or a built file is missing or out of date.
 """
 import argparse
 import collections
@@ -50,23 +50,28 @@ SHOWN = 20
 CALL, HERE, WHOLE, DEVICE, PASSED, FAILED = "refused calls", "refused here", "whole answers", "device first", "passed over", "failed"
 CLOCK, PROCESSOR = "seconds", "of a processor"
 COLUMNS = ("tests", "requests", "refused in turn", CALL, HERE, WHOLE, DEVICE, PASSED, FAILED, CLOCK, PROCESSOR)
+
+
+def labels(names_of_crates):
+    """Returns the beginnings of labels, from the beginnings of the names of tests."""
+    return tuple(f"{crate} tests::{name}" for crate, names in names_of_crates.items() for name in names.split())
+
+
 # in these tests a device fails too, and the run may end with that fault: either a buffer that gets no memory writes its waiting
 # bytes to the failing device, or standard error is full and the line about memory is lost
-DEVICE_FAILS_TOO = {
-    "merge_tests tests::written::writers::a_writer_may_stop_about_a_chunk",
-    "merge_tests tests::sources::sources_are_written_up_to_a_place",
-    "merge_tests tests::writers::a_base_is_written_up_to_each_place",
-    "merge_tests tests::writers::a_bundle_of_a_number_is_merged_up_to_each_place",
-    "merge_tests tests::writers::a_bundle_of_numbers_is_merged_up_to_each_place",
-    "merge_tests tests::writers::a_number_is_merged_up_to_each_place",
-    "merge_tests tests::writers::a_verdict_is_written_up_to_each_place",
-    "merge_tests tests::writers::numbers_are_merged_up_to_each_place",
-    "command_tests tests::files::files_are_read_and_answered",
-    "command_tests tests::run::a_full_device_ends_the_run",
-    "command_tests tests::run::an_output_that_failed_is_not_flushed",
-}
-# the tests of these crates read reports or command lines, and reading succeeds if only a cache or clap's search gets no memory
-READ_REPORTS = {"report_tests", "merge_tests", "command_tests"}
+DEVICE_FAILS_TOO = labels({
+    "merge_tests": "sources::sources_are_written_up_to_a_place writers:: written::writers::a_writer_may_stop",
+    "command_tests": "files:: run::a_full_device run::an_output_that_failed"})
+# these tests read an accepted report, read a source to its end, or give clap a wrong word
+DOES_WITHOUT = labels({
+    "report_tests": "base:: explained::faults_of_reports reports::accepted:: reports::documents:: reports::facts:: reports::faults:: "
+                    "reports::identifiers::a_report reports::limits:: reports::pieces:: reports::readers:: reports::said::",
+    "merge_tests": "calls:: checked:: io::long_sources io::sources refused:: replay::by_hand:: replay::schedules:: rows:: "
+                   "sinks::prefixes sources::each_fact_object texts::levels::a_text_is_held texts::parts:: texts::texts",
+    "command_tests": "run::a_failing_standard_error run::a_refused run::a_text_that_is_not_flushed run::no_report "
+                     "terminals::standard_input words::other_words words::usage"})
+# the tests of these crates print how much of a text was written before a call got no memory
+WRITES_FRONTS = {"merge_tests"}
 
 # a test, or the program on a command line; `whole` is the program's result when nothing is refused, and None for a test
 Subject = collections.namedtuple("Subject", "label command given whole")
@@ -143,7 +148,7 @@ def ending_of_test(subject, ran):
     if ran.status != 0:
         return FAILED
     said = set(re.findall(rb"^ *(refused(?: here)?)$", ran.out + b"\n" + ran.err, re.MULTILINE))
-    untold = DEVICE if subject.label in DEVICE_FAILS_TOO else WHOLE if subject.label.split()[0] in READ_REPORTS else PASSED
+    untold = DEVICE if subject.label.startswith(DEVICE_FAILS_TOO) else WHOLE if subject.label.startswith(DOES_WITHOUT) else PASSED
     return CALL if b"refused" in said else HERE if said else untold
 
 
@@ -174,8 +179,7 @@ def told_of(subject, ran):
 
 def fronts_of(subject, ran):
     """Returns the counters to raise: `fronts` if a part of the text was written before the refusal, and also `long fronts` if
-    at least CHUNK bytes were. The tests print how many bytes of the text their sink took.
-    """
+    at least CHUNK bytes were. The tests print how many bytes of the text their sink took."""
     told = [len(ran.out)] if subject.whole else [int(it) for it in re.findall(rb"^ *written (\d+)$", ran.err, re.MULTILINE)]
     longest = max(told, default=0)
     return ["fronts"] * (longest > 0) + ["long fronts"] * (longest >= CHUNK)
@@ -187,14 +191,14 @@ def spent():
 
 
 def refuse(task):
-    """Refuses these requests in turn. Returns the counts of the results, and a text for each that is not as expected."""
+    """Refuses these requests in turn. Returns the counts of the results, and of the subject's whole answers, and all faults."""
     library, subject, numbers = task
     counts, wrong, before = collections.Counter(), [], spent()
     for number in numbers:
         ran = run(library, subject, number)
         ends = ending(subject, ran)
         counts.update(("refused in turn", ends))
-        counts.update(fronts_of(subject, ran) if ends == CALL else ())
+        counts.update(fronts_of(subject, ran) if ends == CALL else [subject] if ends == WHOLE else ())
         if ends in (PASSED, FAILED):
             wrong.append(f"{subject.label}, request {number}: {ends}: {told_of(subject, ran)}")
     counts[PROCESSOR] = spent() - before
@@ -242,8 +246,8 @@ def shared_out(library, subject, numbers):
 
 
 def sweep(pool, library, subjects):
-    """Refuses the requests of each subject. Returns the row of the table, the faults, and a line for each subject whose
-    requests were not all refused."""
+    """Refuses the requests of each subject. Returns the row of the table, the faults, a line for each subject whose requests were
+    not all refused, and a line for each test in DOES_WITHOUT."""
     started = time.monotonic()
     all_counted = pool.map(count_requests, [(library, subject) for subject in subjects], 1)
     wrong = [line for counted in all_counted for line in counted.wrong]
@@ -258,7 +262,7 @@ def sweep(pool, library, subjects):
         row += counts
         wrong += lines
     row[CLOCK] = round(time.monotonic() - started)
-    return row, wrong, thinned
+    return row, wrong, thinned + [f"{it.label}: {row[it]:,} whole answers" for it in subjects if it.label.startswith(DOES_WITHOUT)]
 
 
 def tests_of(crate):
@@ -376,9 +380,11 @@ def main():
             print(f"tests/refused_memory: {missing} (`rt all test` makes the tests, and ./build makes the program)", file=sys.stderr)
             return 2
         for name, found in subjects.items():
-            row, wrong, thinned = sweep(pool, library, found)
+            row, wrong, lines = sweep(pool, library, found)
+            if name in WRITES_FRONTS and not row["fronts"]:
+                wrong.append(f"{name}: no run had written a first part of a text when it got no memory")
             rows.append((name, row))
-            said += thinned
+            said += lines
             failed = failed or bool(wrong)
             print(f"{name}: {row['refused in turn']:,} requests refused in {row[CLOCK]} seconds", *wrong[:SHOWN],
                   *[f"and {len(wrong) - SHOWN} more"] * (len(wrong) > SHOWN), sep="\n    ", flush=True)
