@@ -1,12 +1,11 @@
 use crate::tests::calls::HUNDRED;
 use oim_merge::{ReadFault, Source, StdSource, read_all};
 use oim_write::Encoded;
-use std::io::{self, Read, Write};
+use std::io::{self, Read};
 use std::test::Fail;
 use test_helpers::asked_again::{INFO, SHEET, joined, tell_refused};
 use test_helpers::canonical_parts::END;
 use test_helpers::devices::{STEPS, Step, TestReader, Then};
-use test_helpers::expecting::Expecting;
 
 // After a refused request for memory, the call is repeated on a new device. A line on standard
 // error reports the refused request.
@@ -87,69 +86,46 @@ fn sources_stop_at_each_place_of_a_bundle(rt: HostRuntime) -> Result<(), Fail> {
     Ok(())
 }
 
-// What a source returns, its steps and its end, the limit, and the result.
-type Row = (
-    &'static [u8],
-    Step,
-    Then,
-    u32,
-    Result<&'static [u8], ReadFault>,
-);
-
-const ROWS: [Row; 11] = [
-    (b"12345", Step::All, Then::Ends, 5, Ok(b"12345")),
-    (b"12345", Step::Few(1), Then::Ends, 5, Ok(b"12345")),
-    (
-        b"12345",
-        Step::Few(2),
-        Then::Ends,
-        2_147_483_648,
-        Ok(b"12345"),
-    ),
-    (b"12345", Step::All, Then::Ends, 4, Err(ReadFault::TooLong)),
-    (
-        b"12345",
-        Step::Few(1),
-        Then::Ends,
-        4,
-        Err(ReadFault::TooLong),
-    ),
-    (b"", Step::Few(1), Then::Ends, 0, Ok(b"")),
-    (b"", Step::Few(1), Then::GoesOn, 0, Err(ReadFault::TooLong)),
-    (b"", Step::Few(1), Then::GoesOn, 4, Err(ReadFault::TooLong)),
-    (b"", Step::All, Then::GoesOn, 4, Err(ReadFault::TooLong)),
-    (b"12", Step::All, Then::Fails, 4, Err(ReadFault::Device(2))),
-    (
-        b"12",
-        Step::Few(1),
-        Then::IsInterrupted,
-        4,
-        Err(ReadFault::Device(2)),
-    ),
+/// The bytes of a source, and a limit that is not less than their number.
+const WITHIN: [(&[u8], u32); 4] = [
+    (b"12345", 5),
+    (b"12345", 2_147_483_648),
+    (b"12", 4),
+    (b"", 0),
 ];
 
-fn row_holds(rt: &HostRuntime, row: &Row) -> bool {
-    answers(rt, TestReader::new(row.0, row.1, row.2), row.3, row.4)
+/// True if the result is `TooLong` with each of `STEPS`.
+fn is_too_long(rt: &HostRuntime, front: &[u8], then: Then, limit: u32) -> bool {
+    for step in STEPS {
+        let reader = TestReader::new(front, step, then);
+        if !answers(rt, reader, limit, Err(ReadFault::TooLong)) {
+            return false;
+        }
+    }
+    true
+}
+
+fn is_read_in_twos(rt: &HostRuntime) -> bool {
+    let reader = TestReader::new(b"12345", Step::Few(2), Then::Ends);
+    answers(rt, reader, 2_147_483_648, Ok(b"12345"))
 }
 
 #[test]
 fn sources_are_read_to_their_end(rt: HostRuntime) {
-    for row in &ROWS {
+    for (bytes, limit) in WITHIN {
         assert!(rt;
-            row_holds(&rt, row),
-            "at {:?} with the limit {}",
-            row.0,
-            row.3
+            stops_behind(&rt, bytes, limit),
+            "at {bytes:?} with the limit {limit}"
         );
     }
+    assert!(rt; is_read_in_twos(&rt));
 }
 
-// The program prints `too long` after the name of the file.
 #[test]
-fn a_source_that_is_too_long_is_called_so(rt: HostRuntime) {
-    let mut out = Expecting::just(b"too long");
-    let written = write!(out, "{}", ReadFault::TooLong);
-    assert!(rt; written.is_ok() && out.is_met());
+fn longer_sources_are_too_long(rt: HostRuntime) {
+    assert!(rt; is_too_long(&rt, b"12345", Then::Ends, 4));
+    assert!(rt; is_too_long(&rt, b"", Then::GoesOn, 0));
+    assert!(rt; is_too_long(&rt, b"", Then::GoesOn, 4));
 }
 
 const LONG: u32 = 200_000;
