@@ -1,11 +1,17 @@
 -- The loop over sorted facts: the level so far is the level of the facts so far.
-use Rattle.std.proofs.Common.{◌≡◌, ℕ, ◌<◌, ◌≤◌, ◌+◌, Bool, true, false, not, ◌&&◌, List, [], ◌∷◌, ◌++◌, append_assoc, append-nil, length, drop, get_or, refl, sym, ap, subst, ◌∙◌, All, Option, Some, slice_get, ◌||◌}
+use Rattle.std.proofs.Common.{◌≡◌, ◌==◌, ℕ, suc, ◌<◌, ◌≤◌, ◌+◌, Bool, true, false, not, ◌&&◌, List, [], ◌∷◌, ◌++◌, append_assoc, append-nil, length, take, drop, get_or, refl, sym, ap, subst, ◌∙◌, All, Option, Some, slice_get, ◌||◌, arith}
 use Rattle.std.specs.List.{list_all, list_any}
 use Rattle.std.specs.Ordering.{is_le, is_lt}
 use Rattle.std.proofs.lemmas.Bool.{false≢true, and_left}
-use Rattle.std.proofs.lemmas.List.{drop_all}
-use Rattle.std.proofs.lemmas.List.Elements.{All-head, All-tail}
-use Rattle.std.proofs.lemmas.List.Folds.{list_all-append}
+use Rattle.std.specs.List.{IsDistinct, range_with_len}
+use Rattle.std.proofs.Math.Dec.{eqb}
+use Rattle.std.proofs.lemmas.Bool.{ne_eqb}
+use Rattle.std.proofs.lemmas.Cmp.{nat_eq_equiv}
+use Rattle.std.proofs.lemmas.List.{append_cancel_right, drop_all, get_or-take, get_or_default, length-take-le, take-append-drop}
+use Rattle.std.proofs.lemmas.List.Elements.{All-head, All-tail, All-take, filter_map-append}
+use Rattle.std.proofs.lemmas.List.Folds.{list_all-append, list_any-append}
+use Rattle.std.proofs.lemmas.List.FromFn.{get_or-range_with_len, length-range_with_len}
+use Rattle.std.proofs.lemmas.Map.Keys.{IsDistinct-from_apart, IsDistinct-IsPermutation, apart_from_distinct}
 use Rattle.std.proofs.lemmas.Option.{slice_get-get_or}
 use Rattle.std.specs.Option.{option_map_or}
 use Rattle.std.proofs.Common.{IsSorted}
@@ -99,50 +105,73 @@ pub second_false : (a b : Bool) → a ≡ true → (a && b) ≡ false → b ≡ 
 second_false true b h both = both
 second_false false b h both = absurd (false≢true h)
 
--- if a level forbids f beside one of the facts at some indices, `are_apart` holds for one of these indices and f's index
-pub one_apart : (l : Level) (facts : List Fact) (place : ℕ) (f : Fact) → slice_get facts place ≡ Some f → (places : List ℕ) → All (λ p. p < length facts) places → list_all (λ g. allows l g f) (facts_at facts places) ≡ false → list_any (λ one. are_apart l facts one place) places ≡ true
-one_apart l facts place f here [] within h = absurd (false≢true (sym h))
-one_apart l facts place f here (p ∷ ps) within h =
+-- if a level forbids f beside one of the facts at some other indices, `are_apart` holds for one of these indices and f's index
+pub one_apart : (l : Level) (facts : List Fact) (place : ℕ) (f : Fact) → slice_get facts place ≡ Some f → (places : List ℕ) → All (λ p. p < length facts) places → All (λ p. (p == place) ≡ false) places → list_all (λ g. allows l g f) (facts_at facts places) ≡ false
+    → list_any (λ one. are_apart l facts one place) places ≡ true
+one_apart l facts place f here [] within others h = absurd (false≢true (sym h))
+one_apart l facts place f here (p ∷ ps) within others h =
     let lp : p < length facts = All-head (λ p. p < length facts) p ps within in
     let g : Fact = get_or facts p f in
-    let apart : are_apart l facts p place ≡ not (allows l g f) = apart_is g (slice_get facts p) (slice_get facts place) (slice_get-get_or facts p f lp) here in
+    let apart : are_apart l facts p place ≡ not (allows l g f) =
+    apart_is g (p == place) (slice_get facts p) (slice_get facts place) (All-head (λ p. (p == place) ≡ false) p ps others) (slice_get-get_or facts p f lp) here in
     either (allows l g f) (list_all (λ g. allows l g f) (facts_at facts ps)) (are_apart l facts p place) (list_any (λ one. are_apart l facts one place) ps)
-    apart (one_apart l facts place f here ps (All-tail (λ p. p < length facts) p ps within)) (ap (list_all (λ g. allows l g f)) (sym (facts_at-cons facts p ps f lp)) ∙ h)
+    apart (one_apart l facts place f here ps (All-tail (λ p. p < length facts) p ps within) (All-tail (λ p. (p == place) ≡ false) p ps others)) (ap (list_all (λ g. allows l g f)) (sym (facts_at-cons facts p ps f lp)) ∙ h)
   where
-    apart_is : (g : Fact) (a b : Option Fact) → a ≡ Some g → b ≡ Some f → option_map_or (λ x. option_map_or (λ y. not (allows l x y)) b false) a false ≡ not (allows l g f)
-    apart_is g a b one other = (λ k. option_map_or (λ x. option_map_or (λ y. not (allows l x y)) (other k) false) (one k) false)
+    apart_is : (g : Fact) (same : Bool) (a b : Option Fact) → same ≡ false → a ≡ Some g → b ≡ Some f → (not same && option_map_or (λ x. option_map_or (λ y. not (allows l x y)) b false) a false) ≡ not (allows l g f)
+    apart_is g same a b other one two = (λ k. not (other k) && option_map_or (λ x. option_map_or (λ y. not (allows l x y)) (two k) false) (one k) false)
 
     either : (a b x y : Bool) → x ≡ not a → (b ≡ false → y ≡ true) → (a && b) ≡ false → (x || y) ≡ true
     either true b x y is later h = ap (λ z. z || y) is ∙ later h
     either false b x y is later h = ap (λ z. z || y) is
 
--- if the level exceeds the limit after the fact f, the limit forbids f beside some fact
-pub passed_above : (facts : List Fact) (order rest : List ℕ) (i : ℕ) (limit : Level) (last f : Fact) (shared later : Option Interval) (level found : Level) → IsOrderOf facts order → i < length rest → get_or rest i 0 < length facts → f ≡ get_or facts (get_or rest i 0) f
+range_once : (n : ℕ) → IsDistinct eqb (range_with_len 0 n)
+range_once n = IsDistinct-from_apart eqb (range_with_len 0 n) (λ i j d before within.
+    let there : j < n = omega (arith, within, length-range_with_len 0 n) in
+    let first = get_or-range_with_len 0 n i d (omega (arith, before, there)) in
+    let second = get_or-range_with_len 0 n j d there in
+    ne_eqb (get_or (range_with_len 0 n) i d) (get_or (range_with_len 0 n) j d) (λ e. omega (arith, e, before, first, second)))
+
+-- the index after the first i indices is none of them
+others_before : (facts : List Fact) (order : List ℕ) (i : ℕ) → IsOrderOf facts order → i < length order → All (λ p. (p == get_or order i 0) ≡ false) (take i order)
+others_before facts order i sorted here k d under =
+    let once : IsDistinct eqb order = IsDistinct-IsPermutation eqb nat_eq_equiv.symm (range_with_len 0 (length facts)) order sorted.each_once (range_once (length facts)) in
+    let long = length-take-le i order (omega (arith, here)) in
+    let low : k < i = omega (arith, under, long) in
+    let first : get_or (take i order) k d ≡ get_or order k 0 = get_or-take i order k d low ∙ get_or_default order k d 0 (omega (arith, low, here)) in
+    ap (λ p. p == get_or order i 0) first ∙ apart_from_distinct eqb order k i 0 once low here
+
+-- if the level exceeds the limit after the fact f, the limit forbids f beside an earlier fact
+pub passed_above : (facts : List Fact) (order rest : List ℕ) (head i : ℕ) (limit : Level) (last f : Fact) (shared later : Option Interval) (level found : Level) → IsOrderOf facts order → order ≡ head ∷ rest → i < length rest → get_or rest i 0 < length facts → f ≡ get_or facts (get_or rest i 0) f
     → is_lt (level_cmp limit level) ≡ false → is_lt (level_cmp limit found) ≡ true → (passed : Passed facts order rest i last shared level) → ((fs : List Fact) → walk last shared level (f ∷ fs) ≡ walk f later found fs)
     → list_any (λ one. are_apart limit facts one (get_or rest i 0)) order ≡ true
 unfolding passed_one
-passed_above facts order rest i limit last f shared later level found sorted here within is low high passed step =
+passed_above facts order rest head i limit last f shared later level found sorted split here within is low high passed step =
     let earlier : List Fact = passed.first ∷ passed.before in
-    let after : List Fact = facts_at facts (drop (i + 1) rest) in
+    let place : ℕ = get_or rest i 0 in
+    let places : List ℕ = take (suc i) order in
     let next = passed_one facts order rest i last f shared later level found here within is step passed in
     let allowed : allows_each limit earlier ≡ true = allowed_within limit level earlier (level_so_far facts order rest i last shared level passed) ∙ ap not low in
     let refused : allows_each limit (earlier ++ f ∷ []) ≡ false = allowed_within limit found (earlier ++ f ∷ []) (level_so_far facts order rest (i + 1) f later found next) ∙ ap not high in
     let apart : list_all (λ g. allows limit g f) earlier ≡ false = second_false _ _ allowed (sym (allows_each-push limit earlier f) ∙ refused) in
-    let all : list_all (λ g. allows limit g f) (facts_at facts order) ≡ false =
-    ap (list_all (λ g. allows limit g f)) passed.are
-    ∙ list_all-append (λ g. allows limit g f) earlier (facts_at facts (drop i rest))
-    ∙ and_left _ _ apart in
-    one_apart limit facts (get_or rest i 0) f (slice_get-get_or facts (get_or rest i 0) f within ∙ ap Some (sym is)) order (places_within facts order sorted) all
+    let parts : places ++ drop i rest ≡ order = ap (λ ps. places ++ ps) (sym (ap (drop (suc i)) split)) ∙ take-append-drop (suc i) order in
+    let are : facts_at facts places ≡ earlier = append_cancel_right (facts_at facts places) earlier (facts_at facts (drop i rest)) (sym (filter_map-append (slice_get facts) places (drop i rest)) ∙ ap (facts_at facts) parts ∙ passed.are) in
+    let there : suc i < length order = subst (λ ps. suc i < length ps) (sym split) (omega (arith, here)) in
+    let others : All (λ p. (p == place) ≡ false) places = subst (λ q. All (λ p. (p == q) ≡ false) places) (ap (λ ps. get_or ps (suc i) 0) split) (others_before facts order (suc i) sorted there) in
+    let one : list_any (λ one. are_apart limit facts one place) places ≡ true =
+    one_apart limit facts place f (slice_get-get_or facts place f within ∙ ap Some (sym is)) places (All-take (λ p. p < length facts) (suc i) order (places_within facts order sorted)) others (ap (list_all (λ g. allows limit g f)) are ∙ apart) in
+    ap (list_any (λ one. are_apart limit facts one place)) (sym parts)
+    ∙ list_any-append (λ one. are_apart limit facts one place) places (drop i rest)
+    ∙ ap (λ b. b || list_any (λ one. are_apart limit facts one place) (drop i rest)) one
 
 -- the level `All` allows any two facts
 pub none_apart : (facts : List Fact) (place : ℕ) (places : List ℕ) → list_any (λ one. are_apart AllLevel facts one place) places ≡ false
 none_apart facts place [] = refl
-none_apart facts place (p ∷ ps) = ap (λ b. b || list_any (λ one. are_apart AllLevel facts one place) ps) (never (slice_get facts p) (slice_get facts place)) ∙ none_apart facts place ps
+none_apart facts place (p ∷ ps) = ap (λ b. b || list_any (λ one. are_apart AllLevel facts one place) ps) (never (not (p == place)) (slice_get facts p) (slice_get facts place)) ∙ none_apart facts place ps
   where
     free : (b : Bool) → not (not b || true) ≡ false
     free true = refl
     free false = refl
 
-    never : (a b : Option Fact) → option_map_or (λ f. option_map_or (λ g. not (allows AllLevel f g)) b false) a false ≡ false
-    never (Some f) (Some g) = free (are_duplicates f g)
-    never a b = refl
+    never : (c : Bool) (a b : Option Fact) → (c && option_map_or (λ f. option_map_or (λ g. not (allows AllLevel f g)) b false) a false) ≡ false
+    never true (Some f) (Some g) = free (are_duplicates f g)
+    never c a b = refl

@@ -79,7 +79,7 @@ fn are_apart(facts: &[Fact], one: usize, other: usize, level: Level) -> bool
     ensures { result ≡ are_apart level facts.now one other }
 {
     match (facts.get(one), facts.get(other)) {
-        (Some(one), Some(other)) => !allows(level, one, other),
+        (Some(fact), Some(beside)) => one != other && !allows(level, fact, beside),
         _ => false,
     }
 }

@@ -69,7 +69,7 @@ loop-place-preserved c =
 pub returns-then-lt-clause-above : goal.returns-then-lt-clause-above
 returns-then-lt-clause-above c =
     let after = (goal.at.returns-then-lt-clause-above c).After-lt in
-    passed_above c.args.facts.now c.args.order.now c.in-Some.rest.now c.loop-place.place-index c.args.limit c.loop-place.last.now c.index-facts-place.result c.loop-place.shared c.if-eq.shared c.loop-place.level c.if-eq.level c.requires c.loop-place-test.true (within after) c.index-facts-place.is
+    passed_above c.args.facts.now c.args.order.now c.in-Some.rest.now c.in-Some.first.now c.loop-place.place-index c.args.limit c.loop-place.last.now c.index-facts-place.result c.loop-place.shared c.if-eq.shared c.loop-place.level c.if-eq.level c.requires c.in-Some.ensures.cases.0 c.loop-place-test.true (within after) c.index-facts-place.is
     c.loop-place.invariant.1 (sym (lesser_levels_tie c.args.limit c.if-eq.level) ∙ sym c.lt.ensures ∙ c.if-lt.true) c.loop-place.invariant.0 (step after)
 
 pub returns-clause-level : goal.returns-clause-level
