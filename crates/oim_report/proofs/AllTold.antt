@@ -8,8 +8,7 @@ use Rattle.oim_names.specs.declared.reason.Reason.TheVariants.{MemberForm, Unkno
 use Rattle.serde_json.specs.Data.{Data}
 use Rattle.oim_report.specs.Sheet.{Sheet}
 use Rattle.oim_report.specs.Holds.{document_holds, holds}
-use Rattle.oim_report.specs.Least.{told}
-use Rattle.oim_report.specs.Shown.{is_shown}
+use Rattle.oim_report.specs.Least.{is_shown, told}
 
 abbrev pub of_fact : List Reason
 of_fact = MemberForm ∷ UnknownMember ∷ Links ∷ Notes ∷ DimensionsMissing ∷ NameForm ∷ UnboundPrefix ∷ ReservedNamespace ∷ MissingConcept ∷ UnknownConcept ∷ UnknownDimension ∷ DimensionValue ∷ PeriodForm ∷ PeriodOrder ∷ UnitForm ∷ UnitOnOther ∷ LanguageForm ∷ LanguageOnNumeric ∷ ValueForm ∷ NumberForm ∷ NumberDigits ∷ DecimalsForm ∷ DecimalsRange ∷ DecimalsOnOther ∷ []

@@ -26,7 +26,7 @@ use Rattle.oim_dims.specs.declared.member.Member.{Member}
 use Rattle.oim_dims.specs.declared.member.Member.TheVariants.{Nil as NoMember, Text as MemberText, Name as MemberName}
 use Rattle.oim_dims.specs.declared.period.Period.{Period}
 use Rattle.oim_dims.specs.declared.period.Period.TheVariants.{Forever, Instant, Duration}
-use Rattle.serde_json.specs.Data.{Data, null, no_members}
+use Rattle.serde_json.specs.Data.{Data}
 use Rattle.oim_report.specs.declared.concept_kind.ConceptKind.{ConceptKind}
 use Rattle.oim_report.specs.declared.concept_kind.ConceptKind.TheVariants.{Numeric, Text, Name}
 use Rattle.oim_report.specs.declared.dimension_kind.DimensionKind.{DimensionKind}
@@ -34,8 +34,8 @@ use Rattle.oim_report.specs.declared.dimension_kind.DimensionKind.TheVariants.{E
 use Rattle.oim_report.specs.Holds.{as_text, explicit_text, is_some_and, lacks_moment, misfits, pieces, runs_backward}
 use Rattle.oim_report.specs.Json.{Given, absent, nil, text, whole, other, given, is_absent, is_no_text, text_of}
 use Rattle.oim_report.specs.Names.{comes_again, entity_named, named, named_as, names_refusal}
-use Rattle.oim_report.specs.Said.{all_named, concept_kind, dimension_kind, dimension_names, in_order, members_with, said_concept, said_decimals, said_entity, said_language, said_member, said_members, said_period, said_unit, side_of, unit_with, value_with}
-use Rattle.oim_report.specs.Sheet.{Sheet, same_concept_kind, same_dimension_kind}
+use Rattle.oim_report.specs.Said.{all_named, concept_kind, dimension_names, in_order, members_with, said_concept, said_decimals, said_entity, said_language, said_member, said_members, said_period, said_unit, side_of, unit_with, value_with}
+use Rattle.oim_report.specs.Sheet.{Sheet, dimension_kind, same_concept_kind, same_dimension_kind}
 use Rattle.oim_report.proofs.Accepted.{and_then_some, map_some}
 use Rattle.oim_report.proofs.MembersSay.{once_said}
 use Rattle.oim_report.proofs.SheetEntries.{first_free, name_more, names-parts, names_append}
@@ -308,7 +308,7 @@ member_said bs Typed d =
 
 module _ (sheet : Sheet) (bs : List Binding) where
   abbrev pub names_in : List ℕ × Data → List Spelled
-  names_in m = a_name m.0 ∷ map a_name (option_to_list (explicit_text sheet bs null no_members m))
+  names_in m = a_name m.0 ∷ map a_name (option_to_list (explicit_text sheet bs m))
 
   abbrev pub is_unlisted : List ℕ × Data → Bool
   is_unlisted m = is_some_and (λ n. is_none (map_of.get sheet.dimensions n)) (named bs m.0)

@@ -23,8 +23,8 @@ use Rattle.oim_report.specs.Fact.{SaysDimension, SaysMember, SaysMembers, GivesT
 use Rattle.oim_report.specs.FactFits.{DimensionFits, MemberFits}
 use Rattle.oim_report.specs.Json.{Given, nil, text}
 use Rattle.oim_report.specs.Names.{comes_again, named}
-use Rattle.oim_report.specs.Said.{dimension_kind, dimension_names, members_with, said_member, said_members}
-use Rattle.oim_report.specs.Sheet.{Sheet}
+use Rattle.oim_report.specs.Said.{dimension_names, members_with, said_member, said_members}
+use Rattle.oim_report.specs.Sheet.{Sheet, dimension_kind}
 use Rattle.oim_report.specs.declared.fact.json_member.JsonMember.{JsonMember}
 use Rattle.oim_report.specs.code.JsonMember.{seen}
 use Rattle.oim_report.specs.code.SeenParts.{seen_defined}

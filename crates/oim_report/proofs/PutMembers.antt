@@ -15,7 +15,7 @@ use Rattle.serde_json.specs.Read.{of_json, of_members}
 use Rattle.serde_json.proofs.Views.{get_member-put, get_member-put_other}
 use Rattle.oim_report.specs.FactObject.{put_text}
 use Rattle.oim_report.specs.Json.{Given, given, any_member, has_colon, is_unknown}
-use Rattle.oim_report.specs.Parts.{defined_in}
+use Rattle.oim_report.specs.Parts.{defined_in, is_defined}
 use Rattle.oim_report.specs.PlainJson.{IsBefore}
 use Rattle.oim_report.specs.ReadBack.{with_given}
 use Rattle.oim_report.specs.code.TapeParts.{Ascends}
@@ -44,9 +44,6 @@ ascends_put k d (member l e ms) h =
       | Equal ↦ λ o. h
       | Greater ↦ λ o. (before_put l k d ms (nat_list_cmp_total.antisymm l k ∙ ap ordering_reverse o) h.0, ascends_put k d ms h.1)
     ] refl
-
-abbrev is_defined : List ℕ → Bool
-is_defined key = has_colon key && is_utf8 key
 
 before_kept : (key : List ℕ) (g : Given) (ms : Members) → IsBefore key ms → with_given key g (defined_in ms) ≡ (key, g) ∷ defined_in ms
 before_kept key g no_members h = refl

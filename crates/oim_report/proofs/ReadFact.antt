@@ -30,8 +30,8 @@ use Rattle.oim_report.specs.declared.dimension_kind.DimensionKind.TheVariants.{E
 use Rattle.oim_report.specs.Names.{comes_again, named}
 use Rattle.oim_report.specs.Fact.{SaysMember, SaysDimension, SaysFact, SaysDimensions}
 use Rattle.oim_report.specs.FactFits.{MemberFits, DimensionFits, UnitFits, MeasuresFit, FactFits}
-use Rattle.oim_report.specs.Said.{dimension_kind, dimension_names, members_with, said_member, said_members, fact_of, fact_with, said_dimensions}
-use Rattle.oim_report.specs.Sheet.{Sheet}
+use Rattle.oim_report.specs.Said.{dimension_names, members_with, said_member, said_members, fact_of, fact_with, said_dimensions}
+use Rattle.oim_report.specs.Sheet.{Sheet, dimension_kind}
 use Rattle.oim_report.specs.declared.concept_kind.ConceptKind.{ConceptKind}
 use Rattle.oim_report.specs.Parts.{DimensionParts, FactParts, fact_parts}
 use Rattle.oim_report.specs.FactObject.{option_spelled, option_unit_text, fact_object}

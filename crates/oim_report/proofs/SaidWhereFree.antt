@@ -19,11 +19,11 @@ use Rattle.serde_json.specs.Data.{Data, Members, object}
 use Rattle.serde_json.specs.Find.{as_object, get_member}
 use Rattle.oim_report.specs.declared.concept_kind.ConceptKind.{ConceptKind}
 use Rattle.oim_report.specs.declared.concept_kind.ConceptKind.TheVariants.{Numeric, Text, Name}
-use Rattle.oim_report.specs.Holds.{as_text, defined, holds, holds_with, is_kind, is_some_and, lacks_moment, names, no_text, pieces, runs_backward}
+use Rattle.oim_report.specs.Holds.{as_text, holds, holds_with, is_kind, is_some_and, lacks_moment, names, no_text, pieces, runs_backward}
 use Rattle.oim_report.specs.Json.{given_of, is_absent, is_no_object, members, text_of}
 use Rattle.oim_report.specs.Names.{comes_again, named, names_refusal}
 use Rattle.oim_report.specs.Outcome.{FactsAreSaid, IsFree, fact_or, fact_outcome}
-use Rattle.oim_report.specs.Parts.{DimensionParts, FactParts, HasForm, dimension_parts, fact_parts, parts_of}
+use Rattle.oim_report.specs.Parts.{DimensionParts, FactParts, HasForm, defined_members, dimension_parts, fact_parts, parts_of}
 use Rattle.oim_report.specs.Said.{concept_kind, fact_of, fact_with, said_concept, said_dimensions, said_fact, said_members, said_value, value_with}
 use Rattle.oim_report.specs.Sheet.{Sheet, same_concept_kind}
 use Rattle.oim_report.proofs.Accepted.{EachSays, IsSaid, and_then_some, is_said, map_some}
@@ -137,7 +137,7 @@ module _ (sheet : Sheet) (bs : List Binding) (fms ms : Members) where
   of_entity = map an_entity (option_to_list (option_and_then as_text (at (codes "entity"))))
 
   abbrev of_defined : List Spelled
-  of_defined = flat_map (names_in sheet bs) (defined sheet bs fact ms)
+  of_defined = flat_map (names_in sheet bs) (defined_members ms)
 
   abbrev of_unit : List Spelled
   of_unit = map a_name (option_map_or pieces (option_and_then as_text (at (codes "unit"))) [])
@@ -199,7 +199,7 @@ module _ (sheet : Sheet) (bs : List Binding) (fms ms : Members) where
 
     -- ---- if each part is free, no condition applies
 
-    module _ (free : PartsFree sheet bs kind (parts_of fms) ds (defined sheet bs fact ms)) (form : HasForm (parts_of fms) ds) (is : option_and_then as_object (get_member (codes "dimensions") fms) ≡ Some ms) where
+    module _ (free : PartsFree sheet bs kind (parts_of fms) ds (defined_members ms)) (form : HasForm (parts_of fms) ds) (is : option_and_then as_object (get_member (codes "dimensions") fms) ≡ Some ms) where
       none_refused_name : AreFree bs (names sheet bs fact ms)
       none_refused_name =
           are_free bs (names sheet bs fact ms)
@@ -267,9 +267,9 @@ module _ (sheet : Sheet) (bs : List Binding) (fms ms : Members) where
       listed = sym unknown_concept ∙ free UnknownConcept;
     }
 
-    free_parts : (kind : ConceptKind) → concept_kind sheet bs ds.concept ≡ Some kind → PartsFree sheet bs kind (parts_of fms) ds (defined sheet bs fact ms)
+    free_parts : (kind : ConceptKind) → concept_kind sheet bs ds.concept ≡ Some kind → PartsFree sheet bs kind (parts_of fms) ds (defined_members ms)
     free_parts kind known =
-        let values = or_parts (list_any (is_misfit sheet bs) (defined sheet bs fact ms)) (comes_again (filter_map (λ m. named bs m.0) (defined sheet bs fact ms))) (free DimensionValue) in
+        let values = or_parts (list_any (is_misfit sheet bs) (defined_members ms)) (comes_again (filter_map (λ m. named bs m.0) (defined_members ms))) (free DimensionValue) in
         record {
           concept = concept_row;
           entity = record { is_text = sym (no_text_same (at (codes "entity"))) ∙ shape.entity_is; names = sym entity_names ∙ each_named.1 };
@@ -290,7 +290,7 @@ module _ (sheet : Sheet) (bs : List Binding) (fms ms : Members) where
     object_says : (f : Fact) × (fact_of sheet bs (parts_of fms) ds ≡ Some f)
     object_says =
         let c = concept_said sheet bs ds.concept concept_row in
-        parts_said sheet bs (parts_of fms) ds (defined sheet bs fact ms) (defined_same ms) c (free_parts c.kind c.listed)
+        parts_said sheet bs (parts_of fms) ds (defined_members ms) (defined_same ms) c (free_parts c.kind c.listed)
 
 -- ---- a fact object that denotes a fact
 
@@ -298,7 +298,7 @@ free_inside : (sheet : Sheet) (bs : List Binding) (fms ms : Members) (f : Fact) 
 unfolding holds
 free_inside sheet bs fms ms f is form said r =
     let all = is_said sheet bs (parts_of fms) (dimension_parts ms) f said in
-    let parts = parts_free sheet bs (parts_of fms) (dimension_parts ms) (defined sheet bs (object fms) ms) f (defined_same ms) all in
+    let parts = parts_free sheet bs (parts_of fms) (dimension_parts ms) (defined_members ms) f (defined_same ms) all in
     ap (λ o. holds_with sheet bs (object fms) (members o) r) is ∙ rows_free sheet bs fms ms all.kind all.listed parts form is r
 
 free_object : (sheet : Sheet) (bs : List Binding) (fms : Members) (ds : DimensionParts) (f : Fact) → HasForm (parts_of fms) ds → fact_of sheet bs (parts_of fms) ds ≡ Some f → IsFree sheet bs (object fms)

@@ -24,9 +24,10 @@ use Rattle.serde_json.specs.Data.{Data, Items, no_items, item, Members, no_membe
 use Rattle.oim_report.specs.Names.{comes_again, named, refuses_some}
 use Rattle.oim_report.specs.declared.dimension_kind.DimensionKind.{DimensionKind}
 use Rattle.oim_report.specs.declared.dimension_kind.DimensionKind.TheVariants.{Explicit}
-use Rattle.oim_report.specs.Shown.{repeated, Shown, declares_no_level, document_part, document_shown, entry, first_item, name, nothing, value, value_or_nothing, when, beside_first, first_shown, seen}
-use Rattle.oim_report.specs.code.Rows.{defined_name, is_defined, misdeclared, defined_members, first_defined, is_misfit, names_at, names_in}
-use Rattle.oim_report.specs.Holds.{any_item, document_holds, concept, explicit_text, is_some_and, names, pieces, text_at, value_text}
+use Rattle.oim_report.specs.Shown.{repeated, Shown, document_part, document_shown, entry, first_item, name, nothing, value, value_or_nothing, when, beside_first, first_shown, seen}
+use Rattle.oim_report.specs.code.Rows.{defined_name, misdeclared, first_defined, names_at, names_in}
+use Rattle.oim_report.specs.Parts.{defined_members, is_defined}
+use Rattle.oim_report.specs.Holds.{any_item, declares_no_level, document_holds, concept, explicit_text, is_misfit, is_some_and, names, pieces, text_at, value_text}
 use Rattle.oim_report.specs.Info.{bindings_of, features_of, info, is_allowed_duplicates, namespaces_of}
 use Rattle.oim_report.specs.Json.{any_in, any_member, entries, members, has_colon}
 use Rattle.oim_report.specs.Namespaces.{binds_nothing}
@@ -296,7 +297,7 @@ module _ (sheet : Sheet) (bs : List Binding) (fact : Data) (ms : Members) (r : R
   first ns = find (refuses r bs) ns
 
   abbrev each : List ℕ × Data → List Spelled
-  each m = a_name m.0 ∷ map a_name (option_to_list (explicit_text sheet bs fact ms m))
+  each m = a_name m.0 ∷ map a_name (option_to_list (explicit_text sheet bs m))
 
   in_defined : (xs : Members) → names_in sheet bs xs ≡ flat_map each (defined_members xs)
   in_defined no_members = refl

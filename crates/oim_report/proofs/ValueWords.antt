@@ -1,11 +1,11 @@
 -- The conditions of `Holds` test values of type `Data`, the reader tests values of type `Given`, and the tests agree.
-use Rattle.std.proofs.Common.{◌≡◌, ℕ, ℤ, pos, List, ◌∷◌, map, Bool, true, false, not, ◌&&◌, cond, refl, ap, filter}
+use Rattle.std.proofs.Common.{◌≡◌, ℕ, ℤ, pos, List, ◌∷◌, map, Bool, true, false, not, ◌&&◌, cond, refl, ap}
 use Rattle.std.specs.Prelude.{⊤, Option, Some, None, is_none, is_some, option_and_then, if◌then◌else◌}
 use Rattle.std.specs.Str.{is_utf8}
 use Rattle.serde_json.specs.Data.{Data, Members, no_members, member, null, number, string, unsigned, negative}
 use Rattle.serde_json.specs.Find.{as_null}
-use Rattle.oim_report.specs.Json.{Given, absent, entries, given, given_of, has_colon, is_absent, is_no_text, nil, other, text, text_of, whole}
-use Rattle.oim_report.specs.Parts.{defined_in}
+use Rattle.oim_report.specs.Json.{Given, absent, given, given_of, has_colon, is_absent, is_no_text, nil, other, text, text_of, whole}
+use Rattle.oim_report.specs.Parts.{defined_in, defined_members}
 use Rattle.oim_report.specs.Holds.{as_text, as_whole, is_some_and, no_text, no_text_or_null}
 
 -- a property holds for each value if it holds for null, texts, whole numbers and all other values
@@ -68,6 +68,6 @@ kept_same : (b : Bool) (key : List ℕ) (d : Data) (xs : List (List ℕ × Data)
 kept_same true key d xs ys same = ap (λ l. (key, given d) ∷ l) same
 kept_same false key d xs ys same = same
 
-pub defined_same : (ms : Members) → defined_in ms ≡ map seen_member (filter (λ m. has_colon m.0 && is_utf8 m.0) (entries ms))
+pub defined_same : (ms : Members) → defined_in ms ≡ map seen_member (defined_members ms)
 defined_same no_members = refl
 defined_same (member key d ms) = kept_same (has_colon key && is_utf8 key) key d _ _ (defined_same ms)

@@ -7,7 +7,7 @@ use Rattle.std.specs.FinMap as map
 use Rattle.std.specs.Str.{is_utf8}
 use Rattle.oim_names.specs.QName.{QName}
 use Rattle.oim_names.specs.Bindings.{Binding}
-use Rattle.oim_names.specs.Expansion.{lacks_binding, lacks_form, lies_in_reserved, Spelled, a_name, an_entity}
+use Rattle.oim_names.specs.Expansion.{Spelled, a_name, an_entity}
 use Rattle.oim_names.specs.declared.reason.Reason.{Reason}
 use Rattle.oim_names.specs.declared.reason.Reason.TheVariants.{MemberForm, UnknownMember, DocumentType, Namespace, BaseUrl, TaxonomyUrl, Feature, Links, Notes, DimensionsMissing, NameForm, UnboundPrefix, ReservedNamespace, MissingConcept, UnknownConcept, UnknownDimension, DimensionValue, PeriodForm, PeriodOrder, UnitForm, UnitOnOther, LanguageForm, LanguageOnNumeric, ValueForm, NumberForm, NumberDigits, DecimalsForm, DecimalsRange, DecimalsOnOther}
 use Rattle.oim_value.specs.Decimals.{is_finite_decimals}
@@ -25,13 +25,13 @@ use Rattle.oim_report.specs.declared.concept_kind.ConceptKind.TheVariants.{Numer
 use Rattle.oim_report.specs.declared.dimension_kind.DimensionKind.{DimensionKind}
 use Rattle.oim_report.specs.declared.dimension_kind.DimensionKind.TheVariants.{Explicit, Typed}
 use Rattle.oim_report.specs.Info.{bindings_of, document_type, features_of, info, info_keys, is_allowed_duplicates, namespaces_of, root_keys, taxonomy_of}
-use Rattle.oim_report.specs.Json.{any_in, any_member, entries, has_colon, has_member, is_no_array, is_no_object, is_object, is_unknown, members, object_at}
+use Rattle.oim_report.specs.Json.{any_in, any_member, entries, has_member, is_no_array, is_no_object, is_object, is_unknown, members, object_at}
 use Rattle.oim_report.specs.Kept.{base_url, is_reference_refused}
 use Rattle.oim_report.specs.Least.{least}
-use Rattle.oim_report.specs.Names.{comes_again, named}
+use Rattle.oim_report.specs.Names.{comes_again, named, refuses_some}
 use Rattle.oim_report.specs.Namespaces.{binds_nothing}
-use Rattle.oim_report.specs.Parts.{core_keys, fact_keys}
-use Rattle.oim_report.specs.Sheet.{Sheet, same_concept_kind, same_dimension_kind}
+use Rattle.oim_report.specs.Parts.{core_keys, defined_members, fact_keys}
+use Rattle.oim_report.specs.Sheet.{Sheet, dimension_kind, same_concept_kind, same_dimension_kind}
 
 -- ---- values
 
@@ -75,6 +75,17 @@ abbrev pub misfits : DimensionKind → Data → Bool
 misfits Explicit v = no_text v
 misfits Typed v = no_text_or_null v
 
+-- the sheet does not list the dimension that a key spells
+abbrev pub is_unlisted : Sheet → List Binding → List ℕ → Bool
+is_unlisted sheet bs key = is_some_and (λ n. is_none (map.get sheet.dimensions n)) (named bs key)
+
+abbrev pub is_misfit : Sheet → List Binding → List ℕ → Data → Bool
+is_misfit sheet bs key d = is_some_and (λ kind. misfits kind d) (dimension_kind sheet bs key)
+
+-- the member of an explicit dimension, if the member is a text
+abbrev pub explicit_text : Sheet → List Binding → List ℕ × Data → Option (List ℕ)
+explicit_text sheet bs m = if is_some_and (same_dimension_kind Explicit) (dimension_kind sheet bs m.0) then as_text m.1 else None
+
 -- `dimensions` has the members of the fact's object `dimensions`, or none if there is no such object
 module _ (sheet : Sheet) (bs : List Binding) (fact : Data) (dimensions : Members) where
   -- the value at a key of the dimensions, and its text
@@ -95,22 +106,12 @@ module _ (sheet : Sheet) (bs : List Binding) (fact : Data) (dimensions : Members
   abbrev pub is_kind : ConceptKind → Bool
   is_kind k = is_some_and (same_concept_kind k) (option_and_then (map.get sheet.concepts) concept)
 
-  -- the taxonomy-defined dimensions: the members whose keys are UTF-8 and contain a colon
-  abbrev pub defined : List (List ℕ × Data)
-  defined = filter (λ m. has_colon m.0 && is_utf8 m.0) (entries dimensions)
-
-  abbrev pub dimension_kind : List ℕ → Option DimensionKind
-  dimension_kind key = option_and_then (map.get sheet.dimensions) (named bs key)
-
-  abbrev pub explicit_text : List ℕ × Data → Option (List ℕ)
-  explicit_text m = if is_some_and (same_dimension_kind Explicit) (dimension_kind m.0) then as_text m.1 else None
-
   -- the texts of the fact that must be names or entities, each with the test of its form
   abbrev pub names : List Spelled
   names =
       map a_name (option_to_list (text_at (codes "concept")))
       ++ (map an_entity (option_to_list (text_at (codes "entity")))
-      ++ (flat_map (λ m. a_name m.0 ∷ map a_name (option_to_list (explicit_text m))) defined
+      ++ (flat_map (λ m. a_name m.0 ∷ map a_name (option_to_list (explicit_text sheet bs m))) (defined_members dimensions)
       ++ (map a_name (option_map_or pieces (text_at (codes "unit")) [])
       ++ map a_name (if is_kind Name then option_to_list value_text else []))))
 
@@ -125,14 +126,14 @@ module _ (sheet : Sheet) (bs : List Binding) (fact : Data) (dimensions : Members
   holds_with Links = has_member (object_at (codes "links") fact)
   holds_with Notes = is_some (at (codes "noteId"))
   holds_with DimensionsMissing = is_object fact && is_none (get (codes "dimensions") fact)
-  holds_with NameForm = list_any (λ n. lacks_form n.has_form n.text) names
-  holds_with UnboundPrefix = list_any (λ n. lacks_binding n.has_form bs n.text) names
-  holds_with ReservedNamespace = list_any (λ n. lies_in_reserved n.has_form bs n.text) names
+  holds_with NameForm = refuses_some NameForm bs names
+  holds_with UnboundPrefix = refuses_some UnboundPrefix bs names
+  holds_with ReservedNamespace = refuses_some ReservedNamespace bs names
   holds_with MissingConcept = is_some (object_at (codes "dimensions") fact) && is_none (at (codes "concept"))
   holds_with UnknownConcept = is_some_and (λ n. is_none (map.get sheet.concepts n)) concept
-  holds_with UnknownDimension = list_any (λ m. is_some_and (λ n. is_none (map.get sheet.dimensions n)) (named bs m.0)) defined
+  holds_with UnknownDimension = list_any (λ m. is_unlisted sheet bs m.0) (defined_members dimensions)
   holds_with DimensionValue =
-      list_any (λ m. is_some_and (λ kind. misfits kind m.1) (dimension_kind m.0)) defined || comes_again (filter_map (λ m. named bs m.0) defined)
+      list_any (λ m. is_misfit sheet bs m.0 m.1) (defined_members dimensions) || comes_again (filter_map (λ m. named bs m.0) (defined_members dimensions))
   holds_with PeriodForm = is_some_and lacks_moment (text_at (codes "period"))
   holds_with PeriodOrder = is_some_and runs_backward (text_at (codes "period"))
   holds_with UnitForm = is_some_and (λ t. not (is_unit_text t)) (text_at (codes "unit"))
@@ -151,6 +152,13 @@ unfoldable pub holds : Sheet → List Binding → Data → Reason → Bool
 holds sheet bs fact = holds_with sheet bs fact (members (object_at (codes "dimensions") fact))
 
 -- ---- documents
+
+-- an entry of `taxonomy` is not a text, or is refused
+abbrev pub is_no_reference : Option Parts → Data → Bool
+is_no_reference base d = option_map_or (is_reference_refused base) (as_text d) true
+
+abbrev pub declares_no_level : List ℕ × Data → Bool
+declares_no_level m = is_none (option_and_then level_with (as_text m.1))
 
 module _ (tree : Data) where
   -- the URL that relative references are resolved against; None if `baseURL` is absent or refused
@@ -172,8 +180,8 @@ module _ (tree : Data) where
       && not (is_some_and (λ t. bytes_eq t document_type) (option_and_then as_text (info (codes "documentType") tree)))
   document_holds Namespace = any_in binds_nothing (namespaces_of tree)
   document_holds BaseUrl = is_some_and (λ v. is_none (option_and_then base_url (as_text v))) (info (codes "baseURL") tree)
-  document_holds TaxonomyUrl = any_item (λ v. option_map_or (is_reference_refused base) (as_text v) true) (taxonomy_of tree)
-  document_holds Feature = nat_lt 1 (length declared) || list_any (λ m. is_none (option_and_then level_with (as_text m.1))) declared
+  document_holds TaxonomyUrl = any_item (is_no_reference base) (taxonomy_of tree)
+  document_holds Feature = nat_lt 1 (length declared) || list_any declares_no_level declared
   document_holds r = false
 
 -- the lowest-numbered condition that applies to the document, or None

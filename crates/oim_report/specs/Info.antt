@@ -1,9 +1,9 @@
 -- The parts of a report, and the contents of all parts except the facts (xBRL-JSON 1.0, section 2; own where marked).
-use Rattle.std.specs.Prelude.{ℕ, List, [], ◌∷◌, Bool, false, ◌&&◌, bytes_eq, codes, if◌then◌else◌, Option, Some, None, option_map, option_and_then}
-use Rattle.std.specs.Option.{option_map_or, unwrap_or}
-use Rattle.oim_names.specs.Bindings.{Binding, uri_of}
-use Rattle.oim_names.specs.Expansion.{reserved_uri}
-use Rattle.oim_names.specs.QName.{prefix_part, local_part}
+use Rattle.std.specs.Prelude.{ℕ, List, [], ◌∷◌, Bool, ◌&&◌, bytes_eq, codes, if◌then◌else◌, Option, Some, None, option_map, option_and_then}
+use Rattle.std.specs.Option.{unwrap_or}
+use Rattle.oim_names.specs.Bindings.{Binding}
+use Rattle.oim_names.specs.Expansion.{is_reserved}
+use Rattle.oim_names.specs.QName.{local_part}
 use Rattle.oim_value.specs.Level.{level_with}
 use Rattle.oim_value.specs.declared.level.Level.{Level}
 use Rattle.oim_value.specs.declared.level.Level.TheVariants.{All}
@@ -57,8 +57,7 @@ said_references base (item d ds) = option_and_then (λ t. option_map (λ ts. t �
 
 -- a key of `features` names the feature `xbrl:allowedDuplicates`, with any prefix that is bound to the reserved URI
 abbrev pub is_allowed_duplicates : List Binding → List ℕ → Bool
-is_allowed_duplicates bs key =
-    option_map_or (λ u. bytes_eq u reserved_uri) (uri_of bs (prefix_part key)) false && bytes_eq (local_part key) (codes "allowedDuplicates")
+is_allowed_duplicates bs key = is_reserved bs key && bytes_eq (local_part key) (codes "allowedDuplicates")
 
 -- the values of all members that declare the feature
 abbrev pub declarations : List Binding → Members → List Given

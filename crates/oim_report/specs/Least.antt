@@ -16,9 +16,13 @@ abbrev pub hidden_by : Reason → List Reason
 hidden_by Feature = Namespace ∷ []
 hidden_by r = []
 
--- the conditions that apply and are not hidden, by number
+-- the condition applies, and no condition that hides it applies
+abbrev pub is_shown : (Reason → Bool) → Reason → Bool
+is_shown holds r = not (list_any holds (hidden_by r)) && holds r
+
+-- the conditions that are shown, by number
 unfoldable pub told : (Reason → Bool) → List Reason
-told holds = filter (λ r. not (list_any holds (hidden_by r)) && holds r) reasons
+told holds = filter (is_shown holds) reasons
 
 -- ---- laws
 

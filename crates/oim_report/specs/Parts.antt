@@ -1,9 +1,10 @@
 -- The parts of a fact object (xBRL-JSON 1.0, section 3.1).
 use Rattle.std.specs.Prelude.{◌≡◌, ℕ, List, [], ◌∷◌, Bool, true, false, ◌||◌, ◌&&◌, if◌then◌else◌, codes, Option, Some, option_map, option_and_then}
+use Rattle.std.specs.List.{filter}
 use Rattle.std.specs.Str.{is_utf8}
 use Rattle.serde_json.specs.Data.{Data, Members, no_members, member}
 use Rattle.serde_json.specs.Find.{get_member, as_object}
-use Rattle.oim_report.specs.Json.{Given, given, given_at, any_member, has_member, has_colon, is_absent, is_unknown, is_no_object}
+use Rattle.oim_report.specs.Json.{Given, given, given_at, any_member, entries, has_member, has_colon, is_absent, is_unknown, is_no_object}
 
 -- the members of `dimensions`: the core dimensions, and the taxonomy-defined dimensions in the order of the members; `unknown` is
 -- true if some other key has no colon
@@ -20,10 +21,17 @@ pub record DimensionParts : Type 0 where
 abbrev pub core_keys : List (List ℕ)
 core_keys = codes "concept" ∷ codes "entity" ∷ codes "period" ∷ codes "unit" ∷ codes "language" ∷ codes "noteId" ∷ []
 
--- the members whose keys are UTF-8 and have a colon
+-- a key of a taxonomy-defined dimension: it is UTF-8 and has a colon
+abbrev pub is_defined : List ℕ → Bool
+is_defined key = has_colon key && is_utf8 key
+
+-- the taxonomy-defined dimensions
+abbrev pub defined_members : Members → List (List ℕ × Data)
+defined_members ms = filter (λ m. is_defined m.0) (entries ms)
+
 abbrev pub defined_in : Members → List (List ℕ × Given)
 defined_in no_members = []
-defined_in (member key d ms) = if has_colon key && is_utf8 key then (key, given d) ∷ defined_in ms else defined_in ms
+defined_in (member key d ms) = if is_defined key then (key, given d) ∷ defined_in ms else defined_in ms
 
 abbrev pub dimension_parts : Members → DimensionParts
 dimension_parts ms = record {

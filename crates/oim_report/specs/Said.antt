@@ -30,16 +30,13 @@ use Rattle.oim_report.specs.declared.dimension_kind.DimensionKind.TheVariants.{E
 use Rattle.oim_report.specs.Json.{Given, absent, nil, text, whole, other, text_of}
 use Rattle.oim_report.specs.Names.{comes_again, named, entity_named}
 use Rattle.oim_report.specs.Parts.{DimensionParts, FactParts}
-use Rattle.oim_report.specs.Sheet.{Sheet, same_concept_kind}
+use Rattle.oim_report.specs.Sheet.{Sheet, dimension_kind, same_concept_kind}
 
 -- ---- kinds
 
--- the kind of the concept or dimension that a text names, if the sheet lists it
+-- the kind of the concept that a text names, if the sheet lists it
 abbrev pub concept_kind : Sheet → List Binding → Given → Option ConceptKind
 concept_kind sheet bs concept = option_and_then (map.get sheet.concepts) (option_and_then (named bs) (text_of concept))
-
-abbrev pub dimension_kind : Sheet → List Binding → List ℕ → Option DimensionKind
-dimension_kind sheet bs key = option_and_then (map.get sheet.dimensions) (named bs key)
 
 -- ---- core dimensions
 

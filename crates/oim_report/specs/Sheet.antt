@@ -6,7 +6,7 @@ use Rattle.std.specs.FinMap as map
 use Rattle.std.specs.FinMap.{FinMap}
 use Rattle.oim_names.specs.QName.{QName}
 use Rattle.oim_names.specs.Bindings.{Binding}
-use Rattle.oim_names.specs.Expansion.{lacks_binding, lacks_form, lies_in_reserved, Spelled, a_name}
+use Rattle.oim_names.specs.Expansion.{Spelled, a_name}
 use Rattle.oim_names.specs.declared.reason.Reason.{Reason}
 use Rattle.oim_names.specs.declared.reason.Reason.TheVariants.{OutOfMemory, NotJson, MemberForm, UnknownMember, Namespace, NameForm, UnboundPrefix, ReservedNamespace, SheetKind}
 use Rattle.oim_value.specs.ValueOrder.{name_cmp}
@@ -18,7 +18,7 @@ use Rattle.oim_report.specs.declared.dimension_kind.DimensionKind.{DimensionKind
 use Rattle.oim_report.specs.declared.dimension_kind.DimensionKind.TheVariants.{Explicit, Typed}
 use Rattle.oim_report.specs.Json.{json, given, text_of, object_at, members, any_in, is_unknown, is_object, is_no_object}
 use Rattle.oim_report.specs.Least.{IsLeast, least}
-use Rattle.oim_report.specs.Names.{named}
+use Rattle.oim_report.specs.Names.{named, refuses_some}
 use Rattle.oim_report.specs.Namespaces.{binds_nothing, bindings_in}
 use Rattle.oim_report.specs.Refusal.{unless}
 
@@ -97,6 +97,10 @@ module _ {K : Type 0} (kind_named : List ℕ → Option K) (same : K → K → B
   abbrev pub has_bad_kind : List Binding → Members → Bool
   has_bad_kind bs ms = any_in names_no_kind (Some ms) || has_two_kinds bs ms
 
+-- the kind of the dimension that a key spells, if the sheet lists it
+abbrev pub dimension_kind : Sheet → List Binding → List ℕ → Option DimensionKind
+dimension_kind sheet bs key = option_and_then (map.get sheet.dimensions) (named bs key)
+
 -- ---- conditions
 
 abbrev pub sheet_keys : List (List ℕ)
@@ -111,9 +115,9 @@ sheet_holds tree MemberForm =
     not (is_object tree) || is_no_object (get (codes "namespaces") tree) || is_no_object (get (codes "concepts") tree) || is_no_object (get (codes "dimensions") tree)
 sheet_holds tree UnknownMember = any_in (is_unknown sheet_keys) (as_object tree)
 sheet_holds tree Namespace = any_in binds_nothing (sheet_namespaces tree)
-sheet_holds tree NameForm = list_any (λ n. lacks_form n.has_form n.text) (sheet_names tree)
-sheet_holds tree UnboundPrefix = list_any (λ n. lacks_binding n.has_form (sheet_bindings tree) n.text) (sheet_names tree)
-sheet_holds tree ReservedNamespace = list_any (λ n. lies_in_reserved n.has_form (sheet_bindings tree) n.text) (sheet_names tree)
+sheet_holds tree NameForm = refuses_some NameForm (sheet_bindings tree) (sheet_names tree)
+sheet_holds tree UnboundPrefix = refuses_some UnboundPrefix (sheet_bindings tree) (sheet_names tree)
+sheet_holds tree ReservedNamespace = refuses_some ReservedNamespace (sheet_bindings tree) (sheet_names tree)
 sheet_holds tree SheetKind =
     has_bad_kind concept_kind_named same_concept_kind (sheet_bindings tree) (sheet_concepts tree) || has_bad_kind dimension_kind_named same_dimension_kind (sheet_bindings tree) (sheet_dimensions tree)
 sheet_holds tree r = false

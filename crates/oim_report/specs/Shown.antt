@@ -1,5 +1,5 @@
 -- The conditions that are shown, each with the part that is shown for it (own).
-use Rattle.std.specs.Prelude.{ℕ, List, [], ◌∷◌, map, Bool, true, not, ◌&&◌, if◌then◌else◌, codes, Option, Some, None, is_none, option_and_then, option_map}
+use Rattle.std.specs.Prelude.{ℕ, List, [], ◌∷◌, map, Bool, true, not, if◌then◌else◌, codes, Option, Some, None, is_none, option_and_then, option_map}
 use Rattle.std.specs.Option.{option_map_or}
 use Rattle.std.specs.List.{find, list_any}
 use Rattle.std.specs.FinMap as map
@@ -10,26 +10,20 @@ use Rattle.oim_names.specs.Bindings.{Binding}
 use Rattle.oim_names.specs.Expansion.{Spelled, a_name, an_entity, refuses}
 use Rattle.oim_names.specs.declared.reason.Reason.{Reason}
 use Rattle.oim_names.specs.declared.reason.Reason.TheVariants.{MemberForm, UnknownMember, DocumentType, Namespace, BaseUrl, TaxonomyUrl, Feature, Links, Notes, NameForm, UnboundPrefix, ReservedNamespace, UnknownConcept, UnknownDimension, DimensionValue, PeriodForm, PeriodOrder, UnitForm, UnitOnOther, LanguageForm, LanguageOnNumeric, ValueForm, NumberForm, NumberDigits, DecimalsForm, DecimalsRange, DecimalsOnOther, SheetKind}
-use Rattle.oim_value.specs.Level.{level_with}
 use Rattle.oim_value.specs.ValueOrder.{name_cmp}
 use Rattle.serde_json.specs.Data.{Data, Items, no_items, item, Members}
 use Rattle.serde_json.specs.Find.{as_object, get, get_member}
 use Rattle.serde_json.specs.View.{view}
 use Rattle.oim_report.specs.declared.findings.part.Part.{Part}
 use Rattle.oim_report.specs.declared.findings.part.Part.TheVariants.{Nothing, Whole, Missing, NoObject, NoArray, NoText, Key, KeyIn, Name, Entity, Value, Member, Two}
-use Rattle.oim_report.specs.Holds.{as_text, base, declared, defined, dimension_kind, document_holds, holds, is_some_and, misfits, names, no_text}
+use Rattle.oim_report.specs.Holds.{base, declared, declares_no_level, document_holds, holds, is_misfit, is_no_reference, is_some_and, is_unlisted, names, no_text}
 use Rattle.oim_report.specs.Info.{info, info_keys, namespaces_of, root_keys, taxonomy_of}
 use Rattle.oim_report.specs.Json.{entries, is_no_array, is_no_object, is_object, is_unknown, members, object_at}
-use Rattle.oim_report.specs.Kept.{is_reference_refused}
-use Rattle.oim_report.specs.Least.{hidden_by, least}
+use Rattle.oim_report.specs.Least.{is_shown, least}
 use Rattle.oim_report.specs.Names.{named}
 use Rattle.oim_report.specs.Namespaces.{binds_nothing}
-use Rattle.oim_report.specs.Parts.{core_keys, fact_keys}
+use Rattle.oim_report.specs.Parts.{core_keys, defined_members, fact_keys}
 use Rattle.oim_report.specs.Sheet.{Sheet, concept_kind_named, dimension_kind_named, has_other_kind, kind_in, names_no_kind, same_concept_kind, same_dimension_kind, sheet_bindings, sheet_concepts, sheet_dimensions, sheet_holds, sheet_keys, sheet_names, sheet_namespaces}
-
--- the condition applies, and no condition that hides it applies; `told` lists the conditions that are shown
-abbrev pub is_shown : (Reason → Bool) → Reason → Bool
-is_shown holds r = not (list_any holds (hidden_by r)) && holds r
 
 -- ---- parts
 
@@ -142,10 +136,10 @@ module _ (sheet : Sheet) (bs : List Binding) (fact : Data) (dimensions : Members
   shown_with UnboundPrefix = refused_name UnboundPrefix
   shown_with ReservedNamespace = refused_name ReservedNamespace
   shown_with UnknownDimension =
-      option_map_or (λ m. name (a_name m.0)) (find (λ m. is_some_and (λ n. is_none (map.get sheet.dimensions n)) (named bs m.0)) (defined sheet bs fact dimensions)) nothing
+      option_map_or (λ m. name (a_name m.0)) (find (λ m. is_unlisted sheet bs m.0) (defined_members dimensions)) nothing
   shown_with DimensionValue =
-      option_map_or entry (find (λ m. is_some_and (λ kind. misfits kind m.1) (dimension_kind sheet bs fact dimensions m.0)) (defined sheet bs fact dimensions))
-      (option_map_or (λ m. beside_first bs (entries dimensions) m.0) (repeated bs [] (defined sheet bs fact dimensions)) nothing)
+      option_map_or entry (find (λ m. is_misfit sheet bs m.0 m.1) (defined_members dimensions))
+      (option_map_or (λ m. beside_first bs (entries dimensions) m.0) (repeated bs [] (defined_members dimensions)) nothing)
   shown_with r = value_or_nothing (subject r)
 
 -- the part of a fact object that is shown for a condition
@@ -162,9 +156,6 @@ abbrev pub first_item : (Data → Bool) → Items → Option Data
 first_item test no_items = None
 first_item test (item d ds) = if test d then Some d else first_item test ds
 
-abbrev pub declares_no_level : List ℕ × Data → Bool
-declares_no_level m = is_none (option_and_then level_with (as_text m.1))
-
 -- the part of a document that is shown for a condition
 unfoldable pub document_shown : Data → Reason → Shown
 document_shown tree MemberForm = first_of (
@@ -180,7 +171,7 @@ document_shown tree UnknownMember = unknown_key root_keys tree info_keys (codes 
 document_shown tree DocumentType = value_or_nothing (info (codes "documentType") tree)
 document_shown tree Namespace = unbound_entry (namespaces_of tree)
 document_shown tree BaseUrl = value_or_nothing (info (codes "baseURL") tree)
-document_shown tree TaxonomyUrl = value_or_nothing (first_item (λ v. option_map_or (is_reference_refused (base tree)) (as_text v) true) (taxonomy_of tree))
+document_shown tree TaxonomyUrl = value_or_nothing (first_item (is_no_reference (base tree)) (taxonomy_of tree))
 document_shown tree Feature = option_map_or entry (find declares_no_level (declared tree)) (value_or_nothing (info (codes "features") tree))
 document_shown tree r = nothing
 

@@ -7,8 +7,8 @@ ghost use Rattle.std.specs.FinMap as map;
 ghost use Rattle.serde_json.specs.View.{view};
 ghost use Rattle.oim_report.specs.Json.{text as a_text};
 ghost use Rattle.oim_report.specs.Names.{named};
-ghost use Rattle.oim_report.specs.Said.{concept_kind, dimension_kind};
-ghost use Rattle.oim_report.specs.Sheet.{sheet_of, sheet_outcome};
+ghost use Rattle.oim_report.specs.Said.{concept_kind};
+ghost use Rattle.oim_report.specs.Sheet.{dimension_kind, sheet_of, sheet_outcome};
 
 use crate::concept_kind::ConceptKind;
 use crate::dimension_kind::DimensionKind;

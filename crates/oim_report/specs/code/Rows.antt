@@ -1,27 +1,22 @@
 -- The tests of `Holds.antt` on single members of `dimensions` and `features` (own).
 use Rattle.std.specs.Prelude.{ℕ, List, [], ◌∷◌, map, Bool, ◌&&◌, Option, None, if◌then◌else◌, codes, is_none}
 use Rattle.std.specs.Option.{option_map_or, option_to_list}
-use Rattle.std.specs.List.{filter, find, flat_map}
-use Rattle.std.specs.FinMap as map
-use Rattle.std.specs.Str.{is_utf8}
+use Rattle.std.specs.List.{find, flat_map}
 use Rattle.oim_names.specs.QName.{QName}
 use Rattle.oim_names.specs.Bindings.{Binding}
-use Rattle.serde_json.specs.Data.{Data, Members, null, no_members}
+use Rattle.serde_json.specs.Data.{Data, Members}
 use Rattle.serde_json.specs.Find.{get_member}
-use Rattle.oim_report.specs.Holds.{dimension_kind, explicit_text, is_some_and, misfits, no_text}
+use Rattle.oim_report.specs.Holds.{declares_no_level, explicit_text, is_some_and, no_text}
 use Rattle.oim_report.specs.Info.{declarations, features_of, info, is_allowed_duplicates, said_level}
-use Rattle.oim_report.specs.Json.{entries, has_colon}
+use Rattle.oim_report.specs.Json.{entries}
 use Rattle.oim_report.specs.Names.{named}
+use Rattle.oim_report.specs.Parts.{is_defined}
 use Rattle.oim_names.specs.Expansion.{Spelled, a_name}
 use Rattle.oim_report.specs.Sheet.{Sheet}
-use Rattle.oim_report.specs.Shown.{Shown, declares_no_level, entry, value_or_nothing, when}
+use Rattle.oim_report.specs.Shown.{Shown, entry, value_or_nothing, when}
 
 abbrev pub lacks_text : List ℕ → Members → Bool
 lacks_text key ms = is_some_and no_text (get_member key ms)
-
--- a key belongs to a taxonomy-defined dimension
-abbrev pub is_defined : List ℕ → Bool
-is_defined key = has_colon key && is_utf8 key
 
 abbrev pub first_defined : (List ℕ → Data → Bool) → Members → Option (List ℕ × Data)
 first_defined test ms = find (λ m. is_defined m.0 && test m.0 m.1) (entries ms)
@@ -29,22 +24,13 @@ first_defined test ms = find (λ m. is_defined m.0 && test m.0 m.1) (entries ms)
 -- the texts that must be names: the key of a taxonomy-defined dimension, and the member if it is a text and the sheet lists the
 -- dimension as explicit
 abbrev pub names_at : Sheet → List Binding → List ℕ × Data → List Spelled
-names_at sheet bs m = if is_defined m.0 then a_name m.0 ∷ map a_name (option_to_list (explicit_text sheet bs null no_members m)) else []
+names_at sheet bs m = if is_defined m.0 then a_name m.0 ∷ map a_name (option_to_list (explicit_text sheet bs m)) else []
 
 abbrev pub names_in : Sheet → List Binding → Members → List Spelled
 names_in sheet bs ms = flat_map (names_at sheet bs) (entries ms)
 
-abbrev pub is_unlisted : Sheet → List Binding → List ℕ → Bool
-is_unlisted sheet bs key = is_some_and (λ n. is_none (map.get sheet.dimensions n)) (named bs key)
-
-abbrev pub is_misfit : Sheet → List Binding → List ℕ → Data → Bool
-is_misfit sheet bs key d = is_some_and (λ kind. misfits kind d) (dimension_kind sheet bs null no_members key)
-
 abbrev pub defined_name : List Binding → List ℕ → Option QName
 defined_name bs key = if is_defined key then named bs key else None
-
-abbrev pub defined_members : Members → List (List ℕ × Data)
-defined_members ms = filter (λ m. is_defined m.0) (entries ms)
 
 -- ---- features
 

@@ -9,9 +9,10 @@ ghost use Rattle.oim_report.specs.code.UriPlaces.{concept_in};
 ghost use Rattle.oim_report.specs.code.SeenParts.{seen_defined, seen_dimensions, seen_parts};
 ghost use Rattle.oim_report.specs.Info.{facts_of};
 ghost use Rattle.oim_report.specs.Outcome.{at, fact_outcome, facts_said};
-ghost use Rattle.oim_report.specs.Said.{concept_kind, dimension_kind, fact_of, said_concept, said_dimensions, said_member, said_members};
+ghost use Rattle.oim_report.specs.Said.{concept_kind, fact_of, said_concept, said_dimensions, said_member, said_members};
 ghost use Rattle.oim_report.specs.Names.{named};
 ghost use Rattle.oim_report.specs.Parts.{fact_parts};
+ghost use Rattle.oim_report.specs.Sheet.{dimension_kind};
 
 use crate::concept_kind::ConceptKind;
 use crate::dimension_kind::DimensionKind;

@@ -6,7 +6,9 @@ ghost use Rattle.serde_json.specs.View.{view, members_view};
 ghost use Rattle.oim_report.specs.Json.{entries, members, object_at};
 ghost use Rattle.oim_report.specs.Names.{named};
 ghost use Rattle.oim_report.specs.Shown.{beside_first, entry, fact_part, name, repeated, seen, spell_same};
-ghost use Rattle.oim_report.specs.code.Rows.{defined_members, defined_name, first_defined, is_defined, is_misfit, is_unlisted};
+ghost use Rattle.oim_report.specs.Holds.{is_misfit, is_unlisted};
+ghost use Rattle.oim_report.specs.Parts.{defined_members, is_defined};
+ghost use Rattle.oim_report.specs.code.Rows.{defined_name, first_defined};
 
 use crate::dimension_kind::DimensionKind;
 use crate::document::json_tree::{has_colon, object_at};

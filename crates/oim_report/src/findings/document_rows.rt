@@ -1,12 +1,11 @@
 //! Finds the part of a document to which a condition applies.
 
-ghost use Rattle.std.specs.Prelude.{◌≡◌, true, option_and_then, option_map, IfOk};
+ghost use Rattle.std.specs.Prelude.{◌≡◌, option_and_then, option_map, IfOk};
 ghost use Rattle.std.specs.List.{find};
-ghost use Rattle.std.specs.Option.{option_copied, option_map_or};
+ghost use Rattle.std.specs.Option.{option_copied};
 ghost use Rattle.serde_json.specs.View.{view};
-ghost use Rattle.oim_report.specs.Holds.{as_text};
+ghost use Rattle.oim_report.specs.Holds.{is_no_reference};
 ghost use Rattle.oim_report.specs.Info.{base_said, taxonomy_of};
-ghost use Rattle.oim_report.specs.Kept.{is_reference_refused};
 ghost use Rattle.oim_report.specs.Shown.{document_part, first_item, seen, value};
 ghost use Rattle.oim_report.specs.code.Rows.{is_misdeclared, misdeclared, misdeclared_part};
 
@@ -99,9 +98,9 @@ fn reference_under<'a>(
     base: Option<&Base>,
     tree: &'a Value,
 ) -> Result<Option<Part<'a>>, AllocError>
-    ensures { let refused = is_reference_refused (option_copied base.entry) in
-        let all = taxonomy_of (view tree.now) in
-        IfOk result (λ part. option_map seen part ≡ option_map value (first_item (λ v. option_map_or refused (as_text v) true) all)) }
+    ensures { let all = taxonomy_of (view tree.now) in
+        let first = first_item (is_no_reference (option_copied base.entry)) all in
+        IfOk result (λ part. option_map seen part ≡ option_map value first) }
 {
     let taxonomy = within(tree, "documentInfo", "taxonomy");
     let Some(references) = taxonomy.and_then(Value::as_array) else {
@@ -116,8 +115,8 @@ fn reference_under<'a>(
 }
 
 fn is_refused(alloc: Global, base: Option<&Base>, reference: &Value) -> Result<bool, AllocError>
-    ensures { let refused = is_reference_refused (option_copied base.entry) in
-        IfOk result (λ found. found ≡ option_map_or refused (as_text (view reference.now)) true) }
+    ensures { IfOk result
+        (λ found. found ≡ is_no_reference (option_copied base.entry) (view reference.now)) }
 {
     let kept = unless_memory(keep_item(alloc, base, reference))?;
     Ok(kept.is_none())

@@ -9,7 +9,7 @@ ghost use Rattle.oim_report.specs.Info.{facts_of};
 ghost use Rattle.oim_report.specs.Json.{values};
 ghost use Rattle.oim_report.specs.Least.{told};
 ghost use Rattle.oim_report.specs.Outcome.{at, tree_outcome};
-ghost use Rattle.oim_report.specs.Shown.{is_shown};
+ghost use Rattle.oim_report.specs.Least.{is_shown};
 
 use crate::document::info::read_info;
 use crate::document::json_tree::{object_at, read_json};

@@ -9,7 +9,8 @@ ghost use Rattle.oim_report.specs.Holds.{as_text, is_kind, names, pieces, value_
 ghost use Rattle.oim_report.specs.Json.{members, object_at};
 ghost use Rattle.oim_names.specs.Expansion.{a_name, an_entity, refuses};
 ghost use Rattle.oim_report.specs.Shown.{name, seen};
-ghost use Rattle.oim_report.specs.code.Rows.{is_defined, names_at, names_in};
+ghost use Rattle.oim_report.specs.Parts.{is_defined};
+ghost use Rattle.oim_report.specs.code.Rows.{names_at, names_in};
 
 use crate::concept_kind::ConceptKind;
 use crate::dimension_kind::DimensionKind;

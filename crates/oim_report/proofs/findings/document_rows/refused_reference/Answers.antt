@@ -1,11 +1,10 @@
-use Rattle.std.proofs.Common.{rules, ◌≡◌, true, ap, ◌∙◌, option_map}
+use Rattle.std.proofs.Common.{rules, ◌≡◌, ap, ◌∙◌, option_map}
 use Rattle.std.proofs.lemmas.Result.{IfOk-weaker}
 use Rattle.std.specs.Prelude.{codes}
-use Rattle.std.specs.Option.{option_copied, option_flatten, option_map_or}
+use Rattle.std.specs.Option.{option_copied, option_flatten}
 use Rattle.serde_json.specs.View.{view}
-use Rattle.oim_report.specs.Holds.{as_text, base, document_holds}
+use Rattle.oim_report.specs.Holds.{base, document_holds, is_no_reference}
 use Rattle.oim_report.specs.Info.{info, taxonomy_of}
-use Rattle.oim_report.specs.Kept.{is_reference_refused}
 use Rattle.oim_report.specs.Shown.{document_shown, first_item, value}
 use Rattle.oim_report.proofs.DocumentHolds.{flat_base}
 use Rattle.oim_report.proofs.ShownParts.{item_shown}
@@ -20,6 +19,6 @@ returns c =
     IfOk-weaker c.reference_under.result _ _
     (λ part h.
     h
-    ∙ ap (λ b. option_map value (first_item (λ v. option_map_or (is_reference_refused b) (as_text v) true) (taxonomy_of tree))) based
-    ∙ item_shown (λ v. option_map_or (is_reference_refused (base tree)) (as_text v) true) (taxonomy_of tree))
+    ∙ ap (λ b. option_map value (first_item (is_no_reference b) (taxonomy_of tree))) based
+    ∙ item_shown (is_no_reference (base tree)) (taxonomy_of tree))
     c.reference_under.ensures

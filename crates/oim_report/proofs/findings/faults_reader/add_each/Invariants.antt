@@ -2,7 +2,7 @@ use Rattle.std.proofs.Common.{◌≡◌, ◌++◌, map, drop}
 use Rattle.std.specs.List.{filter}
 use Rattle.serde_json.specs.View.{view}
 use Rattle.oim_report.specs.Holds.{document_holds}
-use Rattle.oim_report.specs.Shown.{is_shown}
+use Rattle.oim_report.specs.Least.{is_shown}
 use Rattle.oim_report.specs.Outcome.{at}
 use Rattle.oim_report.specs.declared.place.Place.TheVariants.{Document}
 use Rattle.oim_report.proofs.findings.faults_reader.add_each.Given as goal

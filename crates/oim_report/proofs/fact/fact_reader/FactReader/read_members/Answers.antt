@@ -2,7 +2,8 @@ use Rattle.std.proofs.Common.{◌≡◌, ◌+◌, get_or, Some, sym, ap, ◌∙�
 use Rattle.std.proofs.lemmas.Bool.{false_from_ne_true}
 use Rattle.oim_dims.specs.DimensionSet.{repeats}
 use Rattle.oim_report.specs.Names.{named}
-use Rattle.oim_report.specs.Said.{dimension_kind, said_member}
+use Rattle.oim_report.specs.Said.{said_member}
+use Rattle.oim_report.specs.Sheet.{dimension_kind}
 use Rattle.oim_report.proofs.MembersSay.{found_more, put_in_order, seen_item}
 use Rattle.oim_report.proofs.fact.fact_reader.FactReader.read_members.Goals as goal
 

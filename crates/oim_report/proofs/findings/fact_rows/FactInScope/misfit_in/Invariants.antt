@@ -1,6 +1,7 @@
 use Rattle.std.proofs.Common.{◌≡◌}
 use Rattle.serde_json.specs.View.{members_view}
-use Rattle.oim_report.specs.code.Rows.{first_defined, is_misfit}
+use Rattle.oim_report.specs.Holds.{is_misfit}
+use Rattle.oim_report.specs.code.Rows.{first_defined}
 use Rattle.oim_report.proofs.findings.fact_rows.FactInScope.misfit_in.Given as goal
 
 abbrev pub invariant-loop-key : goal.invariant-loop-key

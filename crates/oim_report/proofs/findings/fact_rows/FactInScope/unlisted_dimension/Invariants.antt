@@ -2,7 +2,8 @@ use Rattle.std.proofs.Common.{◌≡◌}
 use Rattle.std.specs.Prelude.{codes}
 use Rattle.serde_json.specs.View.{view, members_view}
 use Rattle.oim_report.specs.Json.{members, object_at}
-use Rattle.oim_report.specs.code.Rows.{first_defined, is_unlisted}
+use Rattle.oim_report.specs.Holds.{is_unlisted}
+use Rattle.oim_report.specs.code.Rows.{first_defined}
 use Rattle.oim_report.proofs.findings.fact_rows.FactInScope.unlisted_dimension.Given as goal
 
 abbrev pub invariant-loop-key : goal.invariant-loop-key
