@@ -30,7 +30,8 @@ use Rattle.oim_report.specs.Outcome.{at, facts_said, document_with, allowed, the
 use Rattle.oim_report.specs.Refusal.{map_ok}
 use Rattle.oim_report.specs.Sheet.{Sheet}
 use Rattle.oim_report.specs.Pieces.{IsPiece, put_all}
-use Rattle.oim_report.specs.code.Pieces.{IsOutline, append}
+use Rattle.oim_report.specs.code.Pieces.{IsOutline}
+use Rattle.oim_report.proofs.PieceTexts.{append}
 use Rattle.oim_report.specs.code.TapeParts.{Ascends}
 use Rattle.oim_report.specs.PlainJson.{IsBefore}
 use Rattle.oim_report.specs.code.FoundFacts.{AreFound, is_above, rise_after}

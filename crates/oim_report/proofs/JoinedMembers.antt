@@ -14,7 +14,7 @@ use Rattle.json.proofs.Printed.Trees.{value-json_tokens}
 use Rattle.json.proofs.Unique.Spelling.{value-json_tokens_back}
 use Rattle.json.proofs.Nesting.{value-depth}
 use Rattle.oim_report.specs.Pieces.{alone}
-use Rattle.oim_report.specs.code.Pieces.{Closed}
+use Rattle.oim_report.proofs.PieceTexts.{Closed}
 use Rattle.oim_report.specs.code.TapeParts.{one}
 use Rattle.oim_report.proofs.JsonLexemes.{NoQuote, AllGood, piece_of}
 

@@ -10,7 +10,7 @@ use Rattle.json.specs.Text.{code_unit, short_escape, is_high_surrogate, is_low_s
 use Rattle.json.specs.Word.{is_operator, is_space, word}
 use Rattle.json.specs.Lex.{Lexeme, token, Class, quote, backslash, operator, space, other, class, operator_lexeme, string_token, Mode, between, in_word, in_string, in_escape, lex_byte, lex}
 use Rattle.json.specs.Align.{is_good}
-use Rattle.oim_report.specs.code.Pieces.{Closed}
+use Rattle.oim_report.proofs.PieceTexts.{Closed}
 use Rattle.oim_report.proofs.JsonStrings.{turn, run, is_between, mode, Keeps, keeps-content, stays, hex_stays, all_hex, is_found, cases}
 use Rattle.oim_report.proofs.JsonWords.{is_end, each_end, word-front}
 

@@ -51,6 +51,7 @@ pub mod JsonStrings
 pub mod JsonWords
 pub mod JsonLexemes
 pub mod JoinedMembers
+pub mod PieceTexts
 pub mod PiecesInTurn
 pub mod TapedFacts
 pub mod Outlines

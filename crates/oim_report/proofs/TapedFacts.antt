@@ -15,7 +15,7 @@ use Rattle.oim_report.specs.code.TapeParts.{Ascends, AreData, one}
 use Rattle.oim_report.specs.Pieces.{alone, HasMember, EndsWithBrace, IsPiece, put_all}
 use Rattle.oim_report.specs.Outcome.{fact_outcome}
 use Rattle.oim_report.specs.code.FoundFacts.{AreFound}
-use Rattle.oim_report.specs.code.Pieces.{append}
+use Rattle.oim_report.proofs.PieceTexts.{append}
 use Rattle.oim_report.specs.code.Scope.{Scope}
 use Rattle.oim_report.proofs.PutMembers.{ascends_put}
 use Rattle.oim_report.proofs.JoinedMembers.{Reads}

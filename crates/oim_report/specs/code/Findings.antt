@@ -1,7 +1,6 @@
--- Conditions on texts and base URLs, and the reason if a condition holds (own).
-use Rattle.std.specs.Prelude.{ℕ, List, Bool, false, bytes_eq, is_none, if◌then◌else◌, Option, Some, None}
+-- Conditions on texts and base URLs (own).
+use Rattle.std.specs.Prelude.{ℕ, List, Bool, false, bytes_eq, is_none}
 use Rattle.std.specs.Option.{option_map_or}
-use Rattle.oim_names.specs.declared.reason.Reason.{Reason}
 use Rattle.oim_report.specs.Json.{Given, text_of}
 use Rattle.oim_report.specs.Kept.{base_url}
 
@@ -10,6 +9,3 @@ is_text t g = option_map_or (λ u. bytes_eq u t) (text_of g) false
 
 abbrev pub is_base_refused : List ℕ → Bool
 is_base_refused text = is_none (base_url text)
-
-abbrev pub when : Bool → Reason → Option Reason
-when holds reason = if holds then Some reason else None

@@ -1,19 +1,9 @@
 -- How the members of `facts` are cut into pieces, and how a document is split around `facts` (own).
 use Rattle.std.specs.Prelude.{◌≡◌, ℕ, codes, List, [], ◌∷◌, ◌++◌, true, Option, Some, None, ⊤}
 use Rattle.json.specs.Word.{is_space}
-use Rattle.serde_json.specs.Data.{Data, object, Members, no_members, member, put}
+use Rattle.serde_json.specs.Data.{Data, object, Members, member, put}
 use Rattle.serde_json.specs.Read.{read}
 use Rattle.oim_report.specs.Pieces.{IsPiece}
-
--- the last byte, if there is one, is a closing brace
-abbrev pub Closed : List ℕ → Type 0
-Closed [] = ⊤
-Closed (x ∷ []) = x ≡ 125
-Closed (x ∷ y ∷ xs) = Closed (y ∷ xs)
-
-abbrev pub append : Members → Members → Members
-append no_members ns = ns
-append (member k d ms) ns = member k d (append ms ns)
 
 -- a piece, followed by a comma and the rest if there is a rest
 abbrev pub with_rest : List ℕ → Option (List ℕ) → List ℕ
@@ -40,10 +30,6 @@ pub record BeforeSpaces (text front : List ℕ) : Type 0 where
   pub spaces : List ℕ
   pub are : AreSpaces spaces
   pub splits : text ≡ front ++ spaces
-
--- the member `facts`, with white space where JSON allows it
-abbrev pub facts_text : List ℕ → List ℕ → List ℕ → List ℕ → List ℕ
-facts_text s3 s4 facts s5 = facts_key ++ (s3 ++ 58 ∷ (s4 ++ 123 ∷ (facts ++ (s5 ++ 125 ∷ []))))
 
 -- if `before` exists, it precedes `rest`, with white space and a comma between them
 abbrev pub with_before : Option (List ℕ) → List ℕ → List ℕ → List ℕ

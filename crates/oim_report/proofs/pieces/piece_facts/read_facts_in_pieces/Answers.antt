@@ -3,7 +3,8 @@ use Rattle.oim_names.specs.Bindings.{Binding}
 use Rattle.serde_json.specs.Data.{Members, no_members}
 use Rattle.oim_report.specs.code.FoundFacts.{AreFound}
 use Rattle.oim_report.specs.Pieces.{IsPiece, put_all}
-use Rattle.oim_report.specs.code.Pieces.{with_rest, append}
+use Rattle.oim_report.specs.code.Pieces.{with_rest}
+use Rattle.oim_report.proofs.PieceTexts.{append}
 use Rattle.oim_report.specs.Sheet.{Sheet}
 use Rattle.oim_report.proofs.FoundInOrder.{none_found, found_append, found_by, weaker, none_placed, placed_by, places_append}
 use Rattle.oim_report.specs.code.Scope.{Scope}
