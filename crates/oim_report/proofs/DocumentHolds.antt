@@ -15,12 +15,12 @@ use Rattle.oim_names.specs.QName.{is_part}
 use Rattle.oim_value.specs.Level.{level_with}
 use Rattle.serde_json.specs.Find.{as_object, get}
 use Rattle.serde_json.specs.Data.{Data, Items, no_items, item, Members, no_members, member}
-use Rattle.oim_report.specs.Info.{accepted_reference, base_said, bindings_of, declarations, document_type, features_of, info, is_allowed_duplicates, level_said, namespaces_of, references_said, said_base, said_level, said_reference, said_references, taxonomy_of, info_keys, root_keys}
+use Rattle.oim_report.specs.Info.{accepted_reference, base_url_said, bindings_of, declarations, document_type, features_of, info, is_allowed_duplicates, level_said, namespaces_of, references_said, said_base_url, said_level, said_reference, said_references, taxonomy_of, info_keys, root_keys}
 use Rattle.oim_report.specs.Json.{Given, any_in, entries, given, given_of, is_no_array, is_no_object, is_object, is_unknown, object_at, text_of}
 use Rattle.oim_report.specs.code.Findings.{is_text}
 use Rattle.oim_report.specs.Kept.{base_url, is_reference_refused, is_text_within_limit, is_within_limit, kept}
 use Rattle.oim_report.specs.Namespaces.{binds_nothing}
-use Rattle.oim_report.specs.Holds.{any_item, as_text, base, declared, document_holds, document_refusal, is_some_and}
+use Rattle.oim_report.specs.Holds.{any_item, as_text, declared, document_base_url, document_holds, document_refusal, is_some_and}
 use Rattle.oim_report.specs.Least.{least}
 use Rattle.oim_report.specs.declared.refusal.Refusal.{Refusal}
 use Rattle.oim_report.specs.Faults.{or_else}
@@ -50,7 +50,7 @@ shape_refusal tree = first_holding (
 abbrev pub info_refusal : Data → Option Reason
 info_refusal tree = first_holding (
     (any_in binds_nothing (namespaces_of tree), Namespace)
-    ∷ (is_none (base_said tree), BaseUrl)
+    ∷ (is_none (base_url_said tree), BaseUrl)
     ∷ (is_none (references_said tree), TaxonomyUrl)
     ∷ (is_none (level_said tree), Feature)
     ∷ [])
@@ -80,18 +80,18 @@ mapped_none : {A B : Type 0} (f : A → B) (o : Option A) → is_none (option_ma
 mapped_none f None = refl
 mapped_none f (Some a) = refl
 
-pub base_same : (o : Option Data) → is_none (said_base (given_of o)) ≡ is_some_and (λ v. is_none (option_and_then base_url (as_text v))) o
+pub base_same : (o : Option Data) → is_none (said_base_url (given_of o)) ≡ is_some_and (λ v. is_none (option_and_then base_url (as_text v))) o
 base_same None = refl
-base_same (Some d) = by_given (λ g t w n. is_none (said_base g) ≡ is_none (option_and_then base_url t)) refl (λ t. mapped_none Some (base_url t)) (λ n. refl) refl d
+base_same (Some d) = by_given (λ g t w n. is_none (said_base_url g) ≡ is_none (option_and_then base_url t)) refl (λ t. mapped_none Some (base_url t)) (λ n. refl) refl d
 
 mapped_some : (o : Option Parts) → is_none (option_map {U = Option Parts} Some o) ≡ false → option_map Some o ≡ Some o
 mapped_some None h = absurd (cc)
 mapped_some (Some p) h = refl
 
-pub base_is : (o : Option Data) → is_none (said_base (given_of o)) ≡ false → said_base (given_of o) ≡ Some (option_and_then base_url (option_and_then as_text o))
+pub base_is : (o : Option Data) → is_none (said_base_url (given_of o)) ≡ false → said_base_url (given_of o) ≡ Some (option_and_then base_url (option_and_then as_text o))
 base_is None h = refl
 base_is (Some d) h =
-    by_given (λ g t w n. is_none (said_base g) ≡ false → said_base g ≡ Some (option_and_then base_url t)) (λ k. absurd (cc)) (λ t k. mapped_some (base_url t) k) (λ n k. absurd (cc)) (λ k. absurd (cc)) d h
+    by_given (λ g t w n. is_none (said_base_url g) ≡ false → said_base_url g ≡ Some (option_and_then base_url t)) (λ k. absurd (cc)) (λ t k. mapped_some (base_url t) k) (λ n k. absurd (cc)) (λ k. absurd (cc)) d h
 
 kept_or : (short : Bool) (k : Option (List ℕ)) → is_none (if not (short && is_text_within_limit k) then None else k) ≡ not (short && is_text_within_limit k)
 kept_or true (Some t) = elim (is_within_limit t) as (λ b. is_none (if not b then None else Some t) ≡ not b) [ true ↦ refl | false ↦ refl ]
@@ -109,11 +109,11 @@ pub references_same : (b : Option Parts) (ds : Items) → is_none (said_referenc
 references_same b no_items = refl
 references_same b (item d ds) = both_none (λ t ts. t ∷ ts) (said_reference b d) (said_references b ds) ∙ (λ i. one_reference b d i || references_same b ds i)
 
-taxonomy_same : (tree : Data) → is_none (base_said tree) ≡ false → is_none (references_said tree) ≡ document_holds tree TaxonomyUrl
+taxonomy_same : (tree : Data) → is_none (base_url_said tree) ≡ false → is_none (references_said tree) ≡ document_holds tree TaxonomyUrl
 unfolding document_holds
 taxonomy_same tree fits =
     ap (λ o. is_none (option_and_then (λ b. said_references b (taxonomy_of tree)) o)) (base_is (info (codes "baseURL") tree) fits)
-    ∙ references_same (base tree) (taxonomy_of tree)
+    ∙ references_same (document_base_url tree) (taxonomy_of tree)
 
 -- ---- the level
 
@@ -163,12 +163,12 @@ pub document_least : (tree : Data) → grouped_refusal tree ≡ document_refusal
 unfolding least document_holds
 document_least tree =
     let d = any_in binds_nothing (namespaces_of tree) in
-    flat_tests (has_misshapen_part tree) (has_unknown_part tree) (has_other_type tree) d (is_none (base_said tree)) (is_none (references_said tree)) (is_none (level_said tree))
+    flat_tests (has_misshapen_part tree) (has_unknown_part tree) (has_other_type tree) d (is_none (base_url_said tree)) (is_none (references_said tree)) (is_none (level_said tree))
     ∙ behind_test (has_misshapen_part tree) MemberForm _ _
     (λ fits.
-    ap (λ c. if has_unknown_part tree then Some UnknownMember else (if c then Some DocumentType else (if d then Some Namespace else (if is_none (base_said tree) then Some BaseUrl else (if is_none (references_said tree) then Some TaxonomyUrl else (if is_none (level_said tree) then Some Feature else None)))))) (type_same tree fits)
+    ap (λ c. if has_unknown_part tree then Some UnknownMember else (if c then Some DocumentType else (if d then Some Namespace else (if is_none (base_url_said tree) then Some BaseUrl else (if is_none (references_said tree) then Some TaxonomyUrl else (if is_none (level_said tree) then Some Feature else None)))))) (type_same tree fits)
     ∙ ap (λ later. if has_unknown_part tree then Some UnknownMember else (if document_holds tree DocumentType then Some DocumentType else (if d then Some Namespace else later)))
-    (behind_test (is_none (base_said tree)) BaseUrl _ _ (λ based. λ i. if taxonomy_same tree based i then Some TaxonomyUrl else (if feature_same tree i then Some Feature else None))
+    (behind_test (is_none (base_url_said tree)) BaseUrl _ _ (λ based. λ i. if taxonomy_same tree based i then Some TaxonomyUrl else (if feature_same tree i then Some Feature else None))
     ∙ ap (λ b. if b then Some BaseUrl else (if document_holds tree TaxonomyUrl then Some TaxonomyUrl else (if document_holds tree Feature then Some Feature else None))) (base_same (info (codes "baseURL") tree))))
 
 pub shape_same : (tree : Data) → find (document_holds tree) (MemberForm ∷ UnknownMember ∷ DocumentType ∷ []) ≡ shape_refusal tree
@@ -247,12 +247,12 @@ mapped_or : (o : Option Parts) → unwrap_or (option_map Some o) None ≡ o
 mapped_or None = refl
 mapped_or (Some p) = refl
 
-base_or : (o : Option Data) → unwrap_or (said_base (given_of o)) None ≡ option_and_then base_url (option_and_then as_text o)
+base_or : (o : Option Data) → unwrap_or (said_base_url (given_of o)) None ≡ option_and_then base_url (option_and_then as_text o)
 base_or None = refl
-base_or (Some d) = by_given (λ g t w n. unwrap_or (said_base g) None ≡ option_and_then base_url t) refl (λ t. mapped_or (base_url t)) (λ n. refl) refl d
+base_or (Some d) = by_given (λ g t w n. unwrap_or (said_base_url g) None ≡ option_and_then base_url t) refl (λ t. mapped_or (base_url t)) (λ n. refl) refl d
 
-pub flat_base : (o : Option Data) → option_flatten (said_base (given_of o)) ≡ option_and_then base_url (option_and_then as_text o)
-flat_base o = flat (said_base (given_of o)) ∙ base_or o
+pub flat_base : (o : Option Data) → option_flatten (said_base_url (given_of o)) ≡ option_and_then base_url (option_and_then as_text o)
+flat_base o = flat (said_base_url (given_of o)) ∙ base_or o
 
 pub hidden : (b c : Bool) → (not b && c) ≡ (not (b || false) && c)
 hidden true c = refl

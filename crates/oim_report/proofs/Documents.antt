@@ -16,7 +16,7 @@ use Rattle.oim_report.specs.declared.place.Place.TheVariants.{Document as AtDocu
 use Rattle.oim_report.specs.declared.refusal.Refusal.{Refusal}
 use Rattle.oim_report.specs.Document.{Document, SaysDocument}
 use Rattle.oim_report.specs.Duplicates.{level_of}
-use Rattle.oim_report.specs.Info.{base_said, bindings_of, facts_of, level_said, namespaces_of, references_said}
+use Rattle.oim_report.specs.Info.{base_url_said, bindings_of, facts_of, level_said, namespaces_of, references_said}
 use Rattle.oim_report.specs.Holds.{document_refusal}
 use Rattle.oim_report.proofs.DocumentHolds.{document_least, info_refusal, shape_refusal}
 use Rattle.oim_report.proofs.EachRefusal.{first_holding, none_of}
@@ -42,7 +42,7 @@ pub bindings_are_namespaces : (tree : Data) → document_refusal tree ≡ None �
 bindings_are_namespaces tree e =
     let groups = none_of (shape_refusal tree) _ (document_least tree ∙ e) in
     let info = none_of (info_refusal tree) None groups.1 in
-    let each = four (any_in binds_nothing (namespaces_of tree)) (is_none (base_said tree)) (is_none (references_said tree)) (is_none (level_said tree)) info.0 in
+    let each = four (any_in binds_nothing (namespaces_of tree)) (is_none (base_url_said tree)) (is_none (references_said tree)) (is_none (level_said tree)) info.0 in
     bindings_are (members (namespaces_of tree)) (in_members (namespaces_of tree) each.0)
 
 there : {A : Type 0} (o : Option A) (a : A) → is_none o ≡ false → o ≡ Some (unwrap_or o a)
@@ -68,7 +68,7 @@ pub document_is_said : (sheet : Sheet) (bytes : List ℕ) (tree : Data) (fs : Li
 document_is_said sheet bytes tree fs read none said =
     let groups = none_of (shape_refusal tree) _ (document_least tree ∙ none) in
     let info = none_of (info_refusal tree) None groups.1 in
-    let each = four (any_in binds_nothing (namespaces_of tree)) (is_none (base_said tree)) (is_none (references_said tree)) (is_none (level_said tree)) info.0 in
+    let each = four (any_in binds_nothing (namespaces_of tree)) (is_none (base_url_said tree)) (is_none (references_said tree)) (is_none (level_said tree)) info.0 in
     record {
       tree = tree;
       read = read;

@@ -21,7 +21,7 @@ use Rattle.oim_dims.specs.declared.fact.Fact.{Fact}
 use Rattle.oim_report.specs.declared.place.Place.TheVariants.{Document as AtDocument}
 use Rattle.oim_report.specs.Document.{Document}
 use Rattle.oim_report.specs.Duplicates.{level_of}
-use Rattle.oim_report.specs.Info.{info, namespaces_of, bindings_of, taxonomy_of, features_of, facts_of, said_base, said_references, declarations, said_level, base_said, references_said, level_said, root_keys, info_keys, document_type}
+use Rattle.oim_report.specs.Info.{info, namespaces_of, bindings_of, taxonomy_of, features_of, facts_of, said_base_url, said_references, declarations, said_level, base_url_said, references_said, level_said, root_keys, info_keys, document_type}
 use Rattle.oim_report.specs.Holds.{document_refusal}
 use Rattle.oim_report.specs.Json.{json, members, given_of, object_at, any_in, any_member, is_unknown, is_no_object, is_no_array, json_text, without_mark, entries, values}
 use Rattle.oim_report.specs.code.Findings.{is_text}
@@ -72,8 +72,8 @@ module _ (ms fs : Members) where
   taxonomy_same : taxonomy_of (whole ms fs) ≡ taxonomy_of (object ms)
   taxonomy_same = ap (λ o. unwrap_or (option_and_then as_array o) no_items) (info_same (codes "taxonomy"))
 
-  base_same : base_said (whole ms fs) ≡ base_said (object ms)
-  base_same = ap (λ o. said_base (given_of o)) (info_same (codes "baseURL"))
+  base_same : base_url_said (whole ms fs) ≡ base_url_said (object ms)
+  base_same = ap (λ o. said_base_url (given_of o)) (info_same (codes "baseURL"))
 
   pub references_same : references_said (whole ms fs) ≡ references_said (object ms)
   references_same = λ i. option_and_then (λ base. said_references base (taxonomy_same i)) (base_same i)

@@ -7,7 +7,7 @@ use Rattle.std.specs.Str.{is_utf8}
 use Rattle.serde_json.specs.Data.{Data, number, string, Items, no_items, item}
 use Rattle.serde_json.specs.Find.{as_integer}
 use Rattle.url.specs.Parts.{Parts}
-use Rattle.oim_report.specs.Info.{accepted_reference, base_said, references_said, said_reference, said_references, taxonomy_of}
+use Rattle.oim_report.specs.Info.{accepted_reference, base_url_said, references_said, said_reference, said_references, taxonomy_of}
 use Rattle.oim_report.specs.Json.{text, whole, other, given, text_of}
 use Rattle.oim_report.specs.Kept.{IsKeptReference, is_reference_refused, kept}
 use Rattle.oim_report.proofs.KeptLaws.{kept_again, kept_limit, kept_utf8}
@@ -56,4 +56,4 @@ under_base None ds rs e = absurd (cc)
 under_base (Some base) ds rs e = items_kept base ds rs e
 
 pub references_kept : (tree : Data) (rs : List (List ℕ)) → references_said tree ≡ Some rs → All IsKeptReference rs
-references_kept tree rs e = under_base (base_said tree) (taxonomy_of tree) rs e
+references_kept tree rs e = under_base (base_url_said tree) (taxonomy_of tree) rs e

@@ -162,8 +162,8 @@ declares_no_level m = is_none (option_and_then level_with (as_text m.1))
 
 module _ (tree : Data) where
   -- the URL that relative references are resolved against; None if `baseURL` is absent or refused
-  abbrev pub base : Option Parts
-  base = option_and_then base_url (option_and_then as_text (info (codes "baseURL") tree))
+  abbrev pub document_base_url : Option Parts
+  document_base_url = option_and_then base_url (option_and_then as_text (info (codes "baseURL") tree))
 
   -- the members whose keys name the feature `xbrl:allowedDuplicates`
   abbrev pub declared : List (List ℕ × Data)
@@ -180,7 +180,7 @@ module _ (tree : Data) where
       && not (is_some_and (λ t. bytes_eq t document_type) (option_and_then as_text (info (codes "documentType") tree)))
   document_holds Namespace = any_in binds_nothing (namespaces_of tree)
   document_holds BaseUrl = is_some_and (λ v. is_none (option_and_then base_url (as_text v))) (info (codes "baseURL") tree)
-  document_holds TaxonomyUrl = any_item (is_no_reference base) (taxonomy_of tree)
+  document_holds TaxonomyUrl = any_item (is_no_reference document_base_url) (taxonomy_of tree)
   document_holds Feature = nat_lt 1 (length declared) || list_any declares_no_level declared
   document_holds r = false
 

@@ -37,12 +37,12 @@ facts_of tree = members (object_at (codes "facts") tree)
 -- ---- the contents of the parts; a refused part is None
 
 -- the http or https URL that relative references are resolved against; `Some None` if there is no `baseURL`
-abbrev pub said_base : Given → Option (Option Parts)
-said_base absent = Some None
-said_base (text t) = option_map Some (base_url t)
-said_base nil = None
-said_base (whole n) = None
-said_base other = None
+abbrev pub said_base_url : Given → Option (Option Parts)
+said_base_url absent = Some None
+said_base_url (text t) = option_map Some (base_url t)
+said_base_url nil = None
+said_base_url (whole n) = None
+said_base_url other = None
 
 -- the kept text of a reference, if the reference is accepted
 abbrev pub accepted_reference : Option Parts → List ℕ → Option (List ℕ)
@@ -70,11 +70,11 @@ said_level [] = Some All
 said_level (g ∷ []) = option_and_then level_with (text_of g)
 said_level (g ∷ h ∷ gs) = None
 
-abbrev pub base_said : Data → Option (Option Parts)
-base_said tree = said_base (given_of (info (codes "baseURL") tree))
+abbrev pub base_url_said : Data → Option (Option Parts)
+base_url_said tree = said_base_url (given_of (info (codes "baseURL") tree))
 
 abbrev pub references_said : Data → Option (List (List ℕ))
-references_said tree = option_and_then (λ base. said_references base (taxonomy_of tree)) (base_said tree)
+references_said tree = option_and_then (λ base. said_references base (taxonomy_of tree)) (base_url_said tree)
 
 abbrev pub level_said : Data → Option Level
 level_said tree = said_level (declarations (bindings_of tree) (features_of tree))

@@ -16,7 +16,7 @@ use Rattle.serde_json.specs.Find.{as_object, get, get_member}
 use Rattle.serde_json.specs.View.{view}
 use Rattle.oim_report.specs.declared.findings.part.Part.{Part}
 use Rattle.oim_report.specs.declared.findings.part.Part.TheVariants.{Nothing, Whole, Missing, NoObject, NoArray, NoText, Key, KeyIn, Name, Entity, Value, Member, Two}
-use Rattle.oim_report.specs.Holds.{base, declared, declares_no_level, document_holds, holds, is_misfit, is_no_reference, is_some_and, is_unlisted, names, no_text}
+use Rattle.oim_report.specs.Holds.{declared, declares_no_level, document_base_url, document_holds, holds, is_misfit, is_no_reference, is_some_and, is_unlisted, names, no_text}
 use Rattle.oim_report.specs.Info.{info, info_keys, namespaces_of, root_keys, taxonomy_of}
 use Rattle.oim_report.specs.Json.{entries, is_no_array, is_no_object, is_object, is_unknown, members, object_at}
 use Rattle.oim_report.specs.Least.{is_shown, least}
@@ -171,7 +171,7 @@ document_shown tree UnknownMember = unknown_key root_keys tree info_keys (codes 
 document_shown tree DocumentType = value_or_nothing (info (codes "documentType") tree)
 document_shown tree Namespace = unbound_entry (namespaces_of tree)
 document_shown tree BaseUrl = value_or_nothing (info (codes "baseURL") tree)
-document_shown tree TaxonomyUrl = value_or_nothing (first_item (is_no_reference (base tree)) (taxonomy_of tree))
+document_shown tree TaxonomyUrl = value_or_nothing (first_item (is_no_reference (document_base_url tree)) (taxonomy_of tree))
 document_shown tree Feature = option_map_or entry (find declares_no_level (declared tree)) (value_or_nothing (info (codes "features") tree))
 document_shown tree r = nothing
 

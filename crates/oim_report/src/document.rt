@@ -1,7 +1,7 @@
 //! Reads the parts of a report outside its facts, and finds the identifiers and the level of
 //! duplicates of the facts.
 
-pub(crate) mod base;
+pub(crate) mod base_url;
 pub(crate) mod duplicates;
 pub(crate) mod features;
 pub(crate) mod found_facts;

@@ -8,7 +8,7 @@ ghost use Rattle.oim_report.specs.Json.{given_of};
 ghost use Rattle.oim_report.specs.Shown.{document_part, seen};
 ghost use Rattle.oim_report.specs.code.Findings.{is_text};
 
-use crate::document::base::read_base_url;
+use crate::document::base_url::read_base_url;
 use crate::document::features::read_level;
 use crate::document::json_tree::{is_no_array, is_no_object, object_at, unknown_in, within};
 use crate::document::namespaces::read_namespaces;

@@ -5,7 +5,7 @@ ghost use Rattle.url.specs.Parser.{parse_url};
 ghost use Rattle.oim_report.specs.Info.{said_reference, said_references, taxonomy_of};
 ghost use Rattle.oim_report.specs.Kept.{is_reference_refused, is_within_limit, is_text_within_limit, is_web, kept, web_text, web_url};
 
-use crate::document::base::{Base, is_web};
+use crate::document::base_url::{BaseUrl, is_web};
 use crate::document::json_tree::within;
 use crate::fact::json_member::JsonMember;
 use crate::limits::MOST_REFERENCE_BYTES;
@@ -16,7 +16,7 @@ use url::{ParseError, Url};
 
 pub(crate) fn read_taxonomy(
     alloc: Global,
-    base: Option<&Base>,
+    base: Option<&BaseUrl>,
     tree: &Value,
 ) -> Result<Vec<Text>, Reason>
     ensures ok { let said = said_references (option_copied base.entry) (taxonomy_of (view tree.now)) in
@@ -37,7 +37,7 @@ pub(crate) fn read_taxonomy(
     Ok(references)
 }
 
-pub(crate) fn keep_item(alloc: Global, base: Option<&Base>, item: &Value) -> Result<Text, Reason>
+pub(crate) fn keep_item(alloc: Global, base: Option<&BaseUrl>, item: &Value) -> Result<Text, Reason>
     ensures ok { IfOk result (λ kept. said_reference (option_copied base.entry) (view item.now) ≡ Some kept) }
     ensures errors { let said = said_reference (option_copied base.entry) (view item.now) in
         IfErr result (λ r. (r ≡ Reason.OutOfMemory) ⊎ ((r ≡ Reason.TaxonomyUrl) × (said ≡ None))) }
@@ -55,7 +55,7 @@ pub(crate) fn keep_item(alloc: Global, base: Option<&Base>, item: &Value) -> Res
 ///
 /// Errors: `TaxonomyUrl` if the reference or its kept text has more than `MOST_REFERENCE_BYTES`
 /// bytes, or if resolving the reference does not give an http or https URL; `OutOfMemory`.
-fn keep(alloc: Global, base: Option<&Base>, reference: &str) -> Result<Text, Reason>
+fn keep(alloc: Global, base: Option<&BaseUrl>, reference: &str) -> Result<Text, Reason>
     ensures ok { IfOk result (λ text. kept (option_copied base.entry) reference.now ≡ Some text) }
     ensures accepted { OnOk result (is_reference_refused (option_copied base.entry) reference.now ≡ false) }
     ensures errors { IfErr result
@@ -90,7 +90,7 @@ fn text_of(alloc: Global, url: Url) -> Result<Text, Reason>
     Ok(Text::from_string(alloc, String::from(url))?)
 }
 
-fn resolved(alloc: Global, base: &Base, reference: &str) -> Result<Text, Reason>
+fn resolved(alloc: Global, base: &BaseUrl, reference: &str) -> Result<Text, Reason>
     ensures ok { IfOk result (λ text. web_text (web_url (parse_url (Some base.now) reference.now)) ≡ Some text) }
     ensures limit { IfOk result (λ text. IsTrue (is_within_limit text)) }
     ensures errors { IfErr result

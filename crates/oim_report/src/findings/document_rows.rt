@@ -5,11 +5,11 @@ ghost use Rattle.std.specs.List.{find};
 ghost use Rattle.std.specs.Option.{option_copied};
 ghost use Rattle.serde_json.specs.View.{view};
 ghost use Rattle.oim_report.specs.Holds.{is_no_reference};
-ghost use Rattle.oim_report.specs.Info.{base_said, taxonomy_of};
+ghost use Rattle.oim_report.specs.Info.{base_url_said, taxonomy_of};
 ghost use Rattle.oim_report.specs.Shown.{document_part, first_item, seen, value};
 ghost use Rattle.oim_report.specs.code.Rows.{is_misdeclared, misdeclared, misdeclared_part};
 
-use crate::document::base::{Base, read_base_url};
+use crate::document::base_url::{BaseUrl, read_base_url};
 use crate::document::features::{is_allowed_duplicates, read_level};
 use crate::document::info::{has_other_type, misshapen, unknown};
 use crate::document::json_tree::within;
@@ -72,14 +72,14 @@ fn refused_entry(alloc: Global, tree: &Value) -> Result<Option<Part<'_>>, AllocE
 fn refused_base(alloc: Global, tree: &Value) -> Result<Option<Part<'_>>, AllocError>
     ensures { IfOk result (λ part. option_map seen part ≡ document_part (view tree.now) Reason.BaseUrl) }
 {
-    let base = said_base(alloc, tree)?;
+    let base = said_base_url(alloc, tree)?;
     Ok(value_if(base.is_none(), within(tree, "documentInfo", "baseURL")))
 }
 
 // Returns `None` if the base URL is refused, and `Some(None)` if the report has no `baseURL`.
 #[tactic(auto, using(crate::proofs::DocumentHolds::found_is))]
-fn said_base(alloc: Global, tree: &Value) -> Result<Option<Option<Base>>, AllocError>
-    ensures { IfOk result (λ base. base ≡ base_said (view tree.now)) }
+fn said_base_url(alloc: Global, tree: &Value) -> Result<Option<Option<BaseUrl>>, AllocError>
+    ensures { IfOk result (λ base. base ≡ base_url_said (view tree.now)) }
 {
     unless_memory(read_base_url(alloc, tree))
 }
@@ -88,14 +88,14 @@ fn said_base(alloc: Global, tree: &Value) -> Result<Option<Option<Base>>, AllocE
 fn refused_reference(alloc: Global, tree: &Value) -> Result<Option<Part<'_>>, AllocError>
     ensures { IfOk result (λ part. option_map seen part ≡ document_part (view tree.now) Reason.TaxonomyUrl) }
 {
-    let said = said_base(alloc, tree)?;
+    let said = said_base_url(alloc, tree)?;
     let base = said.flatten();
     reference_under(alloc, base.as_ref(), tree)
 }
 
 fn reference_under<'a>(
     alloc: Global,
-    base: Option<&Base>,
+    base: Option<&BaseUrl>,
     tree: &'a Value,
 ) -> Result<Option<Part<'a>>, AllocError>
     ensures { let all = taxonomy_of (view tree.now) in
@@ -114,7 +114,7 @@ fn reference_under<'a>(
     Ok(None)
 }
 
-fn is_refused(alloc: Global, base: Option<&Base>, reference: &Value) -> Result<bool, AllocError>
+fn is_refused(alloc: Global, base: Option<&BaseUrl>, reference: &Value) -> Result<bool, AllocError>
     ensures { IfOk result
         (λ found. found ≡ is_no_reference (option_copied base.entry) (view reference.now)) }
 {

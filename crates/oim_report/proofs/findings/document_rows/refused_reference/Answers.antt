@@ -3,7 +3,7 @@ use Rattle.std.proofs.lemmas.Result.{IfOk-weaker}
 use Rattle.std.specs.Prelude.{codes}
 use Rattle.std.specs.Option.{option_copied, option_flatten}
 use Rattle.serde_json.specs.View.{view}
-use Rattle.oim_report.specs.Holds.{base, document_holds, is_no_reference}
+use Rattle.oim_report.specs.Holds.{document_base_url, document_holds, is_no_reference}
 use Rattle.oim_report.specs.Info.{info, taxonomy_of}
 use Rattle.oim_report.specs.Shown.{document_shown, first_item, value}
 use Rattle.oim_report.proofs.DocumentHolds.{flat_base}
@@ -20,5 +20,5 @@ returns c =
     (λ part h.
     h
     ∙ ap (λ b. option_map value (first_item (is_no_reference b) (taxonomy_of tree))) based
-    ∙ item_shown (is_no_reference (base tree)) (taxonomy_of tree))
+    ∙ item_shown (is_no_reference (document_base_url tree)) (taxonomy_of tree))
     c.reference_under.ensures
