@@ -20,12 +20,11 @@ use Rattle.oim_report.specs.Document.{Document}
 use Rattle.oim_report.specs.FactFits.{FactFits}
 use Rattle.oim_report.specs.Kept.{IsKeptReference}
 use Rattle.oim_report.specs.Sheet.{Sheet}
-use Rattle.fact_base.specs.Body.{Body, body, text_cmp, union}
+use Rattle.fact_base.specs.Body.{Body, body, gathered, text_cmp, union}
 use Rattle.fact_base.specs.BodyLaws.{IsBody}
 use Rattle.fact_base.specs.Entries.{Entry, facts_of_entries}
 use Rattle.fact_base.specs.code.Entries.{AreEntriesOf, AreStored}
 use Rattle.fact_base.specs.Fits.{Fits}
-use Rattle.fact_base.specs.Gathered.{gathered}
 use Rattle.fact_base.specs.Sets.{set_of}
 use Rattle.fact_base.proofs.Members.{each_by_there, in_one_of_both}
 use Rattle.fact_base.proofs.Sets.{is_set_of, same_sets, set_of-both, set_of_is_set}

@@ -1,4 +1,4 @@
--- The facts and references of a list of documents (own).
+-- The set of facts and the set of references of documents (own).
 use Rattle.std.specs.Prelude.{ℕ, List, ◌++◌}
 use Rattle.std.specs.List.{flat_map}
 use Rattle.std.specs.Ordering.{nat_cmp}
@@ -25,9 +25,13 @@ all_facts docs = flat_map (λ d. d.facts) docs
 abbrev pub all_references : List Document → List (List ℕ)
 all_references docs = flat_map (λ d. d.references) docs
 
--- the set of all facts in the documents, and the set of all references in the documents
+-- the body of these facts and references, which may be in any order and repeated
+abbrev pub gathered : List Fact → List (List ℕ) → Body
+gathered facts references = record { facts = set_of fact_cmp facts; references = set_of text_cmp references }
+
+-- the body of all facts and references of the documents
 abbrev pub body : List Document → Body
-body docs = record { facts = set_of fact_cmp (all_facts docs); references = set_of text_cmp (all_references docs) }
+body docs = gathered (all_facts docs) (all_references docs)
 
 abbrev pub union : Body → Body → Body
-union a b = record { facts = set_of fact_cmp (a.facts ++ b.facts); references = set_of text_cmp (a.references ++ b.references) }
+union a b = gathered (a.facts ++ b.facts) (a.references ++ b.references)

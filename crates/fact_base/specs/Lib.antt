@@ -4,7 +4,6 @@ pub mod Contents
 pub mod Contradiction
 pub mod Entries
 pub mod Fits
-pub mod Gathered
 pub mod Level
 pub mod Rows
 pub mod Sets

@@ -1,7 +1,6 @@
 ghost use Rattle.std.specs.Prelude.{◌≡◌, ◌≢◌, ◌↔◌, [], ◌∷◌, length, is_some, IsTrue, IfOk, IfSome, MatchOption, OnOk, OnErr};
-ghost use Rattle.fact_base.specs.Body.{body, union};
+ghost use Rattle.fact_base.specs.Body.{body, gathered, union};
 ghost use Rattle.fact_base.specs.Fits.{Fits};
-ghost use Rattle.fact_base.specs.Gathered.{gathered};
 ghost use Rattle.fact_base.specs.Rows.{rows_of, values_at};
 ghost use Rattle.fact_base.specs.Shown.{rows_left};
 ghost use Rattle.fact_base.specs.Verdict.{IsEvidence, verdict};

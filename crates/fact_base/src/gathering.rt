@@ -1,7 +1,6 @@
 ghost use Rattle.std.specs.Prelude.{◌≡◌, [], ◌∷◌, IfOk, OnOk, OnErr};
-ghost use Rattle.fact_base.specs.Body.{body, union};
+ghost use Rattle.fact_base.specs.Body.{body, gathered, union};
 ghost use Rattle.fact_base.specs.Fits.{Fits};
-ghost use Rattle.fact_base.specs.Gathered.{gathered};
 
 use crate::base::Base;
 use crate::ordering::{in_order, settle};
@@ -39,10 +38,9 @@ pub struct Gathering<'s> {
 impl<'s> Model for Gathering<'s> {
     ghost use Rattle.std.specs.Coded.{codes};
     ghost use Rattle.oim_report.specs.code.SheetCode.{sheet_code};
-    ghost use Rattle.fact_base.specs.Body.{union};
+    ghost use Rattle.fact_base.specs.Body.{gathered, union};
     ghost use Rattle.fact_base.specs.Contents.{Contents};
     ghost use Rattle.fact_base.specs.Fits.{Fits};
-    ghost use Rattle.fact_base.specs.Gathered.{gathered};
 
     ghost Value = { Contents };
 

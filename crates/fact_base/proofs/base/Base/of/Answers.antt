@@ -1,5 +1,5 @@
 use Rattle.std.proofs.Common.{◌∙◌}
-use Rattle.fact_base.specs.Gathered.{gathered}
+use Rattle.fact_base.specs.Body.{gathered}
 use Rattle.fact_base.proofs.Gathers.{Bases, becomes_base, derived_sorted}
 use Rattle.fact_base.proofs.base.Base.of.Goals as goal
 

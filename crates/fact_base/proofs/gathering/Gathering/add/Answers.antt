@@ -1,7 +1,6 @@
 use Rattle.std.proofs.Common.{◌∷◌, [], ap, ◌∙◌}
-use Rattle.fact_base.specs.Body.{Body, body, union}
+use Rattle.fact_base.specs.Body.{Body, body, gathered, union}
 use Rattle.fact_base.specs.Contents.{Contents}
-use Rattle.fact_base.specs.Gathered.{gathered}
 use Rattle.fact_base.proofs.Gathers.{union_swaps}
 use Rattle.fact_base.proofs.gathering.Gathering.add.Goals as goal
 

@@ -1,8 +1,7 @@
 use Rattle.std.proofs.Common.{◌≡◌, ◌++◌, if◌then◌else◌, sym, ap, subst, ◌∙◌, arith}
-use Rattle.fact_base.specs.Body.{Body, union}
+use Rattle.fact_base.specs.Body.{Body, gathered, union}
 use Rattle.fact_base.specs.Contents.{Contents}
 use Rattle.fact_base.specs.Fits.{Fits}
-use Rattle.fact_base.specs.Gathered.{gathered}
 use Rattle.fact_base.proofs.Bodies.{union_fits}
 use Rattle.fact_base.proofs.Gathers.{always_ok, gathered_both, union_associates}
 use Rattle.fact_base.proofs.gathering.Gathering.append.Goals as goal

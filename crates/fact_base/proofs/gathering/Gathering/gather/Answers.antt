@@ -1,10 +1,9 @@
 use Rattle.std.proofs.Common.{◌∷◌, [], sym, ap, subst, ◌∙◌}
 use Rattle.std.proofs.lemmas.Result.{on_ok_weaker}
 use Rattle.merge_laws.specs.Members.{SameMembers}
-use Rattle.fact_base.specs.Body.{Body, body, union}
+use Rattle.fact_base.specs.Body.{Body, body, gathered, union}
 use Rattle.fact_base.specs.Contents.{Contents}
 use Rattle.fact_base.specs.Fits.{Fits}
-use Rattle.fact_base.specs.Gathered.{gathered}
 use Rattle.fact_base.proofs.Gathers.{document_fits, gathered_document}
 use Rattle.fact_base.proofs.Stored.{same_moved}
 use Rattle.fact_base.proofs.gathering.Gathering.gather.Goals as goal

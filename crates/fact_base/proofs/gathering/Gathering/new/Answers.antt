@@ -1,8 +1,7 @@
 use Rattle.std.proofs.Common.{ℕ, List, [], sym, subst}
 use Rattle.oim_dims.specs.declared.fact.Fact.{Fact}
 use Rattle.fact_base.specs.Fits.{Fits}
-use Rattle.fact_base.specs.Gathered.{gathered}
-use Rattle.fact_base.specs.Body.{union}
+use Rattle.fact_base.specs.Body.{gathered, union}
 use Rattle.fact_base.specs.Sets.{set_of}
 use Rattle.fact_base.proofs.Gathers.{nothing_fits}
 use Rattle.fact_base.proofs.gathering.Gathering.new.Goals as goal

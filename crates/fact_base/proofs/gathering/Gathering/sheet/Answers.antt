@@ -1,7 +1,7 @@
 use Rattle.std.proofs.Common.{subst}
+use Rattle.fact_base.specs.Body.{gathered}
 use Rattle.fact_base.specs.Contents.{Contents}
 use Rattle.fact_base.specs.Fits.{Fits}
-use Rattle.fact_base.specs.Gathered.{gathered}
 use Rattle.fact_base.proofs.Bodies.{union_fits}
 use Rattle.fact_base.proofs.gathering.Gathering.sheet.Goals as goal
 
