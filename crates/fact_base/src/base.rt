@@ -6,16 +6,16 @@ ghost use Rattle.fact_base.specs.Shown.{rows_left};
 ghost use Rattle.fact_base.specs.Verdict.{IsEvidence, verdict};
 ghost use Rattle.oim_report.specs.Duplicates.{level_of};
 
-use crate::entries::{copied_facts, count_of, entries_in_order, level_of, same_rows};
+use crate::entries::{Entries, copied_facts, count_of, entries_in_order, level_of, same_rows};
 use crate::evidence::Evidence;
 use crate::ordering::{in_order, put_in_order, replace, with_all};
 use crate::rows::{Row, Rows};
 use crate::verdict::Verdict;
-use merge_laws::{Merge, SortedMap, SortedSet, Summary};
+use merge_laws::{Merge, SortedMap, SortedSet};
 use oim_dims::{Dimensions, Fact};
 use oim_names::{Text, copies_of};
 use oim_report::{Report, Sheet};
-use oim_value::{Level, Value};
+use oim_value::Level;
 use std::alloc::{AllocError, Global};
 use std::marker::Model;
 
@@ -25,7 +25,7 @@ use std::marker::Model;
 pub struct Base<'s> {
     alloc: Global,
     sheet: &'s Sheet,
-    entries: SortedMap<Dimensions, (SortedSet<Value>, Summary)>,
+    entries: Entries,
     references: SortedSet<Text>,
 }
 

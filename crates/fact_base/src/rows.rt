@@ -4,9 +4,10 @@ ghost use Rattle.std.specs.List.{All};
 ghost use Rattle.fact_base.specs.code.Judged.{AreSummarised};
 ghost use Rattle.fact_base.specs.Verdict.{IsEvidence, verdict_of};
 
+use crate::entries::Entries;
 use crate::evidence::Evidence;
 use crate::verdict::{Verdict, evidence_of, verdict_of};
-use merge_laws::{SortedMap, SortedSet, Summary};
+use merge_laws::Summary;
 use oim_dims::Dimensions;
 use oim_value::Value;
 
@@ -40,7 +41,7 @@ impl Row<'_> {
 /// An iterator over the rows of a base, in the order of dimension sets.
 #[derive(Clone, Copy)]
 pub struct Rows<'b> {
-    pub(crate) entries: &'b SortedMap<Dimensions, (SortedSet<Value>, Summary)>,
+    pub(crate) entries: &'b Entries,
     pub(crate) next: usize,
     ghost summed: { All (λ e. AreSummarised e.1.0 e.1.1) entries.now } by { Prim.hlevel props },
 }
