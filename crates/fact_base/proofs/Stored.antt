@@ -15,7 +15,7 @@ use Rattle.oim_dims.specs.FactOrder.{dimensions_cmp, fact_cmp}
 use Rattle.oim_dims.specs.declared.fact.Fact.{Fact}
 use Rattle.oim_dims.proofs.Orders.{dimensions_cmp_exact, dimensions_cmp_total, fact_cmp_total, fact_cmp_exact, dimensions_agree}
 use Rattle.fact_base.specs.Entries.{Entry, Summed, facts_of_entries, facts_of_entry}
-use Rattle.fact_base.specs.code.Entries.{NoneAbove, entry_of, summed_of_both, with_fact, with_value, AreEntriesOf, EntryFits, AreStored}
+use Rattle.fact_base.specs.code.Entries.{NoneAbove, summed, summed_of_both, with_fact, with_value, AreEntriesOf, EntryFits, AreStored}
 use Rattle.fact_base.proofs.Members.{turn_there, each_by_there, in_one_of_both, in_flat_map}
 use Rattle.oim_report.proofs.Runs.{first_up, less_from}
 use Rattle.oim_report.proofs.Places.{turned as turned_up}
@@ -68,6 +68,10 @@ all_below es s n x rise up count is other = absurd (omega (arith, count))
 pub none_below : (es : List Entry) (s : DimensionSet) → length es ≡ 0 → AllBelow s es
 none_below [] s count = tt
 none_below (e ∷ es) s count = absurd (omega (arith, count))
+
+-- the entry of one fact
+abbrev entry_of : Fact → Entry
+entry_of f = (f.dimensions, summed f.value)
 
 pub put_behind : (es : List Entry) (f : Fact) → AllBelow f.dimensions es → es ++ entry_of f ∷ [] ≡ with_fact f es
 put_behind [] f below = refl

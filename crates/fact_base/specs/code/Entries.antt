@@ -27,10 +27,7 @@ summed v = (v ∷ [], summary_of v)
 abbrev pub with_value : Value → Summed → Summed
 with_value v kept = summed_of_both kept (summed v)
 
--- the entry of one fact; the next definition adds one fact to entries
-abbrev pub entry_of : Fact → Entry
-entry_of f = (f.dimensions, summed f.value)
-
+-- adds one fact to entries
 abbrev pub with_fact : Fact → List Entry → List Entry
 with_fact f es = map_with dimensions_cmp summed_of_both f.dimensions (summed f.value) es
 
