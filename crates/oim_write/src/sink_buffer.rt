@@ -30,7 +30,9 @@ impl Model for SinkBuffer {
 }
 
 impl SinkBuffer {
-    /// Starts an empty text and requests the memory for one chunk.
+    /// Starts an empty text.
+    ///
+    /// The memory for one chunk is requested at once.
     ///
     /// Errors: out of memory.
     pub fn new(alloc: Global) -> Result<SinkBuffer, AllocError>
@@ -42,7 +44,9 @@ impl SinkBuffer {
         })
     }
 
-    /// Appends bytes. Once a chunk is full, all waiting bytes are written to the sink.
+    /// Appends bytes to the waiting bytes. The sink takes a first part of these, and the rest waits.
+    ///
+    /// Nothing is written to the sink until a chunk is full. Then all waiting bytes are written.
     ///
     /// Errors: `Device` if the sink failed; `OutOfMemory`, after the waiting bytes are written.
     pub fn push<S: Sink>(&mut self, sink: &mut S, bytes: &[u8]) -> Result<(), WriteFault>

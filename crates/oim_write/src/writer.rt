@@ -35,9 +35,11 @@ pub fn text(alloc: Global, base: &Base<'_>) -> Result<Encoded, AllocError>
     }
 }
 
-/// Appends the canonical text of the base to the sink, in chunks of at least 65,536 bytes except
-/// the last. After a fault, the sink has a first part of the text. The fault contains the length of
-/// this part.
+/// Appends the canonical text of the base to the sink. After a fault, the sink has a first part of
+/// the text. The fault contains the length of this part.
+///
+/// The text is passed to the sink in chunks of at least 65,536 bytes, except the last. If the sink
+/// takes only part of a chunk, the rest is passed to it again.
 ///
 /// Errors: `Device` if the sink failed; `OutOfMemory`.
 pub fn write_to<S: Sink>(alloc: Global, base: &Base<'_>, out: &mut S) -> Result<(), WriteFault>
