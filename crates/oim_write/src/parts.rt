@@ -8,7 +8,7 @@ ghost use Rattle.oim_write.specs.Rank.{padded};
 ghost use Rattle.oim_write.specs.Tree.{name_text, prefix};
 
 use crate::fact_text::write_fact;
-use crate::labels::push_label;
+use crate::labels::{Labels, push_label};
 use crate::prefix_table::PrefixTable;
 use crate::scratch::Scratch;
 use json::Writer;
@@ -23,15 +23,6 @@ use std::mem;
 /// The text before the declared level.
 const TYPE_AND_FEATURE: &[u8] =
     b"{\"documentInfo\":{\"documentType\":\"https://xbrl.org/2021/xbrl-json\",\"features\":{\"xbrl:allowedDuplicates\":\"";
-
-/// The prefixes of the names in a text, the number of digits in each identifier, and the text of a
-/// row's concept.
-#[derive(Clone, Copy)]
-pub(crate) struct Labels<'t> {
-    pub table: &'t PrefixTable,
-    pub digits: usize,
-    pub concept: &'t str,
-}
 
 pub(crate) fn head(alloc: Global, level: Level, table: &PrefixTable) -> Result<Vec<u8>, AllocError>
     ensures { IfOk result (λ text. text.items ≡ head_text level table.now) }

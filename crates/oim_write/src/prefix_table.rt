@@ -7,7 +7,7 @@ ghost use Rattle.oim_write.specs.Rank.{rank, width};
 ghost use Rattle.oim_write.specs.Tree.{prefix};
 ghost use Rattle.oim_write.specs.Uris.{uris};
 
-use crate::labels::{LABEL, push_label, width_of};
+use crate::labels::{LABEL_CAPACITY, push_label, width_of};
 use crate::spelling::Spelling;
 use crate::uri_set::UriSet;
 use fact_base::Base;
@@ -109,7 +109,7 @@ fn prefixes_of(alloc: Global, uris: &[Text], digits: usize) -> Result<Vec<String
 {
     let mut prefixes = Vec::with_capacity(alloc, uris.len())?;
     for index in 0..uris.len() {
-        let mut prefix = String::with_capacity(alloc, LABEL)?;
+        let mut prefix = String::with_capacity(alloc, LABEL_CAPACITY)?;
         push_label(&mut prefix, "n", digits, 1 + index as u128)?;
         prefixes.push(prefix)?;
     }
