@@ -27,7 +27,7 @@ pub fn identifier(alloc: Global, rank: u128, count: u128) -> Result<Text, AllocE
 {
     let mut text = String::with_capacity(alloc, LABEL_CAPACITY)?;
     push_label(&mut text, "f", width_of(count), rank)?;
-    Text::new(alloc, text.as_str())
+    Text::from_string(alloc, text)
 }
 
 #[tactic(auto, unfolding(crate::specs::Rank::digits_up_to))]
