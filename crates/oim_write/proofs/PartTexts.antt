@@ -7,7 +7,7 @@ use Rattle.json.specs.Tree.{json_tokens}
 use Rattle.serde_json.specs.Data.{Data, Members, no_members, member, string}
 use Rattle.serde_json.specs.Written.{comma_if, compact_text, items_text, members_text, outline}
 use Rattle.serde_json.proofs.Texts.{print-outline}
-use Rattle.oim_write.specs.code.Parts.{part, parts, text_parts, facts_text, has_some, head_text, namespace_members, numbered_members, parts_text}
+use Rattle.oim_write.specs.code.Parts.{part, parts, text_parts, facts_text, has_some, head_text, namespace_members, numbered_members}
 use Rattle.oim_write.specs.Tree.{text_items, identifier, members_before, members_by, name_text, prefix, xbrl_member}
 use Rattle.std.specs.Prelude.{Contains}
 use Rattle.oim_value.specs.Level.{level_entry}
@@ -132,6 +132,10 @@ rejoin : (level names comma bound references facts : List ℕ) →
     (((34 ∷ (level ++ 34 ∷ [])) ++ 125 ∷ []) ++ (codes ",\"namespaces\":{" ++ (((names ++ (comma ++ bound)) ++ 125 ∷ []) ++ (codes ",\"taxonomy\":[" ++ ((references ++ 93 ∷ []) ++ 125 ∷ []))))) ++ (codes ",\"facts\":{" ++ ((facts ++ 125 ∷ []) ++ 125 ∷ []))
     ≡ (34 ∷ (level ++ (codes "\"},\"namespaces\":{" ++ (names ++ (comma ++ (bound ++ codes "},\"taxonomy\":[")))))) ++ (references ++ (codes "]},\"facts\":{" ++ (facts ++ codes "}}")))
 rejoin level names comma bound references facts = simp append_assoc
+
+-- a head, followed by the rest of the text
+abbrev parts_text : List ℕ → List (List ℕ) → Body → List ℕ
+parts_text head us b = head ++ (text_parts false b.references ++ (codes "]},\"facts\":{" ++ (facts_text us b.facts ++ codes "}}")))
 
 pub canonical_is : (sheet : Sheet) (b : Body) → Fits sheet b → canonical b ≡ parts_text (head_text (level_of b.facts) (uris b.facts)) (uris b.facts) b
 unfolding canonical escape_byte

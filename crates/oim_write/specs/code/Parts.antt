@@ -6,7 +6,6 @@ use Rattle.serde_json.specs.Written.{comma_if, compact_text}
 use Rattle.oim_value.specs.Level.{level_entry}
 use Rattle.oim_value.specs.declared.level.Level.{Level}
 use Rattle.oim_dims.specs.declared.fact.Fact.{Fact}
-use Rattle.fact_base.specs.Body.{Body}
 use Rattle.oim_write.specs.Ordered.{ordered_fact}
 use Rattle.oim_write.specs.Rank.{padded, width}
 use Rattle.oim_write.specs.Tree.{members_by, name_text, prefix}
@@ -54,7 +53,3 @@ numbered_text us digits before fs = parts (nat_lt 0 before) (numbered_members us
 -- the members of the object `facts`, without the braces
 abbrev pub facts_text : List (List ℕ) → List Fact → List ℕ
 facts_text us facts = numbered_text us (width (length facts)) 0 facts
-
--- a head, followed by the rest of the text
-abbrev pub parts_text : List ℕ → List (List ℕ) → Body → List ℕ
-parts_text head us b = head ++ (text_parts false b.references ++ (codes "]},\"facts\":{" ++ (facts_text us b.facts ++ codes "}}")))
