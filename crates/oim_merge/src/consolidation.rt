@@ -2,10 +2,8 @@ ghost use Rattle.std.specs.Prelude.{◌≡◌, ℕ, List, [], ◌++◌, ◌+◌,
 ghost use Rattle.oim_report.specs.Identifiers.{identifiers};
 ghost use Rattle.oim_report.specs.Outcome.{outcome};
 ghost use Rattle.oim_merge.specs.Added.{added, begun, with_report};
-ghost use Rattle.oim_merge.specs.Bases.{base_of};
 ghost use Rattle.oim_merge.specs.Lines.{line_text};
 ghost use Rattle.oim_merge.specs.Listing.{ListStops, Lists};
-ghost use Rattle.oim_merge.specs.Reports.{accepted, refused};
 ghost use Rattle.oim_merge.specs.Run.{Consolidates, ConsolidationStops, Stops, Writes, failures_after_run};
 ghost use Rattle.oim_merge.specs.Sources.{mentions_of};
 ghost use Rattle.oim_merge.specs.code.Outcomes.{IsOutcome};
@@ -295,23 +293,6 @@ pub struct Merged<'s> {
     pub base: Base<'s>,
     /// The refusals, with the numbers of their reports, from 1.
     pub refusals: Refusals,
-}
-
-impl<'s> Merged<'s> {
-    /// Reads the reports under the sheet, in order, and merges the accepted ones.
-    ///
-    /// Errors: out of memory.
-    pub fn of(
-        alloc: Global,
-        sheet: &'s Sheet,
-        reports: &[Encoded],
-    ) -> Result<Merged<'s>, AllocError>
-        ensures base { IfOk result
-            (λ merged. merged.base ≡ base_of sheet.now (accepted sheet.now reports.now)) }
-        ensures refusals { IfOk result (λ merged. merged.refusals ≡ refused sheet.now reports.now) }
-    {
-        Consolidation::of(alloc, sheet, reports)?.into_merged()
-    }
 }
 
 /// Reads a report under the reader's sheet, or returns the report's refusal.
