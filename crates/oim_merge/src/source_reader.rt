@@ -27,8 +27,10 @@ const FEWEST: usize = 1 << 15;
 
 const MOST: usize = 1 << 16;
 
-/// Reads a source of at most `limit` bytes to its end and releases unused memory. The call makes at
-/// most `limit` + 1 reads, since each read but the last returns at least one byte.
+/// Reads a source of at most `limit` bytes to its end.
+///
+/// Unused memory is released. The call makes at most `limit` + 1 reads, since each read but the
+/// last returns at least one byte.
 ///
 /// Errors: `TooLong` if the source has more than `limit` bytes; `Device` if the source failed;
 /// `OutOfMemory`.
