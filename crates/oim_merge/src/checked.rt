@@ -35,12 +35,7 @@ pub fn check_report(alloc: Global, sheet: &Sheet, bytes: &[u8]) -> Result<Checke
         (λ r. (r ≡ at Place.Document Reason.OutOfMemory) ⊎ (outcome sheet.now bytes.now ≡ Err r)) }
 {
     let report = read_report(alloc, sheet, bytes)?;
-    let Ok(canonical) = is_canonical(alloc, sheet, &report, bytes) else {
-        return Err(Refusal {
-            reason: Reason::OutOfMemory,
-            place: Place::Document,
-        });
-    };
+    let canonical = is_canonical(alloc, sheet, &report, bytes)?;
     Ok(Checked {
         facts: report.facts().len() as u64,
         level: report.level(),
