@@ -1,6 +1,6 @@
 -- The texts of numbers, and the lines of events.
 use Rattle.std.proofs.Common.{◌≡◌, ◌≢◌, ℕ, ◌^◌, ◌<◌, List, length, get_or, sym, ap, subst, ◌∙◌, arith, ◌+◌, ◌∷◌, ◌++◌, take, drop, cond, refl}
-use Rattle.std.specs.Prelude.{Result, Ok, Err, MatchOption, Some, None, position}
+use Rattle.std.specs.Prelude.{Bool, ◌==◌, Result, Ok, Err, MatchOption, Some, None, position}
 use Rattle.std.specs.Fmt.{decimal}
 use Rattle.std.specs.Result.{result_ok}
 use Rattle.std.specs.Str.{IsUtf8}
@@ -8,7 +8,7 @@ use Rattle.std.specs.Str.Parse.{AllDigits, ParsesUnsigned, digits_value}
 use Rattle.std.proofs.lemmas.Fmt.{IsAscii-decimal, decimal_digit, decimal_is_IsNumeral, decimal-digits_value, first_decimal, parse-decimal, decimal_injective}
 use Rattle.std.proofs.lemmas.Str.{IsUtf8-from_ascii}
 use Rattle.std.proofs.lemmas.Str.Parse.{IsNumeralModel, numerals_by_value, parse_plain, tells_digits, digit_at}
-use Rattle.oim_merge.specs.code.EventParts.{IsNumberText, AreNumbersText, is_space}
+use Rattle.oim_merge.specs.code.EventParts.{IsNumberText, AreNumbersText}
 use Rattle.std.specs.List.{position_or_len}
 use Rattle.std.proofs.lemmas.Bool.{eqb-true, lt-ltb, ne_eqb}
 use Rattle.std.proofs.lemmas.List.{drop-drop, drop_at, drop_more, get_or_append_left, get_or_at, length-append, take_at, take-append-drop}
@@ -51,6 +51,9 @@ parses_number {E = E} text (Ok x) h plus zero =
 parses_number {E = E} text (Err e) h plus zero = λ n is. let read = parse-decimal {E = E} 32 n text (Err e) is.1.1 (omega (arith, is.1.1)) is.0 h in cc
 
 -- ---- two numbers
+
+abbrev pub is_space : ℕ → Bool
+is_space c = c == 32
 
 -- no digit is a space, so the first space follows the number
 first_space_is : (m : ℕ) (rest : List ℕ) → m < 2 ^ 64 → position_or_len is_space (decimal m ++ 32 ∷ rest) ≡ length (decimal m)

@@ -1,10 +1,7 @@
 -- Parts of an event line (own).
-use Rattle.std.specs.Prelude.{◌≡◌, ℕ, Bool, ◌==◌, List, ◌∷◌, ◌++◌}
+use Rattle.std.specs.Prelude.{◌≡◌, ℕ, List, ◌∷◌, ◌++◌}
 use Rattle.std.specs.Fmt.{decimal}
 use Rattle.oim_merge.specs.EventLines.{IsNumber}
-
-abbrev pub is_space : ℕ → Bool
-is_space c = c == 32
 
 abbrev pub IsNumberText : List ℕ → ℕ → Type 0
 IsNumberText text n = (text ≡ decimal n) × IsNumber n
