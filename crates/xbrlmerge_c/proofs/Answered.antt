@@ -7,18 +7,18 @@ use Rattle.oim_merge.specs.declared.fault.Fault.{Fault}
 use Rattle.oim_merge.specs.declared.fault.Fault.TheVariants.{OutOfMemory, Device, TooLoose, Sheet as SheetFault}
 use Rattle.xbrlmerge_c.specs.Answers.{NoRow, StopsBy}
 use Rattle.xbrlmerge_c.specs.code.Answers.{Answers}
-use Rattle.xbrlmerge_c.specs.Room.{Asks, Hands, HasNoText, Rejects, Room, TellsFirst}
+use Rattle.xbrlmerge_c.specs.CallerMemory.{Asks, CallerMemory, Hands, HasNoText, Rejects, TellsFirst}
 use Rattle.xbrlmerge_c.specs.Statuses.{done, no_memory, refused_some, sheet_refused, too_loose, too_short}
 use Rattle.xbrlmerge_c.specs.declared.output.Made.{Made}
 
-pub within : (made : Result Made Fault) (old new : Room) (status : ℕ) → Answers made old new status → status ≤ no_memory
+pub within : (made : Result Made Fault) (old new : CallerMemory) (status : ℕ) → Answers made old new status → status ≤ no_memory
 within (Ok made) old new status s = grind arith
 within (Err (TooLoose number told)) old new status s = grind arith
 within (Err (SheetFault reason)) old new status s = omega (arith, s.0)
 within (Err (OutOfMemory written)) old new status s = omega (arith, s.0)
 within (Err (Device written)) old new status s = omega (arith, s.0)
 
-pub hands : (Says : List ℕ → List (ℕ × Refusal) → Type 0) (made : Result Made Fault) (old new : Room) (status : ℕ) →
+pub hands : (Says : List ℕ → List (ℕ × Refusal) → Type 0) (made : Result Made Fault) (old new : CallerMemory) (status : ℕ) →
     IfOk made (λ m. Says m.text.items m.refusals) → Answers made old new status → status ≤ refused_some → Hands Says old new
 hands Says (Ok made) old new status says (inl s) low = absurd (omega (arith, s.0, low))
 hands Says (Ok made) old new status says (inr (inl s)) low = record { text = made.text.items; told = made.refusals; says = says; handed = s.1.1 }
@@ -28,21 +28,21 @@ hands Says (Err (SheetFault reason)) old new status says s low = absurd (omega (
 hands Says (Err (OutOfMemory written)) old new status says s low = absurd (omega (arith, s.0, low))
 hands Says (Err (Device written)) old new status says s low = absurd (omega (arith, s.0, low))
 
-pub none_refused : (made : Result Made Fault) (old new : Room) (status : ℕ) → Answers made old new status → status ≡ done → new.refused ≡ 0
+pub none_refused : (made : Result Made Fault) (old new : CallerMemory) (status : ℕ) → Answers made old new status → status ≡ done → new.refused ≡ 0
 none_refused (Ok made) old new status s is = grind arith
 none_refused (Err (TooLoose number told)) old new status s is = grind arith
 none_refused (Err (SheetFault reason)) old new status s is = absurd (omega (arith, s.0, is))
 none_refused (Err (OutOfMemory written)) old new status s is = absurd (omega (arith, s.0, is))
 none_refused (Err (Device written)) old new status s is = absurd (omega (arith, s.0, is))
 
-pub some_refused : (made : Result Made Fault) (old new : Room) (status : ℕ) → Answers made old new status → status ≡ refused_some → 0 < new.refused
+pub some_refused : (made : Result Made Fault) (old new : CallerMemory) (status : ℕ) → Answers made old new status → status ≡ refused_some → 0 < new.refused
 some_refused (Ok made) old new status s is = grind arith
 some_refused (Err (TooLoose number told)) old new status s is = grind arith
 some_refused (Err (SheetFault reason)) old new status s is = absurd (omega (arith, s.0, is))
 some_refused (Err (OutOfMemory written)) old new status s is = absurd (omega (arith, s.0, is))
 some_refused (Err (Device written)) old new status s is = absurd (omega (arith, s.0, is))
 
-pub kept : (made : Result Made Fault) (old new : Room) (status : ℕ) → Answers made old new status → no_memory ≤ status → new ≡ old
+pub kept : (made : Result Made Fault) (old new : CallerMemory) (status : ℕ) → Answers made old new status → no_memory ≤ status → new ≡ old
 kept (Ok made) old new status s high = grind arith
 kept (Err (TooLoose number told)) old new status s high = grind arith
 kept (Err (SheetFault reason)) old new status s high = absurd (omega (arith, s.0, high))
@@ -50,7 +50,7 @@ kept (Err (OutOfMemory written)) old new status s high = s.1
 kept (Err (Device written)) old new status s high = s.1
 
 module _ (IsRow : ℕ → List (ℕ × Refusal) → Type 0) (IsSheet : Reason → Type 0) where
-  pub tells_first : (made : Result Made Fault) (old new : Room) (status : ℕ) →
+  pub tells_first : (made : Result Made Fault) (old new : CallerMemory) (status : ℕ) →
       IfErr made (StopsBy IsRow IsSheet) → Answers made old new status → status ≡ too_loose → TellsFirst IsRow old new
   tells_first (Ok made) old new status stops s is = grind arith
   tells_first (Err (TooLoose number told)) old new status stops (inl s) is = absurd (omega (arith, s.0, is))
@@ -59,7 +59,7 @@ module _ (IsRow : ℕ → List (ℕ × Refusal) → Type 0) (IsSheet : Reason �
   tells_first (Err (OutOfMemory written)) old new status stops s is = absurd (omega (arith, s.0, is))
   tells_first (Err (Device written)) old new status stops s is = absurd (omega (arith, s.0, is))
 
-  pub rejects : (made : Result Made Fault) (old new : Room) (status : ℕ) →
+  pub rejects : (made : Result Made Fault) (old new : CallerMemory) (status : ℕ) →
       IfErr made (StopsBy IsRow IsSheet) → Answers made old new status → status ≡ sheet_refused → Rejects IsSheet old new
   rejects (Ok made) old new status stops s is = grind arith
   rejects (Err (TooLoose number told)) old new status stops s is = grind arith
@@ -67,7 +67,7 @@ module _ (IsRow : ℕ → List (ℕ × Refusal) → Type 0) (IsSheet : Reason �
   rejects (Err (OutOfMemory written)) old new status stops s is = absurd (omega (arith, s.0, is))
   rejects (Err (Device written)) old new status stops s is = absurd (omega (arith, s.0, is))
 
-  pub asks : (Says : List ℕ → List (ℕ × Refusal) → Type 0) (made : Result Made Fault) (old new : Room) (status : ℕ) →
+  pub asks : (Says : List ℕ → List (ℕ × Refusal) → Type 0) (made : Result Made Fault) (old new : CallerMemory) (status : ℕ) →
       IfOk made (λ m. Says m.text.items m.refusals) → IfErr made (StopsBy IsRow IsSheet) → Answers made old new status → status ≡ too_short →
       Asks (λ text told. Says text told ⊎ HasNoText IsRow text told) old new
   asks Says (Ok made) old new status says stops (inl s) is = record { text = made.text.items; told = made.refusals; says = inl says; short = s.1 }
@@ -82,7 +82,7 @@ module _ (IsRow : ℕ → List (ℕ × Refusal) → Type 0) (IsSheet : Reason �
 
 -- ---- calls without a level
 
-pub never_loose : (IsSheet : Reason → Type 0) (made : Result Made Fault) (old new : Room) (status : ℕ) →
+pub never_loose : (IsSheet : Reason → Type 0) (made : Result Made Fault) (old new : CallerMemory) (status : ℕ) →
     IfErr made (StopsBy NoRow IsSheet) → Answers made old new status → status ≡ too_loose → ⊥
 never_loose IsSheet made old new status stops s is = (tells_first NoRow IsSheet made old new status stops s is).is
 
@@ -90,7 +90,7 @@ text_alone : {A : Type 0} (told : List (ℕ × Refusal)) (text : List ℕ) → A
 text_alone told text (inl a) = a
 text_alone told text (inr h) = absurd h.is
 
-pub asks_text : (IsSheet : Reason → Type 0) (Says : List ℕ → List (ℕ × Refusal) → Type 0) (made : Result Made Fault) (old new : Room) (status : ℕ) →
+pub asks_text : (IsSheet : Reason → Type 0) (Says : List ℕ → List (ℕ × Refusal) → Type 0) (made : Result Made Fault) (old new : CallerMemory) (status : ℕ) →
     IfOk made (λ m. Says m.text.items m.refusals) → IfErr made (StopsBy NoRow IsSheet) → Answers made old new status → status ≡ too_short → Asks Says old new
 asks_text IsSheet Says made old new status says stops s is =
     let a = asks NoRow IsSheet Says made old new status says stops s is in

@@ -13,7 +13,7 @@ use Rattle.row_formats.specs.Rows.{AreRows}
 use Rattle.row_formats.specs.SourceRows.{sources_in}
 use Rattle.row_formats.specs.declared.row_format.RowFormat.TheVariants.{Json}
 use Rattle.xbrlmerge_c.specs.Ends.{AreEnds, reports_at}
-use Rattle.xbrlmerge_c.specs.Room.{Asks, Hands, Rejects, Room}
+use Rattle.xbrlmerge_c.specs.CallerMemory.{Asks, CallerMemory, Hands, Rejects}
 use Rattle.xbrlmerge_c.specs.Statuses.{bad_ends, done, no_memory, refused_some, sheet_refused, too_loose, too_short}
 use Rattle.xbrlmerge_c.specs.declared.listing.Listing.{Listing}
 use Rattle.xbrlmerge_c.specs.declared.listing.Listing.TheVariants.{Sources, SourcesJson, Verdicts, VerdictsJson}
@@ -50,7 +50,7 @@ pub record Lists (listing : Listing) (sheet : List ℕ) (reports : List (List �
   pub refusals_are : told ≡ refused listed reports
 
 -- the result of a call that lists rows or sources: the status, and the caller's memory before and after the call
-pub record AnswersListing (listing : Listing) (sheet bytes ends : List ℕ) (status : ℕ) (old new : Room) : Type 0 where
+pub record AnswersListing (listing : Listing) (sheet bytes ends : List ℕ) (status : ℕ) (old new : CallerMemory) : Type 0 where
   pub within : status ≤ bad_ends
   pub not_loose : status ≢ too_loose
   pub are_ends : status ≤ no_memory → AreEnds bytes ends

@@ -8,13 +8,13 @@ use Rattle.oim_report.specs.declared.place.Place.TheVariants.{Document as AtDocu
 use Rattle.oim_report.specs.declared.refusal.Refusal.{Refusal}
 use Rattle.oim_merge.specs.Checked.{IsChecked}
 use Rattle.oim_merge.specs.declared.checked.Checked.{Checked}
-use Rattle.xbrlmerge_c.specs.Rows.{row}
+use Rattle.xbrlmerge_c.specs.Refusals.{refused_report}
 use Rattle.xbrlmerge_c.specs.declared.check.CheckedReport.{CheckedReport}
 use Rattle.xbrlmerge_c.specs.declared.output.RefusedReport.{RefusedReport}
 
 -- the result for an accepted report, as numbers
-abbrev pub IsRowOf : Checked → CheckedReport → Type 0
-IsRowOf checked r = (r.facts ≡ checked.facts) × ((r.level ≡ (level_entry checked.level).place) × ((r.canonical ≡ 1 ↔ IsTrue checked.canonical) × (r.canonical ≤ 1)))
+abbrev pub AreNumbersOf : Checked → CheckedReport → Type 0
+AreNumbersOf checked r = (r.facts ≡ checked.facts) × ((r.level ≡ (level_entry checked.level).place) × ((r.canonical ≡ 1 ↔ IsTrue checked.canonical) × (r.canonical ≤ 1)))
 
 -- the report is accepted under the sheet, with this result
 pub record Accepts (sheet report : List ℕ) (r : CheckedReport) : Type 0 where
@@ -22,7 +22,7 @@ pub record Accepts (sheet report : List ℕ) (r : CheckedReport) : Type 0 where
   pub read : sheet_outcome sheet ≡ Ok listed
   pub checked : Checked
   pub is_checked : IsChecked listed report checked
-  pub row_is : IsRowOf checked r
+  pub numbers_are : AreNumbersOf checked r
 
 -- the report is refused; the record of the refusal has the report number 1
 pub record Refuses (sheet report : List ℕ) (r : RefusedReport) : Type 0 where
@@ -30,10 +30,10 @@ pub record Refuses (sheet report : List ℕ) (r : RefusedReport) : Type 0 where
   pub read : sheet_outcome sheet ≡ Ok listed
   pub refusal : Refusal
   pub refused : outcome listed report ≡ Err refusal
-  pub row_is : r ≡ row 1 refusal
+  pub numbers_are : r ≡ refused_report 1 refusal
 
 -- the sheet is refused; the record of the refusal has the report number 0
 pub record RefusesSheet (sheet : List ℕ) (r : RefusedReport) : Type 0 where
   pub reason : Reason
   pub refused : sheet_outcome sheet ≡ Err reason
-  pub row_is : r ≡ row 0 (at AtDocument reason)
+  pub numbers_are : r ≡ refused_report 0 (at AtDocument reason)

@@ -1,7 +1,7 @@
 pub mod Statuses
 pub mod Ends
-pub mod Rows
-pub mod Room
+pub mod Refusals
+pub mod CallerMemory
 pub mod Calls
 pub mod Answers
 pub mod Checks

@@ -4,7 +4,7 @@ ghost use Rattle.oim_value.specs.declared.level.Level.{Level as Allowed};
 ghost use Rattle.xbrlmerge_c.specs.Answers.{StopsBy};
 ghost use Rattle.xbrlmerge_c.specs.Calls.{AnswersListing, IsLoose, IsSheetRefused, Merges};
 ghost use Rattle.xbrlmerge_c.specs.Ends.{AreEnds, reports_at};
-ghost use Rattle.xbrlmerge_c.specs.Room.{Asks, Hands, HasNoText, Rejects, TellsFirst, room};
+ghost use Rattle.xbrlmerge_c.specs.CallerMemory.{Asks, Hands, HasNoText, Rejects, TellsFirst, memory};
 ghost use Rattle.xbrlmerge_c.specs.Statuses.{bad_ends, bad_level, done, no_memory, refused_some, sheet_refused, too_loose, too_short};
 ghost use Rattle.xbrlmerge_c.specs.declared.listing.Listing.TheVariants.{Sources, SourcesJson, Verdicts, VerdictsJson};
 
@@ -55,22 +55,22 @@ pub extern "C" fn xbrlmerge_merge(
     ensures ends { result ≤ no_memory → AreEnds reports.now ends.now }
     ensures done { (level : Allowed) → slice_get levels allow ≡ Some level → result ≤ refused_some →
         Hands (Merges sheet.now (reports_at reports.now ends.now) level)
-        (room out.old needed.old refusals.old refused.old) (room out.new needed.new refusals.new refused.new) }
+        (memory out.old needed.old refusals.old refused.old) (memory out.new needed.new refusals.new refused.new) }
     ensures none_refused { result ≡ done → refused.new ≡ 0 }
     ensures some_refused { result ≡ refused_some → 0 < refused.new }
     ensures loose { (level : Allowed) → slice_get levels allow ≡ Some level → result ≡ too_loose →
         TellsFirst (IsLoose sheet.now (reports_at reports.now ends.now) level)
-        (room out.old needed.old refusals.old refused.old) (room out.new needed.new refusals.new refused.new) }
+        (memory out.old needed.old refusals.old refused.old) (memory out.new needed.new refusals.new refused.new) }
     ensures short { (level : Allowed) → slice_get levels allow ≡ Some level → result ≡ too_short →
         Asks (λ text told. Merges sheet.now (reports_at reports.now ends.now) level text told
         ⊎ HasNoText (IsLoose sheet.now (reports_at reports.now ends.now) level) text told)
-        (room out.old needed.old refusals.old refused.old) (room out.new needed.new refusals.new refused.new) }
+        (memory out.old needed.old refusals.old refused.old) (memory out.new needed.new refusals.new refused.new) }
     ensures sheet { result ≡ sheet_refused → Rejects (IsSheetRefused sheet.now)
-        (room out.old needed.old refusals.old refused.old) (room out.new needed.new refusals.new refused.new) }
+        (memory out.old needed.old refusals.old refused.old) (memory out.new needed.new refusals.new refused.new) }
     ensures bad_ends { result ≡ bad_ends → AreEnds reports.now ends.now → ⊥ }
     ensures bad_level { result ≡ bad_level ↔ slice_get levels allow ≡ None }
-    ensures kept { no_memory ≤ result → room out.new needed.new refusals.new refused.new
-        ≡ room out.old needed.old refusals.old refused.old }
+    ensures kept { no_memory ≤ result → memory out.new needed.new refusals.new refused.new
+        ≡ memory out.old needed.old refusals.old refused.old }
 {
     let Some(level) = level_numbered(allow) else {
         return BAD_LEVEL;
@@ -122,7 +122,7 @@ pub extern "C" fn xbrlmerge_verdicts(
     refused: &mut usize,
 ) -> u32
     ensures { AnswersListing Verdicts sheet.now reports.now ends.now result
-        (room out.old needed.old refusals.old refused.old) (room out.new needed.new refusals.new refused.new) }
+        (memory out.old needed.old refusals.old refused.old) (memory out.new needed.new refusals.new refused.new) }
 {
     Listing::Verdicts.list(alloc, sheet, reports, ends, out, needed, refusals, refused)
 }
@@ -141,7 +141,7 @@ pub extern "C" fn xbrlmerge_sources(
     refused: &mut usize,
 ) -> u32
     ensures { AnswersListing Sources sheet.now reports.now ends.now result
-        (room out.old needed.old refusals.old refused.old) (room out.new needed.new refusals.new refused.new) }
+        (memory out.old needed.old refusals.old refused.old) (memory out.new needed.new refusals.new refused.new) }
 {
     Listing::Sources.list(alloc, sheet, reports, ends, out, needed, refusals, refused)
 }
@@ -160,7 +160,7 @@ pub extern "C" fn xbrlmerge_verdicts_json(
     refused: &mut usize,
 ) -> u32
     ensures { AnswersListing VerdictsJson sheet.now reports.now ends.now result
-        (room out.old needed.old refusals.old refused.old) (room out.new needed.new refusals.new refused.new) }
+        (memory out.old needed.old refusals.old refused.old) (memory out.new needed.new refusals.new refused.new) }
 {
     Listing::VerdictsJson.list(alloc, sheet, reports, ends, out, needed, refusals, refused)
 }
@@ -179,7 +179,7 @@ pub extern "C" fn xbrlmerge_sources_json(
     refused: &mut usize,
 ) -> u32
     ensures { AnswersListing SourcesJson sheet.now reports.now ends.now result
-        (room out.old needed.old refusals.old refused.old) (room out.new needed.new refusals.new refused.new) }
+        (memory out.old needed.old refusals.old refused.old) (memory out.new needed.new refusals.new refused.new) }
 {
     Listing::SourcesJson.list(alloc, sheet, reports, ends, out, needed, refusals, refused)
 }

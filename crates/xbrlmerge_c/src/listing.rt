@@ -2,7 +2,7 @@ ghost use Rattle.std.specs.Prelude.{◌-◌, ◌^◌, ◌<◌, IfErr, IfOk};
 ghost use Rattle.xbrlmerge_c.specs.Answers.{NoReason, NoRow, StopsBy};
 ghost use Rattle.xbrlmerge_c.specs.Calls.{AnswersListing, IsSheetRefused, Lists};
 ghost use Rattle.xbrlmerge_c.specs.Ends.{AreEnds, reports_at};
-ghost use Rattle.xbrlmerge_c.specs.Room.{room};
+ghost use Rattle.xbrlmerge_c.specs.CallerMemory.{memory};
 ghost use Rattle.xbrlmerge_c.specs.code.Listing.{AppendsListing};
 
 use crate::output::{BAD_ENDS, Made, RefusedReport, answer};
@@ -37,7 +37,7 @@ impl Listing {
         refused: &mut usize,
     ) -> u32
         ensures { AnswersListing self sheet.now reports.now ends.now result
-            (room out.old needed.old refusals.old refused.old) (room out.new needed.new refusals.new refused.new) }
+            (memory out.old needed.old refusals.old refused.old) (memory out.new needed.new refusals.new refused.new) }
     {
         if !are_ends(reports, ends) {
             return BAD_ENDS;

@@ -1,7 +1,7 @@
 ghost use Rattle.std.specs.Prelude.{◌≡◌, ◌≤◌, ◌++◌, drop, length, true, false};
 ghost use Rattle.xbrlmerge_c.specs.code.Answers.{Answers, AnswersText};
-ghost use Rattle.xbrlmerge_c.specs.Room.{IsHanded, IsTooShort, room};
-ghost use Rattle.xbrlmerge_c.specs.Rows.{row, rows_of};
+ghost use Rattle.xbrlmerge_c.specs.CallerMemory.{IsHanded, IsTooShort, memory};
+ghost use Rattle.xbrlmerge_c.specs.Refusals.{refused_report, refused_reports};
 
 use oim_merge::{Fault, Refusals};
 use oim_report::{Place, Refusal};
@@ -38,7 +38,7 @@ pub struct RefusedReport {
 
 impl RefusedReport {
     pub(crate) fn new(report: u64, refusal: &Refusal) -> RefusedReport
-        ensures { result ≡ row report refusal.now }
+        ensures { result ≡ refused_report report refusal.now }
     {
         RefusedReport {
             report,
@@ -51,12 +51,12 @@ impl RefusedReport {
     }
 }
 
-pub(crate) fn put_rows(told: &[(u64, Refusal)], rows: &mut [RefusedReport])
-    requires { length told.now ≤ length rows.old }
-    ensures { rows.new ≡ rows_of told.now ++ drop (length told.now) rows.old }
+pub(crate) fn put_refusals(told: &[(u64, Refusal)], refusals: &mut [RefusedReport])
+    requires { length told.now ≤ length refusals.old }
+    ensures { refusals.new ≡ refused_reports told.now ++ drop (length told.now) refusals.old }
 {
     for (place, (report, refusal)) in told.iter().enumerate() {
-        rows[place] = RefusedReport::new(*report, refusal);
+        refusals[place] = RefusedReport::new(*report, refusal);
     }
 }
 
@@ -66,29 +66,29 @@ pub(crate) struct Made {
     pub refusals: Refusals,
 }
 
-// In these functions, `out`, `needed`, `rows` and `refused` are the caller's memory, which C passes
-// separately.
+// In these functions, `out`, `needed`, `refusals` and `refused` are the caller's memory, which C
+// passes separately.
 
 pub(crate) fn hand_over(
     text: &[u8],
     told: &[(u64, Refusal)],
     out: &mut [u8],
     needed: &mut usize,
-    rows: &mut [RefusedReport],
+    refusals: &mut [RefusedReport],
     refused: &mut usize,
 ) -> bool
     ensures fits { result ≡ true → IsHanded text.now told.now
-        (room out.old needed.old rows.old refused.old) (room out.new needed.new rows.new refused.new) }
+        (memory out.old needed.old refusals.old refused.old) (memory out.new needed.new refusals.new refused.new) }
     ensures short { result ≡ false → IsTooShort text.now told.now
-        (room out.old needed.old rows.old refused.old) (room out.new needed.new rows.new refused.new) }
+        (memory out.old needed.old refusals.old refused.old) (memory out.new needed.new refusals.new refused.new) }
 {
     *needed = text.len();
     *refused = told.len();
-    if out.len() < text.len() || rows.len() < told.len() {
+    if out.len() < text.len() || refusals.len() < told.len() {
         return false;
     }
     out[..text.len()].copy_from_slice(text);
-    put_rows(told, rows);
+    put_refusals(told, refusals);
     true
 }
 
@@ -96,16 +96,16 @@ pub(crate) fn answer(
     made: Result<Made, Fault>,
     out: &mut [u8],
     needed: &mut usize,
-    rows: &mut [RefusedReport],
+    refusals: &mut [RefusedReport],
     refused: &mut usize,
 ) -> u32
-    ensures { Answers made (room out.old needed.old rows.old refused.old)
-        (room out.new needed.new rows.new refused.new) result }
+    ensures { Answers made (memory out.old needed.old refusals.old refused.old)
+        (memory out.new needed.new refusals.new refused.new) result }
 {
     match made {
-        Ok(made) => answer_text(&made, out, needed, rows, refused),
+        Ok(made) => answer_text(&made, out, needed, refusals, refused),
         Err(Fault::TooLoose { row, refused: told }) => {
-            if !hand_over(b"", told.as_slice(), out, needed, rows, refused) {
+            if !hand_over(b"", told.as_slice(), out, needed, refusals, refused) {
                 return TOO_SHORT;
             }
             *needed = row as usize;
@@ -125,14 +125,14 @@ fn answer_text(
     made: &Made,
     out: &mut [u8],
     needed: &mut usize,
-    rows: &mut [RefusedReport],
+    refusals: &mut [RefusedReport],
     refused: &mut usize,
 ) -> u32
-    ensures { AnswersText made.now.text.items made.now.refusals (room out.old needed.old rows.old refused.old)
-        (room out.new needed.new rows.new refused.new) result }
+    ensures { AnswersText made.now.text.items made.now.refusals (memory out.old needed.old refusals.old refused.old)
+        (memory out.new needed.new refusals.new refused.new) result }
 {
     let told = made.refusals.as_slice();
-    if !hand_over(made.text.as_slice(), told, out, needed, rows, refused) {
+    if !hand_over(made.text.as_slice(), told, out, needed, refusals, refused) {
         return TOO_SHORT;
     }
     if told.is_empty() { DONE } else { REFUSED }

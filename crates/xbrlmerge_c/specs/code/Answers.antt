@@ -3,23 +3,23 @@ use Rattle.std.specs.Prelude.{◌≡◌, ◌<◌, ◌⊎◌, ℕ, List, [], leng
 use Rattle.oim_report.specs.declared.refusal.Refusal.{Refusal}
 use Rattle.oim_merge.specs.declared.fault.Fault.{Fault}
 use Rattle.oim_merge.specs.declared.fault.Fault.TheVariants.{OutOfMemory, Device, TooLoose, Sheet as SheetFault}
-use Rattle.xbrlmerge_c.specs.Room.{IsHanded, IsTooShort, Room, TellsReason, TellsRow}
+use Rattle.xbrlmerge_c.specs.CallerMemory.{CallerMemory, IsHanded, IsTooShort, TellsReason, TellsRow}
 use Rattle.xbrlmerge_c.specs.Statuses.{done, no_memory, refused_some, sheet_refused, too_loose, too_short}
 use Rattle.xbrlmerge_c.specs.declared.output.Made.{Made}
 
 -- the text was written and the status shows whether reports were refused, unless a buffer is too short
-abbrev pub AnswersText : List ℕ → List (ℕ × Refusal) → Room → Room → ℕ → Type 0
+abbrev pub AnswersText : List ℕ → List (ℕ × Refusal) → CallerMemory → CallerMemory → ℕ → Type 0
 AnswersText text told old new status =
     ((status ≡ too_short) × IsTooShort text told old new)
     ⊎ (((status ≡ done) × ((told ≡ []) × IsHanded text told old new))
     ⊎ ((status ≡ refused_some) × ((0 < length told) × IsHanded text told old new)))
 
 -- the number of the row and the refused reports were returned, unless the buffer for these reports is too short
-abbrev pub AnswersRow : ℕ → List (ℕ × Refusal) → Room → Room → ℕ → Type 0
+abbrev pub AnswersRow : ℕ → List (ℕ × Refusal) → CallerMemory → CallerMemory → ℕ → Type 0
 AnswersRow number told old new status =
     ((status ≡ too_short) × IsTooShort [] told old new) ⊎ ((status ≡ too_loose) × TellsRow number told old new)
 
-abbrev pub Answers : Result Made Fault → Room → Room → ℕ → Type 0
+abbrev pub Answers : Result Made Fault → CallerMemory → CallerMemory → ℕ → Type 0
 Answers (Ok made) old new status = AnswersText made.text.items made.refusals old new status
 Answers (Err (TooLoose number told)) old new status = AnswersRow number told old new status
 Answers (Err (SheetFault reason)) old new status = (status ≡ sheet_refused) × TellsReason reason old new

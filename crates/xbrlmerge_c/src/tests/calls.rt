@@ -70,16 +70,20 @@ struct Left {
     status: u32,
     out: [u8; 400],
     needed: usize,
-    rows: [RefusedReport; 2],
+    refusals: [RefusedReport; 2],
     refused: usize,
 }
 
-/// Makes a call with an output buffer of `room` bytes, at most 400.
-fn called_once(alloc: Global, call: Call, sheet: &str, ends: &[usize], room: usize) -> Left {
-    let (mut out, mut rows) = ([7; 400], [BEFORE; 2]);
+/// Makes a call with an output buffer of `size` bytes, at most 400.
+fn called_once(alloc: Global, call: Call, sheet: &str, ends: &[usize], size: usize) -> Left {
+    let (mut out, mut refusals) = ([7; 400], [BEFORE; 2]);
     let (mut needed, mut refused) = (7, 7);
-    let (sheet, reports, told) = (sheet.as_bytes(), REPORTS.as_bytes(), rows.as_mut_slice());
-    let status = match (call, out.get_mut(..room)) {
+    let (sheet, reports, told) = (
+        sheet.as_bytes(),
+        REPORTS.as_bytes(),
+        refusals.as_mut_slice(),
+    );
+    let status = match (call, out.get_mut(..size)) {
         (_, None) => NO_MEMORY,
         (Call::Merge(allow), Some(out)) => xbrlmerge_merge(
             alloc,
@@ -145,19 +149,19 @@ fn called_once(alloc: Global, call: Call, sheet: &str, ends: &[usize], room: usi
         status,
         out,
         needed,
-        rows,
+        refusals,
         refused,
     }
 }
 
 /// Does the same as `called_once`, and repeats the call if memory was refused.
-fn called(rt: &HostRuntime, call: Call, sheet: &str, ends: &[usize], room: usize) -> Left {
-    let left = called_once(rt.alloc(), call, sheet, ends, room);
+fn called(rt: &HostRuntime, call: Call, sheet: &str, ends: &[usize], size: usize) -> Left {
+    let left = called_once(rt.alloc(), call, sheet, ends, size);
     if left.status != NO_MEMORY {
         return left;
     }
     let _ = eprintln!(rt; "refused");
-    called_once(rt.alloc(), call, sheet, ends, room)
+    called_once(rt.alloc(), call, sheet, ends, size)
 }
 
 fn has_all(left: &Left, text: &[u8]) -> bool {
@@ -166,11 +170,11 @@ fn has_all(left: &Left, text: &[u8]) -> bool {
         && left.out.get(..text.len()) == Some(text)
         && left.out.get(text.len()) == Some(&7)
         && left.refused == 1
-        && left.rows == [UNBOUND, BEFORE]
+        && left.refusals == [UNBOUND, BEFORE]
 }
 
 #[test]
-fn texts_and_rows_are_handed_over(rt: HostRuntime) -> Result<(), Fail> {
+fn texts_and_refusals_are_handed_over(rt: HostRuntime) -> Result<(), Fail> {
     let ends = ENDS.as_slice();
     assert!(rt; has_all(&called(&rt, Call::Merge(3), SHEET, ends, 400), TEXT));
     assert!(rt; has_all(&called(&rt, Call::Verdicts, SHEET, ends, 400), VERDICTS));
@@ -194,12 +198,12 @@ fn texts_and_rows_are_handed_over(rt: HostRuntime) -> Result<(), Fail> {
 fn a_row_above_the_level_is_told(rt: HostRuntime) -> Result<(), Fail> {
     let left = called(&rt, Call::Merge(2), SHEET, ENDS.as_slice(), 0);
     assert!(rt; left.status == TOO_LOOSE && left.needed == 1);
-    assert!(rt; left.refused == 1 && left.rows == [UNBOUND, BEFORE]);
+    assert!(rt; left.refused == 1 && left.refusals == [UNBOUND, BEFORE]);
     Ok(())
 }
 
 #[test]
-fn a_short_room_is_told(rt: HostRuntime) -> Result<(), Fail> {
+fn a_short_buffer_is_told(rt: HostRuntime) -> Result<(), Fail> {
     let left = called(
         &rt,
         Call::Sources,
@@ -208,7 +212,7 @@ fn a_short_room_is_told(rt: HostRuntime) -> Result<(), Fail> {
         SOURCES.len() - 1,
     );
     assert!(rt; left.status == TOO_SHORT && left.needed == SOURCES.len());
-    assert!(rt; left.refused == 1 && left.rows == [BEFORE, BEFORE] && left.out == [7; 400]);
+    assert!(rt; left.refused == 1 && left.refusals == [BEFORE, BEFORE] && left.out == [7; 400]);
     Ok(())
 }
 
@@ -250,26 +254,26 @@ fn checked(rt: &HostRuntime, report: &[u8]) -> (u32, CheckedReport, RefusedRepor
         level: 7,
         canonical: 7,
     };
-    let mut row = BEFORE;
+    let mut refusal = BEFORE;
     let sheet = SHEET.as_bytes();
-    let mut status = xbrlmerge_check(rt.alloc(), sheet, report, &mut checked, &mut row);
+    let mut status = xbrlmerge_check(rt.alloc(), sheet, report, &mut checked, &mut refusal);
     if status == NO_MEMORY {
         let _ = eprintln!(rt; "refused");
-        status = xbrlmerge_check(rt.alloc(), sheet, report, &mut checked, &mut row);
+        status = xbrlmerge_check(rt.alloc(), sheet, report, &mut checked, &mut refusal);
     }
-    (status, checked, row)
+    (status, checked, refusal)
 }
 
 #[test]
 fn a_report_is_checked(rt: HostRuntime) -> Result<(), Fail> {
-    let (status, found, row) = checked(&rt, HUNDRED.as_bytes());
-    assert!(rt; status == DONE && row == BEFORE);
+    let (status, found, refusal) = checked(&rt, HUNDRED.as_bytes());
+    assert!(rt; status == DONE && refusal == BEFORE);
     assert!(rt; found.facts == 1 && found.level == 0 && found.canonical == 0);
     let (status, found, _) = checked(&rt, TEXT);
     assert!(rt; status == DONE && found.facts == 2 && found.level == 3 && found.canonical == 1);
-    let (status, found, row) = checked(&rt, b"{");
+    let (status, found, refusal) = checked(&rt, b"{");
     assert!(rt; status == REFUSED && found.facts == 7);
-    assert!(rt; row.report == 1 && row.fact == 0 && row.number == 1);
+    assert!(rt; refusal.report == 1 && refusal.fact == 0 && refusal.number == 1);
     Ok(())
 }
 

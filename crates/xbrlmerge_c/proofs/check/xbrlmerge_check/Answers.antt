@@ -7,7 +7,7 @@ returns-in-Ok-check_report-clause-done c = λ is. record {
   read = c.in-Ok.ensures.ok;
   checked = c.in-Ok-check_report.found;
   is_checked = c.in-Ok-check_report.ensures.ok;
-  row_is = search rules;
+  numbers_are = search rules;
 }
 
 pub returns-clause-refused : goal.returns-clause-refused
@@ -16,5 +16,5 @@ returns-clause-refused c = λ is. record {
   read = c.in-Ok.ensures.ok;
   refusal = c.in-Err-2.told;
   refused = search rules;
-  row_is = search rules;
+  numbers_are = search rules;
 }

@@ -12,11 +12,11 @@ place_number Document = 0
 place_number (Fact n) = n
 
 -- the record for a refusal of the report with this number
-abbrev pub row : ℕ → Refusal → RefusedReport
-row n r = record { report = n; fact = place_number r.place; number = (entry_of r.reason).number }
+abbrev pub refused_report : ℕ → Refusal → RefusedReport
+refused_report n r = record { report = n; fact = place_number r.place; number = (entry_of r.reason).number }
 
-abbrev pub row_of : ℕ × Refusal → RefusedReport
-row_of told = row told.0 told.1
+abbrev pub refused_report_of : ℕ × Refusal → RefusedReport
+refused_report_of told = refused_report told.0 told.1
 
-abbrev pub rows_of : List (ℕ × Refusal) → List RefusedReport
-rows_of told = map row_of told
+abbrev pub refused_reports : List (ℕ × Refusal) → List RefusedReport
+refused_reports told = map refused_report_of told

@@ -3,70 +3,70 @@ use Rattle.std.specs.Prelude.{◌≡◌, ◌<◌, ◌⊎◌, ℕ, List, [], ◌+
 use Rattle.oim_names.specs.Reasons.{entry_of}
 use Rattle.oim_names.specs.declared.reason.Reason.{Reason}
 use Rattle.oim_report.specs.declared.refusal.Refusal.{Refusal}
-use Rattle.xbrlmerge_c.specs.Rows.{rows_of}
+use Rattle.xbrlmerge_c.specs.Refusals.{refused_reports}
 use Rattle.xbrlmerge_c.specs.declared.output.RefusedReport.{RefusedReport}
 
 -- the caller's buffers for bytes and records, and the two numbers that a call sets
-pub record Room : Type 0 where
+pub record CallerMemory : Type 0 where
   pub out : List ℕ
   pub needed : ℕ
-  pub rows : List RefusedReport
+  pub refusals : List RefusedReport
   pub refused : ℕ
 
-abbrev pub room : List ℕ → ℕ → List RefusedReport → ℕ → Room
-room out needed rows refused = record { out = out; needed = needed; rows = rows; refused = refused }
+abbrev pub memory : List ℕ → ℕ → List RefusedReport → ℕ → CallerMemory
+memory out needed refusals refused = record { out = out; needed = needed; refusals = refusals; refused = refused }
 
 -- the text and the records are at the start of the buffers; the rest of the buffers is unchanged; `needed` and `refused` are the two lengths
-pub record IsHanded (text : List ℕ) (told : List (ℕ × Refusal)) (old new : Room) : Type 0 where
+pub record IsHanded (text : List ℕ) (told : List (ℕ × Refusal)) (old new : CallerMemory) : Type 0 where
   pub out : new.out ≡ text ++ drop (length text) old.out
   pub needed : new.needed ≡ length text
-  pub rows : new.rows ≡ rows_of told ++ drop (length told) old.rows
+  pub refusals : new.refusals ≡ refused_reports told ++ drop (length told) old.refusals
   pub refused : new.refused ≡ length told
 
 -- the text or the records are longer than their buffer: both lengths are returned, and the buffers are unchanged
-pub record IsTooShort (text : List ℕ) (told : List (ℕ × Refusal)) (old new : Room) : Type 0 where
-  pub short : (length old.out < length text) ⊎ (length old.rows < length told)
+pub record IsTooShort (text : List ℕ) (told : List (ℕ × Refusal)) (old new : CallerMemory) : Type 0 where
+  pub short : (length old.out < length text) ⊎ (length old.refusals < length told)
   pub out : new.out ≡ old.out
   pub needed : new.needed ≡ length text
-  pub rows : new.rows ≡ old.rows
+  pub refusals : new.refusals ≡ old.refusals
   pub refused : new.refused ≡ length told
 
 -- the number of a row and the refused reports are returned; `out` is unchanged
-pub record TellsRow (number : ℕ) (told : List (ℕ × Refusal)) (old new : Room) : Type 0 where
+pub record TellsRow (number : ℕ) (told : List (ℕ × Refusal)) (old new : CallerMemory) : Type 0 where
   pub out : new.out ≡ old.out
   pub needed : new.needed ≡ number
-  pub rows : new.rows ≡ rows_of told ++ drop (length told) old.rows
+  pub refusals : new.refusals ≡ refused_reports told ++ drop (length told) old.refusals
   pub refused : new.refused ≡ length told
 
 -- the number of the sheet's refusal is returned; the count of refused reports is 0, and the buffers are unchanged
-pub record TellsReason (reason : Reason) (old new : Room) : Type 0 where
+pub record TellsReason (reason : Reason) (old new : CallerMemory) : Type 0 where
   pub out : new.out ≡ old.out
   pub needed : new.needed ≡ (entry_of reason).number
-  pub rows : new.rows ≡ old.rows
+  pub refusals : new.refusals ≡ old.refusals
   pub refused : new.refused ≡ 0
 
 -- ---- a text and refusals with a given property
 
-pub record Hands (Says : List ℕ → List (ℕ × Refusal) → Type 0) (old new : Room) : Type 0 where
+pub record Hands (Says : List ℕ → List (ℕ × Refusal) → Type 0) (old new : CallerMemory) : Type 0 where
   pub text : List ℕ
   pub told : List (ℕ × Refusal)
   pub says : Says text told
   pub handed : IsHanded text told old new
 
 -- a buffer is too short; the returned lengths belong to a text and refusals with the property
-pub record Asks (Says : List ℕ → List (ℕ × Refusal) → Type 0) (old new : Room) : Type 0 where
+pub record Asks (Says : List ℕ → List (ℕ × Refusal) → Type 0) (old new : CallerMemory) : Type 0 where
   pub text : List ℕ
   pub told : List (ℕ × Refusal)
   pub says : Says text told
   pub short : IsTooShort text told old new
 
-pub record TellsFirst (Is : ℕ → List (ℕ × Refusal) → Type 0) (old new : Room) : Type 0 where
+pub record TellsFirst (Is : ℕ → List (ℕ × Refusal) → Type 0) (old new : CallerMemory) : Type 0 where
   pub number : ℕ
   pub told : List (ℕ × Refusal)
   pub is : Is number told
   pub row : TellsRow number told old new
 
-pub record Rejects (Is : Reason → Type 0) (old new : Room) : Type 0 where
+pub record Rejects (Is : Reason → Type 0) (old new : CallerMemory) : Type 0 where
   pub reason : Reason
   pub is : Is reason
   pub tells : TellsReason reason old new
