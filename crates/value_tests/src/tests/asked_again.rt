@@ -49,7 +49,8 @@ pub(crate) fn bind(
     uri: &str,
 ) -> Result<(), Reason> {
     match aliases.add(prefix, uri) {
-        Err(Reason::OutOfMemory) => {
+        // a refused call must not bind the prefix
+        Err(Reason::OutOfMemory) if aliases.uri(prefix).is_none() => {
             tell_refused(rt);
             aliases.add(prefix, uri)
         }

@@ -10,14 +10,26 @@ use std::alloc::AllocError;
 use std::test::Fail;
 
 // `tests/refused_memory` refuses one request for memory in a run. The test then prints `refused
-// here` for its own request, or `refused` for a request of the library, and repeats the call.
+// here` for its own request, or `refused` for a request of the library, and repeats the call. A
+// call is repeated only if the refused call did not change the number of items.
 
 type Items = SortedSet<Text>;
 
-fn merge<M: Merge>(rt: &HostRuntime, value: &mut M, other: &M) -> Result<(), AllocError> {
+trait Counted {
+    fn item_count(&self) -> usize;
+}
+
+impl Counted for Items {
+    fn item_count(&self) -> usize {
+        self.as_slice().len()
+    }
+}
+
+fn merge<M: Merge + Counted>(rt: &HostRuntime, value: &mut M, other: &M) -> Result<(), AllocError> {
     other.known();
+    let count = value.item_count();
     match value.merge(rt.alloc(), other) {
-        Err(_) => {
+        Err(_) if value.item_count() == count => {
             tell_refused(rt);
             value.merge(rt.alloc(), other)
         }
@@ -27,8 +39,9 @@ fn merge<M: Merge>(rt: &HostRuntime, value: &mut M, other: &M) -> Result<(), All
 
 fn insert(rt: &HostRuntime, set: &mut Items, item: &str) -> Result<bool, AllocError> {
     let item = text(rt, item)?;
+    let count = set.item_count();
     match set.insert(&item) {
-        Err(_) => {
+        Err(_) if set.item_count() == count => {
             tell_refused(rt);
             set.insert(&item)
         }

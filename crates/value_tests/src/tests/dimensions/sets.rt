@@ -42,7 +42,8 @@ fn add_once(
     set.add(name, member(rt, aliases, kind)?)
 }
 
-// `Dimensions::add` consumes the name and the member, so each call needs new ones.
+// `Dimensions::add` consumes the name and the member, so each call needs new ones. A refused call
+// must not add a member.
 fn add(
     rt: &HostRuntime,
     set: &mut Dimensions,
@@ -50,8 +51,9 @@ fn add(
     spelled: &str,
     kind: &Kind,
 ) -> Result<(), Reason> {
+    let count = set.members().len();
     match add_once(rt, set, aliases, spelled, kind) {
-        Err(Reason::OutOfMemory) => {
+        Err(Reason::OutOfMemory) if set.members().len() == count => {
             tell_refused(rt);
             add_once(rt, set, aliases, spelled, kind)
         }

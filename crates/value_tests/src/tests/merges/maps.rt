@@ -1,4 +1,4 @@
-use super::{Items, copied, has_just, merge, room, set_of, tell_refused, text};
+use super::{Counted, Items, copied, has_just, merge, room, set_of, tell_refused, text};
 use merge_laws::SortedMap;
 use oim_names::Text;
 use std::alloc::AllocError;
@@ -6,9 +6,22 @@ use std::test::Fail;
 
 type ItemsAt = SortedMap<Text, Items>;
 
+impl Counted for ItemsAt {
+    fn item_count(&self) -> usize {
+        let mut count = 0usize;
+        for place in 0..self.len() {
+            if let Some((_, items)) = self.at(place) {
+                count = count.saturating_add(items.item_count());
+            }
+        }
+        count
+    }
+}
+
 fn put(rt: &HostRuntime, map: &mut ItemsAt, key: &Text, items: &Items) -> Result<(), AllocError> {
+    let count = map.item_count();
     match map.put(key, items) {
-        Err(_) => {
+        Err(_) if map.item_count() == count => {
             tell_refused(rt);
             map.put(key, items)
         }
@@ -124,6 +137,12 @@ fn one_entry_makes_a_map(rt: HostRuntime) -> Result<(), Fail> {
 }
 
 type Pair = (Items, Items);
+
+impl Counted for Pair {
+    fn item_count(&self) -> usize {
+        self.0.item_count().saturating_add(self.1.item_count())
+    }
+}
 
 fn pair(rt: &HostRuntime, left: &str, right: &str) -> Result<Pair, AllocError> {
     let first = set_of(rt, &[left])?;

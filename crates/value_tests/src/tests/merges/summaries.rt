@@ -1,9 +1,16 @@
-use super::{copied, merge, tell_refused, text};
+use super::{Counted, copied, merge, tell_refused, text};
 use crate::tests::values::{UNIT, finite};
 use merge_laws::{SortedMap, Summary};
 use oim_value::{Decimals, Interval, Value, read_fixed};
 use std::alloc::AllocError;
 use std::test::Fail;
+
+// A summary has one item if it has ends.
+impl Counted for Summary {
+    fn item_count(&self) -> usize {
+        if self.ends().is_some() { 1 } else { 0 }
+    }
+}
 
 fn rounded(spelled: &str, places: i64) -> Summary {
     match read_fixed(spelled) {
