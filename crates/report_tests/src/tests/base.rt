@@ -1,4 +1,6 @@
 mod bases;
+mod many;
+mod pairs;
 mod small_reports;
 mod verdicts;
 
@@ -17,15 +19,18 @@ const OF_T: &str = r#","dimensions":{"concept":"eg:T"}}}}"#;
 
 const OF_Q: &str = r#","dimensions":{"concept":"eg:Q"}}}}"#;
 
+// Takes a report. If memory is refused, the base must keep its number of facts, and the call is
+// repeated.
 fn take(rt: &HostRuntime, base: &mut Base<'_>, report: &Report<'_>) -> bool {
     if !base.same_sheet(report.sheet()) {
         return false;
     }
+    let count = base.fact_count();
     if base.take(report).is_ok() {
         return true;
     }
     tell_refused(rt);
-    base.take(report).is_ok()
+    base.fact_count() == count && base.take(report).is_ok()
 }
 
 // Takes a report with this text, or returns false if the report is refused.

@@ -20,15 +20,18 @@ fn is_new_base_empty(rt: &HostRuntime, sheet: &Sheet) -> bool {
         && base.rows().next().is_none()
 }
 
-fn join(rt: &HostRuntime, base: &mut Base<'_>, other: &Base<'_>) -> bool {
+// Joins a base. If memory is refused, the first base must keep its number of facts, and the call
+// is repeated.
+pub(super) fn join(rt: &HostRuntime, base: &mut Base<'_>, other: &Base<'_>) -> bool {
     if !base.same_sheet(other.sheet()) {
         return false;
     }
+    let count = base.fact_count();
     if base.join(other).is_ok() {
         return true;
     }
     tell_refused(rt);
-    base.join(other).is_ok()
+    base.fact_count() == count && base.join(other).is_ok()
 }
 
 fn joins_two(rt: &HostRuntime, base: &mut Base<'_>) -> bool {

@@ -5,7 +5,7 @@ use oim_value::{Interval, Level};
 use std::test::Fail;
 use test_helpers::asked_again::{SHEET, read_sheet};
 
-type Said = (Verdict, Evidence);
+pub(super) type Said = (Verdict, Evidence);
 
 // Numbers of one dimension set, in any order, that are consistent, and the ends of their common
 // interval.
@@ -174,7 +174,8 @@ fn level_of(verdict: Verdict) -> Level {
     }
 }
 
-fn judged(base: &Base<'_>) -> Option<Said> {
+// Returns the verdict and the evidence on the first row.
+pub(super) fn judged(base: &Base<'_>) -> Option<Said> {
     let row = base.rows().next()?;
     let judged = (row.verdict(), row.evidence());
     let found = (
@@ -226,11 +227,34 @@ fn first_not_alike(rt: &HostRuntime, sheet: &Sheet) -> Option<usize> {
     None
 }
 
+// Returns whether a base has neither a verdict nor evidence on the dimensions of the other base.
+fn lacks_row(base: &Base<'_>, other: &Base<'_>) -> bool {
+    match other.rows().next() {
+        Some(row) => base.verdict(row.dimensions) == None && base.evidence(row.dimensions) == None,
+        None => false,
+    }
+}
+
+fn text_lacks_row(rt: &HostRuntime, number: &Base<'_>) -> bool {
+    match base_between(rt, number.sheet(), FACT, &[r#""value":"5""#], OF_T) {
+        Some(text) => lacks_row(&text, number) && lacks_row(number, &text),
+        None => false,
+    }
+}
+
+fn is_only_own_row_judged(rt: &HostRuntime, sheet: &Sheet) -> bool {
+    match base_between(rt, sheet, FACT, &[r#""value":"5""#], OF_A) {
+        Some(number) => text_lacks_row(rt, &number),
+        None => false,
+    }
+}
+
 #[test]
 fn rows_have_verdicts_and_evidence(rt: HostRuntime) -> Result<(), Fail> {
     let sheet = read_sheet(&rt, SHEET)?;
     assert_eq!(rt; first_not_common(&rt, &sheet), None);
     assert_eq!(rt; first_not_apart(&rt, &sheet), None);
     assert_eq!(rt; first_not_alike(&rt, &sheet), None);
+    assert!(rt; is_only_own_row_judged(&rt, &sheet));
     Ok(())
 }
