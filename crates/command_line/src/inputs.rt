@@ -65,8 +65,8 @@ impl<'n, F: Files, E: Write> Inputs<'n, F, E> {
     ) -> Result<Consolidation<'s>, Error<'n>> {
         let mut consolidation = Consolidation::new(self.alloc, sheet);
         let names = self.names;
-        for place in 0..names.len() {
-            consolidation.add_owned(self.read_report(names[place])?)?;
+        for index in 0..names.len() {
+            consolidation.add_owned(self.read_report(names[index])?)?;
         }
         self.console.clear();
         Ok(consolidation)
@@ -76,8 +76,8 @@ impl<'n, F: Files, E: Write> Inputs<'n, F, E> {
     pub(crate) fn trace<'s>(&mut self, sheet: &'s Sheet) -> Result<TracedMerge<'s>, Error<'n>> {
         let mut merge = TracedMerge::new(self.alloc, sheet);
         let names = self.names;
-        for place in 0..names.len() {
-            merge.add(self.read_report(names[place])?.as_bytes())?;
+        for index in 0..names.len() {
+            merge.add(self.read_report(names[index])?.as_bytes())?;
         }
         self.console.clear();
         Ok(merge)

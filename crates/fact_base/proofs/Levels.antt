@@ -142,27 +142,27 @@ each P a b c d AllLevel = d
 unique_is_least : (l : Level) → ord_max level_cmp l Unique ≡ l
 unique_is_least = each (λ l. ord_max level_cmp l Unique ≡ l) refl refl refl refl
 
-abbrev place : Level → ℕ
-place l = (level_entry l).place
+abbrev index : Level → ℕ
+index l = (level_entry l).index
 
-at_place : (l : Level) → slice_get levels (place l) ≡ Some l
-at_place = each (λ l. slice_get levels (place l) ≡ Some l) refl refl refl refl
+at_index : (l : Level) → slice_get levels (index l) ≡ Some l
+at_index = each (λ l. slice_get levels (index l) ≡ Some l) refl refl refl refl
 
-same_place : (l m : Level) → place l ≡ place m → l ≡ m
-same_place l m is = same_Some l m (sym (at_place l) ∙ ap (slice_get levels) is ∙ at_place m)
+same_index : (l m : Level) → index l ≡ index m → l ≡ m
+same_index l m is = same_Some l m (sym (at_index l) ∙ ap (slice_get levels) is ∙ at_index m)
 
-abbrev PlaceOfMax : Level → Level → Type 0
-PlaceOfMax l m = place (ord_max level_cmp l m) ≡ max (place l) (place m)
+abbrev IndexOfMax : Level → Level → Type 0
+IndexOfMax l m = index (ord_max level_cmp l m) ≡ max (index l) (index m)
 
-place_of_max : (l m : Level) → PlaceOfMax l m
-place_of_max = each (λ l. (m : Level) → PlaceOfMax l m)
-    (each (PlaceOfMax Unique) refl refl refl refl)
-    (each (PlaceOfMax Complete) refl refl refl refl)
-    (each (PlaceOfMax Consistent) refl refl refl refl)
-    (each (PlaceOfMax AllLevel) refl refl refl refl)
+index_of_max : (l m : Level) → IndexOfMax l m
+index_of_max = each (λ l. (m : Level) → IndexOfMax l m)
+    (each (IndexOfMax Unique) refl refl refl refl)
+    (each (IndexOfMax Complete) refl refl refl refl)
+    (each (IndexOfMax Consistent) refl refl refl refl)
+    (each (IndexOfMax AllLevel) refl refl refl refl)
 
 max_regroups : (a b c : Level) → ord_max level_cmp (ord_max level_cmp a b) c ≡ ord_max level_cmp a (ord_max level_cmp b c)
-max_regroups a b c = same_place _ _ (omega (arith, place_of_max a b, place_of_max b c, place_of_max (ord_max level_cmp a b) c, place_of_max a (ord_max level_cmp b c)))
+max_regroups a b c = same_index _ _ (omega (arith, index_of_max a b, index_of_max b c, index_of_max (ord_max level_cmp a b) c, index_of_max a (ord_max level_cmp b c)))
 
 pub highest_is : (level : Level) (es : List Entry) → IsRising dimensions_cmp entry_key es → AllByRecursion (λ e. IsSet value_cmp e.1.0) es → highest level es ≡ ord_max level_cmp level (level_of (facts_of_entries es))
 unfolding IsStrictlySortedBy

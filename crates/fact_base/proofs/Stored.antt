@@ -18,7 +18,7 @@ use Rattle.fact_base.specs.Entries.{Entry, Summed, facts_of_entries, facts_of_en
 use Rattle.fact_base.specs.code.Entries.{NoneAbove, summed, summed_of_both, with_fact, with_value, AreEntriesOf, EntryFits, AreStored}
 use Rattle.fact_base.proofs.Members.{turn_there, each_by_there, in_one_of_both, in_flat_map}
 use Rattle.oim_report.proofs.Runs.{first_up, less_from}
-use Rattle.oim_report.proofs.Places.{turned as turned_up}
+use Rattle.oim_report.proofs.Indices.{turned as turned_up}
 use Rattle.std.specs.Prelude.{reverse, IsPermutation, Contains, IfOk}
 use Rattle.std.proofs.lemmas.List.Elements.{All-contains}
 use Rattle.std.proofs.lemmas.List.Sorted.{All-permutation, Contains-permutation, IsPermutation-sym}

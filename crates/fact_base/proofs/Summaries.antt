@@ -16,10 +16,10 @@ use Rattle.std.proofs.lemmas.Option.{none-some, option_and_then_some, same_Some}
 use Rattle.merge_laws.specs.Ends.{Summarised, TellsAll, summary_of_all}
 use Rattle.merge_laws.specs.Sorted.{IsSet}
 use Rattle.merge_laws.proofs.Ends.{summary_tells_all}
-use Rattle.merge_laws.proofs.Members.{all_by_place, all_in_turn}
+use Rattle.merge_laws.proofs.Members.{all_by_index, all_in_turn}
 use Rattle.oim_value.specs.Ends.{AreEnds, has_interval, intervals_of}
 use Rattle.oim_value.specs.Meets.{Meets}
-use Rattle.oim_value.specs.SeveralMeet.{AreApart, AreDifferent, AreNilOrOfKind, EachTwoValuesMeet, MeetBetween, place_of_greatest_low, place_of_least_high}
+use Rattle.oim_value.specs.SeveralMeet.{AreApart, AreDifferent, AreNilOrOfKind, EachTwoValuesMeet, MeetBetween, index_of_greatest_low, index_of_least_high}
 use Rattle.oim_value.specs.ValueOrder.{kind_order, value_cmp}
 use Rattle.oim_value.specs.declared.interval.Interval.{Interval}
 use Rattle.oim_value.specs.declared.value.Value.{Value}
@@ -48,7 +48,7 @@ each_meet_is (v ∷ vs) =
     let first = all_pass (values_meet v) (Meets v) (values_meet_is_meets v) vs in (
       λ h.
           let both = and_parts (list_all (values_meet v) vs) (each_meet vs) h in
-          AllPairs-cons Meets v vs (all_by_place (Meets v) vs (first.0 both.0)) ((each_meet_is vs).0 both.1),
+          AllPairs-cons Meets v vs (all_by_index (Meets v) vs (first.0 both.0)) ((each_meet_is vs).0 both.1),
       λ h. and_from (list_all (values_meet v) vs) (each_meet vs)
           (first.1 (all_in_turn (Meets v) vs (λ k d within. h zero (suc k) d (omega arith) (omega (arith, within)))))
           ((each_meet_is vs).1 (λ i j d under within. h (suc i) (suc j) d (omega (arith, under)) (omega (arith, within)))),
@@ -200,7 +200,7 @@ begins : (vs : List Value) → 2 ≤ length vs → ((v : Value) → Contains vs 
 begins (v ∷ w ∷ vs) several all = and_from (has_interval v) (has_interval w) (all v (first_there v (w ∷ vs))) (all w (later_there v (w ∷ vs) w (first_there w vs)))
 begins vs several all = absurd (omega (arith, several))
 
-shown_numbers : (vs : List Value) (i j : ℕ) → begin_with_numbers vs ≡ true → ((ends : Interval) → AreEnds ends (intervals_of vs) → (i ≡ place_of_least_high ends vs) × (j ≡ place_of_greatest_low ends vs)) → IsShownPair vs i j
+shown_numbers : (vs : List Value) (i j : ℕ) → begin_with_numbers vs ≡ true → ((ends : Interval) → AreEnds ends (intervals_of vs) → (i ≡ index_of_least_high ends vs) × (j ≡ index_of_greatest_low ends vs)) → IsShownPair vs i j
 shown_numbers vs i j numbers shown = subst (λ b. IsPairOf b vs i j) (sym numbers) shown
 
 shown_first : (vs : List Value) → begin_with_numbers vs ≡ false → IsShownPair vs 0 1
@@ -212,16 +212,16 @@ above x y h = grind (arith, ints)
 some_ends : (vs : List Value) (ends : Interval) → (summary_of_all vs).ends ≡ Some ends → list_any has_interval vs ≡ true
 some_ends vs ends is = sym (summary_tells_all vs).number ∙ ap is_some is
 
-pub crossed_are_apart : (vs : List Value) (s : Summarised) → AreSummarised vs s → 2 ≤ length vs → (ends : Interval) → s.ends ≡ Some ends → s.nil ≡ false → shared_by s ≡ None → IsApartPair vs (place_of_least_high ends vs) (place_of_greatest_low ends vs)
+pub crossed_are_apart : (vs : List Value) (s : Summarised) → AreSummarised vs s → 2 ≤ length vs → (ends : Interval) → s.ends ≡ Some ends → s.nil ≡ false → shared_by s ≡ None → IsApartPair vs (index_of_least_high ends vs) (index_of_greatest_low ends vs)
 crossed_are_apart vs s summed several ends is no_nil apart =
     let told : (summary_of_all vs).ends ≡ Some ends = ap (λ (t : Summarised). t.ends) (sym summed.summary) ∙ is in
     let are = told_ends vs ends told in
     let none = no_nil_there vs (ap (λ (t : Summarised). t.nil) (sym summed.summary) ∙ no_nil) in
     let over = above ends.high ends.low (⊎_elim (λ h. h) crossed (cases_Bool (int_lt ends.high ends.low))) in
     record {
-      shown = shown_numbers vs (place_of_least_high ends vs) (place_of_greatest_low ends vs) (begins vs several (all_numbers vs summed.alike none (some_ends vs ends told))) (λ others are_too.
+      shown = shown_numbers vs (index_of_least_high ends vs) (index_of_greatest_low ends vs) (begins vs several (all_numbers vs summed.alike none (some_ends vs ends told))) (λ others are_too.
           let same : ends ≡ others = ends_are_one (intervals_of vs) ends others are are_too in
-          (ap (λ e. place_of_least_high e vs) same, ap (λ e. place_of_greatest_low e vs) same));
+          (ap (λ e. index_of_least_high e vs) same, ap (λ e. index_of_greatest_low e vs) same));
       apart = crossed_ends_are_apart vs ends are over;
     }
   where

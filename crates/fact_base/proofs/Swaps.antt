@@ -14,43 +14,43 @@ use Rattle.std.proofs.lemmas.Option.{slice_get-get_or}
 use Rattle.oim_dims.specs.FactOrder.{fact_cmp}
 use Rattle.oim_dims.specs.declared.fact.Fact.{Fact}
 use Rattle.oim_report.specs.Report.{IsOrderOf}
-use Rattle.oim_report.proofs.Places.{places_within}
+use Rattle.oim_report.proofs.Indices.{indices_within}
 
 -- ---- indices at the wrong place
 
 -- 1 if the number at index `at` is another number
 abbrev wrong : ℕ → ℕ → ℕ
-wrong at place = cond (place == at) 0 1
+wrong at index = cond (index == at) 0 1
 
 -- how many numbers differ from their index; the first index is `at`
 abbrev pub misplaced : ℕ → List ℕ → ℕ
 misplaced at [] = 0
-misplaced at (place ∷ places) = wrong at place + misplaced (suc at) places
+misplaced at (index ∷ indices) = wrong at index + misplaced (suc at) indices
 
-wrong-le : (at place : ℕ) → wrong at place ≤ 1
-wrong-le at place = elim (place == at) as (λ b. cond b 0 1 ≤ 1) [ true ↦ omega arith | false ↦ omega arith ]
+wrong-le : (at index : ℕ) → wrong at index ≤ 1
+wrong-le at index = elim (index == at) as (λ b. cond b 0 1 ≤ 1) [ true ↦ omega arith | false ↦ omega arith ]
 
-misplaced-set : (places : List ℕ) (at i j place : ℕ) → at + i ≡ j → i < length places → misplaced at (set places i place) + wrong j (get_or places i 0) ≡ misplaced at places + wrong j place
-misplaced-set [] at i j place is within = absurd (omega (arith, within))
-misplaced-set (p ∷ ps) at zero j place is within =
+misplaced-set : (indices : List ℕ) (at i j index : ℕ) → at + i ≡ j → i < length indices → misplaced at (set indices i index) + wrong j (get_or indices i 0) ≡ misplaced at indices + wrong j index
+misplaced-set [] at i j index is within = absurd (omega (arith, within))
+misplaced-set (p ∷ ps) at zero j index is within =
     let e : at ≡ j = omega (arith, is) in
-    subst (λ k. wrong at place + misplaced (suc at) ps + wrong k p ≡ wrong at p + misplaced (suc at) ps + wrong k place) e (omega arith)
-misplaced-set (p ∷ ps) at (suc i) j place is within =
-    let rest = misplaced-set ps (suc at) i j place (omega (arith, is)) (omega (arith, within)) in
+    subst (λ k. wrong at index + misplaced (suc at) ps + wrong k p ≡ wrong at p + misplaced (suc at) ps + wrong k index) e (omega arith)
+misplaced-set (p ∷ ps) at (suc i) j index is within =
+    let rest = misplaced-set ps (suc at) i j index (omega (arith, is)) (omega (arith, within)) in
     omega (arith, rest)
 
--- a swap of the index `place` to its own index leaves fewer at the wrong place
-fewer_wrong : (places : List ℕ) (i place : ℕ) → i < length places → place < length places → place ≡ get_or places i 0 → place ≢ i → get_or places place 0 ≢ place → misplaced 0 (swap places i place) < misplaced 0 places
-fewer_wrong places i place here there is other moves =
-    let next : ℕ = get_or places place 0 in
-    let one : List ℕ = set places i next in
-    let first = misplaced-set places 0 i i next (omega arith) here in
-    let second = misplaced-set one 0 place place (get_or places i 0) (omega arith) (omega (arith, there, length-set places i next)) in
-    let was : wrong i (get_or places i 0) ≡ 1 = ap (λ b. cond b 0 1) (ne_eqb (get_or places i 0) i (λ e. other (is ∙ e))) in
-    let kept : get_or one place 0 ≡ next = get_or-set_other places i place next 0 other in
-    let left : wrong place (get_or one place 0) ≡ 1 = ap (λ b. cond b 0 1) (ne_eqb (get_or one place 0) place (λ e. moves (sym kept ∙ e))) in
-    let right : wrong place (get_or places i 0) ≡ 0 = ap (λ b. cond b 0 1) (eq-eqb (get_or places i 0) place (sym is)) in
-    subst (λ ps. misplaced 0 ps < misplaced 0 places) (swap_is places i place 0 here there) (omega (arith, first, second, was, left, right, wrong-le i next))
+-- a swap of `index` to its own index leaves fewer at the wrong place
+fewer_wrong : (indices : List ℕ) (i index : ℕ) → i < length indices → index < length indices → index ≡ get_or indices i 0 → index ≢ i → get_or indices index 0 ≢ index → misplaced 0 (swap indices i index) < misplaced 0 indices
+fewer_wrong indices i index here there is other moves =
+    let next : ℕ = get_or indices index 0 in
+    let one : List ℕ = set indices i next in
+    let first = misplaced-set indices 0 i i next (omega arith) here in
+    let second = misplaced-set one 0 index index (get_or indices i 0) (omega arith) (omega (arith, there, length-set indices i next)) in
+    let was : wrong i (get_or indices i 0) ≡ 1 = ap (λ b. cond b 0 1) (ne_eqb (get_or indices i 0) i (λ e. other (is ∙ e))) in
+    let kept : get_or one index 0 ≡ next = get_or-set_other indices i index next 0 other in
+    let left : wrong index (get_or one index 0) ≡ 1 = ap (λ b. cond b 0 1) (ne_eqb (get_or one index 0) index (λ e. moves (sym kept ∙ e))) in
+    let right : wrong index (get_or indices i 0) ≡ 0 = ap (λ b. cond b 0 1) (eq-eqb (get_or indices i 0) index (sym is)) in
+    subst (λ ps. misplaced 0 ps < misplaced 0 indices) (swap_is indices i index 0 here there) (omega (arith, first, second, was, left, right, wrong-le i next))
 
 -- ---- a list of indices, each once
 
@@ -63,11 +63,11 @@ range_once n = IsDistinct-from_apart eqb (range_with_len 0 n) (λ i j d before w
 
 -- ---- facts that swaps moved
 
--- the fact that belongs at the index k is at the index `places[k]`
-pub record Moved (from : List Fact) (order : List ℕ) (now : List Fact) (places : List ℕ) : Type 0 where
+-- the fact that belongs at the index k is at the index `indices[k]`
+pub record Moved (from : List Fact) (order : List ℕ) (now : List Fact) (indices : List ℕ) : Type 0 where
   pub facts : IsPermutation from now
-  pub each_once : IsPermutation order places
-  pub same : (k : ℕ) (d : Fact) → k < length places → get_or now (get_or places k 0) d ≡ get_or from (get_or order k 0) d
+  pub each_once : IsPermutation order indices
+  pub same : (k : ℕ) (d : Fact) → k < length indices → get_or now (get_or indices k 0) d ≡ get_or from (get_or order k 0) d
 
 pub none_moved : (from : List Fact) (order : List ℕ) → Moved from order from order
 none_moved from order = record {
@@ -80,69 +80,69 @@ module _ {from : List Fact} {order : List ℕ} (ordered : IsOrderOf from order) 
   long : length order ≡ length from
   long = length_permutation (range_with_len 0 (length from)) order ordered.each_once ∙ length-range_with_len 0 (length from)
 
-  module _ {now : List Fact} {places : List ℕ} (moved : Moved from order now places) where
+  module _ {now : List Fact} {indices : List ℕ} (moved : Moved from order now indices) where
     count : length now ≡ length from
     count = length_permutation from now moved.facts
 
-    pub as_many : length places ≡ length now
-    as_many = length_permutation order places moved.each_once ∙ long ∙ sym count
+    pub as_many : length indices ≡ length now
+    as_many = length_permutation order indices moved.each_once ∙ long ∙ sym count
 
-    all_within : All (λ p. p < length places) places
-    all_within = subst (λ n. All (λ p. p < n) places) (sym (as_many ∙ count)) (All-permutation (λ p. p < length from) order places moved.each_once (places_within from order ordered))
+    all_within : All (λ p. p < length indices) indices
+    all_within = subst (λ n. All (λ p. p < n) indices) (sym (as_many ∙ count)) (All-permutation (λ p. p < length from) order indices moved.each_once (indices_within from order ordered))
 
-    once : IsDistinct eqb places
-    once = IsDistinct-IsPermutation eqb nat_eq_equiv.symm order places moved.each_once (IsDistinct-IsPermutation eqb nat_eq_equiv.symm (range_with_len 0 (length from)) order ordered.each_once (range_once (length from)))
+    once : IsDistinct eqb indices
+    once = IsDistinct-IsPermutation eqb nat_eq_equiv.symm order indices moved.each_once (IsDistinct-IsPermutation eqb nat_eq_equiv.symm (range_with_len 0 (length from)) order ordered.each_once (range_once (length from)))
 
     -- two indices with one place are one index
-    pub same_index : (i j : ℕ) → i < length places → j < length places → get_or places i 0 ≡ get_or places j 0 → i ≡ j
+    pub same_index : (i j : ℕ) → i < length indices → j < length indices → get_or indices i 0 ≡ get_or indices j 0 → i ≡ j
     same_index i j here there e = elim (cases_order i j) [
       | inl is ↦ is
       | inr apart ↦ elim apart [
-        | inl before ↦ absurd (both_ways _ (apart_from_distinct eqb places i j 0 once before there) (eq-eqb (get_or places i 0) (get_or places j 0) e))
-        | inr after ↦ absurd (both_ways _ (apart_from_distinct eqb places j i 0 once after here) (eq-eqb (get_or places j 0) (get_or places i 0) (sym e)))
+        | inl before ↦ absurd (both_ways _ (apart_from_distinct eqb indices i j 0 once before there) (eq-eqb (get_or indices i 0) (get_or indices j 0) e))
+        | inr after ↦ absurd (both_ways _ (apart_from_distinct eqb indices j i 0 once after here) (eq-eqb (get_or indices j 0) (get_or indices i 0) (sym e)))
       ]
     ]
 
-    module _ (i place : ℕ) (here : i < length places) (read : place ≡ get_or places i place) where
-      at : place ≡ get_or places i 0
-      at = read ∙ get_or_default places i place 0 here
+    module _ (i index : ℕ) (here : i < length indices) (read : index ≡ get_or indices i index) where
+      at : index ≡ get_or indices i 0
+      at = read ∙ get_or_default indices i index 0 here
 
-      pub place_within : place < length places
-      place_within = omega (arith, at, all_within i 0 here)
+      pub index_within : index < length indices
+      index_within = omega (arith, at, all_within i 0 here)
 
-      pub fewer_misplaced : (others : List ℕ) → place ≢ i → others ≡ swap places i place → misplaced 0 others < misplaced 0 places
+      pub fewer_misplaced : (others : List ℕ) → index ≢ i → others ≡ swap indices i index → misplaced 0 others < misplaced 0 indices
       fewer_misplaced others other swapped =
-          subst (λ ps. misplaced 0 ps < misplaced 0 places) (sym swapped)
-          (fewer_wrong places i place here place_within at other (λ e. other (same_index place i place_within here (e ∙ at))))
+          subst (λ ps. misplaced 0 ps < misplaced 0 indices) (sym swapped)
+          (fewer_wrong indices i index here index_within at other (λ e. other (same_index index i index_within here (e ∙ at))))
 
       -- the indices before i stay at their places
-      pub stay_placed : (others : List ℕ) → place ≢ i → others ≡ swap places i place → ((k : ℕ) → k < i → get_or places k 0 ≡ k) → (k : ℕ) → k < i → get_or others k 0 ≡ k
-      stay_placed others other swapped placed k below =
-          let moves = swapped_from_swap places others i place 0 here place_within swapped in
-          let not_place : k ≢ place = λ e. omega (arith, below, same_index k i (omega (arith, below, here)) here (placed k below ∙ e ∙ at)) in
-          moves.2 k (λ e. omega (arith, below, e)) not_place ∙ placed k below
+      pub stay_placed : (others : List ℕ) → index ≢ i → others ≡ swap indices i index → ((k : ℕ) → k < i → get_or indices k 0 ≡ k) → (k : ℕ) → k < i → get_or others k 0 ≡ k
+      stay_placed others other swapped indexed k below =
+          let moves = swapped_from_swap indices others i index 0 here index_within swapped in
+          let not_index : k ≢ index = λ e. omega (arith, below, same_index k i (omega (arith, below, here)) here (indexed k below ∙ e ∙ at)) in
+          moves.2 k (λ e. omega (arith, below, e)) not_index ∙ indexed k below
 
-      -- the fact that belongs at `place` goes there, and the fact that was there goes where that one was
-      pub one_moved : (next : ℕ) (facts : List Fact) (others : List ℕ) → place ≢ i → next ≡ get_or places place next → facts ≡ swap now place next → others ≡ swap places i place → Moved from order facts others
+      -- the fact that belongs at `index` goes there, and the fact that was there goes where that one was
+      pub one_moved : (next : ℕ) (facts : List Fact) (others : List ℕ) → index ≢ i → next ≡ get_or indices index next → facts ≡ swap now index next → others ≡ swap indices i index → Moved from order facts others
       one_moved next facts others other reads is swapped =
-          let goes_at : next ≡ get_or places place 0 = reads ∙ get_or_default places place next 0 place_within in
-          let inside : place < length now = omega (arith, place_within, as_many) in
-          let goes : next < length now = omega (arith, goes_at, all_within place 0 place_within, as_many) in
-          let moves = swapped_from_swap places others i place 0 here place_within swapped in
+          let goes_at : next ≡ get_or indices index 0 = reads ∙ get_or_default indices index next 0 index_within in
+          let inside : index < length now = omega (arith, index_within, as_many) in
+          let goes : next < length now = omega (arith, goes_at, all_within index 0 index_within, as_many) in
+          let moves = swapped_from_swap indices others i index 0 here index_within swapped in
           record {
-            facts = IsPermutation-trans from now facts moved.facts (IsPermutation-swap now facts place next inside goes is);
-            each_once = IsPermutation-trans order places others moved.each_once (IsPermutation-swap places others i place here place_within swapped);
+            facts = IsPermutation-trans from now facts moved.facts (IsPermutation-swap now facts index next inside goes is);
+            each_once = IsPermutation-trans order indices others moved.each_once (IsPermutation-swap indices others i index here index_within swapped);
             same = λ k d within.
-                let old_within : k < length places = omega (arith, within, ap length swapped, length-swap places i place) in
-                let carries = swapped_from_swap now facts place next d inside goes is in
+                let old_within : k < length indices = omega (arith, within, ap length swapped, length-swap indices i index) in
+                let carries = swapped_from_swap now facts index next d inside goes is in
                 let old = moved.same k d old_within in
                 elim (cases_eq k i) [
                   | inl e ↦ cc (moves.0, goes_at, carries.1, at, old)
-                  | inr not_i ↦ elim (cases_eq k place) [
+                  | inr not_i ↦ elim (cases_eq k index) [
                     | inl e ↦ cc (moves.1, at, carries.0, goes_at, old)
-                    | inr not_place ↦ cc (
-                      moves.2 k not_i not_place,
-                      carries.2 (get_or places k 0) (λ e. not_i (same_index k i old_within here (e ∙ at))) (λ e. not_place (same_index k place old_within place_within (e ∙ goes_at))),
+                    | inr not_index ↦ cc (
+                      moves.2 k not_i not_index,
+                      carries.2 (get_or indices k 0) (λ e. not_i (same_index k i old_within here (e ∙ at))) (λ e. not_index (same_index k index old_within index_within (e ∙ goes_at))),
                       old,
                     )
                   ]
@@ -150,12 +150,12 @@ module _ {from : List Fact} {order : List ℕ} (ordered : IsOrderOf from order) 
           }
 
     -- if each fact is where it belongs, the facts are in order
-    pub moved_sorted : ((k : ℕ) → k < length places → get_or places k 0 ≡ k) → IsSorted fact_cmp now
-    moved_sorted placed k d low within =
-        let reads : (j : ℕ) → j < length places → slice_get from (get_or order j 0) ≡ Some (get_or now j d)
+    pub moved_sorted : ((k : ℕ) → k < length indices → get_or indices k 0 ≡ k) → IsSorted fact_cmp now
+    moved_sorted indexed k d low within =
+        let reads : (j : ℕ) → j < length indices → slice_get from (get_or order j 0) ≡ Some (get_or now j d)
         = λ j inside.
-        slice_get-get_or from (get_or order j 0) d (places_within from order ordered j 0 (omega (arith, inside, as_many, long, count)))
-        ∙ ap Some (sym (moved.same j d inside) ∙ ap (λ p. get_or now p d) (placed j inside)) in
+        slice_get-get_or from (get_or order j 0) d (indices_within from order ordered j 0 (omega (arith, inside, as_many, long, count)))
+        ∙ ap Some (sym (moved.same j d inside) ∙ ap (λ p. get_or now p d) (indexed j inside)) in
         let next = reads (k + 1) (omega (arith, within, as_many)) in
         let here = reads k (omega (arith, within, as_many)) in
         sym (λ t. is_lt (option_cmp fact_cmp (next t) (here t)))

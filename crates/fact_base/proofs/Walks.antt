@@ -137,10 +137,10 @@ dimensions_equal s = equal_dimensions_tie s s ∙ ap is_eq (tied_itself dimensio
 
 -- ---- the row at an index
 
-abbrev at_place : List Entry → ℕ → Option Row
-at_place es i = option_map row_of (slice_get es i)
+abbrev at_index : List Entry → ℕ → Option Row
+at_index es i = option_map row_of (slice_get es i)
 
-pub rows_alike : (es ds : List Entry) (i : ℕ) (e d : Entry) (vs ws : List Value) (b : Bool) → slice_get es i ≡ Some e → slice_get ds i ≡ Some d → vs ≡ e.1.0 → ws ≡ d.1.0 → b ≡ derived_equal vs ws → e.0 ≡ d.0 → IsTrue b ↔ (at_place es i ≡ at_place ds i)
+pub rows_alike : (es ds : List Entry) (i : ℕ) (e d : Entry) (vs ws : List Value) (b : Bool) → slice_get es i ≡ Some e → slice_get ds i ≡ Some d → vs ≡ e.1.0 → ws ≡ d.1.0 → b ≡ derived_equal vs ws → e.0 ≡ d.0 → IsTrue b ↔ (at_index es i ≡ at_index ds i)
 rows_alike es ds i e d vs ws b first second values others told same = (
   λ h.
       let alike : e.1.0 ≡ d.1.0 = sym values ∙ (equal_values vs ws).0 (sym told ∙ h) ∙ others in
@@ -151,7 +151,7 @@ rows_alike es ds i e d vs ws b first second values others told same = (
       told ∙ ap (λ xs. derived_equal xs ws) alike ∙ (equal_values ws ws).1 refl,
 )
 
-pub rows_unlike : (es ds : List Entry) (i : ℕ) (e d : Entry) (b : Bool) → slice_get es i ≡ Some e → slice_get ds i ≡ Some d → b ≡ dimensions_eq.it e.0 d.0 → b ≡ false → IsTrue b ↔ (at_place es i ≡ at_place ds i)
+pub rows_unlike : (es ds : List Entry) (i : ℕ) (e d : Entry) (b : Bool) → slice_get es i ≡ Some e → slice_get ds i ≡ Some d → b ≡ dimensions_eq.it e.0 d.0 → b ≡ false → IsTrue b ↔ (at_index es i ≡ at_index ds i)
 rows_unlike es ds i e d b first second told other = (
   λ h. absurd (true≢false (sym h ∙ other)),
   λ h.
@@ -159,7 +159,7 @@ rows_unlike es ds i e d b first second told other = (
       told ∙ ap (λ s. dimensions_eq.it s d.0) (ap (λ (r : Row). r.0) rows) ∙ dimensions_equal d.0,
 )
 
-pub rows_further : (es ds : List Entry) (i : ℕ) → length es ≡ length ds → i < length es → at_place es i ≡ at_place ds i → take i (map row_of es) ≡ take i (map row_of ds) → take (i + 1) (map row_of es) ≡ take (i + 1) (map row_of ds)
+pub rows_further : (es ds : List Entry) (i : ℕ) → length es ≡ length ds → i < length es → at_index es i ≡ at_index ds i → take i (map row_of es) ≡ take i (map row_of ds) → take (i + 1) (map row_of es) ≡ take (i + 1) (map row_of ds)
 rows_further es ds i same within here known =
     let long = length-map es row_of in
     let more = length-map ds row_of in
@@ -172,7 +172,7 @@ rows_all es ds i same past known =
     let more = length-map ds row_of in
     sym (take_all i (map row_of es) (omega (arith, long, past))) ∙ known ∙ take_all i (map row_of ds) (omega (arith, more, same, past))
 
-pub row_differs : (es ds : List Entry) (i : ℕ) → ¬ (at_place es i ≡ at_place ds i) → ¬ (map row_of es ≡ map row_of ds)
+pub row_differs : (es ds : List Entry) (i : ℕ) → ¬ (at_index es i ≡ at_index ds i) → ¬ (map row_of es ≡ map row_of ds)
 row_differs es ds i other same = other (sym (slice_get-map row_of es i) ∙ ap (λ rs. slice_get rs i) same ∙ slice_get-map row_of ds i)
 
 -- ---- the same facts
@@ -226,9 +226,9 @@ row_at es next k d e within =
     get_or-map row_of (drop next es) k e d (omega (arith, length-drop next es))
     ∙ ap row_of (get_or-drop next es k e)
 
-pub told_uri : (es : List Entry) (place : ℕ) (e : Entry) (known uri : List ℕ) (told : Bool) → told ≡ bytes_eq known uri → known ≡ uri_of e → slice_get es place ≡ Some e → OnTrue told (HoldsAt (λ f. f.0.concept.uri ≡ uri) es place)
-told_uri es place e known uri true is own at = λ d. ap uri_of (get_or_from_slice_get es place e d at) ∙ sym own ∙ same_bytes known uri (sym is)
-told_uri es place e known uri false is own at = tt
+pub told_uri : (es : List Entry) (index : ℕ) (e : Entry) (known uri : List ℕ) (told : Bool) → told ≡ bytes_eq known uri → known ≡ uri_of e → slice_get es index ≡ Some e → OnTrue told (HoldsAt (λ f. f.0.concept.uri ≡ uri) es index)
+told_uri es index e known uri true is own at = λ d. ap uri_of (get_or_from_slice_get es index e d at) ∙ sym own ∙ same_bytes known uri (sym is)
+told_uri es index e known uri false is own at = tt
 
 -- the first rows have the URI, and a later row has it, so all rows between have it
 pub run_further : (es : List Entry) (next left count : ℕ) (uri : List ℕ) → IsRising dimensions_cmp entry_key es → left ≡ length es - next → 2 * count < left

@@ -4,7 +4,7 @@ use Rattle.std.specs.List.{All, list_all}
 use Rattle.oim_value.specs.Ends.{AreEnds, has_interval, intervals_of}
 use Rattle.oim_value.specs.Interval.{HasPoints, IsWithin}
 use Rattle.oim_value.specs.Meets.{Meets}
-use Rattle.oim_value.specs.SeveralMeet.{AreApart, EachTwoValuesMeet, place_of_greatest_low, place_of_least_high}
+use Rattle.oim_value.specs.SeveralMeet.{AreApart, EachTwoValuesMeet, index_of_greatest_low, index_of_least_high}
 use Rattle.oim_value.specs.declared.interval.Interval.{Interval}
 use Rattle.oim_value.specs.declared.value.Value.{Value}
 use Rattle.oim_dims.specs.DimensionSet.{DimensionSet}
@@ -59,7 +59,7 @@ begin_with_numbers other = false
 -- value whose interval has the least high end, and j is the index of the first value whose interval has the greatest low
 -- end. Otherwise, i is 0 and j is 1.
 abbrev pub IsPairOf : Bool → List Value → ℕ → ℕ → Type 0
-IsPairOf true vs i j = (ends : Interval) → AreEnds ends (intervals_of vs) → (i ≡ place_of_least_high ends vs) × (j ≡ place_of_greatest_low ends vs)
+IsPairOf true vs i j = (ends : Interval) → AreEnds ends (intervals_of vs) → (i ≡ index_of_least_high ends vs) × (j ≡ index_of_greatest_low ends vs)
 IsPairOf false vs i j = (i ≡ 0) × (j ≡ 1)
 
 abbrev pub IsShownPair : List Value → ℕ → ℕ → Type 0

@@ -83,8 +83,8 @@ pub(crate) fn copied_facts(alloc: Global, entries: &Entries) -> Result<Vec<Fact>
     ensures { IfOk result (λ facts. facts.items ≡ facts_of_entries entries.now) }
 {
     let mut facts = Vec::new(alloc);
-    for place in 0..entries.len() {
-        if let Some((dimensions, (values, _summary))) = entries.at(place) {
+    for index in 0..entries.len() {
+        if let Some((dimensions, (values, _summary))) = entries.at(index) {
             push_facts(alloc, &mut facts, dimensions, values.as_slice())?;
         }
     }
@@ -112,8 +112,8 @@ pub(crate) fn count_of(entries: &Entries) -> u128
     ensures { result ≡ length (facts_of_entries entries.now) }
 {
     let mut count: u128 = 0;
-    for place in 0..entries.len() {
-        if let Some((_dimensions, (values, _summary))) = entries.at(place) {
+    for index in 0..entries.len() {
+        if let Some((_dimensions, (values, _summary))) = entries.at(index) {
             count += values.as_slice().len() as u128;
         }
     }
@@ -126,18 +126,18 @@ pub(crate) fn same_rows(one: &Entries, other: &Entries) -> bool
     if one.len() != other.len() {
         return false;
     }
-    for place in 0..one.len() {
-        if !same_at(one, other, place) {
+    for index in 0..one.len() {
+        if !same_at(one, other, index) {
             return false;
         }
     }
     true
 }
 
-fn same_at(one: &Entries, other: &Entries, place: usize) -> bool
-    ensures { IsTrue result ↔ (option_map row_of (slice_get one.now place) ≡ option_map row_of (slice_get other.now place)) }
+fn same_at(one: &Entries, other: &Entries, index: usize) -> bool
+    ensures { IsTrue result ↔ (option_map row_of (slice_get one.now index) ≡ option_map row_of (slice_get other.now index)) }
 {
-    match (one.at(place), other.at(place)) {
+    match (one.at(index), other.at(index)) {
         (Some((dimensions, (values, _))), Some((others, (more, _)))) => {
             dimensions == others && values.as_slice() == more.as_slice()
         }
@@ -154,8 +154,8 @@ pub(crate) fn level_of(entries: &Entries) -> Level
     ensures { result ≡ level_of (facts_of_entries entries.now) }
 {
     let mut level = Level::Unique;
-    for place in 0..entries.len() {
-        if let Some((_dimensions, (values, summary))) = entries.at(place) {
+    for index in 0..entries.len() {
+        if let Some((_dimensions, (values, summary))) = entries.at(index) {
             level = level.max(level_at(verdict_of(values.as_slice(), summary)));
         }
     }

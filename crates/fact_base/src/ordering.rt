@@ -17,17 +17,17 @@ pub(crate) fn in_order(mut facts: Vec<Fact>, order: Vec<usize>) -> Vec<Fact>
     ensures moved { IsPermutation facts.items result.items }
     ensures sorted { IsSorted fact_cmp result.items }
 {
-    // The fact that belongs at index `k` is at index `places[k]`.
-    let mut places = order;
+    // The fact that belongs at index `k` is at index `indices[k]`.
+    let mut indices = order;
     let mut i = 0;
-    while i < places.len() {
-        let place = places[i];
-        if place == i {
+    while i < indices.len() {
+        let index = indices[i];
+        if index == i {
             i += 1;
         } else {
-            // The fact that belongs at `place` goes there. The one that leaves belongs at `i`.
-            facts.swap(place, places[place]);
-            places.swap(i, place);
+            // The fact that belongs at `index` goes there. The one that leaves belongs at `i`.
+            facts.swap(index, indices[index]);
+            indices.swap(i, index);
         }
     }
     facts

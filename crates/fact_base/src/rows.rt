@@ -91,10 +91,10 @@ impl Rows<'_> {
     }
 
     // Returns whether the row at an index of the base has a concept with this URI.
-    fn has_uri(&self, place: usize, uri: &str) -> bool
-        ensures { OnTrue result (HoldsAt (λ e. e.0.concept.uri ≡ uri.now) self.now.entries.now place) }
+    fn has_uri(&self, index: usize, uri: &str) -> bool
+        ensures { OnTrue result (HoldsAt (λ e. e.0.concept.uri ≡ uri.now) self.now.entries.now index) }
     {
-        match self.entries.at(place) {
+        match self.entries.at(index) {
             Some((dimensions, _)) => dimensions.concept().uri() == uri,
             None => false,
         }

@@ -1,7 +1,7 @@
 ghost use Rattle.std.specs.Prelude.{◌≡◌, ◌≤◌, length, None, Some};
 ghost use Rattle.fact_base.specs.code.Judged.{AreSummarised, shared_by};
 ghost use Rattle.fact_base.specs.Verdict.{IsEvidence, verdict_of};
-ghost use Rattle.oim_value.specs.SeveralMeet.{has_high, has_low, place_of_greatest_low, place_of_least_high};
+ghost use Rattle.oim_value.specs.SeveralMeet.{has_high, has_low, index_of_greatest_low, index_of_least_high};
 
 use crate::evidence::Evidence;
 use merge_laws::Summary;
@@ -75,22 +75,22 @@ fn shared_by(summary: &Summary) -> Option<Interval>
 }
 
 fn first_high(values: &[Value], ends: &Interval) -> usize
-    ensures { result ≡ place_of_least_high ends.now values.now }
+    ensures { result ≡ index_of_least_high ends.now values.now }
 {
-    for (place, value) in values.iter().enumerate() {
+    for (index, value) in values.iter().enumerate() {
         if has_high(value, ends.high) {
-            return place;
+            return index;
         }
     }
     values.len()
 }
 
 fn first_low(values: &[Value], ends: &Interval) -> usize
-    ensures { result ≡ place_of_greatest_low ends.now values.now }
+    ensures { result ≡ index_of_greatest_low ends.now values.now }
 {
-    for (place, value) in values.iter().enumerate() {
+    for (index, value) in values.iter().enumerate() {
         if has_low(value, ends.low) {
-            return place;
+            return index;
         }
     }
     values.len()

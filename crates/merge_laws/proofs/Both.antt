@@ -14,7 +14,7 @@ use Rattle.merge_laws.specs.Sorted.{IsSet, item_at, has_key, itself, entry_key, 
 use Rattle.merge_laws.specs.Union.{either_or_both, older, merged_entries, set_with, set_union, IsSetOfBoth, SetUnionHasBoth, SetWithHasItem, MapTellsEntry, MapUnionHasBoth, MapWithMerges, SetTellsItem}
 use Rattle.merge_laws.specs.code.Items.{alone, rises_with, rises_union, item_at-with, item_at-union}
 use Rattle.merge_laws.proofs.Edits.{item_found}
-use Rattle.merge_laws.proofs.Places.{found_here}
+use Rattle.merge_laws.proofs.Indices.{found_here}
 
 found_some : {A : Type 0} (p : A → Bool) (xs : List A) → is_some (Rattle.std.specs.List.find p xs) ≡ list_any p xs
 found_some p [] = refl

@@ -3,7 +3,7 @@ mod Edits
 pub mod Ends
 mod Lists
 pub mod Members
-mod Places
+mod Indices
 mod Puts
 pub mod Rising
 mod Taking

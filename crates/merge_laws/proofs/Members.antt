@@ -50,8 +50,8 @@ module _ {K : Type 0} {R : K → K → Ordering} (o : IsTotalOrder R) (exact : (
   pub map_is_its_values : (V : Type 0) → MapIsItsValues R V
   map_is_its_values V es fs g h same = same_items entry_key o es fs g h (λ k. entry_there k es ∙ ap (λ (a : Option V). option_map (λ v. (k, v)) a) (same k) ∙ sym (entry_there k fs))
 
-pub all_by_place : {A : Type 0} (P : A → Type 0) (xs : List A) → AllByRecursion P xs → All P xs
-all_by_place = All-from_recursion
+pub all_by_index : {A : Type 0} (P : A → Type 0) (xs : List A) → AllByRecursion P xs → All P xs
+all_by_index = All-from_recursion
 
 pub all_in_turn : {A : Type 0} (P : A → Type 0) (xs : List A) → All P xs → AllByRecursion P xs
 all_in_turn = recursion_from_All
@@ -74,10 +74,10 @@ module _ {K V : Type 0} {R : K → K → Ordering} (exact : (x y : K) → R x y 
   map_union_has es (f ∷ fs) h g = map_with_has f.0 f.1 _ g.0 (map_union_has es fs h g.1)
 
   pub all_of_union : (es fs : List (K × V)) → All Has es → All Has fs → All Has (map_union R merged es fs)
-  all_of_union es fs h g = all_by_place Has _ (map_union_has es fs (all_in_turn Has es h) (all_in_turn Has fs g))
+  all_of_union es fs h g = all_by_index Has _ (map_union_has es fs (all_in_turn Has es h) (all_in_turn Has fs g))
 
   pub all_with_value : (k : K) (v : V) (es : List (K × V)) → P k v → All Has es → All Has (map_with R merged k v es)
-  all_with_value k v es p h = all_by_place Has _ (map_with_has k v es p (all_in_turn Has es h))
+  all_with_value k v es p h = all_by_index Has _ (map_with_has k v es p (all_in_turn Has es h))
 
 module _ {K V : Type 0} {R : K → K → Ordering} (exact : (x y : K) → R x y ≡ Equal → x ≡ y) (merged : V → V → V) where
   pub map_union_keeps : MapUnionKeeps R merged

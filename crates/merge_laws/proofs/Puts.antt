@@ -3,7 +3,7 @@ use Rattle.std.proofs.Common.{◌≡◌, ℕ, ◌<◌, List, length, get_or, set
 use Rattle.std.specs.declared.cmp.Ordering.{Ordering}
 use Rattle.std.specs.Cmp.{IsTotalOrder}
 use Rattle.std.proofs.lemmas.List.{set-get_or}
-use Rattle.merge_laws.specs.code.Insertions.{found_at, place_of}
+use Rattle.merge_laws.specs.code.Insertions.{found_at, index_of}
 use Rattle.merge_laws.specs.Sorted.{IsRising, IsMap, has_key, entry_key}
 use Rattle.merge_laws.specs.Union.{map_with, merged_entries}
 use Rattle.merge_laws.specs.code.Items.{rises_with}
@@ -14,7 +14,7 @@ module _ {K V : Type 0} {R : K → K → Ordering} (o : IsTotalOrder R) (P : V �
   -- if the map has the key, `put` merges the new value into the value at the key
   pub put_there : (es : List (K × V)) (k : K) (v m : V) (i : ℕ) (x : K × V) → IsRising R entry_key es → Ok i ≡ found_at R entry_key k es → x ≡ get_or es i x → m ≡ merged x.1 v → set es i (x.0, m) ≡ map_with R merged k v es
   put_there es k v m i x h at read made =
-      let told = tells_ok (has_key R entry_key k es) (place_of R entry_key k es) i at in
+      let told = tells_ok (has_key R entry_key k es) (index_of R entry_key k es) i at in
       (λ n. set es i ((read n).0, (made ∙ ap (λ e. merged e.1 v) read) n))
       ∙ (λ n. set es (sym told.1 n) ((get_or es (sym told.1 n) x).0, merged (get_or es (sym told.1 n) x).1 v))
       ∙ replaced entry_key o (merged_entries merged) (k, v) es x h told.0

@@ -12,10 +12,10 @@ use mathlib.Core.Bool.{true≢false}
 use Rattle.std.proofs.lemmas.Grind.{flat_map-append}
 use Rattle.std.proofs.lemmas.List.{reverse-append}
 use Rattle.std.proofs.lemmas.List.Folds.{find-append}
-use Rattle.merge_laws.specs.code.Insertions.{IsFirstLeast, inserted, new_item, new_items, place_of}
+use Rattle.merge_laws.specs.code.Insertions.{IsFirstLeast, inserted, new_item, new_items, index_of}
 use Rattle.merge_laws.specs.Sorted.{IsRising, item_at, has_key}
 use Rattle.merge_laws.specs.code.Items.{Below, none_below, none_tied, below_less, same_found, turned_less, turned_greater}
-use Rattle.merge_laws.proofs.Edits.{place_behind, place_here, not_here, below_rest, rest_rises}
+use Rattle.merge_laws.proofs.Edits.{index_behind, index_here, not_here, below_rest, rest_rises}
 use Rattle.merge_laws.proofs.Lists.{AllBelow, from_end, all_both, all_front, all_back, or_none, rises_front, rises_back, below_last, rises_around}
 
 absent_below : {A : Type 0} (a b : Option A) → option_or (option_or a b) None ≡ option_or (option_or a None) (option_or b None)
@@ -37,33 +37,33 @@ there_first (Some x) b has = refl
 module _ {K E : Type 0} {R : K → K → Ordering} (key : E → K) (o : IsTotalOrder R) where
   -- a key that is not in a list splits the list into items below the key and items above the key
   pub record IsParted (k : K) (es : List E) : Type 0 where
-    pub below : AllBelow key o k (take (place_of R key k es) es)
-    pub above : Below key o k (drop (place_of R key k es) es)
+    pub below : AllBelow key o k (take (index_of R key k es) es)
+    pub above : Below key o k (drop (index_of R key k es) es)
 
   pub parted_at : (k : K) (es : List E) → IsRising R key es → has_key R key k es ≡ false → IsParted k es
   parted_at k [] h has = record { below = tt; above = tt }
   parted_at k (e ∷ es) h has =
       elim (R k (key e)) as (λ r. R k (key e) ≡ r → IsParted k (e ∷ es)) [
         | Less ↦ λ p.
-            let here : 0 ≡ place_of R key k (e ∷ es) = sym (place_here key o k e es (ap is_lt (turned_less key o k (key e) p))) in
+            let here : 0 ≡ index_of R key k (e ∷ es) = sym (index_here key o k e es (ap is_lt (turned_less key o k (key e) p))) in
             record { below = subst (λ i. AllBelow key o k (take i (e ∷ es))) here tt; above = subst (λ i. Below key o k (drop i (e ∷ es))) here (below_rest key o k e es h p) }
         | Equal ↦ λ p. absurd (true≢false (sym (ap (λ r. is_some (cond (is_eq r) (Some e) (item_at R key k es))) p) ∙ has))
         | Greater ↦ λ p.
             let lower : R (key e) k ≡ Less = turned_greater key o k (key e) p in
             let rest = parted_at k es (rest_rises key o e es h) (sym (not_here key o k e es p) ∙ has) in
-            let behind : suc (place_of R key k es) ≡ place_of R key k (e ∷ es) = sym (place_behind key o k e es lower) in
+            let behind : suc (index_of R key k es) ≡ index_of R key k (e ∷ es) = sym (index_behind key o k e es lower) in
             record { below = subst (λ i. AllBelow key o k (take i (e ∷ es))) behind (lower, rest.below); above = subst (λ i. Below key o k (drop i (e ∷ es))) behind rest.above }
       ] refl
 
-  below_finds : (w k : K) (es : List E) → IsRising R key es → R w k ≡ Less → item_at R key w (take (place_of R key k es) es) ≡ item_at R key w es
+  below_finds : (w k : K) (es : List E) → IsRising R key es → R w k ≡ Less → item_at R key w (take (index_of R key k es) es) ≡ item_at R key w es
   below_finds w k [] h p = refl
   below_finds w k (e ∷ es) h p =
-      elim (is_lt (R (key e) k)) as (λ b. is_lt (R (key e) k) ≡ b → item_at R key w (take (place_of R key k (e ∷ es)) (e ∷ es)) ≡ item_at R key w (e ∷ es)) [
+      elim (is_lt (R (key e) k)) as (λ b. is_lt (R (key e) k) ≡ b → item_at R key w (take (index_of R key k (e ∷ es)) (e ∷ es)) ≡ item_at R key w (e ∷ es)) [
         | true ↦ λ t.
-            ap (λ i. item_at R key w (take i (e ∷ es))) (place_behind key o k e es (less_from t))
+            ap (λ i. item_at R key w (take i (e ∷ es))) (index_behind key o k e es (less_from t))
             ∙ ap (λ a. cond (is_eq (R w (key e))) (Some e) a) (below_finds w k es (rest_rises key o e es h) p)
         | false ↦ λ t.
-            ap (λ i. item_at R key w (take i (e ∷ es))) (place_here key o k e es t)
+            ap (λ i. item_at R key w (take i (e ∷ es))) (index_here key o k e es t)
             ∙ sym (none_below key o w (e ∷ es) (below_rest key o w e es h (under t)))
       ] refl
     where
@@ -77,27 +77,27 @@ module _ {K E : Type 0} {R : K → K → Ordering} (key : E → K) (o : IsTotalO
         | Greater ↦ λ q _. o.trans w k (key e) p (turned_greater key o (key e) k q)
       ] refl t
 
-  below_places : (w k : K) (es : List E) → IsRising R key es → R w k ≡ Less → place_of R key w (take (place_of R key k es) es) ≡ place_of R key w es
-  below_places w k [] h p = refl
-  below_places w k (e ∷ es) h p =
-      elim (R (key e) k) as (λ r. R (key e) k ≡ r → place_of R key w (take (place_of R key k (e ∷ es)) (e ∷ es)) ≡ place_of R key w (e ∷ es)) [
+  below_indices : (w k : K) (es : List E) → IsRising R key es → R w k ≡ Less → index_of R key w (take (index_of R key k es) es) ≡ index_of R key w es
+  below_indices w k [] h p = refl
+  below_indices w k (e ∷ es) h p =
+      elim (R (key e) k) as (λ r. R (key e) k ≡ r → index_of R key w (take (index_of R key k (e ∷ es)) (e ∷ es)) ≡ index_of R key w (e ∷ es)) [
         | Less ↦ λ t.
-            ap (λ i. place_of R key w (take i (e ∷ es))) (place_behind key o k e es t)
-            ∙ ap (λ n. cond (not (not (is_lt (R (key e) w)))) (1 + n) 0) (below_places w k es (rest_rises key o e es h) p)
+            ap (λ i. index_of R key w (take i (e ∷ es))) (index_behind key o k e es t)
+            ∙ ap (λ n. cond (not (not (is_lt (R (key e) w)))) (1 + n) 0) (below_indices w k es (rest_rises key o e es h) p)
         | Equal ↦ λ t. above (ap is_lt t) (o.congr (key e) k w t ∙ turned_less key o w k p)
         | Greater ↦ λ t. above (ap is_lt t) (turned_less key o w (key e) (o.trans w k (key e) p (turned_greater key o (key e) k t)))
       ] refl
     where
-      above : is_lt (R (key e) k) ≡ false → R (key e) w ≡ Greater → place_of R key w (take (place_of R key k (e ∷ es)) (e ∷ es)) ≡ place_of R key w (e ∷ es)
-      above t q = ap (λ i. place_of R key w (take i (e ∷ es))) (place_here key o k e es t) ∙ sym (place_here key o w e es (ap is_lt q))
+      above : is_lt (R (key e) k) ≡ false → R (key e) w ≡ Greater → index_of R key w (take (index_of R key k (e ∷ es)) (e ∷ es)) ≡ index_of R key w (e ∷ es)
+      above t q = ap (λ i. index_of R key w (take i (e ∷ es))) (index_here key o k e es t) ∙ sym (index_here key o w e es (ap is_lt q))
 
   -- if all items of fs are below a key, their insertions into es depend only on the items of es below that key
-  below_news : (k : K) (es fs : List E) → IsRising R key es → AllBelow key o k fs → new_items R key es fs ≡ new_items R key (take (place_of R key k es) es) fs
+  below_news : (k : K) (es fs : List E) → IsRising R key es → AllBelow key o k fs → new_items R key es fs ≡ new_items R key (take (index_of R key k es) es) fs
   below_news k es [] h b = refl
   below_news k es (f ∷ fs) h b =
       let found = sym (below_finds (key f) k es h b.0) in
-      let place = sym (below_places (key f) k es h b.0) in
-      λ i. cond (is_some (found i)) [] ((place i, f) ∷ []) ++ below_news k es fs h b.1 i
+      let index = sym (below_indices (key f) k es h b.0) in
+      λ i. cond (is_some (found i)) [] ((index i, f) ∷ []) ++ below_news k es fs h b.1 i
 
   -- the list `out` ascends, and has the items of es and the items of fs whose keys are not in es
   pub record IsTaken (es fs out : List E) : Type 0 where
@@ -109,8 +109,8 @@ module _ {K E : Type 0} {R : K → K → Ordering} (key : E → K) (o : IsTotalO
   none_above q k [] p h = refl
   none_above q k (f ∷ fs) p h = ap (λ r. cond (is_eq r) (Some f) (item_at R key q fs)) (turned_less key o (key f) q (o.trans (key f) k q h.0 p)) ∙ none_above q k fs p h.1
 
-  parts : (q k : K) (es : List E) → item_at R key q es ≡ option_or (item_at R key q (take (place_of R key k es) es)) (item_at R key q (drop (place_of R key k es) es))
-  parts q k es = ap (item_at R key q) (sym (take-append-drop (place_of R key k es) es)) ∙ find-append (λ e. is_eq (R q (key e))) (take (place_of R key k es) es) (drop (place_of R key k es) es)
+  parts : (q k : K) (es : List E) → item_at R key q es ≡ option_or (item_at R key q (take (index_of R key k es) es)) (item_at R key q (drop (index_of R key k es) es))
+  parts q k es = ap (item_at R key q) (sym (take-append-drop (index_of R key k es) es)) ∙ find-append (λ e. is_eq (R q (key e))) (take (index_of R key k es) es) (drop (index_of R key k es) es)
 
   news_of_more : (es fs : List E) (f : E) → reverse (new_items R key es (fs ++ f ∷ [])) ≡ reverse (new_item R key es f) ++ reverse (new_items R key es fs)
   news_of_more es fs f =
@@ -129,9 +129,9 @@ module _ {K E : Type 0} {R : K → K → Ordering} (key : E → K) (o : IsTotalO
     below = λ k low_es low_fs. taken.below k low_es (all_front (λ e. R (key e) k ≡ Less) fs (f ∷ []) low_fs);
   }
 
-  taken_new : (es fs out : List E) (f : E) → IsRising R key es → has_key R key (key f) es ≡ false → AllBelow key o (key f) fs → IsTaken (take (place_of R key (key f) es) es) fs out → IsTaken es (fs ++ f ∷ []) (out ++ f ∷ drop (place_of R key (key f) es) es)
+  taken_new : (es fs out : List E) (f : E) → IsRising R key es → has_key R key (key f) es ≡ false → AllBelow key o (key f) fs → IsTaken (take (index_of R key (key f) es) es) fs out → IsTaken es (fs ++ f ∷ []) (out ++ f ∷ drop (index_of R key (key f) es) es)
   taken_new es fs out f h has low taken =
-      let i = place_of R key (key f) es in
+      let i = index_of R key (key f) es in
       let sides = parted_at (key f) es h has in
       let whole = take-append-drop i es in
       record {
@@ -164,7 +164,7 @@ module _ {K E : Type 0} {R : K → K → Ordering} (key : E → K) (o : IsTotalO
   takes_more : (fs : List E) (f : E) → Takes fs → Takes (fs ++ f ∷ [])
   takes_more fs f takes es h g =
       let low = below_last key o fs f [] g in
-      let i = place_of R key (key f) es in
+      let i = index_of R key (key f) es in
       subst (λ ns. IsTaken es (fs ++ f ∷ []) (inserted es ns)) (sym (news_of_more es fs f))
       (elim (has_key R key (key f) es) as (λ b. has_key R key (key f) es ≡ b → IsTaken es (fs ++ f ∷ []) (inserted es (reverse (cond b [] ((i, f) ∷ [])) ++ reverse (new_items R key es fs)))) [
         | true ↦ λ has. taken_there es fs _ f has low (takes es h (rises_front key o fs (f ∷ []) g))
@@ -175,30 +175,30 @@ module _ {K E : Type 0} {R : K → K → Ordering} (key : E → K) (o : IsTotalO
   pub takes_all : (es fs : List E) → IsRising R key es → IsRising R key fs → IsTaken es fs (inserted es (reverse (new_items R key es fs)))
   takes_all es fs = from_end Takes (λ es h g. record { rises = h; at = λ q. sym (or_none (item_at R key q es)); below = λ k low_es low_fs. low_es }) takes_more fs es
 
-  places_rise : (j k : K) (es : List E) → R j k ≡ Less → place_of R key j es ≤ place_of R key k es
-  places_rise j k [] p = omega arith
-  places_rise j k (e ∷ es) p =
-      elim (R (key e) j) as (λ r. R (key e) j ≡ r → place_of R key j (e ∷ es) ≤ place_of R key k (e ∷ es)) [
+  indices_rise : (j k : K) (es : List E) → R j k ≡ Less → index_of R key j es ≤ index_of R key k es
+  indices_rise j k [] p = omega arith
+  indices_rise j k (e ∷ es) p =
+      elim (R (key e) j) as (λ r. R (key e) j ≡ r → index_of R key j (e ∷ es) ≤ index_of R key k (e ∷ es)) [
         | Less ↦ λ t.
-            let first : place_of R key j (e ∷ es) ≡ suc (place_of R key j es) = place_behind key o j e es t in
-            let second : place_of R key k (e ∷ es) ≡ suc (place_of R key k es) = place_behind key o k e es (o.trans (key e) j k t p) in
-            let rest = places_rise j k es p in
+            let first : index_of R key j (e ∷ es) ≡ suc (index_of R key j es) = index_behind key o j e es t in
+            let second : index_of R key k (e ∷ es) ≡ suc (index_of R key k es) = index_behind key o k e es (o.trans (key e) j k t p) in
+            let rest = indices_rise j k es p in
             omega (arith, first, second, rest)
-        | Equal ↦ λ t. let here : place_of R key j (e ∷ es) ≡ 0 = place_here key o j e es (ap is_lt t) in omega (arith, here)
-        | Greater ↦ λ t. let here : place_of R key j (e ∷ es) ≡ 0 = place_here key o j e es (ap is_lt t) in omega (arith, here)
+        | Equal ↦ λ t. let here : index_of R key j (e ∷ es) ≡ 0 = index_here key o j e es (ap is_lt t) in omega (arith, here)
+        | Greater ↦ λ t. let here : index_of R key j (e ∷ es) ≡ 0 = index_here key o j e es (ap is_lt t) in omega (arith, here)
       ] refl
 
-  none_before : (k : K) (es fs : List E) → Below key o k fs → AllByRecursion (λ n. place_of R key k es ≤ n.0) (new_items R key es fs)
+  none_before : (k : K) (es fs : List E) → Below key o k fs → AllByRecursion (λ n. index_of R key k es ≤ n.0) (new_items R key es fs)
   none_before k es [] h = tt
-  none_before k es (f ∷ fs) h = elim (has_key R key (key f) es) as (λ b. AllByRecursion (λ n. place_of R key k es ≤ n.0) (cond b [] ((place_of R key (key f) es, f) ∷ []) ++ new_items R key es fs)) [
+  none_before k es (f ∷ fs) h = elim (has_key R key (key f) es) as (λ b. AllByRecursion (λ n. index_of R key k es ≤ n.0) (cond b [] ((index_of R key (key f) es, f) ∷ []) ++ new_items R key es fs)) [
     | true ↦ none_before k es fs h.1
-    | false ↦ (places_rise k (key f) es h.0, none_before k es fs h.1)
+    | false ↦ (indices_rise k (key f) es h.0, none_before k es fs h.1)
   ]
 
   pub first_least : (end : ℕ) (es fs : List E) → IsRising R key fs → IsFirstLeast end (new_items R key es fs)
   unfolding IsStrictlySortedBy
   first_least end es [] h = tt
-  first_least end es (f ∷ fs) h = elim (has_key R key (key f) es) as (λ b. IsFirstLeast end (cond b [] ((place_of R key (key f) es, f) ∷ []) ++ new_items R key es fs)) [
+  first_least end es (f ∷ fs) h = elim (has_key R key (key f) es) as (λ b. IsFirstLeast end (cond b [] ((index_of R key (key f) es, f) ∷ []) ++ new_items R key es fs)) [
     | true ↦ first_least end es fs h.1
     | false ↦ (omega arith, none_before (key f) es fs h.0)
   ]

@@ -39,7 +39,7 @@ module _ {K V : Type 0} {R : K → K → Ordering} (o : IsTotalOrder R) (merged 
   -- replacing values does not change which entries are new
   same_news : (es out fs : List (K × V)) → IsRevalued o merged es fs out → (gs : List (K × V)) → new_items R entry_key es gs ≡ new_items R entry_key out gs
   same_news es out fs is [] = refl
-  same_news es out fs is (g ∷ gs) = λ n. cond (sym (is.has g.0) n) [] ((sym (is.place g.0) n, g) ∷ []) ++ same_news es out fs is gs n
+  same_news es out fs is (g ∷ gs) = λ n. cond (sym (is.has g.0) n) [] ((sym (is.index g.0) n, g) ∷ []) ++ same_news es out fs is gs n
 
   pub map_taken : (es fs : List (K × V)) → IsRising R entry_key es → IsRising R entry_key fs → inserted (with_values es (new_values R merged es fs)) (reverse (new_items R entry_key es fs)) ≡ map_union R merged es fs
   map_taken es fs g h =

@@ -1,5 +1,5 @@
 ghost use Rattle.std.specs.Prelude.{◌≡◌, ◌+◌, ◌-◌, ◌<◌, ◌≤◌, [], ◌++◌, take, drop, length, reverse, vec_len, vec_capacity, IfOk, OnOk, OnErr};
-ghost use Rattle.merge_laws.specs.code.Insertions.{IsFirstLeast, first_place, inserted};
+ghost use Rattle.merge_laws.specs.code.Insertions.{IsFirstLeast, first_index, inserted};
 
 use std::alloc::AllocError;
 
@@ -26,12 +26,12 @@ pub(crate) fn room_for<E: Drop>(
 ) -> Result<Vec<E>, AllocError>
     ensures kept { items.new.items ≡ items.old.items }
     ensures among { IfOk result (λ above. vec_len items.new + length news.now ≤ vec_capacity items.new) }
-    ensures above { IfOk result (λ above. vec_len items.new - first_place (vec_len items.new) news.now + length news.now ≤ vec_capacity above) }
+    ensures above { IfOk result (λ above. vec_len items.new - first_index (vec_len items.new) news.now + length news.now ≤ vec_capacity above) }
     ensures empty { IfOk result (λ above. above.items ≡ []) }
 {
     items.reserve(news.len())?;
     let first = match news.first() {
-        Some((place, _)) => *place,
+        Some((index, _)) => *index,
         None => items.len(),
     };
     let moved = items.len().saturating_sub(first);
@@ -43,26 +43,26 @@ pub(crate) fn insert_all<E: Drop>(items: &mut Vec<E>, mut news: Vec<(usize, E)>,
     requires order { IsFirstLeast (vec_len items.old) news.items }
     requires empty { above.items ≡ [] }
     requires among { vec_len items.old + vec_len news ≤ vec_capacity items.old }
-    requires above { vec_len items.old - first_place (vec_len items.old) news.items + vec_len news ≤ vec_capacity above }
+    requires above { vec_len items.old - first_index (vec_len items.old) news.items + vec_len news ≤ vec_capacity above }
     ensures { items.new.items ≡ inserted items.old.items (reverse news.items) }
 {
-    while let Some((place, item)) = news.pop() {
-        lift(items, place, &mut above);
+    while let Some((index, item)) = news.pop() {
+        lift(items, index, &mut above);
         above.push_reserved(item);
     }
     lower(items, above);
 }
 
-fn lift<E: Drop>(items: &mut Vec<E>, place: usize, above: &mut Vec<E>)
-    requires { vec_len above.old + (vec_len items.old - place) ≤ vec_capacity above.old }
-    ensures items { items.new.items ≡ take place items.old.items }
-    ensures above { reverse above.new.items ≡ drop place items.old.items ++ reverse above.old.items }
+fn lift<E: Drop>(items: &mut Vec<E>, index: usize, above: &mut Vec<E>)
+    requires { vec_len above.old + (vec_len items.old - index) ≤ vec_capacity above.old }
+    ensures items { items.new.items ≡ take index items.old.items }
+    ensures above { reverse above.new.items ≡ drop index items.old.items ++ reverse above.old.items }
     ensures together { vec_len above.new + vec_len items.new ≡ vec_len above.old + vec_len items.old }
-    ensures untouched { vec_len items.new < place → vec_len items.new ≡ vec_len items.old }
+    ensures untouched { vec_len items.new < index → vec_len items.new ≡ vec_len items.old }
     ensures room { vec_capacity above.new ≡ vec_capacity above.old }
     ensures kept { vec_capacity items.new ≡ vec_capacity items.old }
 {
-    while items.len() > place {
+    while items.len() > index {
         above.push_reserved(items.take_last());
     }
 }

@@ -41,7 +41,7 @@ impl<K: Key, V> Keyed<K> for (K, V) {
 /// search.
 pub(crate) fn find<K: Key, E: Keyed<K>>(items: &[E], key: &K) -> Result<usize, usize>
     requires { IsRising K.cmp E.key_of items.now }
-    ensures place { result ≡ found_at K.cmp E.key_of key.now items.now }
+    ensures index { result ≡ found_at K.cmp E.key_of key.now items.now }
     ensures bound { IsSearchInRange result (length items.now) }
 {
     match items.last() {
@@ -60,7 +60,7 @@ pub(crate) fn find_from<K: Key, E: Keyed<K>>(
     requires rises { IsRising K.cmp E.key_of items.now }
     requires within { from ≤ length items.now }
     requires below { AllWithin (λ e. K.cmp (E.key_of e) key.now ≡ Below) items.now 0 from }
-    ensures place { result ≡ found_at K.cmp E.key_of key.now items.now }
+    ensures index { result ≡ found_at K.cmp E.key_of key.now items.now }
     ensures bound { IsSearchInRange result (length items.now) }
 {
     let mut low = from;
@@ -84,7 +84,7 @@ fn halve<K: Key, E: Keyed<K>>(items: &[E], key: &K, from: usize, to: usize) -> R
     requires within { to ≤ length items.now }
     requires below { AllWithin (λ e. K.cmp (E.key_of e) key.now ≡ Below) items.now 0 from }
     requires above { AllWithin (λ e. K.cmp (E.key_of e) key.now ≡ Above) items.now to (length items.now) }
-    ensures place { result ≡ found_at K.cmp E.key_of key.now items.now }
+    ensures index { result ≡ found_at K.cmp E.key_of key.now items.now }
     ensures bound { IsSearchInRange result (length items.now) }
 {
     let mut low = from;

@@ -56,10 +56,10 @@ impl<K: Key, V: Merge> SortedMap<K, V> {
         value.known();
         let alloc = *self.entries.allocator();
         match find(self.entries.as_slice(), key) {
-            Ok(place) => self.entries[place].1.merge(alloc, value),
-            Err(place) => {
+            Ok(index) => self.entries[index].1.merge(alloc, value),
+            Err(index) => {
                 let entry = (key.copied(alloc)?, value.copied(alloc)?);
-                self.entries.insert(place, entry)?;
+                self.entries.insert(index, entry)?;
                 Ok(())
             }
         }
@@ -87,16 +87,16 @@ impl<K: Key, V: Merge> SortedMap<K, V> {
         ensures { option_copied result ≡ value_at K.cmp key.now self.now }
     {
         match find(self.entries.as_slice(), key) {
-            Ok(place) => Some(&self.entries[place].1),
+            Ok(index) => Some(&self.entries[index].1),
             Err(_) => None,
         }
     }
 
     /// Returns the entry at an index, or None. Indices start at 0, in the order of the keys.
-    pub fn at(&self, place: usize) -> Option<(&K, &V)>
-        ensures { option_map (λ e. (e.0.now, e.1.now)) result ≡ slice_get self.now place }
+    pub fn at(&self, index: usize) -> Option<(&K, &V)>
+        ensures { option_map (λ e. (e.0.now, e.1.now)) result ≡ slice_get self.now index }
     {
-        match self.entries.get(place) {
+        match self.entries.get(index) {
             Some((key, value)) => Some((key, value)),
             None => None,
         }
@@ -184,15 +184,15 @@ fn changes_by<K: Key, V: Merge>(
     let mut from = 0;
     for other in others {
         match find_from(entries, &other.0, from) {
-            Ok(place) => {
-                let mut value = entries[place].1.copied(alloc)?;
+            Ok(index) => {
+                let mut value = entries[index].1.copied(alloc)?;
                 value.merge(alloc, &other.1)?;
-                changes.values.push((place, value))?;
-                from = place;
+                changes.values.push((index, value))?;
+                from = index;
             }
-            Err(place) => {
-                changes.new_entries.push((place, other.copied(alloc)?))?;
-                from = place;
+            Err(index) => {
+                changes.new_entries.push((index, other.copied(alloc)?))?;
+                from = index;
             }
         }
     }
@@ -218,17 +218,17 @@ fn changes_of<K: Key, V: Merge>(
     for other in others {
         let (key, mut value) = other;
         match find_from(entries, &key, from) {
-            Ok(place) => {
-                let own = &entries[place].1;
+            Ok(index) => {
+                let own = &entries[index].1;
                 own.known();
                 value.known();
                 value.merge(alloc, own)?;
-                changes.values.push((place, value))?;
-                from = place;
+                changes.values.push((index, value))?;
+                from = index;
             }
-            Err(place) => {
-                changes.new_entries.push((place, (key, value)))?;
-                from = place;
+            Err(index) => {
+                changes.new_entries.push((index, (key, value)))?;
+                from = index;
             }
         }
     }
@@ -255,7 +255,7 @@ fn set_values<K: Drop, V: Drop>(entries: &mut Vec<(K, V)>, values: Vec<(usize, V
     ensures len { vec_len entries.new ≡ vec_len entries.old }
     ensures room { vec_capacity entries.new ≡ vec_capacity entries.old }
 {
-    for (place, value) in values {
-        entries[place].1 = value;
+    for (index, value) in values {
+        entries[index].1 = value;
     }
 }

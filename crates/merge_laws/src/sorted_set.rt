@@ -67,9 +67,9 @@ impl<T: Key> SortedSet<T> {
     {
         match find(self.items.as_slice(), item) {
             Ok(_) => Ok(false),
-            Err(place) => {
+            Err(index) => {
                 let copy = item.copied(self.items.allocator())?;
-                self.items.insert(place, copy)?;
+                self.items.insert(index, copy)?;
                 Ok(true)
             }
         }
@@ -116,10 +116,10 @@ fn new_among<T: Key>(
     let mut from = 0;
     for other in others {
         match find_from(items, other, from) {
-            Ok(place) => from = place,
-            Err(place) => {
-                news.push((place, other.copied(alloc)?))?;
-                from = place;
+            Ok(index) => from = index,
+            Err(index) => {
+                news.push((index, other.copied(alloc)?))?;
+                from = index;
             }
         }
     }
@@ -208,17 +208,17 @@ impl<T: Key> Few<T> {
         }
     }
 
-    fn insert(&mut self, place: usize, item: T) -> Result<(), AllocError>
-        requires { place ≤ length self.old }
-        ensures ok { OnOk result (self.new ≡ insert self.old place item) }
+    fn insert(&mut self, index: usize, item: T) -> Result<(), AllocError>
+        requires { index ≤ length self.old }
+        ensures ok { OnOk result (self.new ≡ insert self.old index item) }
         ensures err { OnErr result (self.new ≡ self.old) }
     {
         if let Room::Many(items) = &mut self.room {
-            items.insert(place, item)?;
+            items.insert(index, item)?;
             return Ok(());
         }
         let mut items = copies_of(self.allocator(), self.as_slice(), 1)?;
-        items.insert(place, item)?;
+        items.insert(index, item)?;
         self.room = Room::Many(items);
         Ok(())
     }

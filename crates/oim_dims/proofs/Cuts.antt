@@ -12,20 +12,20 @@ none_passes p (x ∷ xs) h =
       | false ↦ λ e. let more : 1 + position_or_len p xs ≡ length (x ∷ xs) = rw e at h in rw e (none_passes p xs (omega (arith, more)))
     ] refl
 
-pub no_place : (p : ℕ → Bool) (xs : List ℕ) → list_any p xs ≡ false → position_or_len p xs ≡ length xs
-no_place p [] h = refl
-no_place p (x ∷ xs) h =
+pub no_index : (p : ℕ → Bool) (xs : List ℕ) → list_any p xs ≡ false → position_or_len p xs ≡ length xs
+no_index p [] h = refl
+no_index p (x ∷ xs) h =
     elim (p x) as (λ b. p x ≡ b → position_or_len p (x ∷ xs) ≡ length (x ∷ xs)) [
       | true ↦ λ e. absurd (cc (rw e at h))
-      | false ↦ λ e. let rest = no_place p xs (rw e at h) in rw (e, rest) (omega arith)
+      | false ↦ λ e. let rest = no_index p xs (rw e at h) in rw (e, rest) (omega arith)
     ] refl
 
-place_after : (p : ℕ → Bool) (xs ys : List ℕ) (c : ℕ) → list_any p xs ≡ false → p c ≡ true → position_or_len p (xs ++ c ∷ ys) ≡ length xs
-place_after p [] ys c none here = rw here refl
-place_after p (x ∷ xs) ys c none here =
+index_after : (p : ℕ → Bool) (xs ys : List ℕ) (c : ℕ) → list_any p xs ≡ false → p c ≡ true → position_or_len p (xs ++ c ∷ ys) ≡ length xs
+index_after p [] ys c none here = rw here refl
+index_after p (x ∷ xs) ys c none here =
     elim (p x) as (λ b. p x ≡ b → position_or_len p (x ∷ xs ++ c ∷ ys) ≡ length (x ∷ xs)) [
       | true ↦ λ e. absurd (cc (rw e at none))
-      | false ↦ λ e. let rest = place_after p xs ys c (rw e at none) here in rw (e, rest) (omega arith)
+      | false ↦ λ e. let rest = index_after p xs ys c (rw e at none) here in rw (e, rest) (omega arith)
     ] refl
 
 some_after : (p : ℕ → Bool) (xs ys : List ℕ) (c : ℕ) → p c ≡ true → list_any p (xs ++ c ∷ ys) ≡ true
@@ -44,11 +44,11 @@ pub record IsCut (p : ℕ → Bool) (t xs ys : List ℕ) : Type 0 where
 
 pub cut : (p : ℕ → Bool) (xs ys : List ℕ) (c : ℕ) → list_any p xs ≡ false → p c ≡ true → IsCut p (xs ++ c ∷ ys) xs ys
 cut p xs ys c none here =
-    let place = place_after p xs ys c none here in
+    let index = index_after p xs ys c none here in
     record {
       some = some_after p xs ys c here;
-      before = rw place (take-append_seam xs (c ∷ ys));
-      after = rw place (drop_past xs ys c);
+      before = rw index (take-append_seam xs (c ∷ ys));
+      after = rw index (drop_past xs ys c);
     }
 
 pub some_passes : (p : ℕ → Bool) (xs : List ℕ) → (position_or_len p xs < length xs) → list_any p xs ≡ true

@@ -43,16 +43,16 @@ lower_groups : (gs : List (List ℕ)) → list_all is_group (map str_to_ascii_lo
 lower_groups [] = refl
 lower_groups (g ∷ gs) = rw (lower_group g, lower_groups gs) refl
 
-lower_place : (xs : List ℕ) → position_or_len is_hyphen (str_to_ascii_lowercase xs) ≡ position_or_len is_hyphen xs
-lower_place [] = refl
-lower_place (x ∷ xs) = rw (lower_hyphen x, lower_place xs) refl
+lower_index : (xs : List ℕ) → position_or_len is_hyphen (str_to_ascii_lowercase xs) ≡ position_or_len is_hyphen xs
+lower_index [] = refl
+lower_index (x ∷ xs) = rw (lower_hyphen x, lower_index xs) refl
 
 lower_take : (n : ℕ) (xs : List ℕ) → take n (str_to_ascii_lowercase xs) ≡ str_to_ascii_lowercase (take n xs)
 lower_take (suc n) (x ∷ xs) = ap (λ t. to_ascii_lowercase x ∷ t) (lower_take n xs)
 lower_take n xs = refl
 
 pub lower_language : (t : List ℕ) → is_language (str_to_ascii_lowercase t) ≡ is_language t
-lower_language t = rw (lower_split t, lower_groups (slice_split is_hyphen t), lower_place t, lower_take (position_or_len is_hyphen t) t, lower_all is_ascii_alphabetic lower_letter (take (position_or_len is_hyphen t) t)) refl
+lower_language t = rw (lower_split t, lower_groups (slice_split is_hyphen t), lower_index t, lower_take (position_or_len is_hyphen t) t, lower_all is_ascii_alphabetic lower_letter (take (position_or_len is_hyphen t) t)) refl
 
 pub lower_again : (t : List ℕ) → str_to_ascii_lowercase (str_to_ascii_lowercase t) ≡ str_to_ascii_lowercase t
 lower_again [] = refl

@@ -7,7 +7,7 @@ pub mod Periods
 pub mod Sides
 pub mod FirstFound
 pub mod Naming
-pub mod Places
+pub mod Indices
 pub mod Rising
 pub mod Products
 pub mod SortedOnce

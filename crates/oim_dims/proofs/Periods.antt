@@ -9,7 +9,7 @@ use Rattle.oim_dims.specs.declared.period.Period.TheVariants.{Forever, Instant, 
 use Rattle.oim_dims.specs.DateTime.{moment_of, moment_text, IsMoment}
 use Rattle.oim_dims.specs.Separators.{is_slash}
 use Rattle.oim_dims.specs.Period.{start_part, period_of, period_text, HasMoments, EndsAfterStart, PeriodsReadBack}
-use Rattle.oim_dims.proofs.Cuts.{none_passes, no_place, cut}
+use Rattle.oim_dims.proofs.Cuts.{none_passes, no_index, cut}
 use Rattle.oim_dims.proofs.MomentText.{moment_back, moment_has_no}
 
 not_less : (m : ℤ) → int_lt m m ≡ false
@@ -22,7 +22,7 @@ pub alone : (t : List ℕ) (m : ℤ) → position_or_len is_slash t ≡ length t
 alone t m whole h = sym (one_moment t m (none_passes is_slash t whole) (rw whole (take_all (length t) t (omega arith))) h)
 
 moment_alone : (m : ℤ) → IsMoment m → period_of (moment_text m) ≡ Ok (Instant m)
-moment_alone m h = sym (alone (moment_text m) m (no_place is_slash (moment_text m) (moment_has_no m)) (moment_back m h))
+moment_alone m h = sym (alone (moment_text m) m (no_index is_slash (moment_text m) (moment_has_no m)) (moment_back m h))
 
 two_moments : (start end : ℤ) → IsMoment start → IsMoment end → start <ℤ end → period_of (moment_text start ++ 47 ∷ moment_text end) ≡ Ok (Duration start end)
 two_moments start end s e rises =

@@ -17,7 +17,7 @@ use Rattle.oim_dims.specs.contracts.member.MemberOrd.TheImpl.{cmp-value as deriv
 use Rattle.oim_dims.specs.declared.member.Member.{Member}
 use Rattle.oim_value.specs.ValueOrder.{name_cmp}
 use Rattle.oim_dims.specs.DimensionSet.{is_below, rises, repeats, has_name}
-use Rattle.oim_dims.proofs.Places.{below_all, less_is}
+use Rattle.oim_dims.proofs.Indices.{below_all, less_is}
 use Rattle.oim_dims.proofs.SortedOnce.{sorted_rest}
 
 abbrev Item : Type 0
@@ -40,8 +40,8 @@ rises_behind e f es lesser =
 pub falls_behind : (e f : Item) (es : List Item) → is_lt (name_cmp e.0 f.0) ≡ false → rises (e ∷ f ∷ es) ≡ false
 falls_behind e f es no_lesser = ap (λ b. (b && is_below e.0 es) && (is_below f.0 es && rises es)) no_lesser
 
-pub at_place : (es : List Item) (i : ℕ) (e : Item) → i < length es → e ≡ get_or es i e → drop i es ≡ e ∷ drop (i + 1) es
-at_place es i e within is = rw add-one (drop-cons es i e within ∙ ap (λ x. x ∷ drop (suc i) es) (sym is))
+pub at_index : (es : List Item) (i : ℕ) (e : Item) → i < length es → e ≡ get_or es i e → drop i es ≡ e ∷ drop (i + 1) es
+at_index es i e within is = rw add-one (drop-cons es i e within ∙ ap (λ x. x ∷ drop (suc i) es) (sym is))
 
 -- ---- repeated names
 

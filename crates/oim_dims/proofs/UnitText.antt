@@ -18,7 +18,7 @@ use Rattle.std.proofs.lemmas.List.Sorted.{IsPermutation-refl}
 use Rattle.oim_dims.proofs.OneUnit.{not_refused, one_unit}
 use Rattle.oim_dims.proofs.Prefixes.{bound_back}
 use Rattle.oim_dims.proofs.Sides.{unopened, closed, one_side}
-use Rattle.oim_dims.proofs.Cuts.{cut, no_place}
+use Rattle.oim_dims.proofs.Cuts.{cut, no_index}
 use Rattle.std.proofs.lemmas.List.{nil_from_length}
 
 plain_piece : (t : List ℕ) → is_piece t ≡ true → list_any is_mark t ≡ false
@@ -167,7 +167,7 @@ module _ (bs : List Binding) (f : QName → List ℕ) (m : Measures) (nz : AllZi
   numerators_alone : m.denominators ≡ [] → (numerator_pieces (product_text f m.numerators) ≡ map f m.numerators) × (denominator_pieces (product_text f m.numerators) ≡ map f m.denominators)
   numerators_alone none =
       let side : IsSide bs f m.numerators = record { some = some; texts = nz } in
-      let one = one_side (product_text f m.numerators) (no_place is_slash (product_text f m.numerators) (product_slash bs f m.numerators side)) in
+      let one = one_side (product_text f m.numerators) (no_index is_slash (product_text f m.numerators) (product_slash bs f m.numerators side)) in
       (one.0 ∙ product_is_of bs f m.numerators side, rw none one.1)
 
   both_sides : AllZip (Spells bs) (map f m.denominators) m.denominators → 0 < length m.denominators → let t = side_text f m.numerators ++ 47 ∷ side_text f m.denominators in (numerator_pieces t ≡ map f m.numerators) × (denominator_pieces t ≡ map f m.denominators)

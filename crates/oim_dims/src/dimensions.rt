@@ -148,8 +148,8 @@ impl Dimensions {
         ensures errors { IfErr result (λ e. (e ≡ Reason.DimensionValue) ⊎ (e ≡ Reason.OutOfMemory)) }
         ensures err { OnErr result (self.new ≡ self.old) }
     {
-        match place_of(self.members.as_slice(), &name) {
-            Some(place) => match self.members.insert(place, (name, member)) {
+        match index_of(self.members.as_slice(), &name) {
+            Some(index) => match self.members.insert(index, (name, member)) {
                 Ok(()) => Ok(()),
                 Err(_) => Err(Reason::OutOfMemory),
             },
@@ -194,11 +194,11 @@ fn do_names_rise(members: &[(Name, Member)]) -> bool
     true
 }
 
-fn place_of(members: &[(Name, Member)], name: &Name) -> Option<usize>
+fn index_of(members: &[(Name, Member)], name: &Name) -> Option<usize>
     requires { rises members.now ≡ true }
     ensures there { (result ≡ None) ↔ IsTrue (has_name name.now members.now) }
-    ensures bound { IfSome result (λ place. place ≤ length members.now) }
-    ensures place { IfSome result (λ place. (m : AMember) → insert members.now place (name.now, m) ≡ with_member name.now m members.now) }
+    ensures bound { IfSome result (λ index. index ≤ length members.now) }
+    ensures index { IfSome result (λ index. (m : AMember) → insert members.now index (name.now, m) ≡ with_member name.now m members.now) }
 {
     for (i, known) in members.iter().enumerate() {
         match name.cmp(&known.0) {

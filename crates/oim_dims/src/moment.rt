@@ -155,7 +155,7 @@ fn read_second_of_day(text: &[u8]) -> Option<i64>
 
 fn number(text: &[u8], from: usize, to: usize) -> u32
     requires picture { has_picture text.now ≡ true }
-    requires places { IsTrue (nat_le from to && nat_le to 19 && nat_le (to - from) 4) }
+    requires indices { IsTrue (nat_le from to && nat_le to 19 && nat_le (to - from) 4) }
     requires digits { IsTrue (list_all (λ sign. sign == 48) (slice_range picture from to)) }
     ensures value { result ≡ number text.now from to }
     ensures bound { result < 10 ^ (to - from) }

@@ -35,12 +35,12 @@ impl<T: Key> Sequence<T> {
         self.items.as_slice()
     }
 
-    pub(crate) fn insert(&mut self, place: usize, item: T) -> Result<(), AllocError>
-        requires { place ≤ length self.old }
-        ensures ok { OnOk result (self.new ≡ insert self.old place item) }
+    pub(crate) fn insert(&mut self, index: usize, item: T) -> Result<(), AllocError>
+        requires { index ≤ length self.old }
+        ensures ok { OnOk result (self.new ≡ insert self.old index item) }
         ensures err { OnErr result (self.new ≡ self.old) }
     {
-        self.items.insert(place, item)?;
+        self.items.insert(index, item)?;
         Ok(())
     }
 }

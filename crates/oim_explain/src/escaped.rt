@@ -12,11 +12,11 @@ impl fmt::Display for Escaped<'_> {
     fn fmt<W: fmt::Write>(&self, f: &mut fmt::Formatter<W>) -> fmt::Result {
         // one call writes all characters up to the next escape
         let mut from = 0;
-        for (place, character) in self.0.char_indices() {
+        for (index, character) in self.0.char_indices() {
             if !is_shown(character) {
-                f.write_str(self.0.get(from..place).unwrap_or_default())?;
+                f.write_str(self.0.get(from..index).unwrap_or_default())?;
                 write_escape(f, character)?;
-                from = place.saturating_add(character.len_utf8());
+                from = index.saturating_add(character.len_utf8());
             }
         }
         f.write_str(self.0.get(from..).unwrap_or_default())
@@ -47,9 +47,9 @@ fn is_shown(character: char) -> bool {
 
 /// Returns the first characters of a text, at most `MOST_CHARACTERS`.
 pub(crate) fn front_of(text: &str) -> &str {
-    for (count, (place, _)) in text.char_indices().enumerate() {
+    for (count, (index, _)) in text.char_indices().enumerate() {
         if count >= MOST_CHARACTERS {
-            return text.get(..place).unwrap_or_default();
+            return text.get(..index).unwrap_or_default();
         }
     }
     text

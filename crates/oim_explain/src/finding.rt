@@ -89,9 +89,9 @@ impl<'a> Finding<'a> {
 fn push_part(alloc: Global, line: &mut String, part: Part<'_>) -> Result<(), AllocError> {
     match part {
         Part::Key(text) | Part::Name(text) | Part::Entity(text) => push_text(alloc, line, text),
-        Part::KeyIn(text, place) => {
+        Part::KeyIn(text, object) => {
             push_text(alloc, line, text)?;
-            write!(line, " in \"{place}\"")
+            write!(line, " in \"{object}\"")
         }
         Part::Two(one, other) => {
             push_text(alloc, line, one)?;

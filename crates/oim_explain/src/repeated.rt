@@ -62,12 +62,12 @@ fn push_sheet(lines: &mut Lines<'_>, tree: &Value<'_>) -> Result<(), AllocError>
 }
 
 /// Adds a line for each repeated key of an object. In each sentence, `before` precedes the key, and
-/// `place` follows "is repeated".
+/// `location` follows "is repeated".
 fn push_of(
     lines: &mut Lines<'_>,
     before: &str,
     object: Option<&Value<'_>>,
-    place: &str,
+    location: &str,
 ) -> Result<(), AllocError> {
     let Some(Value::Object(members)) = object else {
         return Ok(());
@@ -75,7 +75,7 @@ fn push_of(
     for key in repeated_keys(lines.alloc, members.as_slice())? {
         let mut sentence = String::from_str(lines.alloc, before)?;
         push_text(lines.alloc, &mut sentence, key)?;
-        write!(sentence, " is repeated{place}; only the last one is read")?;
+        write!(sentence, " is repeated{location}; only the last one is read")?;
         lines.push_repeated(key, sentence.as_str())?;
     }
     Ok(())

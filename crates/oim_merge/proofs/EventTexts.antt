@@ -76,18 +76,18 @@ space_of_numbers text m n are = ap (position is_space) are.0 ∙ space_behind m 
 pub numbers_have_space : (text : List ℕ) (m n : ℕ) → position is_space text ≡ None → ¬ (AreNumbersText text m n)
 numbers_have_space text m n none are = let space = space_of_numbers text m n are in cc
 
-pub cut_numbers : (text : List ℕ) (m n place : ℕ) → AreNumbersText text m n → position is_space text ≡ Some place → IsNumberText (take place text) m × IsNumberText (drop (place + 1) text) n
-cut_numbers text m n place are found =
+pub cut_numbers : (text : List ℕ) (m n index : ℕ) → AreNumbersText text m n → position is_space text ≡ Some index → IsNumberText (take index text) m × IsNumberText (drop (index + 1) text) n
+cut_numbers text m n index are found =
     let space = space_of_numbers text m n are in
-    let place_is : length (decimal m) ≡ place = cc in
-    let second : drop place text ≡ 32 ∷ decimal n = ap (drop place) are.0 ∙ drop_at (decimal m) (32 ∷ decimal n) place place_is in
-    ((ap (take place) are.0 ∙ take_at (decimal m) (32 ∷ decimal n) place place_is, are.1.0), (sym (drop-drop 1 place text) ∙ ap (drop 1) second, are.1.1))
+    let index_is : length (decimal m) ≡ index = cc in
+    let second : drop index text ≡ 32 ∷ decimal n = ap (drop index) are.0 ∙ drop_at (decimal m) (32 ∷ decimal n) index index_is in
+    ((ap (take index) are.0 ∙ take_at (decimal m) (32 ∷ decimal n) index index_is, are.1.0), (sym (drop-drop 1 index text) ∙ ap (drop 1) second, are.1.1))
 
-pub joined_numbers : (text : List ℕ) (m n place : ℕ) → position is_space text ≡ Some place → IsNumberText (take place text) m → IsNumberText (drop (place + 1) text) n → AreNumbersText text m n
-joined_numbers text m n place found first second =
-    let space = position-Some is_space text place 0 found in
-    let rest : drop place text ≡ 32 ∷ decimal n = drop_more text place 0 space.0 ∙ (λ i. eqb-true (get_or text place 0) 32 space.1 i ∷ second.0 i) in
-    (sym (take-append-drop place text) ∙ (λ i. first.0 i ++ rest i), (first.1, second.1))
+pub joined_numbers : (text : List ℕ) (m n index : ℕ) → position is_space text ≡ Some index → IsNumberText (take index text) m → IsNumberText (drop (index + 1) text) n → AreNumbersText text m n
+joined_numbers text m n index found first second =
+    let space = position-Some is_space text index 0 found in
+    let rest : drop index text ≡ 32 ∷ decimal n = drop_more text index 0 space.0 ∙ (λ i. eqb-true (get_or text index 0) 32 space.1 i ∷ second.0 i) in
+    (sym (take-append-drop index text) ∙ (λ i. first.0 i ++ rest i), (first.1, second.1))
 
 -- ---- a text spells at most one number, and at most one pair of numbers
 
@@ -96,11 +96,11 @@ same_number text m n is also = decimal_injective m n (omega (arith, is.1.1)) (om
 
 pub same_numbers : (text : List ℕ) (m n i j : ℕ) → AreNumbersText text m n → AreNumbersText text i j → (m ≡ i) × (n ≡ j)
 same_numbers text m n i j are also =
-    let place = length (decimal m) in
+    let index = length (decimal m) in
     let found = space_of_numbers text m n are in
-    let cut = cut_numbers text m n place are found in
-    let other = cut_numbers text i j place also found in
-    (same_number (take place text) m i cut.0 other.0, same_number (drop (place + 1) text) n j cut.1 other.1)
+    let cut = cut_numbers text m n index are found in
+    let other = cut_numbers text i j index also found in
+    (same_number (take index text) m i cut.0 other.0, same_number (drop (index + 1) text) n j cut.1 other.1)
 
 -- ---- a line spells at most one event
 

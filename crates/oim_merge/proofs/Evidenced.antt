@@ -10,7 +10,7 @@ use Rattle.merge_laws.specs.Ends.{Summarised, summary_of_all}
 use Rattle.oim_value.specs.Ends.{intervals_of}
 use Rattle.oim_value.specs.Meets.{Meets}
 use Rattle.oim_value.specs.Plain.{plain}
-use Rattle.oim_value.specs.SeveralMeet.{AreApart, EachTwoValuesMeet, place_of_greatest_low, place_of_least_high}
+use Rattle.oim_value.specs.SeveralMeet.{AreApart, EachTwoValuesMeet, index_of_greatest_low, index_of_least_high}
 use Rattle.oim_value.specs.ValueOrder.{value_cmp}
 use Rattle.oim_value.specs.declared.interval.Interval.{Interval}
 use Rattle.oim_value.specs.declared.value.Value.{Value}
@@ -59,7 +59,7 @@ several_shown : (vs : List Value) (s : Summarised) → AreSummarised vs s → 2 
 several_shown vs s h several = by_shared (shared_by s) refl
   where
     by_nil : shared_by s ≡ None → (ends : Interval) → s.ends ≡ Some ends → (b : Bool) → s.nil ≡ b → SomeEvidence vs
-    by_nil none ends is false without = (Apart (place_of_least_high ends vs) (place_of_greatest_low ends vs), crossed_are_apart vs s h several ends is without none)
+    by_nil none ends is false without = (Apart (index_of_least_high ends vs) (index_of_greatest_low ends vs), crossed_are_apart vs s h several ends is without none)
     by_nil none ends is true with_nil = (Apart 0 1, nil_is_apart vs s h several with_nil)
 
     by_ends : shared_by s ≡ None → (ends : Option Interval) → s.ends ≡ ends → SomeEvidence vs

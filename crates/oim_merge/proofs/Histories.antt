@@ -37,7 +37,7 @@ use Rattle.std.proofs.lemmas.Option.{slice_get-get_or}
 use Rattle.merge_laws.specs.Sorted.{IsSet}
 use Rattle.oim_dims.specs.declared.fact.Fact.{Fact}
 use Rattle.oim_report.specs.Report.{IsOrderOf}
-use Rattle.oim_report.proofs.Places.{places_within}
+use Rattle.oim_report.proofs.Indices.{indices_within}
 use Rattle.fact_base.proofs.Passed.{set_is_its_members}
 use Rattle.fact_base.proofs.Swaps.{moved_sorted, none_moved, same_index}
 use Rattle.oim_merge.specs.Checked.{IsCanonicalOf}
@@ -133,15 +133,15 @@ rising_differ (f ∷ fs) rises (k, within, alike) = alike f ∙ ap (λ o. not (i
 module _ (facts : List Fact) (order : List ℕ) (ordered : IsOrderOf facts order) where
   -- if each fact is at its place, the facts ascend exactly if each differs from the next
   pub rise_in_place : (told : Bool) → Differ facts told → EachIndex order (λ k. get_or order k 0 ≡ k) → IsTrue told ↔ IsSet fact_cmp facts
-  rise_in_place true each placed = (λ h. sorted_apart facts (moved_sorted ordered (none_moved facts order) placed) each, λ h. refl)
-  rise_in_place false each placed = (λ h. absurd (false≢true h), λ rises. rising_differ facts rises each)
+  rise_in_place true each indexed = (λ h. sorted_apart facts (moved_sorted ordered (none_moved facts order) indexed) each, λ h. refl)
+  rise_in_place false each indexed = (λ h. absurd (false≢true h), λ rises. rising_differ facts rises each)
 
   -- the places of ascending facts ascend
-  places_rise : IsSet fact_cmp facts → IsStrictlyIncreasing order
-  places_rise rises k within =
+  indices_rise : IsSet fact_cmp facts → IsStrictlyIncreasing order
+  indices_rise rises k within =
       let here : ℕ = get_or order k 0 in
       let next : ℕ = get_or order (k + 1) 0 in
-      let inside = places_within facts order ordered in
+      let inside = indices_within facts order ordered in
       elim (cases_order here next) [
         | inl same ↦ absurd (omega (arith, same_index ordered (none_moved facts order) k (k + 1) (omega (arith, within)) within same))
         | inr apart ↦ elim apart [
@@ -160,14 +160,14 @@ module _ (facts : List Fact) (order : List ℕ) (ordered : IsOrderOf facts order
       some_fact (f ∷ fs) k within = f
 
   -- ascending facts are at their places
-  pub placed_if_rising : IsSet fact_cmp facts → EachIndex order (λ k. get_or order k 0 ≡ k)
-  placed_if_rising rises k within =
+  pub indexed_if_rising : IsSet fact_cmp facts → EachIndex order (λ k. get_or order k 0 ≡ k)
+  indexed_if_rising rises k within =
       let n : ℕ = length facts in
       let range : List ℕ = range_with_len 0 n in
       let long = length-range_with_len 0 n in
       let here : k < n = omega (arith, within, long, length_permutation range order ordered.each_once) in
       let counts : IsStrictlyIncreasing range = λ j less. let next : j + 1 < n = omega (arith, less, long) in omega (arith, get_or-range_with_len 0 n j 0 (omega (arith, next)), get_or-range_with_len 0 n (j + 1) 0 next) in
-      let same : order ≡ range = set_is_its_members nat_cmp_total exact_numbers order range (sorted_from_strictly_increasing order (places_rise rises)) (sorted_from_strictly_increasing range counts) (λ x. (
+      let same : order ≡ range = set_is_its_members nat_cmp_total exact_numbers order range (sorted_from_strictly_increasing order (indices_rise rises)) (sorted_from_strictly_increasing range counts) (λ x. (
         Contains-permutation order range x (IsPermutation-sym range order ordered.each_once),
         Contains-permutation range order x ordered.each_once,
       )) in

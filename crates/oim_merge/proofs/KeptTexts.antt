@@ -76,17 +76,17 @@ names_good replicas reports sent event other is good = sym (ap (names_none repli
 
 number_within : (greatest number : ℕ) → is_outside greatest number ≡ false → number - 1 < greatest
 number_within greatest zero inside = absurd (true≢false inside)
-number_within greatest (suc place) inside = let least : suc place ≤ greatest = grind (arith, nat_tests) in omega (arith, least)
+number_within greatest (suc index) inside = let least : suc index ≤ greatest = grind (arith, nat_tests) in omega (arith, least)
 
 pub sender_within : (replicas reports sent : ℕ) (event : Event) (i : ℕ) → event ≡ Send i → names_none replicas reports sent event ≡ false → i - 1 < replicas
 sender_within replicas reports sent event i is good = number_within replicas i (names_good replicas reports sent event (Send i) is good)
 
 numbered_there : {A : Type 0} (xs : List A) (number : ℕ) (d : A) → is_outside (length xs) number ≡ false → numbered xs number ≡ Some (get_or xs (number - 1) d)
 numbered_there xs zero d inside = absurd (true≢false inside)
-numbered_there xs (suc place) d inside =
-    let within = number_within (length xs) (suc place) inside in
-    let before : place ≡ suc place - 1 = omega arith in
-    slice_get-get_or xs place d (omega (arith, within)) ∙ ap (λ k. Some (get_or xs k d)) before
+numbered_there xs (suc index) d inside =
+    let within = number_within (length xs) (suc index) inside in
+    let before : index ≡ suc index - 1 = omega arith in
+    slice_get-get_or xs index d (omega (arith, within)) ∙ ap (λ k. Some (get_or xs k d)) before
 
 -- putting back a base that received a text gives the world after the event `Receive`
 pub receives_text : (sheet : Sheet) (reports : List (List ℕ)) (bases : List Contents) (sent : List (List ℕ)) (i k : ℕ) (base given : Contents) (more : List Contents) (after : List (List ℕ)) →
@@ -116,12 +116,12 @@ pub sheet_is : (sheet : Sheet) (said : Result Document Refusal) → IfOk (read_a
 sheet_is sheet (Ok d) = refl
 sheet_is sheet (Err refusal) = tt
 
-module _ (sheet : Sheet) (texts : List (List ℕ)) (kept : List (Option (Result Contents Refusal))) (each : AreReadings sheet texts kept) (place : ℕ) (there : place < length texts) where
-  pub kept_there : place < length kept
+module _ (sheet : Sheet) (texts : List (List ℕ)) (kept : List (Option (Result Contents Refusal))) (each : AreReadings sheet texts kept) (index : ℕ) (there : index < length texts) where
+  pub kept_there : index < length kept
   kept_there = let long = AllZip-long (IsReadingOf sheet) texts kept each in omega (arith, there, long)
 
-  pub kept_is : (found : Option (Result Contents Refusal)) (read : Result Contents Refusal) → get_or kept place found ≡ Some read → read ≡ read_as sheet (outcome sheet (get_or texts place []))
-  kept_is found read is = subst (IsReadingOf sheet (get_or texts place [])) is (zip_at (IsReadingOf sheet) texts kept each place [] found there)
+  pub kept_is : (found : Option (Result Contents Refusal)) (read : Result Contents Refusal) → get_or kept index found ≡ Some read → read ≡ read_as sheet (outcome sheet (get_or texts index []))
+  kept_is found read is = subst (IsReadingOf sheet (get_or texts index [])) is (zip_at (IsReadingOf sheet) texts kept each index [] found there)
 
 pub kept_long : (sheet : Sheet) (texts : List (List ℕ)) (kept more : List (Option (Result Contents Refusal))) → AreReadings sheet texts kept → AreReadings sheet texts more → length more ≡ length kept
 kept_long sheet texts kept more before after = AllZip-long (IsReadingOf sheet) texts more after ∙ sym (AllZip-long (IsReadingOf sheet) texts kept before)
@@ -133,10 +133,10 @@ none_is_kept sheet texts = zip_same (IsReadingOf sheet) texts None (λ text. tt)
 
 pub among_more : (texts : List (List ℕ)) (text : List ℕ) (sent : List ℕ) → AreWithin texts sent → texts_at (texts ++ text ∷ []) sent ≡ texts_at texts sent
 among_more texts text [] within = refl
-among_more texts text (place ∷ sent) within =
-    let here : place < length texts = within 0 0 (omega arith) in
+among_more texts text (index ∷ sent) within =
+    let here : index < length texts = within 0 0 (omega arith) in
     let rest = among_more texts text sent (λ k d less. within (suc k) d (omega (arith, less))) in
-    λ i. get_or_append_left texts (text ∷ []) [] place here i ∷ rest i
+    λ i. get_or_append_left texts (text ∷ []) [] index here i ∷ rest i
 
 module _ (texts : List (List ℕ)) (sent : List ℕ) (text : List ℕ) where
   pub stands_last : IsTextAt (texts ++ text ∷ []) text (length texts)
@@ -153,32 +153,32 @@ module _ (texts : List (List ℕ)) (sent : List ℕ) (text : List ℕ) where
 -- ---- the current text of each replica
 
 pub stay_with_more : (texts : List (List ℕ)) (text : List ℕ) → Stay texts (texts ++ text ∷ [])
-stay_with_more texts text other place there =
+stay_with_more texts text other index there =
     let longer = length-append texts (text ∷ []) in
     let here = there.0 in
-    (omega (arith, here, longer), get_or_append_left texts (text ∷ []) [] place here ∙ there.1)
+    (omega (arith, here, longer), get_or_append_left texts (text ∷ []) [] index here ∙ there.1)
 
-still_current : (texts more : List (List ℕ)) → Stay texts more → (base : Contents) (place : Option ℕ) → IsCurrent texts base place → IsCurrent more base place
+still_current : (texts more : List (List ℕ)) → Stay texts more → (base : Contents) (index : Option ℕ) → IsCurrent texts base index → IsCurrent more base index
 still_current texts more stay base None is = tt
-still_current texts more stay base (Some place) is = stay (canonical base.body) place is
+still_current texts more stay base (Some index) is = stay (canonical base.body) index is
 
-pub current_at : (texts : List (List ℕ)) (bases : List Contents) (places : List (Option ℕ)) → AllZip (IsCurrent texts) bases places →
-    (k : ℕ) (base : Contents) (place : Option ℕ) → k < length bases → base ≡ get_or bases k base → place ≡ get_or places k place → IsCurrent texts base place
-current_at texts bases places each k base place within there known =
-    subst (λ b. IsCurrent texts b place) (sym there)
-    (subst (IsCurrent texts (get_or bases k base)) (sym known) (zip_at (IsCurrent texts) bases places each k base place within))
+pub current_at : (texts : List (List ℕ)) (bases : List Contents) (indices : List (Option ℕ)) → AllZip (IsCurrent texts) bases indices →
+    (k : ℕ) (base : Contents) (index : Option ℕ) → k < length bases → base ≡ get_or bases k base → index ≡ get_or indices k index → IsCurrent texts base index
+current_at texts bases indices each k base index within there known =
+    subst (λ b. IsCurrent texts b index) (sym there)
+    (subst (IsCurrent texts (get_or bases k base)) (sym known) (zip_at (IsCurrent texts) bases indices each k base index within))
 
-pub current_after_send : (texts more : List (List ℕ)) (bases : List Contents) (places : List (Option ℕ)) → AllZip (IsCurrent texts) bases places → Stay texts more →
-    (k : ℕ) (base : Contents) (place : Option ℕ) → base ≡ get_or bases k base → IsCurrent more base place → AllZip (IsCurrent more) bases (set places k place)
-current_after_send texts more bases places each stay k base place there is =
-    zip_set (IsCurrent more) bases places (zip_weaker (IsCurrent texts) (IsCurrent more) (still_current texts more stay) bases places each) k base place
-    (subst (λ b. IsCurrent more b place) there is)
+pub current_after_send : (texts more : List (List ℕ)) (bases : List Contents) (indices : List (Option ℕ)) → AllZip (IsCurrent texts) bases indices → Stay texts more →
+    (k : ℕ) (base : Contents) (index : Option ℕ) → base ≡ get_or bases k base → IsCurrent more base index → AllZip (IsCurrent more) bases (set indices k index)
+current_after_send texts more bases indices each stay k base index there is =
+    zip_set (IsCurrent more) bases indices (zip_weaker (IsCurrent texts) (IsCurrent more) (still_current texts more stay) bases indices each) k base index
+    (subst (λ b. IsCurrent more b index) there is)
 
-pub current_after_change : (texts : List (List ℕ)) (bases more : List Contents) (places left : List (Option ℕ)) → AllZip (IsCurrent texts) bases places →
-    (k : ℕ) (base : Contents) → more ≡ set bases k base → left ≡ set places k None → AllZip (IsCurrent texts) more left
-current_after_change texts bases more places left each k base changed forgotten =
+pub current_after_change : (texts : List (List ℕ)) (bases more : List Contents) (indices left : List (Option ℕ)) → AllZip (IsCurrent texts) bases indices →
+    (k : ℕ) (base : Contents) → more ≡ set bases k base → left ≡ set indices k None → AllZip (IsCurrent texts) more left
+current_after_change texts bases more indices left each k base changed forgotten =
     subst (λ bs. AllZip (IsCurrent texts) bs left) (sym changed)
-    (subst (AllZip (IsCurrent texts) (set bases k base)) (sym forgotten) (zip_both (IsCurrent texts) bases places each k base None tt))
+    (subst (AllZip (IsCurrent texts) (set bases k base)) (sym forgotten) (zip_both (IsCurrent texts) bases indices each k base None tt))
 
 pub none_is_current : (texts : List (List ℕ)) (n : ℕ) (base : Contents) → AllZip (IsCurrent texts) (replicate n base) (replicate n None)
 none_is_current texts zero base = tt
@@ -196,6 +196,6 @@ text_of_number texts sent number before held None within is there read past =
     absurd (omega (arith, below, past))
 text_of_number texts sent number before held (Some t) within is there read found =
     ap (numbered (texts_at texts sent)) is
-    ∙ slice_get-map (λ place. get_or texts place []) sent before
-    ∙ ap (option_map (λ place. get_or texts place [])) (slice_get-get_or sent before held there ∙ ap Some (sym read))
+    ∙ slice_get-map (λ index. get_or texts index []) sent before
+    ∙ ap (option_map (λ index. get_or texts index [])) (slice_get-get_or sent before held there ∙ ap Some (sym read))
     ∙ ap Some (sym (found.1 []))

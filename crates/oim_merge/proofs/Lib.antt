@@ -10,6 +10,6 @@ pub mod Histories
 pub mod Agreement
 pub mod KeptTexts
 pub mod Replays
-pub mod PlacedFacts
+pub mod IndexedFacts
 pub mod Traces
 pub mod SourceLaws

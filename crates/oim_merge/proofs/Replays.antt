@@ -70,12 +70,12 @@ module _ (n reports : ℕ) (events : List Event) where
   good_next k d good earlier = below_more (λ before. ¬ (IsBadAt n reports events before)) k earlier (good_at k d good)
 
   pub none_bad : (k : ℕ) → length events ≤ k → ((before : ℕ) → before < k → ¬ (IsBadAt n reports events before)) → NoneIsBad n reports events
-  none_bad k ended earlier place bad = earlier place (omega (arith, ended, slice_get_within events place bad.event bad.there)) bad
+  none_bad k ended earlier index bad = earlier index (omega (arith, ended, slice_get_within events index bad.event bad.there)) bad
 
   pub first_bad : (k : ℕ) (d : Event) → k < length events → names_none n reports (sent_by (take k events)) (get_or events k d) ≡ true →
       ((before : ℕ) → before < k → ¬ (IsBadAt n reports events before)) → IsFirstBad n reports events (k + 1)
   first_bad k d within bad earlier = record {
-    place = k;
+    index = k;
     line_is = refl;
     bad = record { event = get_or events k d; there = slice_get-get_or events k d within; bad = bad };
     earlier = earlier;

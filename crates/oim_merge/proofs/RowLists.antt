@@ -23,7 +23,7 @@ use Rattle.oim_write.proofs.NumberedFacts.{length-next_row, row_facts, rows_fact
 use Rattle.oim_write.proofs.Ranks.{rank_at}
 use Rattle.oim_merge.specs.Lines.{AreRowsFrom, AreRowsOf, HasOneText, IsRow, LinesAreOne, RowText, identifier_at, line_text}
 use Rattle.oim_merge.specs.Judged.{DependsOnItsNames}
-use Rattle.oim_merge.specs.Named.{HasPlaces, named}
+use Rattle.oim_merge.specs.Named.{HasIndices, named}
 use Rattle.oim_merge.proofs.Evidenced.{evidence_exists, one_evidence}
 use Rattle.std.proofs.lemmas.Option.{slice_get_within}
 use Rattle.oim_merge.specs.Listing.{ListStops}
@@ -90,20 +90,20 @@ module _ (facts : List Fact) (rises : IsSet fact_cmp facts) (before : List Fact)
   named_is i within =
       let long : length (row_facts r) ≡ length r.1 = length-map r.1 (λ v. record { dimensions = r.0; value = v }) in
       let all : length facts ≡ length before + (length (row_facts r) + length behind) = ap length split ∙ length-append before (row_facts r ++ behind) ∙ ap (λ k. length before + k) (length-append (row_facts r) behind) in
-      let place : length before + i < length facts = omega (arith, long, all, within) in
+      let index : length before + i < length facts = omega (arith, long, all, within) in
       let there : get_or facts (length before + i) any_fact ≡ get_or (row_facts r) i any_fact =
       ap (λ fs. get_or fs (length before + i) any_fact) split
       ∙ get_or-append-add before (row_facts r ++ behind) i any_fact
       ∙ get_or_append_left (row_facts r) behind any_fact i (omega (arith, long, within)) in
       sym (get_or-map (identifier facts) (row_facts r) i any_fact [] (omega (arith, long, within))
       ∙ ap (identifier facts) (sym there)
-      ∙ ap (λ k. 102 ∷ padded (width (length facts)) k) (rank_at fact_cmp_total facts (length before + i) any_fact rises place))
+      ∙ ap (λ k. 102 ∷ padded (width (length facts)) k) (rank_at fact_cmp_total facts (length before + i) any_fact rises index))
 
 -- ---- the next row
 
-pub places_within : (vs : List Value) (e : Evidence) → IsEvidence vs e → HasPlaces (length vs) e
-places_within vs (Apart i j) is = (slice_get_within vs i is.apart.first is.apart.first_there, slice_get_within vs j is.apart.second is.apart.second_there)
-places_within vs e is = tt
+pub indices_within : (vs : List Value) (e : Evidence) → IsEvidence vs e → HasIndices (length vs) e
+indices_within vs (Apart i j) is = (slice_get_within vs i is.apart.first is.apart.first_there, slice_get_within vs j is.apart.second is.apart.second_there)
+indices_within vs e is = tt
 
 module _ (b : Body) (rises : IsSet fact_cmp b.facts) (done rest : List Row) (r : Row) (all : done ++ (r ∷ rest) ≡ rows_of b.facts) where
   facts_split : b.facts ≡ rows_facts done ++ (row_facts r ++ rows_facts rest)
@@ -127,7 +127,7 @@ module _ (b : Body) (rises : IsSet fact_cmp b.facts) (done rest : List Row) (r :
     shows = shows;
     text = is
         ∙ (λ i. written (named (before_is i) (count_is i)) number r e)
-        ∙ names (named (length (rows_facts done)) (length b.facts)) (identifier_at b.facts r) number r e row_filled (places_within r.1 e shows)
+        ∙ names (named (length (rows_facts done)) (length b.facts)) (identifier_at b.facts r) number r e row_filled (indices_within r.1 e shows)
         (named_is b.facts rises (rows_facts done) r (rows_facts rest) facts_split);
   }
 

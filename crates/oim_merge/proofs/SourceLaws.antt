@@ -233,8 +233,8 @@ of_reports sheet done (bytes ∷ rest) n count =
     let reports = done ++ (bytes ∷ rest) in
     let first = mentions_of n (identifiers bytes) (outcome sheet bytes) in
     let later = mentions_from (suc n) sheet rest in
-    let place : n - 1 ≡ length done + 0 = omega (arith, count) in
-    let here : get_or reports (n - 1) [] ≡ bytes = ap (λ k. get_or reports k []) place ∙ get_or-append-add done (bytes ∷ rest) 0 [] in
+    let index : n - 1 ≡ length done + 0 = omega (arith, count) in
+    let here : get_or reports (n - 1) [] ≡ bytes = ap (λ k. get_or reports k []) index ∙ get_or-append-add done (bytes ∷ rest) 0 [] in
     let next = of_reports sheet (done ++ bytes ∷ []) rest (suc n) (omega (arith, count, length-append done (bytes ∷ []))) in
     let rest_of : map (saying reports) later ≡ flat_map (sayings_of sheet) rest = ap (λ l. map (saying l) later) (sym (append_assoc done (bytes ∷ []) rest)) ∙ next in
     map-append (saying reports) first later ∙ (λ k. of_report reports bytes n here (identifiers bytes) (outcome sheet bytes) k ++ rest_of k)

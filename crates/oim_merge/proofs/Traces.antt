@@ -15,7 +15,7 @@ use Rattle.fact_base.proofs.Sets.{set_of_is_set}
 use Rattle.oim_merge.specs.Reports.{accepted, document_in, merged}
 use Rattle.oim_merge.specs.declared.mentions.Mention.{Mention}
 use Rattle.oim_merge.specs.Sources.{mentions, mentions_from, mentions_in, mentions_of, SourceText, by_fact, mention_text}
-use Rattle.oim_merge.specs.Mentions.{AreOf, all_placed, place, placed}
+use Rattle.oim_merge.specs.Mentions.{AreOf, all_indexed, index, indexed}
 use Rattle.std.proofs.lemmas.List.{take_more, drop_more, take-append-drop}
 use Rattle.oim_merge.specs.Added.{Added, added, with_report}
 use Rattle.oim_merge.specs.Traced.{Traced, TracedStepsAreList, traced, with_all_traced, with_traced}
@@ -27,10 +27,10 @@ use Rattle.oim_write.specs.Rank.{padded, width}
 use Rattle.oim_write.specs.Sink.{AppendsFront, written_of, failures_after_fault}
 use Rattle.oim_write.specs.declared.write_fault.WriteFault.{WriteFault}
 use Rattle.oim_write.specs.declared.write_fault.WriteFault.TheVariants.{OutOfMemory, Device}
-use Rattle.oim_merge.specs.code.Listing.{placed_text}
+use Rattle.oim_merge.specs.code.Listing.{indexed_text}
 use Rattle.oim_merge.specs.Run.{fault_of, failures_after_run}
 use Rattle.oim_merge.specs.SourceListing.{MentionsStop, mention_texts}
-use Rattle.oim_merge.specs.declared.mentions.PlacedMention.{PlacedMention}
+use Rattle.oim_merge.specs.declared.mentions.IndexedMention.{IndexedMention}
 use Rattle.std.specs.List.{AllByRecursion}
 
 -- ---- the facts mentioned by accepted reports are exactly the facts of the merged body
@@ -154,20 +154,20 @@ add_one : (n : ℕ) → n + 1 ≡ suc n
 add_one n = omega arith
 
 module _ (written : SourceText) where
-  same_text : (facts : List Fact) (m : Mention) → placed_text written (length facts) (placed facts m) ≡ mention_text written facts m
-  same_text facts m = ap (λ k. written (102 ∷ padded (width (length facts)) k) m.report m.identifier) (add_one (place facts m.fact))
+  same_text : (facts : List Fact) (m : Mention) → indexed_text written (length facts) (indexed facts m) ≡ mention_text written facts m
+  same_text facts m = ap (λ k. written (102 ∷ padded (width (length facts)) k) m.report m.identifier) (add_one (index facts m.fact))
 
-  sources_are : (facts : List Fact) (ms : List Mention) (count : ℕ) → count ≡ length facts → flat_map (placed_text written count) (all_placed facts ms) ≡ flat_map (mention_text written facts) ms
+  sources_are : (facts : List Fact) (ms : List Mention) (count : ℕ) → count ≡ length facts → flat_map (indexed_text written count) (all_indexed facts ms) ≡ flat_map (mention_text written facts) ms
   sources_are facts ms count is =
-      ap (λ n. flat_map (placed_text written n) (all_placed facts ms)) is
-      ∙ flat_map-map (placed_text written (length facts)) (placed facts) ms
+      ap (λ n. flat_map (indexed_text written n) (all_indexed facts ms)) is
+      ∙ flat_map-map (indexed_text written (length facts)) (indexed facts) ms
       ∙ (λ i. flat_map (λ m. same_text facts m i) ms)
 
-  -- the texts of the placed mentions, in the order of their facts, are the texts of the mentions
-  pub texts_are : (t told : Traced) (base : Contents) (count : ℕ) (ms : List PlacedMention) → base ≡ record { sheet = t.added.sheet; body = t.added.body } → count ≡ length base.body.facts →
-      ms ≡ all_placed base.body.facts (by_fact base.body.facts t.mentions) → t ≡ told → flat_map (placed_text written count) ms ≡ mention_texts written told
-  texts_are t told base count ms is count_is placed_are told_is =
-      ap (flat_map (placed_text written count)) placed_are
+  -- the texts of the indexed mentions, in the order of their facts, are the texts of the mentions
+  pub texts_are : (t told : Traced) (base : Contents) (count : ℕ) (ms : List IndexedMention) → base ≡ record { sheet = t.added.sheet; body = t.added.body } → count ≡ length base.body.facts →
+      ms ≡ all_indexed base.body.facts (by_fact base.body.facts t.mentions) → t ≡ told → flat_map (indexed_text written count) ms ≡ mention_texts written told
+  texts_are t told base count ms is count_is indexed_are told_is =
+      ap (flat_map (indexed_text written count)) indexed_are
       ∙ sources_are base.body.facts (by_fact base.body.facts t.mentions) count count_is
       ∙ (λ i. flat_map (mention_text written (is i).body.facts) (by_fact (is i).body.facts t.mentions))
       ∙ ap (mention_texts written) told_is

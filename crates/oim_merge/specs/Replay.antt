@@ -23,7 +23,7 @@ world_of bases sent = record { replicas = bases; sent = sent }
 
 -- the texts at these indices; an index beyond the end gives an empty text
 abbrev pub texts_at : List (List ℕ) → List ℕ → List (List ℕ)
-texts_at texts places = map (λ place. slice_index_or texts place []) places
+texts_at texts indices = map (λ index. slice_index_or texts index []) indices
 
 -- the refusal of the report that an event takes, if the report is refused
 abbrev pub refused_by : Sheet → List (List ℕ) → Event → List (ℕ × Refusal)

@@ -7,7 +7,7 @@ use Rattle.oim_merge.specs.declared.event.Event.TheVariants.{Take, Join, Send, R
 -- the element with this number, counted from 1
 abbrev pub numbered : {A : Type 0} → List A → ℕ → Option A
 numbered xs zero = None
-numbered xs (suc place) = slice_get xs place
+numbered xs (suc index) = slice_get xs index
 
 -- ---- bad events
 
@@ -32,20 +32,20 @@ abbrev pub sent_by : List Event → ℕ
 sent_by events = length (filter is_send events)
 
 -- the event at an index (from 0) is bad; a message can be received only after it was sent
-pub record IsBadAt (replicas reports : ℕ) (events : List Event) (place : ℕ) : Type 0 where
+pub record IsBadAt (replicas reports : ℕ) (events : List Event) (index : ℕ) : Type 0 where
   pub event : Event
-  pub there : slice_get events place ≡ Some event
-  pub bad : names_none replicas reports (sent_by (take place events)) event ≡ true
+  pub there : slice_get events index ≡ Some event
+  pub bad : names_none replicas reports (sent_by (take index events)) event ≡ true
 
 abbrev pub NoneIsBad : ℕ → ℕ → List Event → Type 0
-NoneIsBad replicas reports events = (place : ℕ) → ¬ (IsBadAt replicas reports events place)
+NoneIsBad replicas reports events = (index : ℕ) → ¬ (IsBadAt replicas reports events index)
 
 -- the event in this line, counted from 1, is the first bad event
 pub record IsFirstBad (replicas reports : ℕ) (events : List Event) (line : ℕ) : Type 0 where
-  pub place : ℕ
-  pub line_is : line ≡ place + 1
-  pub bad : IsBadAt replicas reports events place
-  pub earlier : (before : ℕ) → before < place → ¬ (IsBadAt replicas reports events before)
+  pub index : ℕ
+  pub line_is : line ≡ index + 1
+  pub bad : IsBadAt replicas reports events index
+  pub earlier : (before : ℕ) → before < index → ¬ (IsBadAt replicas reports events before)
 
 -- ---- a machine that runs schedules
 

@@ -51,7 +51,7 @@ fn add_row<'b>(facts: &mut Vec<LentFact<'b>>, row: Row<'b>) -> Result<(), AllocE
 /// A URI may be long, and most facts of a report have one. So the fact is first looked for in the run
 /// without a comparison of URIs. If the fact at the index that is found equals it, this is the
 /// number, and the URI was read once.
-pub(crate) fn place_of(facts: &[LentFact<'_>], run: &mut Run, fact: &Fact) -> usize
+pub(crate) fn index_of(facts: &[LentFact<'_>], run: &mut Run, fact: &Fact) -> usize
     requires { IsSet fact_cmp (map lent facts.now) }
     ensures { result ≡ count_by (λ f. is_lt (fact_cmp f fact.now)) (map lent facts.now) }
 {
@@ -59,16 +59,16 @@ pub(crate) fn place_of(facts: &[LentFact<'_>], run: &mut Run, fact: &Fact) -> us
     if is_at(facts, guess, fact) {
         return guess;
     }
-    let place = facts.partition_point(|one| is_less(one, fact));
-    run.learn(facts, place);
-    place
+    let index = facts.partition_point(|one| is_less(one, fact));
+    run.learn(facts, index);
+    index
 }
 
-fn is_at(facts: &[LentFact<'_>], place: usize, fact: &Fact) -> bool
-    ensures within { OnTrue result (place < length facts.now) }
-    ensures same { OnTrue result (HoldsAt (λ one. lent one ≡ fact.now) facts.now place) }
+fn is_at(facts: &[LentFact<'_>], index: usize, fact: &Fact) -> bool
+    ensures within { OnTrue result (index < length facts.now) }
+    ensures same { OnTrue result (HoldsAt (λ one. lent one ≡ fact.now) facts.now index) }
 {
-    match facts.get(place) {
+    match facts.get(index) {
         Some(one) => *one.dimensions == fact.dimensions && *one.value == fact.value,
         None => false,
     }
@@ -111,15 +111,15 @@ impl Run {
 
     /// Takes the run of the fact at this index, if the fact that was learned before is in it. So
     /// facts whose URIs alternate cost no search for runs.
-    pub(crate) fn learn(&mut self, facts: &[LentFact<'_>], place: usize) {
-        if let (Some(last), Some(one)) = (facts.get(self.last), facts.get(place)) {
+    pub(crate) fn learn(&mut self, facts: &[LentFact<'_>], index: usize) {
+        if let (Some(last), Some(one)) = (facts.get(self.last), facts.get(index)) {
             let uri = one.dimensions.concept().uri();
             if last.dimensions.concept().uri() == uri {
                 self.start = facts.partition_point(|one| one.dimensions.concept().uri() < uri);
                 self.end = facts.partition_point(|one| one.dimensions.concept().uri() <= uri);
             }
         }
-        self.last = place;
+        self.last = index;
     }
 }
 

@@ -31,7 +31,7 @@ pub use fault::Fault;
 pub use refusals::Refusals;
 // verdicts, sources of facts, checks, and round trips
 pub use checked::{Checked, check_report, read_back};
-pub use mentions::PlacedMention;
+pub use mentions::IndexedMention;
 pub use source_format::{SourceFormat, SourceLines};
 pub use traced_merge::{TracedMerge, source_lines};
 pub use verdict_format::{Identifiers, JudgedRow, VerdictFormat};

@@ -1,11 +1,11 @@
 ghost use Rattle.std.specs.Prelude.{◌≡◌, map, length, IfOk};
 ghost use Rattle.merge_laws.specs.Sorted.{IsSet};
 ghost use Rattle.oim_dims.specs.FactOrder.{fact_cmp};
-ghost use Rattle.oim_merge.specs.Mentions.{AreOf, all_placed};
+ghost use Rattle.oim_merge.specs.Mentions.{AreOf, all_indexed};
 ghost use Rattle.oim_merge.specs.Sources.{by_fact, mentions_in};
 ghost use Rattle.oim_merge.specs.code.Listing.{lent};
 
-use crate::fact_list::{LentFact, Run, facts_of, place_of};
+use crate::fact_list::{LentFact, Run, facts_of, index_of};
 use fact_base::Base;
 use oim_dims::Fact;
 use oim_names::{Copied, Text};
@@ -24,9 +24,9 @@ pub struct Mention {
 
 /// A mention: a fact object in a report, with the index of its fact in a base.
 #[derive(Debug, Drop)]
-pub struct PlacedMention {
+pub struct IndexedMention {
     /// The number of facts in the base that are less than the mentioned fact.
-    pub place: usize,
+    pub index: usize,
     /// The number of the report, from 1.
     pub report: u64,
     /// The identifier of the fact in the report.
@@ -60,39 +60,39 @@ pub(crate) fn mentions_in(
 /// one fact keep their order.
 ///
 /// Errors: out of memory.
-pub(crate) fn placed_by_fact(
+pub(crate) fn indexed_by_fact(
     alloc: Global,
     base: &Base<'_>,
     mentions: Vec<Mention>,
-) -> Result<Vec<PlacedMention>, AllocError>
+) -> Result<Vec<IndexedMention>, AllocError>
     requires { AreOf base.now.body.facts mentions.items }
     ensures { IfOk result (λ ms. ms.items
-        ≡ all_placed base.now.body.facts (by_fact base.now.body.facts mentions.items)) }
+        ≡ all_indexed base.now.body.facts (by_fact base.now.body.facts mentions.items)) }
 {
     // the contract of `sheet` states that the facts ascend
     let _sheet = base.sheet();
     let facts = facts_of(alloc, base)?;
-    let mut placed = placed(alloc, facts.as_slice(), mentions)?;
-    placed.sort_by_key(|mention| mention.place)?;
-    Ok(placed)
+    let mut indexed = indexed(alloc, facts.as_slice(), mentions)?;
+    indexed.sort_by_key(|mention| mention.index)?;
+    Ok(indexed)
 }
 
-fn placed(
+fn indexed(
     alloc: Global,
     facts: &[LentFact<'_>],
     mentions: Vec<Mention>,
-) -> Result<Vec<PlacedMention>, AllocError>
+) -> Result<Vec<IndexedMention>, AllocError>
     requires { IsSet fact_cmp (map lent facts.now) }
-    ensures { IfOk result (λ ms. ms.items ≡ all_placed (map lent facts.now) mentions.items) }
+    ensures { IfOk result (λ ms. ms.items ≡ all_indexed (map lent facts.now) mentions.items) }
 {
-    let mut placed = Vec::with_capacity(alloc, mentions.len())?;
+    let mut indexed = Vec::with_capacity(alloc, mentions.len())?;
     let mut run = Run::new();
     for mention in mentions {
-        placed.push(PlacedMention {
-            place: place_of(facts, &mut run, &mention.fact),
+        indexed.push(IndexedMention {
+            index: index_of(facts, &mut run, &mention.fact),
             report: mention.report,
             identifier: mention.identifier,
         })?;
     }
-    Ok(placed)
+    Ok(indexed)
 }

@@ -58,13 +58,13 @@ impl<'s> Messages<'s> {
         ensures current { OnOk result (IsCurrent self.new.texts.items base.now current.new) }
         ensures stay { OnOk result (Stay self.old.texts.items self.new.texts.items) }
     {
-        let place = self.place_of(alloc, base, *current)?;
-        self.sent.push(place)?;
-        *current = Some(place);
+        let index = self.index_of(alloc, base, *current)?;
+        self.sent.push(index)?;
+        *current = Some(index);
         Ok(())
     }
 
-    fn place_of(
+    fn index_of(
         &mut self,
         alloc: Global,
         base: &Base<'_>,
@@ -72,24 +72,24 @@ impl<'s> Messages<'s> {
     ) -> Result<usize, AllocError>
         requires held { AreHeld base.now.sheet self.old }
         requires current { IsCurrent self.old.texts.items base.now current }
-        ensures place { IfOk result (IsTextAt self.new.texts.items (canonical base.now.body)) }
+        ensures index { IfOk result (IsTextAt self.new.texts.items (canonical base.now.body)) }
         ensures sent { OnOk result (sent_texts self.new ≡ sent_texts self.old) }
         ensures held { OnOk result (AreHeld base.now.sheet self.new) }
         ensures stay { OnOk result (Stay self.old.texts.items self.new.texts.items) }
     {
-        if let Some(place) = current {
-            return Ok(place);
+        if let Some(index) = current {
+            return Ok(index);
         }
         let text = text(alloc, base)?;
         let _sheet = base.sheet();
         match self.find(&text) {
-            Ok(place) => Ok(place),
+            Ok(index) => Ok(index),
             Err(at) => {
-                let place = self.texts.len();
-                self.order.insert(at, place)?;
+                let index = self.texts.len();
+                self.order.insert(at, index)?;
                 self.texts.push(text)?;
                 self.kept.push(None)?;
-                Ok(place)
+                Ok(index)
             }
         }
     }
@@ -103,16 +103,16 @@ impl<'s> Messages<'s> {
     {
         let at = self
             .order
-            .binary_search_by(|place| self.compare(*place, text))?;
-        let place = self.order[at];
-        match self.texts.get(place) {
-            Some(known) if known.as_bytes() == text.as_bytes() => Ok(place),
+            .binary_search_by(|index| self.compare(*index, text))?;
+        let index = self.order[at];
+        match self.texts.get(index) {
+            Some(known) if known.as_bytes() == text.as_bytes() => Ok(index),
             _ => Err(at),
         }
     }
 
-    fn compare(&self, place: usize, text: &Encoded) -> Ordering {
-        match self.texts.get(place) {
+    fn compare(&self, index: usize, text: &Encoded) -> Ordering {
+        match self.texts.get(index) {
             Some(known) => known.as_bytes().cmp(text.as_bytes()),
             None => Ordering::Less,
         }
@@ -138,13 +138,13 @@ impl<'s> Messages<'s> {
         ensures base { OnOk result (base.new
             ≡ with_outcome (outcome sheet.now (slice_index_or (sent_texts self.old) number [])) base.old) }
     {
-        let place = self.sent[number];
+        let index = self.sent[number];
         take_at(
             alloc,
             sheet,
             self.texts.as_slice(),
             self.kept.as_mut_slice(),
-            place,
+            index,
             base,
         )?;
         Ok(())

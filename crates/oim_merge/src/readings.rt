@@ -26,7 +26,7 @@ pub(crate) fn none_read<'s>(alloc: Global, texts: usize) -> Result<Vec<Reading<'
     Ok(kept)
 }
 
-/// Adds the facts and references of the text at the index `place` to a base. The text is read only
+/// Adds the facts and references of the text at `index` to a base. The text is read only
 /// the first time, and the result is cached. If the text is refused, the base does not change, and
 /// the refusal is returned. A struct of the six parameters would serve only this call.
 ///
@@ -36,24 +36,24 @@ pub(crate) fn take_at<'s>(
     sheet: &'s Sheet,
     texts: &[Encoded],
     kept: &mut [Reading<'s>],
-    place: usize,
+    index: usize,
     base: &mut Base<'s>,
 ) -> Result<Option<Refusal>, AllocError>
-    requires place { place < length texts.now }
+    requires index { index < length texts.now }
     requires kept { AreReadings sheet.now texts.now kept.old }
     requires sheet { base.old.sheet ≡ sheet.now }
     ensures kept { OnOk result (AreReadings sheet.now texts.now kept.new) }
     ensures base { OnOk result
-        (base.new ≡ with_outcome (outcome sheet.now (slice_index_or texts.now place [])) base.old) }
+        (base.new ≡ with_outcome (outcome sheet.now (slice_index_or texts.now index [])) base.old) }
     ensures refusal { IfOk result
-        (λ told. told ≡ result_err (outcome sheet.now (slice_index_or texts.now place []))) }
+        (λ told. told ≡ result_err (outcome sheet.now (slice_index_or texts.now index []))) }
 {
-    if let Some(read) = &kept[place] {
+    if let Some(read) = &kept[index] {
         return take_read(base, read);
     }
-    let read = read_base(alloc, sheet, texts[place].as_bytes())?;
+    let read = read_base(alloc, sheet, texts[index].as_bytes())?;
     let told = take_read(base, &read)?;
-    kept[place] = Some(read);
+    kept[index] = Some(read);
     Ok(told)
 }
 

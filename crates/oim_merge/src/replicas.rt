@@ -87,34 +87,34 @@ impl<'s> Replicas<'s> {
     {
         match event {
             Event::Take(i, r) => {
-                let (place, report) = (i as usize - 1, r as usize - 1);
-                forget(&mut self.current, place);
+                let (index, report) = (i as usize - 1, r as usize - 1);
+                forget(&mut self.current, index);
                 let kept = self.reports.as_mut_slice();
-                let base = &mut self.bases[place];
+                let base = &mut self.bases[index];
                 if let Some(refusal) = take_at(alloc, sheet, reports, kept, report, base)? {
                     self.refused.push(u64::from(r), refusal)?;
                 }
             }
             Event::Join(i, j) => {
-                let (place, other) = (i as usize - 1, j as usize - 1);
-                forget(&mut self.current, place);
-                join_at(alloc, sheet, &mut self.bases, place, other)?
+                let (index, other) = (i as usize - 1, j as usize - 1);
+                forget(&mut self.current, index);
+                join_at(alloc, sheet, &mut self.bases, index, other)?
             }
             Event::Send(i) => {
-                let place = i as usize - 1;
-                let current = &mut self.current[place];
-                self.messages.send(alloc, &self.bases[place], current)?;
+                let index = i as usize - 1;
+                let current = &mut self.current[index];
+                self.messages.send(alloc, &self.bases[index], current)?;
             }
             Event::Receive(i, k) => {
-                let place = i as usize - 1;
-                forget(&mut self.current, place);
-                let base = &mut self.bases[place];
+                let index = i as usize - 1;
+                forget(&mut self.current, index);
+                let base = &mut self.bases[index];
                 self.messages.give(alloc, sheet, k as usize - 1, base)?;
             }
             Event::Restart(i) => {
-                let place = i as usize - 1;
-                forget(&mut self.current, place);
-                self.bases[place] = Base::new(alloc, sheet);
+                let index = i as usize - 1;
+                forget(&mut self.current, index);
+                self.bases[index] = Base::new(alloc, sheet);
             }
         }
         Ok(())
@@ -128,10 +128,10 @@ fn is_there(number: u32, greatest: usize) -> bool
 }
 
 // Forgets the replica's current text, because the replica's base may change.
-fn forget(current: &mut Vec<Option<usize>>, place: usize)
-    ensures { current.new.items ≡ slice_set current.old.items place None }
+fn forget(current: &mut Vec<Option<usize>>, index: usize)
+    ensures { current.new.items ≡ slice_set current.old.items index None }
 {
-    if let Some(known) = current.get_mut(place) {
+    if let Some(known) = current.get_mut(index) {
         *known = None;
     }
 }
@@ -140,23 +140,23 @@ fn join_at<'s>(
     alloc: Global,
     sheet: &'s Sheet,
     bases: &mut Vec<Base<'s>>,
-    place: usize,
+    index: usize,
     other: usize,
 ) -> Result<(), AllocError>
-    requires place_within { place < length bases.old.items }
+    requires index_within { index < length bases.old.items }
     requires other_within { other < length bases.old.items }
     requires sheets { All (λ base. base.sheet ≡ sheet.now) bases.old.items }
-    ensures { OnOk result (bases.new.items ≡ slice_set bases.old.items place
-        (joined_with (slice_index_or bases.old.items place (base_of sheet.now []))
+    ensures { OnOk result (bases.new.items ≡ slice_set bases.old.items index
+        (joined_with (slice_index_or bases.old.items index (base_of sheet.now []))
         (slice_index_or bases.old.items other (base_of sheet.now [])))) }
 {
-    if place == other {
+    if index == other {
         // a base that joins itself does not change; the proof needs the contract of `sheet`
-        let _sheet = bases[place].sheet();
+        let _sheet = bases[index].sheet();
         return Ok(());
     }
-    let mut base = std::mem::replace(&mut bases[place], Base::new(alloc, sheet));
+    let mut base = std::mem::replace(&mut bases[index], Base::new(alloc, sheet));
     join_new(&mut base, &bases[other])?;
-    bases[place] = base;
+    bases[index] = base;
     Ok(())
 }

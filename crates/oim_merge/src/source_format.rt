@@ -1,7 +1,7 @@
 ghost use Rattle.std.specs.Prelude.{◌≡◌, ℕ, List, IfOk};
 ghost use Rattle.oim_merge.specs.Sources.{SourceText};
 
-use crate::mentions::PlacedMention;
+use crate::mentions::IndexedMention;
 use serde_json::Value;
 use std::alloc::{AllocError, Global};
 
@@ -27,7 +27,7 @@ pub trait SourceFormat {
         &self,
         alloc: Global,
         fact: &str,
-        mention: &PlacedMention,
+        mention: &IndexedMention,
     ) -> Result<Vec<u8>, AllocError>
         ensures { IfOk result (λ text. text.items ≡ source_text self.now fact.now mention.now.report mention.now.identifier) };
 }
@@ -52,7 +52,7 @@ impl SourceFormat for SourceLines {
         &self,
         alloc: Global,
         fact: &str,
-        mention: &PlacedMention,
+        mention: &IndexedMention,
     ) -> Result<Vec<u8>, AllocError> {
         let own = Value::String(String::from_str(alloc, mention.identifier.as_str())?);
         let own = own.to_string(alloc)?;

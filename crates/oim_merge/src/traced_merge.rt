@@ -4,11 +4,11 @@ ghost use Rattle.oim_write.specs.SinkBuffer.{Breaks, Passes};
 ghost use Rattle.oim_merge.specs.Run.{failures_after_run};
 ghost use Rattle.oim_merge.specs.SourceListing.{AppendsMentions, ListsSources, MentionsStop, SourcesStop};
 ghost use Rattle.oim_merge.specs.Traced.{traced, untraced, with_traced};
-ghost use Rattle.oim_merge.specs.code.Listing.{placed_text};
+ghost use Rattle.oim_merge.specs.code.Listing.{indexed_text};
 
 use crate::consolidation::{Consolidation, Merged};
 use crate::fault::Fault;
-use crate::mentions::{Mention, PlacedMention, placed_by_fact};
+use crate::mentions::{Mention, IndexedMention, indexed_by_fact};
 use crate::refusals::Refusals;
 use crate::source_format::{SourceFormat, SourceLines};
 use oim_report::Sheet;
@@ -127,7 +127,7 @@ impl<'s> TracedMerge<'s> {
         } = self;
         let alloc = *mentions.allocator();
         let Merged { base, refusals } = consolidation.into_merged()?;
-        let mentions = placed_by_fact(alloc, &base, mentions)?;
+        let mentions = indexed_by_fact(alloc, &base, mentions)?;
         let count = base.fact_count();
         let mut buffer = SinkBuffer::new(alloc)?;
         let header = format.header(alloc)?;
@@ -144,14 +144,14 @@ fn push_mentions<S: Sink, F: SourceFormat>(
     buffer: &mut SinkBuffer,
     out: &mut S,
     count: u128,
-    mentions: &[PlacedMention],
+    mentions: &[IndexedMention],
     format: &F,
 ) -> Result<(), WriteFault>
     requires { S.failures out.old < 2 ^ 64 - 1 }
     ensures ok { OnOk result (Passes (S.told out.old) (S.told out.new) buffer.old buffer.new
-        (flat_map (placed_text (F.source_text format.now) count) mentions.now)) }
+        (flat_map (indexed_text (F.source_text format.now) count) mentions.now)) }
     ensures err { IfErr result (λ fault. Breaks (S.told out.old) (S.told out.new) buffer.old
-        (flat_map (placed_text (F.source_text format.now) count) mentions.now) (written_of fault)) }
+        (flat_map (indexed_text (F.source_text format.now) count) mentions.now) (written_of fault)) }
     ensures failures { S.failures out.new ≡ failures_after_write result (S.failures out.old) }
 {
     for mention in mentions {
@@ -166,11 +166,11 @@ fn push_mentions<S: Sink, F: SourceFormat>(
 fn text_of<F: SourceFormat>(
     alloc: Global,
     count: u128,
-    mention: &PlacedMention,
+    mention: &IndexedMention,
     format: &F,
 ) -> Result<Vec<u8>, AllocError>
-    ensures { IfOk result (λ text. text.items ≡ placed_text (F.source_text format.now) count mention.now) }
+    ensures { IfOk result (λ text. text.items ≡ indexed_text (F.source_text format.now) count mention.now) }
 {
-    let fact = identifier(alloc, mention.place as u128 + 1, count)?;
+    let fact = identifier(alloc, mention.index as u128 + 1, count)?;
     format.source(alloc, fact.as_str(), mention)
 }

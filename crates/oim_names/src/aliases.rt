@@ -95,9 +95,9 @@ impl Aliases {
         let Ok(_) = self.uris.insert(key, known) else {
             return Err(Reason::OutOfMemory);
         };
-        let place = self.bindings.len();
+        let index = self.bindings.len();
         self.bindings.push_reserved(binding);
-        self.cache.set(prefix, place);
+        self.cache.set(prefix, index);
         Ok(())
     }
 
@@ -115,21 +115,21 @@ impl Aliases {
         ensures found { option_copied result ≡ uri_of self.now prefix.now }
         ensures filled { IfSome result (λ uri. uri.now ≢ []) }
     {
-        match self.place(prefix) {
-            Some(place) => Some(self.bindings[place].uri_text()),
+        match self.index_of(prefix) {
+            Some(index) => Some(self.bindings[index].uri_text()),
             None => self.uris.get(prefix),
         }
     }
 
     /// Returns the index of the binding of the prefix, if the cache has it. Names whose prefixes
     /// have one index have one URI, which need not be compared.
-    pub fn place(&self, prefix: &str) -> Option<usize>
-        ensures within { IfSome result (λ place. place < length self.now) }
-        ensures uri { IfSome result (λ place. uri_at self.now place ≡ uri_of self.now prefix.now) }
+    pub fn index_of(&self, prefix: &str) -> Option<usize>
+        ensures within { IfSome result (λ index. index < length self.now) }
+        ensures uri { IfSome result (λ index. uri_at self.now index ≡ uri_of self.now prefix.now) }
     {
-        let place = self.cache.place(prefix);
-        match self.bindings.get(place) {
-            Some(known) if known.prefix() == prefix => Some(place),
+        let index = self.cache.index_of(prefix);
+        match self.bindings.get(index) {
+            Some(known) if known.prefix() == prefix => Some(index),
             _ => None,
         }
     }

@@ -1,5 +1,5 @@
 ghost use Rattle.std.specs.Prelude.{ℕ, List, ◌≡◌, ◌<◌, ◌≤◌};
-ghost use Rattle.oim_names.specs.Places.{byte_from_end, place_in, text_class};
+ghost use Rattle.oim_names.specs.Positions.{byte_from_end, index_in, text_class};
 
 use std::marker::Model;
 
@@ -11,7 +11,7 @@ const CLASSES: usize = 2048;
 /// a class.
 #[derive(Clone, Copy, Debug)]
 pub struct PositionCache {
-    places: [u16; CLASSES],
+    indices: [u16; CLASSES],
 }
 
 impl Model for PositionCache {
@@ -19,40 +19,40 @@ impl Model for PositionCache {
 
     ghost Value = { List ℕ };
 
-    ghost view = { λ r. r.places };
+    ghost view = { λ r. r.indices };
 
-    ghost inverse = { λ places. record { places = places } };
+    ghost inverse = { λ indices. record { indices = indices } };
 }
 
 impl PositionCache {
     /// Returns a cache in which each class has index 0.
     pub fn new() -> PositionCache
-        ensures { (text : List ℕ) → place_in result text ≡ 0 }
+        ensures { (text : List ℕ) → index_in result text ≡ 0 }
     {
         PositionCache {
-            places: [0; CLASSES],
+            indices: [0; CLASSES],
         }
     }
 
     /// Returns the index that is stored for the class of the text.
-    pub fn place(&self, text: &str) -> usize
-        ensures { result ≡ place_in self.now text.now }
+    pub fn index_of(&self, text: &str) -> usize
+        ensures { result ≡ index_in self.now text.now }
     {
-        usize::from(self.places[class_of(text)])
+        usize::from(self.indices[class_of(text)])
     }
 
     /// Stores the index for the class of the text. An index above 65,535 is not stored.
-    pub fn set(&mut self, text: &str, place: usize)
-        ensures stored { place ≤ 65535 → place_in self.new text.now ≡ place }
-        ensures kept { 65535 < place → self.new ≡ self.old }
+    pub fn set(&mut self, text: &str, index: usize)
+        ensures stored { index ≤ 65535 → index_in self.new text.now ≡ index }
+        ensures kept { 65535 < index → self.new ≡ self.old }
     {
-        if let Ok(place) = u16::try_from(place) {
-            self.places[class_of(text)] = place;
+        if let Ok(index) = u16::try_from(index) {
+            self.indices[class_of(text)] = index;
         }
     }
 }
 
-#[tactic(auto, unfolding(crate::specs::Places::text_class))]
+#[tactic(auto, unfolding(crate::specs::Positions::text_class))]
 fn class_of(text: &str) -> usize
     ensures is { result ≡ text_class text.now }
     ensures bounded { result < CLASSES }
@@ -66,8 +66,8 @@ fn byte_from_end(text: &str, back: usize) -> usize
     ensures is { result ≡ byte_from_end text.now back }
     ensures bounded { result < 256 }
 {
-    let place = text.len().saturating_sub(back);
-    match text.as_bytes().get(place) {
+    let index = text.len().saturating_sub(back);
+    match text.as_bytes().get(index) {
         Some(byte) => usize::from(*byte),
         None => 0,
     }

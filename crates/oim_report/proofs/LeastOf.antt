@@ -164,15 +164,15 @@ filtered : (p : ℕ → Bool) (rs : List Reason) → filter p (map number rs) �
 filtered p [] = refl
 filtered p (x ∷ xs) = mapped p (p (number x)) x xs _ (filtered p xs)
 
-at_place : (n : ℕ) (rs : List Reason) (k : ℕ) → rises n rs ≡ true → k < length (map number rs) → slice_index (map number rs) k ≡ n + k
-at_place n [] k rising lt = absurd (omega arith)
-at_place n (x ∷ xs) zero rising lt = let here = head_number n x (and_parts (number x == n) (rises (n + 1) xs) rising).0 in omega arith
-at_place n (x ∷ xs) (suc k) rising lt = let there = at_place (n + 1) xs k (and_parts (number x == n) (rises (n + 1) xs) rising).1 (omega arith) in omega arith
+at_index : (n : ℕ) (rs : List Reason) (k : ℕ) → rises n rs ≡ true → k < length (map number rs) → slice_index (map number rs) k ≡ n + k
+at_index n [] k rising lt = absurd (omega arith)
+at_index n (x ∷ xs) zero rising lt = let here = head_number n x (and_parts (number x == n) (rises (n + 1) xs) rising).0 in omega arith
+at_index n (x ∷ xs) (suc k) rising lt = let there = at_index (n + 1) xs k (and_parts (number x == n) (rises (n + 1) xs) rising).1 (omega arith) in omega arith
 
 numbers_rise : IsStrictlyIncreasing (map number reasons)
 numbers_rise k lt =
-    let here : slice_index (map number reasons) k ≡ 0 + k = at_place 0 reasons k reasons_rise (omega arith) in
-    let next : slice_index (map number reasons) (k + 1) ≡ 0 + (k + 1) = at_place 0 reasons (k + 1) reasons_rise lt in
+    let here : slice_index (map number reasons) k ≡ 0 + k = at_index 0 reasons k reasons_rise (omega arith) in
+    let next : slice_index (map number reasons) (k + 1) ≡ 0 + (k + 1) = at_index 0 reasons (k + 1) reasons_rise lt in
     omega arith
 
 module _ (h : Reason → Bool) where

@@ -12,7 +12,7 @@ pub mod ValuesMeet
 pub mod Pairs
 pub mod Runs
 pub mod Passed
-pub mod Places
+pub mod Indices
 pub mod Facts
 pub mod FaultLaws
 pub mod KeptReferences

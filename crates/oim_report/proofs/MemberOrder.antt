@@ -9,7 +9,7 @@ use Rattle.oim_names.specs.contracts.name.NameOrd.TheImpl.Laws.{total-law as nam
 use Rattle.oim_value.specs.ValueOrder.{name_cmp}
 use Rattle.oim_dims.specs.declared.member.Member.{Member}
 use Rattle.oim_dims.specs.DimensionSet.{is_below, rises, with_member}
-use Rattle.oim_dims.proofs.Places.{less_is}
+use Rattle.oim_dims.proofs.Indices.{less_is}
 
 abbrev Entry : Type 0
 Entry = QName × Member

@@ -16,7 +16,7 @@ use Rattle.oim_value.specs.ValueOrder.{name_cmp}
 use Rattle.oim_dims.specs.DimensionSet.{has_name, rises, with_member, is_below, repeats}
 use Rattle.oim_dims.specs.declared.member.Member.{Member}
 use Rattle.oim_dims.specs.declared.member.Member.TheVariants.{Nil as NoMember, Text as MemberText, Name as MemberName}
-use Rattle.oim_dims.proofs.Places.{members_grow, names_are_there, less_is, old_or_new, old_is_kept, new_is_there}
+use Rattle.oim_dims.proofs.Indices.{members_grow, names_are_there, less_is, old_or_new, old_is_kept, new_is_there}
 use Rattle.oim_report.specs.declared.dimension_kind.DimensionKind.{DimensionKind}
 use Rattle.oim_report.specs.declared.dimension_kind.DimensionKind.TheVariants.{Explicit, Typed}
 use Rattle.oim_report.specs.Fact.{SaysDimension, SaysMember, SaysMembers, GivesText}

@@ -23,9 +23,9 @@ use Rattle.oim_dims.specs.declared.fact.Fact.{Fact}
 use Rattle.oim_report.specs.Apart.{are_apart}
 use Rattle.oim_report.specs.code.Beside.{interval_at}
 use Rattle.oim_report.specs.Duplicates.{allows, allows_each, are_duplicates, level_of}
-use Rattle.oim_report.specs.Report.{IsOrderOf, place_cmp}
+use Rattle.oim_report.specs.Report.{IsOrderOf, index_cmp}
 use Rattle.oim_report.proofs.Pairs.{allows_each-push, passes_is}
-use Rattle.oim_report.proofs.Places.{facts_at, facts_at-cons, facts_at-drop, level_at_order, places_within, rises_from_first}
+use Rattle.oim_report.proofs.Indices.{facts_at, facts_at-cons, facts_at-drop, level_at_order, indices_within, rises_from_first}
 use Rattle.oim_report.proofs.Runs.{RisesFrom, walk, walk-nil, walk_from_first}
 
 -- The loop has read `first` and `before`. The indices of the unread facts are `rest` without its first i items. Whatever facts
@@ -39,15 +39,15 @@ pub record Passed (facts : List Fact) (order rest : List ℕ) (i : ℕ) (last : 
 
 -- ---- the loop
 
-pub passed_none : (facts : List Fact) (order rest : List ℕ) (place : ℕ) (first : Fact) → IsOrderOf facts order → order ≡ place ∷ rest → first ≡ get_or facts place first → Passed facts order rest 0 first (interval_at first.value) Unique
-passed_none facts order rest place first sorted split is =
-    let within : All (λ p. p < length facts) (place ∷ rest) = subst (All (λ p. p < length facts)) split (places_within facts order sorted) in
-    let up : IsSorted (place_cmp facts) (place ∷ rest) = subst (IsSorted (place_cmp facts)) split sorted.rising in
+pub passed_none : (facts : List Fact) (order rest : List ℕ) (index : ℕ) (first : Fact) → IsOrderOf facts order → order ≡ index ∷ rest → first ≡ get_or facts index first → Passed facts order rest 0 first (interval_at first.value) Unique
+passed_none facts order rest index first sorted split is =
+    let within : All (λ p. p < length facts) (index ∷ rest) = subst (All (λ p. p < length facts)) split (indices_within facts order sorted) in
+    let up : IsSorted (index_cmp facts) (index ∷ rest) = subst (IsSorted (index_cmp facts)) split sorted.rising in
     record {
       first = first;
       before = [];
-      are = ap (facts_at facts) split ∙ facts_at-cons facts place rest first (All-head (λ p. p < length facts) place rest within) ∙ ap (λ f. f ∷ facts_at facts rest) (sym is);
-      rises = subst (λ f. RisesFrom f (facts_at facts rest)) (sym is) (rises_from_first facts place rest first within up);
+      are = ap (facts_at facts) split ∙ facts_at-cons facts index rest first (All-head (λ p. p < length facts) index rest within) ∙ ap (λ f. f ∷ facts_at facts rest) (sym is);
+      rises = subst (λ f. RisesFrom f (facts_at facts rest)) (sym is) (rises_from_first facts index rest first within up);
       so_far = λ fs. refl;
     }
 
@@ -106,16 +106,16 @@ second_false true b h both = both
 second_false false b h both = absurd (false≢true h)
 
 -- if a level forbids f beside one of the facts at some other indices, `are_apart` holds for one of these indices and f's index
-pub one_apart : (l : Level) (facts : List Fact) (place : ℕ) (f : Fact) → slice_get facts place ≡ Some f → (places : List ℕ) → All (λ p. p < length facts) places → All (λ p. (p == place) ≡ false) places → list_all (λ g. allows l g f) (facts_at facts places) ≡ false
-    → list_any (λ one. are_apart l facts one place) places ≡ true
-one_apart l facts place f here [] within others h = absurd (false≢true (sym h))
-one_apart l facts place f here (p ∷ ps) within others h =
+pub one_apart : (l : Level) (facts : List Fact) (index : ℕ) (f : Fact) → slice_get facts index ≡ Some f → (indices : List ℕ) → All (λ p. p < length facts) indices → All (λ p. (p == index) ≡ false) indices → list_all (λ g. allows l g f) (facts_at facts indices) ≡ false
+    → list_any (λ one. are_apart l facts one index) indices ≡ true
+one_apart l facts index f here [] within others h = absurd (false≢true (sym h))
+one_apart l facts index f here (p ∷ ps) within others h =
     let lp : p < length facts = All-head (λ p. p < length facts) p ps within in
     let g : Fact = get_or facts p f in
-    let apart : are_apart l facts p place ≡ not (allows l g f) =
-    apart_is g (p == place) (slice_get facts p) (slice_get facts place) (All-head (λ p. (p == place) ≡ false) p ps others) (slice_get-get_or facts p f lp) here in
-    either (allows l g f) (list_all (λ g. allows l g f) (facts_at facts ps)) (are_apart l facts p place) (list_any (λ one. are_apart l facts one place) ps)
-    apart (one_apart l facts place f here ps (All-tail (λ p. p < length facts) p ps within) (All-tail (λ p. (p == place) ≡ false) p ps others)) (ap (list_all (λ g. allows l g f)) (sym (facts_at-cons facts p ps f lp)) ∙ h)
+    let apart : are_apart l facts p index ≡ not (allows l g f) =
+    apart_is g (p == index) (slice_get facts p) (slice_get facts index) (All-head (λ p. (p == index) ≡ false) p ps others) (slice_get-get_or facts p f lp) here in
+    either (allows l g f) (list_all (λ g. allows l g f) (facts_at facts ps)) (are_apart l facts p index) (list_any (λ one. are_apart l facts one index) ps)
+    apart (one_apart l facts index f here ps (All-tail (λ p. p < length facts) p ps within) (All-tail (λ p. (p == index) ≡ false) p ps others)) (ap (list_all (λ g. allows l g f)) (sym (facts_at-cons facts p ps f lp)) ∙ h)
   where
     apart_is : (g : Fact) (same : Bool) (a b : Option Fact) → same ≡ false → a ≡ Some g → b ≡ Some f → (not same && option_map_or (λ x. option_map_or (λ y. not (allows l x y)) b false) a false) ≡ not (allows l g f)
     apart_is g same a b other one two = (λ k. not (other k) && option_map_or (λ x. option_map_or (λ y. not (allows l x y)) (two k) false) (one k) false)
@@ -147,26 +147,26 @@ pub passed_above : (facts : List Fact) (order rest : List ℕ) (head i : ℕ) (l
 unfolding passed_one
 passed_above facts order rest head i limit last f shared later level found sorted split here within is low high passed step =
     let earlier : List Fact = passed.first ∷ passed.before in
-    let place : ℕ = get_or rest i 0 in
-    let places : List ℕ = take (suc i) order in
+    let index : ℕ = get_or rest i 0 in
+    let indices : List ℕ = take (suc i) order in
     let next = passed_one facts order rest i last f shared later level found here within is step passed in
     let allowed : allows_each limit earlier ≡ true = allowed_within limit level earlier (level_so_far facts order rest i last shared level passed) ∙ ap not low in
     let refused : allows_each limit (earlier ++ f ∷ []) ≡ false = allowed_within limit found (earlier ++ f ∷ []) (level_so_far facts order rest (i + 1) f later found next) ∙ ap not high in
     let apart : list_all (λ g. allows limit g f) earlier ≡ false = second_false _ _ allowed (sym (allows_each-push limit earlier f) ∙ refused) in
-    let parts : places ++ drop i rest ≡ order = ap (λ ps. places ++ ps) (sym (ap (drop (suc i)) split)) ∙ take-append-drop (suc i) order in
-    let are : facts_at facts places ≡ earlier = append_cancel_right (facts_at facts places) earlier (facts_at facts (drop i rest)) (sym (filter_map-append (slice_get facts) places (drop i rest)) ∙ ap (facts_at facts) parts ∙ passed.are) in
+    let parts : indices ++ drop i rest ≡ order = ap (λ ps. indices ++ ps) (sym (ap (drop (suc i)) split)) ∙ take-append-drop (suc i) order in
+    let are : facts_at facts indices ≡ earlier = append_cancel_right (facts_at facts indices) earlier (facts_at facts (drop i rest)) (sym (filter_map-append (slice_get facts) indices (drop i rest)) ∙ ap (facts_at facts) parts ∙ passed.are) in
     let there : suc i < length order = subst (λ ps. suc i < length ps) (sym split) (omega (arith, here)) in
-    let others : All (λ p. (p == place) ≡ false) places = subst (λ q. All (λ p. (p == q) ≡ false) places) (ap (λ ps. get_or ps (suc i) 0) split) (others_before facts order (suc i) sorted there) in
-    let one : list_any (λ one. are_apart limit facts one place) places ≡ true =
-    one_apart limit facts place f (slice_get-get_or facts place f within ∙ ap Some (sym is)) places (All-take (λ p. p < length facts) (suc i) order (places_within facts order sorted)) others (ap (list_all (λ g. allows limit g f)) are ∙ apart) in
-    ap (list_any (λ one. are_apart limit facts one place)) (sym parts)
-    ∙ list_any-append (λ one. are_apart limit facts one place) places (drop i rest)
-    ∙ ap (λ b. b || list_any (λ one. are_apart limit facts one place) (drop i rest)) one
+    let others : All (λ p. (p == index) ≡ false) indices = subst (λ q. All (λ p. (p == q) ≡ false) indices) (ap (λ ps. get_or ps (suc i) 0) split) (others_before facts order (suc i) sorted there) in
+    let one : list_any (λ one. are_apart limit facts one index) indices ≡ true =
+    one_apart limit facts index f (slice_get-get_or facts index f within ∙ ap Some (sym is)) indices (All-take (λ p. p < length facts) (suc i) order (indices_within facts order sorted)) others (ap (list_all (λ g. allows limit g f)) are ∙ apart) in
+    ap (list_any (λ one. are_apart limit facts one index)) (sym parts)
+    ∙ list_any-append (λ one. are_apart limit facts one index) indices (drop i rest)
+    ∙ ap (λ b. b || list_any (λ one. are_apart limit facts one index) (drop i rest)) one
 
 -- the level `All` allows any two facts
-pub none_apart : (facts : List Fact) (place : ℕ) (places : List ℕ) → list_any (λ one. are_apart AllLevel facts one place) places ≡ false
-none_apart facts place [] = refl
-none_apart facts place (p ∷ ps) = ap (λ b. b || list_any (λ one. are_apart AllLevel facts one place) ps) (never (not (p == place)) (slice_get facts p) (slice_get facts place)) ∙ none_apart facts place ps
+pub none_apart : (facts : List Fact) (index : ℕ) (indices : List ℕ) → list_any (λ one. are_apart AllLevel facts one index) indices ≡ false
+none_apart facts index [] = refl
+none_apart facts index (p ∷ ps) = ap (λ b. b || list_any (λ one. are_apart AllLevel facts one index) ps) (never (not (p == index)) (slice_get facts p) (slice_get facts index)) ∙ none_apart facts index ps
   where
     free : (b : Bool) → not (not b || true) ≡ false
     free true = refl

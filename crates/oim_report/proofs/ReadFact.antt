@@ -70,9 +70,9 @@ module _ (P : Keyed → Type 0) where
         | Greater ↦ λ o. Any-tail d (with_given key g ds) (Any-with_given key g ds here)
       ] refl
 
-  either_place : (d : Keyed) (ds : List Keyed) (k : ℕ) (x : Keyed) → k < length (d ∷ ds) → get_or (d ∷ ds) k x ≡ x → P x → (Q : Type 0) → (P d → Q) → (Any P ds → Q) → Q
-  either_place d ds zero x within is h Q first later = first (subst P (sym is) h)
-  either_place d ds (suc k) x within is h Q first later = later (k, x, omega arith, is, h)
+  either_index : (d : Keyed) (ds : List Keyed) (k : ℕ) (x : Keyed) → k < length (d ∷ ds) → get_or (d ∷ ds) k x ≡ x → P x → (Q : Type 0) → (P d → Q) → (Any P ds → Q) → Q
+  either_index d ds zero x within is h Q first later = first (subst P (sym is) h)
+  either_index d ds (suc k) x within is h Q first later = later (k, x, omega arith, is, h)
 
   pub Any-kept : (key : List ℕ) (g : Given) (ds : List Keyed) → All (λ (d : Keyed). d.0 ≢ key) ds → Any P ds → Any P (with_given key g ds)
   Any-kept key g [] fresh h = absurd (omega (arith, h.2))
@@ -81,7 +81,7 @@ module _ (P : Keyed → Type 0) where
         | Less ↦ λ o. Any-tail (key, g) (d ∷ ds) h
         | Equal ↦ λ o. absurd (All-head (λ (d : Keyed). d.0 ≢ key) d ds fresh (sym (exact_bytes key d.0 o)))
         | Greater ↦ λ o.
-            either_place d ds h.0 h.1 h.2 h.3 h.4 (Any P (d ∷ with_given key g ds))
+            either_index d ds h.0 h.1 h.2 h.3 h.4 (Any P (d ∷ with_given key g ds))
             (λ here. Any-head d (with_given key g ds) here)
             (λ later. Any-tail d (with_given key g ds) (Any-kept key g ds (All-tail (λ (d : Keyed). d.0 ≢ key) d ds fresh) later))
       ] refl

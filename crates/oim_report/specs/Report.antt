@@ -19,13 +19,13 @@ pub record Reading : Type 0 where
   pub order : List ℕ
 
 -- compares the facts at two indices
-abbrev pub place_cmp : List Fact → ℕ → ℕ → Ordering
-place_cmp facts i j = option_cmp fact_cmp (slice_get facts i) (slice_get facts j)
+abbrev pub index_cmp : List Fact → ℕ → ℕ → Ordering
+index_cmp facts i j = option_cmp fact_cmp (slice_get facts i) (slice_get facts j)
 
 -- all indices of a list, each once, sorted by fact
-pub record IsOrderOf (facts : List Fact) (places : List ℕ) : Type 0 where
-  pub each_once : IsPermutation (range_with_len 0 (length facts)) places
-  pub rising : IsSorted (place_cmp facts) places
+pub record IsOrderOf (facts : List Fact) (indices : List ℕ) : Type 0 where
+  pub each_once : IsPermutation (range_with_len 0 (length facts)) indices
+  pub rising : IsSorted (index_cmp facts) indices
 
 -- each fact fits the sheet, each reference is a kept text, and `order` sorts the facts
 pub record IsReading (r : Reading) : Type 0 where

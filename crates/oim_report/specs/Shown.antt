@@ -50,7 +50,7 @@ seen (NoObject k) = no_object k.now
 seen (NoArray k) = no_array k.now
 seen (NoText k) = no_string k.now
 seen (Key k) = key k.now
-seen (KeyIn k place) = key_in k.now place.now
+seen (KeyIn k index) = key_in k.now index.now
 seen (Name t) = name (a_name t.now)
 seen (Entity t) = name (an_entity t.now)
 seen (Value v) = value (view v.now)
@@ -73,10 +73,10 @@ first_of (t ∷ ts) = if t.0 then t.1 else first_of ts
 abbrev pub unknown_in : List (List ℕ) → Option Members → Option (List ℕ × Data)
 unknown_in known ms = find (λ m. is_unknown known m.0 m.1) (entries (members ms))
 
--- the first unknown key of the whole value, or else of the object at the key `place`
+-- the first unknown key of the whole value, or else of the object at the key `outer`
 abbrev pub unknown_key : List (List ℕ) → Data → List (List ℕ) → List ℕ → Shown
-unknown_key known d inner place =
-    option_map_or (λ m. key m.0) (unknown_in known (as_object d)) (option_map_or (λ m. key_in m.0 place) (unknown_in inner (object_at place d)) nothing)
+unknown_key known d inner outer =
+    option_map_or (λ m. key m.0) (unknown_in known (as_object d)) (option_map_or (λ m. key_in m.0 outer) (unknown_in inner (object_at outer d)) nothing)
 
 -- the first entry of `namespaces` that binds nothing
 abbrev pub unbound_entry : Option Members → Shown

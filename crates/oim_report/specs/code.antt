@@ -13,4 +13,4 @@ pub mod SeenParts
 pub mod SheetCode
 pub mod TapeParts
 pub mod TextCache
-pub mod UriPlaces
+pub mod UriIndices

@@ -1,22 +1,22 @@
 ghost use Rattle.std.specs.Prelude.{◌≡◌, ℕ, Some, IfOk, IsTrue, slice_get};
 ghost use Rattle.oim_dims.specs.FactOrder.{fact_cmp};
-ghost use Rattle.oim_report.specs.Report.{IsOrderOf, place_cmp};
+ghost use Rattle.oim_report.specs.Report.{IsOrderOf, index_cmp};
 ghost use Rattle.oim_report.specs.code.DimensionRuns.{HaveDimensionsOf};
-ghost use Rattle.oim_report.specs.code.UriPlaces.{ShareUris};
+ghost use Rattle.oim_report.specs.code.UriIndices.{ShareUris};
 
 use oim_dims::Fact;
 use std::alloc::{AllocError, Global};
 use std::cmp::Ordering;
 
-/// Returns the indices of the facts, in ascending order of the facts. `places` may be shorter than
+/// Returns the indices of the facts, in ascending order of the facts. `indices` may be shorter than
 /// the list of facts. Where it has the same index for two facts, their concepts have one URI, which
 /// is then not compared.
 pub(crate) fn order_of(
     alloc: Global,
     facts: &[Fact],
-    places: &[Option<usize>],
+    indices: &[Option<usize>],
 ) -> Result<Vec<usize>, AllocError>
-    requires { ShareUris facts.now places.now }
+    requires { ShareUris facts.now indices.now }
     ensures { IfOk result (λ order. IsOrderOf facts.now order.items) }
 {
     // `collect` is not used: if its request for memory is refused, it requests a smaller amount
@@ -24,7 +24,7 @@ pub(crate) fn order_of(
     order.extend(0..facts.len())?;
     let starts = run_starts(alloc, facts)?;
     let starts = starts.as_slice();
-    order.sort_unstable_by(|i, j| compared(facts, starts, places, *i, *j));
+    order.sort_unstable_by(|i, j| compared(facts, starts, indices, *i, *j));
     Ok(order)
 }
 
@@ -47,17 +47,17 @@ fn run_starts(alloc: Global, facts: &[Fact]) -> Result<Vec<usize>, AllocError>
 fn compared(
     facts: &[Fact],
     starts: &[usize],
-    places: &[Option<usize>],
+    indices: &[Option<usize>],
     i: usize,
     j: usize,
 ) -> Ordering
     requires starts { HaveDimensionsOf facts.now starts.now }
-    requires places { ShareUris facts.now places.now }
-    ensures { result ≡ place_cmp facts.now i j }
+    requires indices { ShareUris facts.now indices.now }
+    ensures { result ≡ index_cmp facts.now i j }
 {
     match (facts.get(i), facts.get(j)) {
         (Some(one), Some(other)) if same_at(starts, i, j) => one.value.cmp(&other.value),
-        (Some(one), Some(other)) if share_uri(places, i, j) => compared_in_namespace(one, other),
+        (Some(one), Some(other)) if share_uri(indices, i, j) => compared_in_namespace(one, other),
         _ => facts.get(i).cmp(&facts.get(j)),
     }
 }
@@ -73,10 +73,10 @@ fn compared_in_namespace(one: &Fact, other: &Fact) -> Ordering
     }
 }
 
-fn share_uri(places: &[Option<usize>], i: usize, j: usize) -> bool
-    ensures { IsTrue result → (p : ℕ) × (slice_get places.now i ≡ Some (Some p)) × (slice_get places.now j ≡ Some (Some p)) }
+fn share_uri(indices: &[Option<usize>], i: usize, j: usize) -> bool
+    ensures { IsTrue result → (p : ℕ) × (slice_get indices.now i ≡ Some (Some p)) × (slice_get indices.now j ≡ Some (Some p)) }
 {
-    match (places.get(i), places.get(j)) {
+    match (indices.get(i), indices.get(j)) {
         (Some(Some(one)), Some(Some(other))) => one == other,
         _ => false,
     }

@@ -18,15 +18,15 @@ pub struct Refusal {
 }
 
 impl Refusal {
-    pub(crate) fn of_fact(reason: Reason, place: u64) -> Refusal
-        ensures fact { reason ≢ OutOfMemory → result ≡ at (Fact place) reason }
+    pub(crate) fn of_fact(reason: Reason, number: u64) -> Refusal
+        ensures fact { reason ≢ OutOfMemory → result ≡ at (Fact number) reason }
         ensures memory { reason ≡ OutOfMemory → result ≡ at Document OutOfMemory }
     {
         match reason {
             Reason::OutOfMemory => Refusal::from(reason),
             _ => Refusal {
                 reason,
-                place: Place::Fact(place),
+                place: Place::Fact(number),
             },
         }
     }

@@ -168,9 +168,9 @@ impl<'s> ReportReader<'s> {
         let FoundFacts {
             identifiers,
             facts,
-            places,
+            indices,
         } = found?;
-        let order = order_of(alloc, facts.as_slice(), places.as_slice()).ok()?;
+        let order = order_of(alloc, facts.as_slice(), indices.as_slice()).ok()?;
         if is_above(info.level, facts.as_slice(), order.as_slice()) {
             return None;
         }

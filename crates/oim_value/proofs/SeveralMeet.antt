@@ -21,7 +21,7 @@ use Rattle.oim_value.specs.declared.value.Value.TheVariants.{Nil, Number, Text a
 use Rattle.oim_value.specs.Ends.{AreEnds, EachTwoMeet, intervals_of, has_interval}
 use Rattle.oim_value.specs.Interval.{HasPoints, interval, intervals_meet}
 use Rattle.oim_value.specs.Meets.{Meets}
-use Rattle.oim_value.specs.SeveralMeet.{EachTwoMeetByMembers, AreDifferent, AreNilOrOfKind, EachTwoValuesMeet, MeetBetween, DifferentMeetAsNumbers, DifferentMeetBetweenEnds, has_low, has_high, place_of_greatest_low, place_of_least_high, CrossedEndsAreApart}
+use Rattle.oim_value.specs.SeveralMeet.{EachTwoMeetByMembers, AreDifferent, AreNilOrOfKind, EachTwoValuesMeet, MeetBetween, DifferentMeetAsNumbers, DifferentMeetBetweenEnds, has_low, has_high, index_of_greatest_low, index_of_least_high, CrossedEndsAreApart}
 use Rattle.oim_value.specs.ValueOrder.{kind_order, value_cmp}
 use Rattle.oim_value.proofs.Ends.{all_meet_iff_ends_meet, ends_exist, le_from}
 use Rattle.oim_value.proofs.Intervals.{interval_has_points}
@@ -114,18 +114,18 @@ each_two_from vs all meet i j d under lj =
 -- ---- each interval belongs to one of the values
 
 record Found (P : Interval → Type 0) (vs : List Value) : Type 0 where
-  place : ℕ
-  within : place < length vs
-  number : IsNumber (get_or vs place Nil)
-  holds : P (interval_at (get_or vs place Nil))
+  index : ℕ
+  within : index < length vs
+  number : IsNumber (get_or vs index Nil)
+  holds : P (interval_at (get_or vs index Nil))
 
 behind : (P : Interval → Type 0) (v : Value) (vs : List Value) → Found P vs → Found P (v ∷ vs)
-behind P v vs f = record { place = suc f.place; within = omega (arith, f.within); number = f.number; holds = f.holds }
+behind P v vs f = record { index = suc f.index; within = omega (arith, f.within); number = f.number; holds = f.holds }
 
 found_at : (P : Interval → Type 0) (vs : List Value) (k : ℕ) (x : Interval) → k < length (intervals_of vs) → get_or (intervals_of vs) k x ≡ x → P x → Found P vs
 found_at P [] k x lt is p = absurd (omega (arith, lt))
 found_at P (Nil ∷ vs) k x lt is p = behind P Nil vs (found_at P vs k x lt is p)
-found_at P (Number m d ∷ vs) zero x lt is p = record { place = zero; within = omega arith; number = refl; holds = subst P (sym is) p }
+found_at P (Number m d ∷ vs) zero x lt is p = record { index = zero; within = omega arith; number = refl; holds = subst P (sym is) p }
 found_at P (Number m d ∷ vs) (suc k) x lt is p = behind P (Number m d) vs (found_at P vs k x (omega (arith, lt)) is p)
 found_at P (AText t ∷ vs) k x lt is p = behind P (AText t) vs (found_at P vs k x lt is p)
 found_at P (AName n ∷ vs) k x lt is p = behind P (AName n) vs (found_at P vs k x lt is p)
@@ -154,7 +154,7 @@ one_kind : (kind : ℕ) (vs : List Value) (e : Interval) → AreNilOrOfKind kind
 one_kind kind vs e alike between k d lt =
     let f = found (λ i. i.low ≡ e.low) vs between.ends.low_reached in
     let some_nil : (j : ℕ) (c : Value) → j < length vs → get_or vs j c ≡ Nil → ⊥ = λ j c lj is. between.no_nil (j, lj, get_or_default vs j Nil c lj ∙ is) in
-    let numbers : kind ≡ 1 = sym (kind_there kind (get_or vs f.place Nil) (some_nil f.place Nil f.within) (alike f.place Nil f.within)) ∙ kind_of_number (get_or vs f.place Nil) f.number in
+    let numbers : kind ≡ 1 = sym (kind_there kind (get_or vs f.index Nil) (some_nil f.index Nil f.within) (alike f.index Nil f.within)) ∙ kind_of_number (get_or vs f.index Nil) f.number in
     of_numbers (get_or vs k d) (kind_there kind (get_or vs k d) (some_nil k d lt) (alike k d lt) ∙ numbers)
 
 pub different_meet_between_ends : DifferentMeetBetweenEnds
@@ -176,8 +176,8 @@ different_meet_between_ends kind vs two different alike = (
 
 -- ---- the greatest low end is above the least high end
 
-first_place : (p : Value → Bool) (vs : List Value) (k : ℕ) → k < length vs → p (get_or vs k Nil) ≡ true → position_or_len p vs < length vs
-first_place p vs k lt is_so = elim (cases_lt (position_or_len p vs) (length vs)) [
+first_index : (p : Value → Bool) (vs : List Value) (k : ℕ) → k < length vs → p (get_or vs k Nil) ≡ true → position_or_len p vs < length vs
+first_index p vs k lt is_so = elim (cases_lt (position_or_len p vs) (length vs)) [
   | inl inside ↦ inside
   | inr past ↦ no_number is_so (fails_before_first p vs k Nil (omega (arith, past, lt)))
 ]
@@ -202,10 +202,10 @@ pub crossed_ends_are_apart : CrossedEndsAreApart
 crossed_ends_are_apart vs e ends over =
     let h = found (λ i. i.high ≡ e.high) vs ends.high_reached in
     let l = found (λ i. i.low ≡ e.low) vs ends.low_reached in
-    let i : ℕ = place_of_least_high e vs in
-    let j : ℕ = place_of_greatest_low e vs in
-    let li : i < length vs = first_place (has_high e.high) vs h.place h.within (high_to e.high (get_or vs h.place Nil) h.number h.holds) in
-    let lj : j < length vs = first_place (has_low e.low) vs l.place l.within (low_to e.low (get_or vs l.place Nil) l.number l.holds) in
+    let i : ℕ = index_of_least_high e vs in
+    let j : ℕ = index_of_greatest_low e vs in
+    let li : i < length vs = first_index (has_high e.high) vs h.index h.within (high_to e.high (get_or vs h.index Nil) h.number h.holds) in
+    let lj : j < length vs = first_index (has_low e.low) vs l.index l.within (low_to e.low (get_or vs l.index Nil) l.number l.holds) in
     let high = high_from e.high (get_or vs i Nil) (passes_at_first (has_high e.high) vs Nil li) in
     let low = low_from e.low (get_or vs j Nil) (passes_at_first (has_low e.low) vs Nil lj) in
     record {

@@ -9,15 +9,15 @@ use Rattle.oim_value.specs.declared.level.Level.{Level}
 use Rattle.oim_value.specs.declared.level.Level.TheVariants.{Unique, Complete, Consistent, All}
 
 pub record LevelEntry : Type 0 where
-  pub place : ℕ
+  pub index : ℕ
   pub text : List ℕ
 
 -- the rank of a level (0 for the strictest), and the text that declares the level
 abbrev pub level_entry : Level → LevelEntry
-level_entry Unique = record { place = 0; text = codes "none" }
-level_entry Complete = record { place = 1; text = codes "complete" }
-level_entry Consistent = record { place = 2; text = codes "consistent" }
-level_entry All = record { place = 3; text = codes "all" }
+level_entry Unique = record { index = 0; text = codes "none" }
+level_entry Complete = record { index = 1; text = codes "complete" }
+level_entry Consistent = record { index = 2; text = codes "consistent" }
+level_entry All = record { index = 3; text = codes "all" }
 
 -- all levels, by rank
 abbrev pub levels : List Level
@@ -29,8 +29,8 @@ level_with t = find (λ l. bytes_eq (level_entry l).text t) levels
 
 -- the strictest level is the least
 abbrev pub level_cmp : Level → Level → Ordering
-level_cmp x y = nat_cmp (level_entry x).place (level_entry y).place
+level_cmp x y = nat_cmp (level_entry x).index (level_entry y).index
 
 -- each level is at the index of its rank, so no two levels share a rank
 abbrev pub LevelsStandApart : Type 0
-LevelsStandApart = (l : Level) → slice_get levels (level_entry l).place ≡ Some l
+LevelsStandApart = (l : Level) → slice_get levels (level_entry l).index ≡ Some l

@@ -51,12 +51,12 @@ has_high z (Number units decimals) = int_eq (interval units decimals).high z
 has_high z other = false
 
 -- the index of the first value whose interval has the same low end as e, or the length if there is none
-abbrev pub place_of_greatest_low : Interval → List Value → ℕ
-place_of_greatest_low e = position_or_len (has_low e.low)
+abbrev pub index_of_greatest_low : Interval → List Value → ℕ
+index_of_greatest_low e = position_or_len (has_low e.low)
 
 -- the index of the first value whose interval has the same high end as e, or the length if there is none
-abbrev pub place_of_least_high : Interval → List Value → ℕ
-place_of_least_high e = position_or_len (has_high e.high)
+abbrev pub index_of_least_high : Interval → List Value → ℕ
+index_of_least_high e = position_or_len (has_high e.high)
 
 -- there are values at both indices, and they do not meet
 pub record AreApart (vs : List Value) (i j : ℕ) : Type 0 where
@@ -69,4 +69,4 @@ pub record AreApart (vs : List Value) (i j : ℕ) : Type 0 where
 -- take the first value with the greatest low end, and the first with the least high end; they do not meet if this low end is
 -- above this high end
 abbrev pub CrossedEndsAreApart : Type 0
-CrossedEndsAreApart = (vs : List Value) (e : Interval) → AreEnds e (intervals_of vs) → e.high <ℤ e.low → AreApart vs (place_of_least_high e vs) (place_of_greatest_low e vs)
+CrossedEndsAreApart = (vs : List Value) (e : Interval) → AreEnds e (intervals_of vs) → e.high <ℤ e.low → AreApart vs (index_of_least_high e vs) (index_of_greatest_low e vs)

@@ -19,7 +19,7 @@ pub(crate) fn split_point(body: &[u8]) -> (&[u8], &[u8])
     ensures integer { result.0.now ≡ before_first is_point body.now }
     ensures fraction { result.1.now ≡ after_first is_point body.now }
 {
-    let at = point_place(body);
+    let at = point_index(body);
     if at < body.len() {
         (&body[..at], &body[at + 1..])
     } else {
@@ -27,7 +27,7 @@ pub(crate) fn split_point(body: &[u8]) -> (&[u8], &[u8])
     }
 }
 
-fn point_place(body: &[u8]) -> usize
+fn point_index(body: &[u8]) -> usize
     ensures { result ≡ position_or_len is_point body.now }
 {
     for (i, c) in body.iter().enumerate() {

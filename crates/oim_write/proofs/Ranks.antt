@@ -18,7 +18,7 @@ use Rattle.std.specs.List.Sorted.{IsPartitionPoint, IsPartitionedBy, IsStrictlyS
 use Rattle.std.proofs.lemmas.List.{get_or_default}
 use Rattle.std.proofs.lemmas.List.Sums.{sum_by-cons}
 use Rattle.std.proofs.lemmas.Map.Keys.{Less-from_sorted}
-use Rattle.oim_dims.proofs.Places.{less_is}
+use Rattle.oim_dims.proofs.Indices.{less_is}
 use mathlib.Core.Bool.{true≢false}
 use Rattle.std.proofs.lemmas.Cmp.{nat_list_cmp_total}
 use Rattle.std.proofs.lemmas.Map.Lookups.{exact_bytes}
@@ -180,14 +180,14 @@ not_after {R = R} o xs i j d e rises order within = ⊎_elim
 
 pub rank_at : {K : Type 0} {R : K → K → Ordering} (o : IsTotalOrder R) (xs : List K) (i : ℕ) (d : K) → IsStrictlySortedBy R xs → i < length xs → rank R (get_or xs i d) xs ≡ i + 1
 rank_at {R = R} o xs i d rises h =
-    let place : count_by (λ y. is_lt (R y (get_or xs i d))) xs ≡ i = count_at (λ y. is_lt (R y (get_or xs i d))) xs i (omega arith)
+    let index : count_by (λ y. is_lt (R y (get_or xs i d))) xs ≡ i = count_at (λ y. is_lt (R y (get_or xs i d))) xs i (omega arith)
     ((λ k e low high. ap is_lt (before R xs k i e d rises high h)), (λ k e low high. not_after o xs i k d e rises low high)) in
-    ap suc place ∙ add_one i
+    ap suc index ∙ add_one i
 
 pub ranks_are_within : {K : Type 0} {R : K → K → Ordering} (o : IsTotalOrder R) → RanksAreWithin R
 ranks_are_within {R = R} o members x rises (i, within, there) =
-    let place : rank R x members ≡ i + 1 = ap (λ y. rank R y members) (sym there) ∙ rank_at o members i x rises within in
-    (omega (arith, place), omega (arith, place))
+    let index : rank R x members ≡ i + 1 = ap (λ y. rank R y members) (sym there) ∙ rank_at o members i x rises within in
+    (omega (arith, index), omega (arith, index))
 
 -- ---- prefixes are numbered in the order of their URIs, so spelled names keep the order of names
 
@@ -195,14 +195,14 @@ module _ (us : List (List ℕ)) (rises : IsSet text_cmp us) where
   rank_of : (u : List ℕ) (there : Contains us u) → rank text_cmp u us ≡ there.0 + 1
   rank_of u there = ap (λ v. rank text_cmp v us) (sym there.2) ∙ rank_at nat_list_cmp_total us there.0 u rises there.1
 
-  place_before : (u v : List ℕ) (there : Contains us u) (other : Contains us v) → text_cmp u v ≡ Less → there.0 < other.0
-  place_before u v there other below = ⊎_elim
+  index_before : (u v : List ℕ) (there : Contains us u) (other : Contains us v) → text_cmp u v ≡ Less → there.0 < other.0
+  index_before u v there other below = ⊎_elim
       (λ before. before)
       (λ back. absurd (true≢false (sym (ap is_lt (ap (λ w. text_cmp w (get_or us other.0 v)) there.2 ∙ ap (text_cmp u) other.2 ∙ below)) ∙ not_after nat_list_cmp_total us other.0 there.0 v u rises back there.1)))
       (cases_lt there.0 other.0)
 
   ranks_keep_order : (u v : List ℕ) → Contains us u → Contains us v → text_cmp u v ≡ Less → rank text_cmp u us < rank text_cmp v us
-  ranks_keep_order u v there other below = omega (arith, rank_of u there, rank_of v other, place_before u v there other below)
+  ranks_keep_order u v there other below = omega (arith, rank_of u there, rank_of v other, index_before u v there other below)
 
   prefixes_keep_order : (u v s t : List ℕ) → Contains us u → Contains us v → text_cmp u v ≡ Less → text_cmp (prefix us u ++ s) (prefix us v ++ t) ≡ Less
   prefixes_keep_order u v s t there other below =

@@ -49,7 +49,7 @@ impl PrefixTable {
         let uris = set.into_uris();
         let digits = width_of(uris.len() as u128);
         let prefixes = prefixes_of(alloc, uris.as_slice(), digits)?;
-        let cache = places_of(uris.as_slice());
+        let cache = indices_of(uris.as_slice());
         Ok(PrefixTable {
             uris,
             prefixes,
@@ -76,9 +76,9 @@ impl PrefixTable {
     pub(crate) fn push_prefix(&self, text: &mut String, uri: &str) -> Result<(), AllocError>
         ensures { OnOk result (string_bytes text.new ≡ string_bytes text.old ++ prefix self.now uri.now) }
     {
-        let place = self.cache.place(uri);
-        match self.uris.get(place) {
-            Some(known) if known.as_str() == uri => text.push_str(self.prefixes[place].as_str()),
+        let index = self.cache.index_of(uri);
+        match self.uris.get(index) {
+            Some(known) if known.as_str() == uri => text.push_str(self.prefixes[index].as_str()),
             _ => push_label(text, "n", self.digits, self.rank(uri)),
         }
     }
@@ -118,10 +118,10 @@ fn prefixes_of(alloc: Global, uris: &[Text], digits: usize) -> Result<Vec<String
 
 // Caches the indices of the URIs, except indices above 65,535. If several URIs share a class of the
 // cache, only the last cached index remains.
-fn places_of(uris: &[Text]) -> PositionCache {
+fn indices_of(uris: &[Text]) -> PositionCache {
     let mut cache = PositionCache::new();
-    for (place, uri) in uris.iter().enumerate() {
-        cache.set(uri.as_str(), place);
+    for (index, uri) in uris.iter().enumerate() {
+        cache.set(uri.as_str(), index);
     }
     cache
 }

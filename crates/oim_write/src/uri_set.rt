@@ -142,18 +142,18 @@ impl UriSet {
         ensures { OnOk result (Gains self.old (name.now ∷ []) self.new) }
     {
         let uri = name.uri();
-        if self.is_at(self.cache.place(uri), uri) {
+        if self.is_at(self.cache.index_of(uri), uri) {
             return Ok(());
         }
-        let place = self.put(alloc, name)?;
-        self.cache.set(uri, place);
+        let index = self.put(alloc, name)?;
+        self.cache.set(uri, index);
         Ok(())
     }
 
-    fn is_at(&self, place: usize, uri: &str) -> bool
+    fn is_at(&self, index: usize, uri: &str) -> bool
         ensures { OnTrue result (Contains self.now uri.now) }
     {
-        match self.uris.get(place) {
+        match self.uris.get(index) {
             Some(known) => known.as_str() == uri,
             None => false,
         }
@@ -165,17 +165,17 @@ impl UriSet {
         ensures { OnOk result (Gains self.old (name.now ∷ []) self.new) }
     {
         let uri = name.uri();
-        let place = self.uris[..self.ordered].partition_point(|known| known.as_str() < uri);
-        if self.is_at(place, uri) {
-            return Ok(place);
+        let index = self.uris[..self.ordered].partition_point(|known| known.as_str() < uri);
+        if self.is_at(index, uri) {
+            return Ok(index);
         }
-        let place = self.uris.len();
+        let index = self.uris.len();
         self.uris.push(Text::new(alloc, uri)?)?;
-        if place / 2 > self.ordered {
+        if index / 2 > self.ordered {
             put_in_order(&mut self.uris);
             self.ordered = self.uris.len();
         }
-        Ok(place)
+        Ok(index)
     }
 }
 

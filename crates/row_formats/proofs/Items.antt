@@ -22,13 +22,13 @@ pub closed_array : {E : Type 0} {a b c d : Written} (r : Result (Unit {0}) E) (d
 closed_array (Ok done) ds begun items closed = Adds-is (ap (λ ts. begin_array ∷ ts) (sym (outlined ds))) (Adds-trans begun (Adds-trans items (Adds-one closed)))
 closed_array (Err e) ds begun items closed = tt
 
-pub next_fact : (name : ℕ → List ℕ) (k : ℕ) (vs : List Value) (v : Value) (place : ℕ) → k + length vs ≡ place →
-    item_tokens (fact_items name k (vs ++ v ∷ [])) ≡ item_tokens (fact_items name k vs) ++ tree.json_tokens (outline (fact_data (name place) v))
-next_fact name k [] v place is = append-nil _ ∙ ap (λ i. tree.json_tokens (outline (fact_data (name i) v))) (omega (arith, is))
-next_fact name k (w ∷ vs) v place is =
+pub next_fact : (name : ℕ → List ℕ) (k : ℕ) (vs : List Value) (v : Value) (index : ℕ) → k + length vs ≡ index →
+    item_tokens (fact_items name k (vs ++ v ∷ [])) ≡ item_tokens (fact_items name k vs) ++ tree.json_tokens (outline (fact_data (name index) v))
+next_fact name k [] v index is = append-nil _ ∙ ap (λ i. tree.json_tokens (outline (fact_data (name i) v))) (omega (arith, is))
+next_fact name k (w ∷ vs) v index is =
     let this = tree.json_tokens (outline (fact_data (name k) w)) in
-    ap (λ ts. this ++ ts) (next_fact name (suc k) vs v place (omega (arith, is)))
-    ∙ sym (append_assoc this (item_tokens (fact_items name (suc k) vs)) (tree.json_tokens (outline (fact_data (name place) v))))
+    ap (λ ts. this ++ ts) (next_fact name (suc k) vs v index (omega (arith, is)))
+    ∙ sym (append_assoc this (item_tokens (fact_items name (suc k) vs)) (tree.json_tokens (outline (fact_data (name index) v))))
 
 -- the tokens of an evidence member: its key, then an object with one member
 pub closed_evidence : {E : Type 0} {a b c e f g : Written} (r : Result (Unit {0}) E) (k : List ℕ) (d : Data) → Adds a b (key (codes "evidence") ∷ []) → Adds b c (begin_object ∷ []) → Adds c e (key k ∷ []) → AddsValue e f d → Writes r f g end_object → OnOk r (AddsMembers a g (evidence_member k d))

@@ -19,11 +19,11 @@ pub pushed_seven : (xs : List (List ℕ)) (a b c d e f : List ℕ) (vs : List (L
 pushed_seven xs a b c d e f vs {x2 = x2} {x4 = x4} first second third fourth fifth sixth last =
     pushed_three xs (a ∷ b ∷ []) (c ∷ d ∷ []) (e ∷ f ∷ vs) (pushed xs (a ∷ []) (b ∷ []) first second) (pushed x2 (c ∷ []) (d ∷ []) third fourth) (pushed_three x4 (e ∷ []) (f ∷ []) vs fifth sixth last)
 
-pub next_record : (spreadsheet : Bool) (name : ℕ → List ℕ) (n : ℕ) (d : DimensionSet) (e : Evidence) (k : ℕ) (vs : List Value) (v : Value) (place : ℕ) → k + length vs ≡ place →
-    csv_facts spreadsheet name n d e k (vs ++ v ∷ []) ≡ csv_facts spreadsheet name n d e k vs ++ record_text (fact_fields spreadsheet n d e (evidence_fields name e) (name place) v)
-next_record spreadsheet name n d e k [] v place is =
+pub next_record : (spreadsheet : Bool) (name : ℕ → List ℕ) (n : ℕ) (d : DimensionSet) (e : Evidence) (k : ℕ) (vs : List Value) (v : Value) (index : ℕ) → k + length vs ≡ index →
+    csv_facts spreadsheet name n d e k (vs ++ v ∷ []) ≡ csv_facts spreadsheet name n d e k vs ++ record_text (fact_fields spreadsheet n d e (evidence_fields name e) (name index) v)
+next_record spreadsheet name n d e k [] v index is =
     append-nil _ ∙ ap (λ i. record_text (fact_fields spreadsheet n d e (evidence_fields name e) (name i) v)) (omega (arith, is))
-next_record spreadsheet name n d e k (w ∷ vs) v place is =
+next_record spreadsheet name n d e k (w ∷ vs) v index is =
     let this = record_text (fact_fields spreadsheet n d e (evidence_fields name e) (name k) w) in
-    ap (λ t. this ++ t) (next_record spreadsheet name n d e (suc k) vs v place (omega (arith, is)))
-    ∙ sym (append_assoc this (csv_facts spreadsheet name n d e (suc k) vs) (record_text (fact_fields spreadsheet n d e (evidence_fields name e) (name place) v)))
+    ap (λ t. this ++ t) (next_record spreadsheet name n d e (suc k) vs v index (omega (arith, is)))
+    ∙ sym (append_assoc this (csv_facts spreadsheet name n d e (suc k) vs) (record_text (fact_fields spreadsheet n d e (evidence_fields name e) (name index) v)))

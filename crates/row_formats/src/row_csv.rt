@@ -55,8 +55,8 @@ pub(crate) fn csv_row(spreadsheet: bool, judged: &JudgedRow<'_>) -> Result<Vec<u
     ensures { IfOk result (λ text. text.items ≡ judged_text (csv_row spreadsheet) judged.now) }
 {
     let mut text = Vec::new(judged.identifiers.alloc);
-    for (place, value) in judged.row.values.iter().enumerate() {
-        push_record(&mut text, spreadsheet, judged, place, value)?;
+    for (index, value) in judged.row.values.iter().enumerate() {
+        push_record(&mut text, spreadsheet, judged, index, value)?;
     }
     Ok(text)
 }
@@ -65,19 +65,19 @@ fn push_record(
     text: &mut Vec<u8>,
     spreadsheet: bool,
     judged: &JudgedRow<'_>,
-    place: usize,
+    index: usize,
     value: &Value,
 ) -> Result<(), AllocError>
     requires judged { IsJudged judged.now }
-    requires place { place < length judged.now.row.values.now }
+    requires index { index < length judged.now.row.values.now }
     ensures { OnOk result (text.new.items ≡ text.old.items ++ record_text
         (fact_fields spreadsheet judged.now.number judged.now.row.dimensions.now judged.now.evidence
         (evidence_fields (names_of judged.now) judged.now.evidence)
-        (names_of judged.now place) value.now)) }
+        (names_of judged.now index) value.now)) }
 {
     let alloc = judged.identifiers.alloc;
     let mut record = StringRecord::with_capacity(alloc, RECORD, FIELDS)?;
-    push_front(&mut record, judged, place)?;
+    push_front(&mut record, judged, index)?;
     push_fact(
         alloc,
         &mut record,
@@ -94,16 +94,16 @@ fn push_record(
 fn push_front(
     fields: &mut StringRecord,
     judged: &JudgedRow<'_>,
-    place: usize,
+    index: usize,
 ) -> Result<(), AllocError>
-    requires { judged.now.identifiers.before + place < judged.now.identifiers.count }
+    requires { judged.now.identifiers.before + index < judged.now.identifiers.count }
     ensures { OnOk result (fields_of fields.new ≡ fields_of fields.old ++ decimal judged.now.number
         ∷ verdict_word (verdict_shown judged.now.evidence)
-        ∷ names_of judged.now place ∷ []) }
+        ∷ names_of judged.now index ∷ []) }
 {
     let number = judged.number;
     let number = format!(in judged.identifiers.alloc; "{number}")?;
-    let identifier = judged.identifiers.at(place)?;
+    let identifier = judged.identifiers.at(index)?;
     let word = word_of(&judged.evidence);
     push_three(fields, number.as_str(), word, identifier.as_str())
 }

@@ -1,6 +1,6 @@
 use crate::row_csv::{csv_header, csv_row, csv_source, source_header};
 use crate::row_json::{json_row, json_source};
-use oim_merge::{JudgedRow, PlacedMention, SourceFormat, VerdictFormat};
+use oim_merge::{JudgedRow, IndexedMention, SourceFormat, VerdictFormat};
 use oim_write::Scratch;
 use std::alloc::{AllocError, Global};
 
@@ -61,7 +61,7 @@ impl SourceFormat for RowFormat {
         &self,
         alloc: Global,
         fact: &str,
-        mention: &PlacedMention,
+        mention: &IndexedMention,
     ) -> Result<Vec<u8>, AllocError> {
         let report = mention.report;
         let own = mention.identifier.as_str();

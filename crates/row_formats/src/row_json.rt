@@ -90,8 +90,8 @@ fn write_facts(
         (array (fact_items (named identifiers.now.before identifiers.now.count) 0 values.now))) }
 {
     json.begin_array()?;
-    for (place, value) in values.iter().enumerate() {
-        write_fact(json, scratch, identifiers, place, value)?;
+    for (index, value) in values.iter().enumerate() {
+        write_fact(json, scratch, identifiers, index, value)?;
     }
     json.end_array()
 }
@@ -100,16 +100,16 @@ fn write_fact(
     json: &mut Writer,
     scratch: &mut Scratch,
     identifiers: &Identifiers,
-    place: usize,
+    index: usize,
     value: &Value,
 ) -> Result<(), AllocError>
-    requires { identifiers.now.before + place < identifiers.now.count }
+    requires { identifiers.now.before + index < identifiers.now.count }
     ensures { OnOk result (AddsValue json.old json.new
-        (fact_data (named identifiers.now.before identifiers.now.count place) value.now)) }
+        (fact_data (named identifiers.now.before identifiers.now.count index) value.now)) }
 {
     json.begin_object()?;
     json.key("identifier")?;
-    let identifier = identifiers.at(place)?;
+    let identifier = identifiers.at(index)?;
     json.string(identifier.as_str())?;
     json.key("value")?;
     write_value(json, &Braced, scratch, value)?;

@@ -14,7 +14,7 @@ use Rattle.xbrlmerge_c.specs.declared.output.RefusedReport.{RefusedReport}
 
 -- the result for an accepted report, as numbers
 abbrev pub AreNumbersOf : Checked → CheckedReport → Type 0
-AreNumbersOf checked r = (r.facts ≡ checked.facts) × ((r.level ≡ (level_entry checked.level).place) × ((r.canonical ≡ 1 ↔ IsTrue checked.canonical) × (r.canonical ≤ 1)))
+AreNumbersOf checked r = (r.facts ≡ checked.facts) × ((r.level ≡ (level_entry checked.level).index) × ((r.canonical ≡ 1 ↔ IsTrue checked.canonical) × (r.canonical ≤ 1)))
 
 -- the report is accepted under the sheet, with this result
 pub record Accepts (sheet report : List ℕ) (r : CheckedReport) : Type 0 where

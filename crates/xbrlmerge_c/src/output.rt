@@ -55,8 +55,8 @@ pub(crate) fn put_refusals(told: &[(u64, Refusal)], refusals: &mut [RefusedRepor
     requires { length told.now ≤ length refusals.old }
     ensures { refusals.new ≡ refused_reports told.now ++ drop (length told.now) refusals.old }
 {
-    for (place, (report, refusal)) in told.iter().enumerate() {
-        refusals[place] = RefusedReport::new(*report, refusal);
+    for (index, (report, refusal)) in told.iter().enumerate() {
+        refusals[index] = RefusedReport::new(*report, refusal);
     }
 }
 

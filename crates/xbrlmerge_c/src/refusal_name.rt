@@ -61,9 +61,9 @@ pub extern "C" fn xbrlmerge_refusal_name(number: u32, out: &mut [u8]) -> usize
 fn reason_numbered(number: u32) -> Option<Reason>
     ensures { result ≡ slice_get reasons number }
 {
-    let place = number as usize;
-    if place < REASONS.len() {
-        Some(REASONS[place])
+    let index = number as usize;
+    if index < REASONS.len() {
+        Some(REASONS[index])
     } else {
         None
     }

@@ -11,26 +11,26 @@ inserted es [] = es
 inserted es (n ∷ ns) = inserted (take n.0 es) ns ++ n.1 ∷ drop n.0 es
 
 -- the index of the first new item, or `end` if there are no new items
-abbrev pub first_place : {E : Type 0} → ℕ → List (ℕ × E) → ℕ
-first_place end [] = end
-first_place end (n ∷ ns) = n.0
+abbrev pub first_index : {E : Type 0} → ℕ → List (ℕ × E) → ℕ
+first_index end [] = end
+first_index end (n ∷ ns) = n.0
 
 -- no new item has a smaller index than the first one
 abbrev pub IsFirstLeast : {E : Type 0} → ℕ → List (ℕ × E) → Type 0
-IsFirstLeast end ns = AllByRecursion (λ n. first_place end ns ≤ n.0) ns
+IsFirstLeast end ns = AllByRecursion (λ n. first_index end ns ≤ n.0) ns
 
 module _ {K E : Type 0} (R : K → K → Ordering) (key : E → K) where
   -- the index of the first item whose key is not below k, or the length if there is none
-  abbrev pub place_of : K → List E → ℕ
-  place_of k es = position_or_len (λ e. not (is_lt (R (key e) k))) es
+  abbrev pub index_of : K → List E → ℕ
+  index_of k es = position_or_len (λ e. not (is_lt (R (key e) k))) es
 
   -- the index of k as `Ok`, or the index at which to insert k as `Err`
   abbrev pub found_at : K → List E → Result ℕ ℕ
-  found_at k es = if has_key R key k es then Ok (place_of k es) else Err (place_of k es)
+  found_at k es = if has_key R key k es then Ok (index_of k es) else Err (index_of k es)
 
   -- the item with the index at which it is inserted, if the list does not have its key
   abbrev pub new_item : List E → E → List (ℕ × E)
-  new_item es f = if has_key R key (key f) es then [] else (place_of (key f) es, f) ∷ []
+  new_item es f = if has_key R key (key f) es then [] else (index_of (key f) es, f) ∷ []
 
   abbrev pub new_items : List E → List E → List (ℕ × E)
   new_items es fs = flat_map (new_item es) fs
@@ -42,7 +42,7 @@ module _ {K V : Type 0} (R : K → K → Ordering) (merged : V → V → V) wher
   shared_value i w (Some e) = (i, merged e.1 w) ∷ []
 
   abbrev pub new_value : List (K × V) → K × V → List (ℕ × V)
-  new_value es f = shared_value (place_of R entry_key f.0 es) f.1 (item_at R entry_key f.0 es)
+  new_value es f = shared_value (index_of R entry_key f.0 es) f.1 (item_at R entry_key f.0 es)
 
   abbrev pub new_values : List (K × V) → List (K × V) → List (ℕ × V)
   new_values es fs = flat_map (new_value es) fs

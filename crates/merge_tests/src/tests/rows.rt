@@ -142,7 +142,7 @@ const ROWS: [(Call, RowFormat, &[u8]); 5] = [
 
 #[test]
 fn rows_are_written_in_each_format(rt: HostRuntime) {
-    for (place, (call, format, wanted)) in ROWS.iter().enumerate() {
-        assert!(rt; holds(&rt, *call, *format, wanted), "{place}");
+    for (index, (call, format, wanted)) in ROWS.iter().enumerate() {
+        assert!(rt; holds(&rt, *call, *format, wanted), "{index}");
     }
 }

@@ -13,19 +13,19 @@ use Rattle.oim_merge.specs.declared.messages.Messages.{Messages}
 use Rattle.oim_merge.specs.declared.replicas.Replicas.{Replicas}
 
 abbrev pub AreWithin : List (List ℕ) → List ℕ → Type 0
-AreWithin texts places = All (λ place. place < length texts) places
+AreWithin texts indices = All (λ index. index < length texts) indices
 
 abbrev pub IsTextAt : List (List ℕ) → List ℕ → ℕ → Type 0
-IsTextAt texts text place = (place < length texts) × (slice_index_or texts place [] ≡ text)
+IsTextAt texts text index = (index < length texts) × (slice_index_or texts index [] ≡ text)
 
 -- if there is an index, the text at the index is the canonical text of the base
 abbrev pub IsCurrent : List (List ℕ) → Contents → Option ℕ → Type 0
 IsCurrent texts base None = Unit {0}
-IsCurrent texts base (Some place) = IsTextAt texts (canonical base.body) place
+IsCurrent texts base (Some index) = IsTextAt texts (canonical base.body) index
 
 -- the second list has each text of the first at the same index
 abbrev pub Stay : List (List ℕ) → List (List ℕ) → Type 0
-Stay texts more = (text : List ℕ) (place : ℕ) → IsTextAt texts text place → IsTextAt more text place
+Stay texts more = (text : List ℕ) (index : ℕ) → IsTextAt texts text index → IsTextAt more text index
 
 -- the text of some body that fits the sheet
 pub record IsWritten (sheet : Sheet) (text : List ℕ) : Type 0 where
@@ -40,7 +40,7 @@ sent_texts messages = texts_at messages.texts.items messages.sent.items
 -- each sent text is stored; each stored text is the text of a body that fits the sheet; each cached reading is the result of reading
 -- its text
 pub record AreHeld (sheet : Sheet) (messages : Messages) : Type 0 where
-  pub places : AreWithin messages.texts.items messages.sent.items
+  pub indices : AreWithin messages.texts.items messages.sent.items
   pub kept : AreReadings sheet messages.texts.items messages.kept.items
   pub written : All (IsWritten sheet) messages.texts.items
 

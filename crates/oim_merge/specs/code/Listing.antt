@@ -7,7 +7,7 @@ use Rattle.oim_write.specs.Rank.{padded, width}
 use Rattle.oim_merge.specs.Lines.{AreRowsFrom, RowText}
 use Rattle.oim_merge.specs.Sources.{SourceText}
 use Rattle.oim_merge.specs.declared.fact_list.LentFact.{LentFact}
-use Rattle.oim_merge.specs.declared.mentions.PlacedMention.{PlacedMention}
+use Rattle.oim_merge.specs.declared.mentions.IndexedMention.{IndexedMention}
 
 -- these rows of a body with these facts, numbered from 1, were pushed through a buffer
 pub record PassesRows (written : RowText) (facts : List Fact) (rows : List Row) (old new : Option (List ℕ)) (before after : Pending) : Type 0 where
@@ -26,5 +26,5 @@ abbrev pub lent : LentFact → Fact
 lent f = record { dimensions = f.dimensions.now; value = f.value.now }
 
 -- the text of a mention, given the number of all facts
-abbrev pub placed_text : SourceText → ℕ → PlacedMention → List ℕ
-placed_text written count m = written (102 ∷ padded (width count) (m.place + 1)) m.report m.identifier
+abbrev pub indexed_text : SourceText → ℕ → IndexedMention → List ℕ
+indexed_text written count m = written (102 ∷ padded (width count) (m.index + 1)) m.report m.identifier

@@ -47,8 +47,8 @@ pub(crate) fn level_within(limit: Level, facts: &[Fact], order: &[usize]) -> Res
     let mut level = Level::Unique;
     let mut last = &facts[*first];
     let mut shared = interval_at(&last.value);
-    for place in rest {
-        let fact = &facts[*place];
+    for index in rest {
+        let fact = &facts[*index];
         let interval = interval_at(&fact.value);
         if last.dimensions == fact.dimensions {
             level = level.max(level_beside(&last.value, shared, &fact.value));
@@ -58,7 +58,7 @@ pub(crate) fn level_within(limit: Level, facts: &[Fact], order: &[usize]) -> Res
         }
         last = fact;
         if limit < level {
-            return Err(*place);
+            return Err(*index);
         }
     }
     Ok(level)

@@ -4,7 +4,7 @@ ghost use Rattle.std.specs.String.{string_cmp};
 ghost use Rattle.oim_names.specs.Bindings.{Binding};
 ghost use Rattle.serde_json.specs.Data.{Members, no_members};
 ghost use Rattle.oim_report.specs.code.FoundFacts.{AreFound, rise_after};
-ghost use Rattle.oim_report.specs.code.UriPlaces.{AreUriPlaces};
+ghost use Rattle.oim_report.specs.code.UriIndices.{AreUriIndices};
 ghost use Rattle.oim_report.specs.Pieces.{put_all};
 ghost use Rattle.oim_report.specs.Sheet.{Sheet as ASheet};
 
@@ -13,16 +13,16 @@ use std::alloc::Global;
 use std::collections::BTreeMap;
 
 /// The facts of one or more pieces, with their identifiers, in the order of the text. Identifiers
-/// may be repeated. For each fact, `places` has what `FactReader::uri_place` returned.
+/// may be repeated. For each fact, `indices` has what `FactReader::uri_index` returned.
 #[derive(Drop)]
 pub(crate) struct FoundFacts {
     pub(crate) identifiers: Vec<String>,
     pub(crate) facts: Vec<Fact>,
-    pub(crate) places: Vec<Option<usize>>,
+    pub(crate) indices: Vec<Option<usize>>,
 }
 
-// A fact with its entry in `places`.
-type PlacedFact = (Fact, Option<usize>);
+// A fact with its entry in `indices`.
+type IndexedFact = (Fact, Option<usize>);
 
 impl FoundFacts {
     /// Sorts the facts by their identifiers in byte order. If an identifier is repeated, only its
@@ -31,8 +31,8 @@ impl FoundFacts {
         ensures found { IfSome result (λ f. (sheet : ASheet) (bs : List Binding) (ms : Members) →
             AreFound sheet bs ms self.identifiers.items self.facts.items →
             AreFound sheet bs (put_all ms no_members) f.identifiers.items f.facts.items) }
-        ensures places { IfSome result (λ f. (bs : List Binding) →
-            AreUriPlaces bs self.facts.items self.places.items → AreUriPlaces bs f.facts.items f.places.items) }
+        ensures indices { IfSome result (λ f. (bs : List Binding) →
+            AreUriIndices bs self.facts.items self.indices.items → AreUriIndices bs f.facts.items f.indices.items) }
     {
         if rise(self.identifiers.as_slice()) {
             return Some(self);
@@ -58,19 +58,19 @@ fn rise(identifiers: &[String]) -> bool
     true
 }
 
-fn by_identifier(alloc: Global, read: FoundFacts) -> Option<BTreeMap<String, PlacedFact>>
+fn by_identifier(alloc: Global, read: FoundFacts) -> Option<BTreeMap<String, IndexedFact>>
     ensures found { IfSome result (λ m. (sheet : ASheet) (bs : List Binding) (ms : Members) →
         AreFound sheet bs ms read.identifiers.items read.facts.items →
         AreFound sheet bs (put_all ms no_members) (map (λ e. e.0) m.entries) (map (λ e. e.1.0) m.entries)) }
-    ensures places { IfSome result (λ m. (bs : List Binding) →
-        AreUriPlaces bs read.facts.items read.places.items →
-        AreUriPlaces bs (map (λ e. e.1.0) m.entries) (map (λ e. e.1.1) m.entries)) }
+    ensures indices { IfSome result (λ m. (bs : List Binding) →
+        AreUriIndices bs read.facts.items read.indices.items →
+        AreUriIndices bs (map (λ e. e.1.0) m.entries) (map (λ e. e.1.1) m.entries)) }
 {
     let mut found = BTreeMap::new(alloc);
     let mut facts = read.facts.into_iter();
-    let mut places = read.places.into_iter();
+    let mut indices = read.indices.into_iter();
     for identifier in read.identifiers {
-        let fact = (facts.next()?, places.next()?);
+        let fact = (facts.next()?, indices.next()?);
         if !put(&mut found, identifier, fact) {
             return None;
         }
@@ -78,28 +78,28 @@ fn by_identifier(alloc: Global, read: FoundFacts) -> Option<BTreeMap<String, Pla
     Some(found)
 }
 
-fn put(found: &mut BTreeMap<String, PlacedFact>, identifier: String, fact: PlacedFact) -> bool
+fn put(found: &mut BTreeMap<String, IndexedFact>, identifier: String, fact: IndexedFact) -> bool
     ensures { result ≡ true → found.new.entries ≡ insert_entry string_cmp found.old.entries identifier fact }
 {
     found.insert(identifier, fact).is_ok()
 }
 
-fn found_in(alloc: Global, found: BTreeMap<String, PlacedFact>) -> Option<FoundFacts>
+fn found_in(alloc: Global, found: BTreeMap<String, IndexedFact>) -> Option<FoundFacts>
     ensures { IfSome result (λ f. (f.identifiers.items ≡ map (λ e. e.0) found.entries)
         × (f.facts.items ≡ map (λ e. e.1.0) found.entries)
-        × (f.places.items ≡ map (λ e. e.1.1) found.entries)) }
+        × (f.indices.items ≡ map (λ e. e.1.1) found.entries)) }
 {
     let mut identifiers = Vec::with_capacity(alloc, found.len()).ok()?;
     let mut facts = Vec::with_capacity(alloc, found.len()).ok()?;
-    let mut places = Vec::with_capacity(alloc, found.len()).ok()?;
-    for (identifier, (fact, place)) in found {
+    let mut indices = Vec::with_capacity(alloc, found.len()).ok()?;
+    for (identifier, (fact, index)) in found {
         identifiers.push(identifier).ok()?;
         facts.push(fact).ok()?;
-        places.push(place).ok()?;
+        indices.push(index).ok()?;
     }
     Some(FoundFacts {
         identifiers,
         facts,
-        places,
+        indices,
     })
 }

@@ -203,16 +203,16 @@ impl<'a> DimensionParts<'a> {
         if self.defined.len() >= MOST_INSERTED {
             return None;
         }
-        let at = place_of(self.defined.as_slice(), key)?;
+        let at = index_of(self.defined.as_slice(), key)?;
         self.defined.insert(at, (key, member)).ok()
     }
 }
 
 // Returns the index at which `key` is inserted in a list that is in byte order of the keys, or
 // `None` if the list has the key.
-fn place_of(defined: &[(&str, JsonMember<'_>)], key: &str) -> Option<usize>
+fn index_of(defined: &[(&str, JsonMember<'_>)], key: &str) -> Option<usize>
     ensures within { IfSome result (λ at. at ≤ length defined.now) }
-    ensures place { IfSome result (λ at. (g : Given)
+    ensures index { IfSome result (λ at. (g : Given)
         → with_given key.now g (seen_defined defined.now) ≡ insert (seen_defined defined.now) at (key.now, g)) }
 {
     let mut at: usize = 0;

@@ -5,7 +5,7 @@ ghost use Rattle.oim_names.specs.Bindings.{uri_at};
 ghost use Rattle.oim_names.specs.QName.{QName};
 ghost use Rattle.oim_report.specs.code.JsonMember.{seen};
 ghost use Rattle.oim_report.specs.code.TextCache.{concept_with};
-ghost use Rattle.oim_report.specs.code.UriPlaces.{concept_in};
+ghost use Rattle.oim_report.specs.code.UriIndices.{concept_in};
 ghost use Rattle.oim_report.specs.code.SeenParts.{seen_defined, seen_dimensions, seen_parts};
 ghost use Rattle.oim_report.specs.Info.{facts_of};
 ghost use Rattle.oim_report.specs.Outcome.{at, fact_outcome, facts_said};
@@ -148,13 +148,13 @@ impl<'s> FactReader<'s> {
 
     /// Returns the index of the binding of the concept's prefix, if the aliases have it in their
     /// cache. Facts with one index have concepts in one namespace.
-    pub(crate) fn uri_place(&self, parts: &FactParts<'_>) -> Option<usize>
-        ensures { IfSome result (λ place. (q : QName) → concept_in self.now.aliases (seen_parts parts.now) ≡ Some q
-            → uri_at self.now.aliases place ≡ Some q.uri) }
+    pub(crate) fn uri_index(&self, parts: &FactParts<'_>) -> Option<usize>
+        ensures { IfSome result (λ index. (q : QName) → concept_in self.now.aliases (seen_parts parts.now) ≡ Some q
+            → uri_at self.now.aliases index ≡ Some q.uri) }
     {
         let concept = parts.dimensions.as_ref()?.concept;
         let (prefix, _local) = split(concept.text()?);
-        self.aliases.place(prefix)
+        self.aliases.index_of(prefix)
     }
 
     fn read_content(
@@ -301,13 +301,13 @@ pub(crate) fn read_facts(
         return Ok(Vec::new(alloc));
     };
     let mut facts = Vec::with_capacity(alloc, objects.len())?;
-    let mut place: u64 = 1;
+    let mut number: u64 = 1;
     for (_identifier, object) in objects.iter() {
         match reader.read(object) {
             Ok(fact) => facts.push(fact)?,
-            Err(reason) => return Err(Refusal::of_fact(reason, place)),
+            Err(reason) => return Err(Refusal::of_fact(reason, number)),
         }
-        place += 1;
+        number += 1;
     }
     Ok(facts)
 }

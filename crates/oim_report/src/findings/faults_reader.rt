@@ -115,15 +115,15 @@ fn add_facts_faults(
     let Some(objects) = object_at(tree, "facts") else {
         return Ok(());
     };
-    let mut place: u64 = 1;
+    let mut number: u64 = 1;
     for (_identifier, object) in objects.iter() {
         let fact = FactInScope {
             sheet,
             aliases,
             object,
         };
-        fact.add_faults(alloc, Place::Fact(place), faults)?;
-        place += 1;
+        fact.add_faults(alloc, Place::Fact(number), faults)?;
+        number += 1;
     }
     Ok(())
 }

@@ -7,7 +7,7 @@ ghost use Rattle.serde_json.specs.Data.{no_members};
 ghost use Rattle.oim_report.specs.Pieces.{put_all, HasMember, IsPiece};
 ghost use Rattle.oim_report.specs.code.FoundFacts.{AreFound};
 ghost use Rattle.oim_report.specs.code.TapeParts.{AreData, one};
-ghost use Rattle.oim_report.specs.code.UriPlaces.{AreUriPlaces};
+ghost use Rattle.oim_report.specs.code.UriIndices.{AreUriIndices};
 
 use crate::document::found_facts::FoundFacts;
 use crate::fact::fact_parts::FactParts;
@@ -54,25 +54,25 @@ pub(crate) fn read_facts_in_pieces(
     ensures same { reader.new ≡ reader.old }
     ensures found { IfSome result (λ f. (objects : tree.Members) × IsPiece text.now objects
         × AreFound reader.old.sheet reader.old.aliases objects f.identifiers.items f.facts.items) }
-    ensures places { IfSome result (λ f. AreUriPlaces reader.old.aliases f.facts.items f.places.items) }
+    ensures indices { IfSome result (λ f. AreUriIndices reader.old.aliases f.facts.items f.indices.items) }
 {
     let mut identifiers = Vec::new(alloc);
     let mut facts = Vec::new(alloc);
-    let mut places = Vec::new(alloc);
+    let mut indices = Vec::new(alloc);
     let mut left = text;
     for _ in 0..text.len() {
         let (piece, rest) = split_piece(left, size);
         let mut more = read_piece_facts(alloc, reader, buffers, piece)?;
         identifiers.append(&mut more.identifiers).ok()?;
         facts.append(&mut more.facts).ok()?;
-        places.append(&mut more.places).ok()?;
+        indices.append(&mut more.indices).ok()?;
         match rest {
             Some(rest) => left = rest,
             None => {
                 let found = FoundFacts {
                     identifiers,
                     facts,
-                    places,
+                    indices,
                 };
                 return found.in_order(alloc);
             }
@@ -92,7 +92,7 @@ fn read_piece_facts(
     ensures same { reader.new ≡ reader.old }
     ensures found { IfSome result (λ f. (ms : tree.Members) × IsPiece piece.now (put_all ms no_members)
         × AreFound reader.old.sheet reader.old.aliases ms f.identifiers.items f.facts.items) }
-    ensures places { IfSome result (λ f. AreUriPlaces reader.old.aliases f.facts.items f.places.items) }
+    ensures indices { IfSome result (λ f. AreUriIndices reader.old.aliases f.facts.items f.indices.items) }
 {
     if !ends_with_brace(piece) {
         return None;
@@ -124,14 +124,14 @@ fn read_members(
     ensures found { (vs : spec.Members) → InMembers members.entry vs
         → IfSome result (λ f. (ms : tree.Members) × AreData vs ms × HasMember ms
         × AreFound reader.old.sheet reader.old.aliases ms f.identifiers.items f.facts.items) }
-    ensures places { IfSome result (λ f. AreUriPlaces reader.old.aliases f.facts.items f.places.items) }
+    ensures indices { IfSome result (λ f. AreUriIndices reader.old.aliases f.facts.items f.indices.items) }
 {
     let mut identifiers = Vec::new(alloc);
     let mut facts = Vec::new(alloc);
-    let mut places = Vec::new(alloc);
+    let mut indices = Vec::new(alloc);
     while let Some((key, object)) = members.next() {
         let parts = FactParts::of_element(alloc, &object)?;
-        places.push(reader.uri_place(&parts)).ok()?;
+        indices.push(reader.uri_index(&parts)).ok()?;
         facts.push(reader.read_parts(&parts).ok()?).ok()?;
         identifiers.push(String::from_str(alloc, key).ok()?).ok()?;
     }
@@ -141,6 +141,6 @@ fn read_members(
     Some(FoundFacts {
         identifiers,
         facts,
-        places,
+        indices,
     })
 }

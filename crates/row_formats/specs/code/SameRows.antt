@@ -7,7 +7,7 @@ use Rattle.oim_dims.specs.DimensionSet.{DimensionSet}
 use Rattle.fact_base.specs.declared.evidence.Evidence.{Evidence}
 use Rattle.fact_base.specs.declared.evidence.Evidence.TheVariants.{Alike, Common, Apart}
 use Rattle.oim_merge.specs.Judged.{DependsOnItsNames}
-use Rattle.oim_merge.specs.Named.{HasPlaces}
+use Rattle.oim_merge.specs.Named.{HasIndices}
 use Rattle.row_formats.specs.CsvRows.{csv_facts, csv_row, evidence_fields, fact_fields, record_text}
 use Rattle.row_formats.specs.JsonRows.{apart_data, evidence_member, evidence_members, fact_data, fact_items, json_row, row_object}
 use Rattle.row_formats.specs.Rows.{row_text}
@@ -19,17 +19,17 @@ module _ (name other : ℕ → List ℕ) (n : ℕ) (same : (i : ℕ) → i < n �
   same_facts k [] all = refl
   same_facts k (v ∷ vs) all = λ i. item (fact_data (same k (omega (arith, all)) i) v) (same_facts (suc k) vs (omega (arith, all)) i)
 
-  same_evidence : (e : Evidence) → HasPlaces n e → evidence_members name e ≡ evidence_members other e
+  same_evidence : (e : Evidence) → HasIndices n e → evidence_members name e ≡ evidence_members other e
   same_evidence Alike within = refl
   same_evidence (Common c) within = refl
   same_evidence (Apart i j) within = λ k. evidence_member (codes "apart") (apart_data (same i within.0 k) (same j within.1 k))
 
-  same_shown : (e : Evidence) → HasPlaces n e → evidence_fields name e ≡ evidence_fields other e
+  same_shown : (e : Evidence) → HasIndices n e → evidence_fields name e ≡ evidence_fields other e
   same_shown Alike within = refl
   same_shown (Common c) within = refl
   same_shown (Apart i j) within = λ k. [] ∷ [] ∷ same i within.0 k ∷ same j within.1 k ∷ []
 
-  same_records : (spreadsheet : Bool) (number : ℕ) (d : DimensionSet) (e : Evidence) (k : ℕ) (vs : List Value) → k + length vs ≡ n → HasPlaces n e → csv_facts spreadsheet name number d e k vs ≡ csv_facts spreadsheet other number d e k vs
+  same_records : (spreadsheet : Bool) (number : ℕ) (d : DimensionSet) (e : Evidence) (k : ℕ) (vs : List Value) → k + length vs ≡ n → HasIndices n e → csv_facts spreadsheet name number d e k vs ≡ csv_facts spreadsheet other number d e k vs
   same_records spreadsheet number d e k [] all within = refl
   same_records spreadsheet number d e k (v ∷ vs) all within =
       λ i. record_text (fact_fields spreadsheet number d e (same_shown e within i) (same k (omega (arith, all)) i) v) ++ same_records spreadsheet number d e (suc k) vs (omega (arith, all)) within i

@@ -245,9 +245,9 @@ fn compared(rt: &HostRuntime, first: &Value, second: &Spelled) -> (bool, bool) {
     (*first <= second, value_meets(first, &second))
 }
 
-fn compares(rt: &HostRuntime, place: usize, group: u8, value: &Value) -> bool {
+fn compares(rt: &HostRuntime, index: usize, group: u8, value: &Value) -> bool {
     for (other, (other_group, spelled)) in RISING.iter().enumerate() {
-        if compared(rt, value, spelled) != (place <= other, group == *other_group) {
+        if compared(rt, value, spelled) != (index <= other, group == *other_group) {
             return false;
         }
     }
@@ -256,10 +256,10 @@ fn compares(rt: &HostRuntime, place: usize, group: u8, value: &Value) -> bool {
 
 #[test]
 fn values_are_in_order(rt: HostRuntime) {
-    for (place, (group, spelled)) in RISING.iter().enumerate() {
+    for (index, (group, spelled)) in RISING.iter().enumerate() {
         assert!(rt;
-            compares(&rt, place, *group, &value(&rt, spelled)),
-            "{place}"
+            compares(&rt, index, *group, &value(&rt, spelled)),
+            "{index}"
         );
     }
 }

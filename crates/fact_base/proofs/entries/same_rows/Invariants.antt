@@ -2,5 +2,5 @@ use Rattle.std.proofs.Common.{map, ◌≡◌, length, take}
 use Rattle.fact_base.specs.Shown.{row_of}
 use Rattle.fact_base.proofs.entries.same_rows.Given as goal
 
-abbrev pub invariant-loop-place : goal.invariant-loop-place
-invariant-loop-place l = (length l.one ≡ length l.other) × (take l.place (map row_of l.one) ≡ take l.place (map row_of l.other))
+abbrev pub invariant-loop-index : goal.invariant-loop-index
+invariant-loop-index l = (length l.one ≡ length l.other) × (take l.index (map row_of l.one) ≡ take l.index (map row_of l.other))

@@ -3,5 +3,5 @@ use Rattle.oim_value.specs.SeveralMeet.{has_high}
 use Rattle.std.specs.List.{position_or_len}
 use Rattle.fact_base.proofs.verdict.first_high.Given as goal
 
-abbrev pub invariant-loop-place : goal.invariant-loop-place
-invariant-loop-place l = l.place + position_or_len (has_high l.ends.high) (drop l.place l.values) ≡ position_or_len (has_high l.ends.high) l.values
+abbrev pub invariant-loop-index : goal.invariant-loop-index
+invariant-loop-index l = l.index + position_or_len (has_high l.ends.high) (drop l.index l.values) ≡ position_or_len (has_high l.ends.high) l.values

@@ -1,9 +1,9 @@
 use Rattle.std.proofs.Common.{◌+◌, ◌<◌, sym, ap, ◌∙◌, arith, length}
-use Rattle.merge_laws.proofs.Places.{found_here, less_before, greater_after}
+use Rattle.merge_laws.proofs.Indices.{found_here, less_before, greater_after}
 use Rattle.merge_laws.proofs.search.find_from.Goals as goal
 
-pub returns-in-Equal-clause-place : goal.returns-in-Equal-clause-place
-returns-in-Equal-clause-place g c =
+pub returns-in-Equal-clause-index : goal.returns-in-Equal-clause-index
+returns-in-Equal-clause-index g c =
     let l = c.loop-step in
     let within : l.low + l.step < length c.args.items.now = omega (arith, c.loop-step-test.true, l.invariant.within) in
     found_here g.E.Keyed.key_of g.met.K.Ord.total c.args.items.now c.args.key.now (l.low + l.step) c.index-items-probe.result c.requires.rises within

@@ -1,5 +1,5 @@
 use Rattle.std.proofs.Common.{◌+◌, ◌-◌, ◌/◌, ◌<◌, sym, ap, ◌∙◌, arith, length}
-use Rattle.merge_laws.proofs.Places.{found_here, found_gap, less_before, greater_after}
+use Rattle.merge_laws.proofs.Indices.{found_here, found_gap, less_before, greater_after}
 use Rattle.merge_laws.proofs.search.halve.Goals as goal
 
 pub loop-low-preserved-in-Less : goal.loop-low-preserved-in-Less
@@ -15,8 +15,8 @@ loop-low-preserved-in-Less g c =
       above = l.invariant.above;
     }
 
-pub returns-in-Equal-clause-place : goal.returns-in-Equal-clause-place
-returns-in-Equal-clause-place g c =
+pub returns-in-Equal-clause-index : goal.returns-in-Equal-clause-index
+returns-in-Equal-clause-index g c =
     let l = c.loop-low in
     let middle = l.low + (l.high - l.low) / 2 in
     let within : middle < length c.args.items.now = omega (arith, c.loop-low-test.true, l.invariant.within) in
@@ -36,8 +36,8 @@ loop-low-preserved g c =
           (ap (λ e. g.K.Ord.cmp (g.E.Keyed.key_of e) c.args.key.now) (sym c.index-items-middle.is) ∙ ap (λ k. g.K.Ord.cmp k c.args.key.now) (sym c.key.ensures) ∙ sym c.in-Greater.ensures);
     }
 
-pub returns-clause-place : goal.returns-clause-place
-returns-clause-place g c =
+pub returns-clause-index : goal.returns-clause-index
+returns-clause-index g c =
     let l = c.loop-low in
     found_gap g.E.Keyed.key_of g.met.K.Ord.total c.args.items.now c.args.key.now l.low (omega (arith, l.invariant.order, l.invariant.within)) (λ j d lt. l.invariant.below j d (omega arith) lt)
     (λ j d ge lt. l.invariant.above j d (omega (arith, ge, c.loop-low-test.false)) lt)

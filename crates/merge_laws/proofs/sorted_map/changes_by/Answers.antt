@@ -1,9 +1,9 @@
 use Rattle.std.proofs.Common.{◌≡◌, ◌≤◌, ◌∷◌, ◌++◌, [], append-nil, length, sym, ap, subst, ◌∙◌, refl}
-use Rattle.merge_laws.specs.code.Insertions.{new_item, new_items, new_value, new_values, place_of}
+use Rattle.merge_laws.specs.code.Insertions.{new_item, new_items, new_value, new_values, index_of}
 use Rattle.merge_laws.specs.Sorted.{has_key, entry_key}
 use Rattle.merge_laws.proofs.Edits.{is_new, no_value, not_new, tells_err, tells_ok, value_shared}
 use Rattle.merge_laws.proofs.Lists.{flat_map_next}
-use Rattle.merge_laws.proofs.Places.{passed_more, place_bound}
+use Rattle.merge_laws.proofs.Indices.{passed_more, index_bound}
 use Rattle.merge_laws.proofs.sorted_map.changes_by.Goals as goal
 use Rattle.merge_laws.proofs.sorted_map.changes_by.Goals.{in-Ok+in_ok-value-in-Ok+in_ok-merge-in-Ok+in_ok-push-in-Ok, in-Err+in_ok-copied-in-Err+in_ok-push-in-Err}
 
@@ -25,38 +25,38 @@ loop-other-preserved g c =
     ∙ flat_map_next (new_item R entry_key es) fs i _ f c.loop-other-test.true c.other-item.is refl in
     elim c.match-find_from.branch [
       | in-Ok+in_ok-value-in-Ok+in_ok-merge-in-Ok+in_ok-push-in-Ok w ↦
-          let at : c.match-find_from.from ≡ place_of R entry_key f.0 es = w.from-is ∙ sym (tells_ok (has_key R entry_key f.0 es) (place_of R entry_key f.0 es) _ w.in-Ok.ensures.place).1 in
+          let at : c.match-find_from.from ≡ index_of R entry_key f.0 es = w.from-is ∙ sym (tells_ok (has_key R entry_key f.0 es) (index_of R entry_key f.0 es) _ w.in-Ok.ensures.index).1 in
           let merged = w.in_ok-merge-in-Ok.ensures.ok ∙ ap (λ v. g.V.Merge.merged v f.1) w.in_ok-value-in-Ok.ensures in
           record {
             values =
                 ap (λ x. x.values.items) w.changes-is
                 ∙ w.in_ok-push-in-Ok.ensures.items
-                ∙ ap (λ v. values ++ (w.in-Ok.place, v) ∷ []) merged
-                ∙ ap (λ cs. values ++ cs) (sym (value_shared o g.V.Merge.merged f es w.in-Ok.place w.index-entries-place.result c.requires.entries w.in-Ok.ensures.place))
+                ∙ ap (λ v. values ++ (w.in-Ok.index, v) ∷ []) merged
+                ∙ ap (λ cs. values ++ cs) (sym (value_shared o g.V.Merge.merged f es w.in-Ok.index w.index-entries-index.result c.requires.entries w.in-Ok.ensures.index))
                 ∙ value_more;
             new_entries =
                 ap (λ x. x.new_entries.items) w.changes-is
                 ∙ sym (append-nil news)
-                ∙ ap (λ ns. news ++ ns) (sym (not_new entry_key o f es _ w.in-Ok.ensures.place))
+                ∙ ap (λ ns. news ++ ns) (sym (not_new entry_key o f es _ w.in-Ok.ensures.index))
                 ∙ news_more;
-            within = subst (λ n. n ≤ length es) (sym at) (place_bound entry_key o f.0 es);
+            within = subst (λ n. n ≤ length es) (sym at) (index_bound entry_key o f.0 es);
             passed = λ d within. passed_more entry_key o es fs i _ f d c.requires.others c.other-item.is refl within _ at;
           }
       | in-Err+in_ok-copied-in-Err+in_ok-push-in-Err w ↦
-          let at : c.match-find_from.from ≡ place_of R entry_key f.0 es = w.from-is ∙ sym (tells_err (has_key R entry_key f.0 es) (place_of R entry_key f.0 es) _ w.in-Err.ensures.place).1 in
+          let at : c.match-find_from.from ≡ index_of R entry_key f.0 es = w.from-is ∙ sym (tells_err (has_key R entry_key f.0 es) (index_of R entry_key f.0 es) _ w.in-Err.ensures.index).1 in
           record {
             values =
                 ap (λ x. x.values.items) w.changes-is
                 ∙ sym (append-nil values)
-                ∙ ap (λ cs. values ++ cs) (sym (no_value o g.V.Merge.merged f es _ w.in-Err.ensures.place))
+                ∙ ap (λ cs. values ++ cs) (sym (no_value o g.V.Merge.merged f es _ w.in-Err.ensures.index))
                 ∙ value_more;
             new_entries =
                 ap (λ x. x.new_entries.items) w.changes-is
                 ∙ w.in_ok-push-in-Err.ensures.items
-                ∙ ap (λ e. news ++ (w.in-Err.place, e) ∷ []) w.in_ok-copied-in-Err.ensures
-                ∙ ap (λ ns. news ++ ns) (sym (is_new entry_key o f es _ w.in-Err.ensures.place))
+                ∙ ap (λ e. news ++ (w.in-Err.index, e) ∷ []) w.in_ok-copied-in-Err.ensures
+                ∙ ap (λ ns. news ++ ns) (sym (is_new entry_key o f es _ w.in-Err.ensures.index))
                 ∙ news_more;
-            within = subst (λ n. n ≤ length es) (sym at) (place_bound entry_key o f.0 es);
+            within = subst (λ n. n ≤ length es) (sym at) (index_bound entry_key o f.0 es);
             passed = λ d within. passed_more entry_key o es fs i _ f d c.requires.others c.other-item.is refl within _ at;
           }
     ]

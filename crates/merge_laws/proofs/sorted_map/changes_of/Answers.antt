@@ -2,11 +2,11 @@ use Rattle.std.proofs.Common.{◌≡◌, ◌≤◌, ◌∷◌, ◌++◌, [], app
 use Rattle.std.proofs.lemmas.Iterator.Adapters.{YieldsList-from_vec}
 use Rattle.std.proofs.lemmas.Iterator.Consumers.{YieldsList-turn, YieldsList-end}
 use Rattle.std.proofs.lemmas.List.{length_push, take_all}
-use Rattle.merge_laws.specs.code.Insertions.{new_item, new_items, new_value, new_values, place_of}
+use Rattle.merge_laws.specs.code.Insertions.{new_item, new_items, new_value, new_values, index_of}
 use Rattle.merge_laws.specs.Sorted.{has_key, entry_key}
 use Rattle.merge_laws.proofs.Edits.{is_new, no_value, not_new, tells_err, tells_ok, value_shared}
 use Rattle.merge_laws.proofs.Lists.{flat_map_next}
-use Rattle.merge_laws.proofs.Places.{passed_more, place_bound}
+use Rattle.merge_laws.proofs.Indices.{passed_more, index_bound}
 use Rattle.merge_laws.proofs.sorted_map.changes_of.Goals as goal
 
 pub find_from-requires-clause-within : goal.find_from-requires-clause-within
@@ -29,22 +29,22 @@ loop-other-preserved-in-Ok-1 g c =
     let next = length_push c.loop-other.yielded f in
     let values = c.loop-other.changes.values.items in
     let news = c.loop-other.changes.new_entries.items in
-    let read = c.index-entries-place.result in
-    let turned = g.met.V.Merge.commutative (get_or es c.in-Ok.place read).1 f.1 c.known.ensures c.known-in-Ok.ensures in
-    let at : c.in-Ok.place ≡ place_of R entry_key f.0 es = sym (tells_ok (has_key R entry_key f.0 es) (place_of R entry_key f.0 es) _ c.in-Ok.ensures.place).1 in
+    let read = c.index-entries-index.result in
+    let turned = g.met.V.Merge.commutative (get_or es c.in-Ok.index read).1 f.1 c.known.ensures c.known-in-Ok.ensures in
+    let at : c.in-Ok.index ≡ index_of R entry_key f.0 es = sym (tells_ok (has_key R entry_key f.0 es) (index_of R entry_key f.0 es) _ c.in-Ok.ensures.index).1 in
     record {
       values =
           c.in_ok-push-in-Ok.ensures.items
-          ∙ ap (λ v. values ++ (c.in-Ok.place, v) ∷ []) (c.in_ok-merge-in-Ok.ensures.ok ∙ sym turned)
-          ∙ ap (λ cs. values ++ cs) (sym (value_shared o g.V.Merge.merged f es c.in-Ok.place read c.requires.entries c.in-Ok.ensures.place))
+          ∙ ap (λ v. values ++ (c.in-Ok.index, v) ∷ []) (c.in_ok-merge-in-Ok.ensures.ok ∙ sym turned)
+          ∙ ap (λ cs. values ++ cs) (sym (value_shared o g.V.Merge.merged f es c.in-Ok.index read c.requires.entries c.in-Ok.ensures.index))
           ∙ ap (λ cs. cs ++ new_value R g.V.Merge.merged es f) c.loop-other.invariant.values
           ∙ flat_map_next (new_value R g.V.Merge.merged es) fs _ _ f turn.0 turn.1 next;
       new_entries =
           sym (append-nil news)
-          ∙ ap (λ ns. news ++ ns) (sym (not_new entry_key o f es _ c.in-Ok.ensures.place))
+          ∙ ap (λ ns. news ++ ns) (sym (not_new entry_key o f es _ c.in-Ok.ensures.index))
           ∙ ap (λ ns. ns ++ new_item R entry_key es f) c.loop-other.invariant.new_entries
           ∙ flat_map_next (new_item R entry_key es) fs _ _ f turn.0 turn.1 next;
-      within = subst (λ n. n ≤ length es) (sym at) (place_bound entry_key o f.0 es);
+      within = subst (λ n. n ≤ length es) (sym at) (index_bound entry_key o f.0 es);
       passed = λ d within. passed_more entry_key o es fs _ _ f d c.requires.others turn.1 next within _ at;
     }
 
@@ -59,19 +59,19 @@ loop-other-preserved g c =
     let next = length_push c.loop-other.yielded f in
     let values = c.loop-other.changes.values.items in
     let news = c.loop-other.changes.new_entries.items in
-    let at : c.in-Err.place ≡ place_of R entry_key f.0 es = sym (tells_err (has_key R entry_key f.0 es) (place_of R entry_key f.0 es) _ c.in-Err.ensures.place).1 in
+    let at : c.in-Err.index ≡ index_of R entry_key f.0 es = sym (tells_err (has_key R entry_key f.0 es) (index_of R entry_key f.0 es) _ c.in-Err.ensures.index).1 in
     record {
       values =
           sym (append-nil values)
-          ∙ ap (λ cs. values ++ cs) (sym (no_value o g.V.Merge.merged f es _ c.in-Err.ensures.place))
+          ∙ ap (λ cs. values ++ cs) (sym (no_value o g.V.Merge.merged f es _ c.in-Err.ensures.index))
           ∙ ap (λ cs. cs ++ new_value R g.V.Merge.merged es f) c.loop-other.invariant.values
           ∙ flat_map_next (new_value R g.V.Merge.merged es) fs _ _ f turn.0 turn.1 next;
       new_entries =
           c.in_ok-push-in-Err.ensures.items
-          ∙ ap (λ ns. news ++ ns) (sym (is_new entry_key o f es _ c.in-Err.ensures.place))
+          ∙ ap (λ ns. news ++ ns) (sym (is_new entry_key o f es _ c.in-Err.ensures.index))
           ∙ ap (λ ns. ns ++ new_item R entry_key es f) c.loop-other.invariant.new_entries
           ∙ flat_map_next (new_item R entry_key es) fs _ _ f turn.0 turn.1 next;
-      within = subst (λ n. n ≤ length es) (sym at) (place_bound entry_key o f.0 es);
+      within = subst (λ n. n ≤ length es) (sym at) (index_bound entry_key o f.0 es);
       passed = λ d within. passed_more entry_key o es fs _ _ f d c.requires.others turn.1 next within _ at;
     }
 

@@ -2,8 +2,8 @@ use Rattle.std.proofs.Common.{◌≡◌, vec_len, vec_capacity}
 use Rattle.merge_laws.specs.code.Insertions.{with_values}
 use Rattle.merge_laws.proofs.sorted_map.set_values.Given as goal
 
-abbrev pub invariant-loop-place : goal.invariant-loop-place
-invariant-loop-place g l = record {
+abbrev pub invariant-loop-index : goal.invariant-loop-index
+invariant-loop-index g l = record {
   items : l.entries.items ≡ with_values l.initial.entries.items l.yielded;
   len : vec_len l.entries ≡ vec_len l.initial.entries;
   room : vec_capacity l.entries ≡ vec_capacity l.initial.entries;

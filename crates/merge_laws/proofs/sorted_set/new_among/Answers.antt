@@ -1,20 +1,20 @@
 use Rattle.std.proofs.Common.{◌≡◌, ℕ, ◌<◌, ◌≤◌, ◌++◌, ◌∷◌, [], List, Ok, Err, append-nil, length, sym, ap, subst, ◌∙◌}
 use Rattle.std.specs.Cmp.{IsTotalOrder}
 use Rattle.std.specs.declared.cmp.Ordering.{Ordering}
-use Rattle.merge_laws.specs.code.Insertions.{found_at, new_item, place_of}
+use Rattle.merge_laws.specs.code.Insertions.{found_at, new_item, index_of}
 use Rattle.merge_laws.specs.Sorted.{has_key, itself}
 use Rattle.merge_laws.proofs.Edits.{not_new, is_new, tells_ok, tells_err}
 use Rattle.merge_laws.proofs.Lists.{flat_map_more}
-use Rattle.merge_laws.proofs.Places.{passed_next, place_bound}
+use Rattle.merge_laws.proofs.Indices.{passed_next, index_bound}
 use Rattle.merge_laws.proofs.sorted_set.new_among.Goals as goal
 use Rattle.merge_laws.proofs.sorted_set.new_among.Goals.{in-Ok, in-Err+in_ok-copied-in-Err+in_ok-push-in-Err}
 
 module _ {K : Type 0} {R : K → K → Ordering} (o : IsTotalOrder R) (es : List K) (f : K) where
-  known_place : (from i : ℕ) → from ≡ i → Ok i ≡ found_at R itself f es → from ≡ place_of R itself f es
-  known_place from i is at = is ∙ sym (tells_ok (has_key R itself f es) (place_of R itself f es) i at).1
+  known_index : (from i : ℕ) → from ≡ i → Ok i ≡ found_at R itself f es → from ≡ index_of R itself f es
+  known_index from i is at = is ∙ sym (tells_ok (has_key R itself f es) (index_of R itself f es) i at).1
 
-  new_place : (from i : ℕ) → from ≡ i → Err i ≡ found_at R itself f es → from ≡ place_of R itself f es
-  new_place from i is at = is ∙ sym (tells_err (has_key R itself f es) (place_of R itself f es) i at).1
+  new_index : (from i : ℕ) → from ≡ i → Err i ≡ found_at R itself f es → from ≡ index_of R itself f es
+  new_index from i is at = is ∙ sym (tells_err (has_key R itself f es) (index_of R itself f es) i at).1
 
   nothing_more : (old new : List (ℕ × K)) (i : ℕ) → new ≡ old → Ok i ≡ found_at R itself f es → new ≡ old ++ new_item R itself es f
   nothing_more old new i is at = is ∙ sym (ap (λ ns. old ++ ns) (not_new itself o f es i at) ∙ append-nil old)
@@ -29,16 +29,16 @@ loop-other-preserved g c =
     let fs = c.args.others.now in
     let i = c.loop-other.other-index in
     let f = c.other-item.result in
-    let at : c.match-find_from.from ≡ place_of R itself f es = elim c.match-find_from.branch [
-      | in-Ok w ↦ known_place g.met.T.Ord.total es f _ _ w.from-is w.in-Ok.ensures.place
-      | in-Err+in_ok-copied-in-Err+in_ok-push-in-Err w ↦ new_place g.met.T.Ord.total es f _ _ w.from-is w.in-Err.ensures.place
+    let at : c.match-find_from.from ≡ index_of R itself f es = elim c.match-find_from.branch [
+      | in-Ok w ↦ known_index g.met.T.Ord.total es f _ _ w.from-is w.in-Ok.ensures.index
+      | in-Err+in_ok-copied-in-Err+in_ok-push-in-Err w ↦ new_index g.met.T.Ord.total es f _ _ w.from-is w.in-Err.ensures.index
     ] in
     let more : c.match-find_from.news.items ≡ c.loop-other.news.items ++ new_item R itself es f = elim c.match-find_from.branch [
-      | in-Ok w ↦ nothing_more g.met.T.Ord.total es f c.loop-other.news.items c.match-find_from.news.items _ (ap (λ v. v.items) w.news-is) w.in-Ok.ensures.place
-      | in-Err+in_ok-copied-in-Err+in_ok-push-in-Err w ↦ one_more g.met.T.Ord.total es f c.loop-other.news.items c.match-find_from.news.items _ _ (ap (λ v. v.items) w.news-is ∙ w.in_ok-push-in-Err.ensures.items) w.in_ok-copied-in-Err.ensures w.in-Err.ensures.place
+      | in-Ok w ↦ nothing_more g.met.T.Ord.total es f c.loop-other.news.items c.match-find_from.news.items _ (ap (λ v. v.items) w.news-is) w.in-Ok.ensures.index
+      | in-Err+in_ok-copied-in-Err+in_ok-push-in-Err w ↦ one_more g.met.T.Ord.total es f c.loop-other.news.items c.match-find_from.news.items _ _ (ap (λ v. v.items) w.news-is ∙ w.in_ok-push-in-Err.ensures.items) w.in_ok-copied-in-Err.ensures w.in-Err.ensures.index
     ] in
     record {
       news = more ∙ ap (λ ns. ns ++ new_item R itself es f) c.loop-other.invariant.news ∙ sym (flat_map_more (new_item R itself es) fs i f c.loop-other-test.true c.other-item.is);
-      within = subst (λ n. n ≤ length es) (sym at) (place_bound itself g.met.T.Ord.total f es);
+      within = subst (λ n. n ≤ length es) (sym at) (index_bound itself g.met.T.Ord.total f es);
       passed = λ d within j e _ lt. passed_next itself g.met.T.Ord.total es fs i f d c.requires.others within c.other-item.is j e (subst (λ n. j < n) at lt);
     }

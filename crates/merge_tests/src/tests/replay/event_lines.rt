@@ -118,8 +118,8 @@ fn is_row(event: Event, row: Row) -> bool {
 }
 
 fn are_rows(events: &[Event], rows: &[Row]) -> bool {
-    for (place, event) in events.iter().enumerate() {
-        match rows.get(place) {
+    for (index, event) in events.iter().enumerate() {
+        match rows.get(index) {
             Some(row) if is_row(*event, *row) => {}
             _ => return false,
         }

@@ -129,8 +129,8 @@ const SCHEDULES: &[Schedule] = &[
 ];
 
 fn have_texts(alloc: Global, replayed: &Replayed<'_>, texts: &[Parts]) -> Result<bool, AllocError> {
-    for (place, parts) in texts.iter().enumerate() {
-        let Some(base) = replayed.replica(place + 1) else {
+    for (index, parts) in texts.iter().enumerate() {
+        let Some(base) = replayed.replica(index + 1) else {
             return Ok(false);
         };
         if !writes(alloc, base, parts)? {
@@ -145,8 +145,8 @@ fn have_texts(alloc: Global, replayed: &Replayed<'_>, texts: &[Parts]) -> Result
 }
 
 fn were_sent(replayed: &Replayed<'_>, texts: &[Parts]) -> bool {
-    for (place, parts) in texts.iter().enumerate() {
-        match replayed.sent(place + 1) {
+    for (index, parts) in texts.iter().enumerate() {
+        match replayed.sent(index + 1) {
             Some(text) if are_parts(text.as_bytes(), parts) => {}
             _ => return false,
         }

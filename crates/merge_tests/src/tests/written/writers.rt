@@ -29,15 +29,15 @@ fn push_pieces<S: Sink>(
     buffer: &mut SinkBuffer,
     sink: &mut S,
     text: &[u8],
-    places: (usize, usize),
+    indices: (usize, usize),
 ) -> Result<(), WriteFault>
     requires { S.failures sink.old < 2 ^ 64 - 1 }
 {
     let (front, last) = text
-        .split_at_checked(places.1)
+        .split_at_checked(indices.1)
         .unwrap_or((text, b"".as_slice()));
     let (first, second) = front
-        .split_at_checked(places.0)
+        .split_at_checked(indices.0)
         .unwrap_or((front, b"".as_slice()));
     buffer.push(sink, first)?;
     buffer.push(sink, second)?;
@@ -49,11 +49,11 @@ fn push(
     alloc: Global,
     writer: ComparingWriter<'_>,
     text: &[u8],
-    places: (usize, usize),
+    indices: (usize, usize),
 ) -> Result<Left, AllocError> {
     let mut sink = StdSink::new(writer);
     let mut buffer = SinkBuffer::new(alloc)?;
-    match push_pieces(&mut buffer, &mut sink, text, places) {
+    match push_pieces(&mut buffer, &mut sink, text, indices) {
         Ok(()) => Ok(left(None, sink)),
         Err(WriteFault::Device(written)) => Ok(left(Some(written), sink)),
         Err(WriteFault::OutOfMemory(_)) => Err(AllocError),
@@ -65,7 +65,7 @@ fn push(
 fn stops_at(
     alloc: Global,
     text: &[u8],
-    places: (usize, usize),
+    indices: (usize, usize),
     room: usize,
     step: Step,
 ) -> Result<bool, AllocError> {
@@ -75,7 +75,7 @@ fn stops_at(
     let expected = (told, front.len() as u64, u64::from(fails), true);
     for then in [Then::Ends, Then::Fails, Then::IsInterrupted] {
         let writer = ComparingWriter::new(front, step, room, then);
-        if put(writer, text) != expected || push(alloc, writer, text, places)? != expected {
+        if put(writer, text) != expected || push(alloc, writer, text, indices)? != expected {
             return Ok(false);
         }
     }
@@ -85,11 +85,11 @@ fn stops_at(
 fn stops(
     alloc: Global,
     text: &[u8],
-    places: (usize, usize),
+    indices: (usize, usize),
     room: usize,
 ) -> Result<bool, AllocError> {
     for step in STEPS {
-        if !stops_at(alloc, text, places, room, step)? {
+        if !stops_at(alloc, text, indices, room, step)? {
             return Ok(false);
         }
     }

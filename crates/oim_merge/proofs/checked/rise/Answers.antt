@@ -4,7 +4,7 @@ use Rattle.std.proofs.lemmas.Bool.{false≢true}
 use Rattle.std.proofs.lemmas.List.Sorted.{answers_always}
 use Rattle.oim_dims.specs.FactOrder.{fact_cmp}
 use Rattle.oim_dims.specs.declared.fact.Fact.{Fact}
-use Rattle.oim_merge.proofs.Histories.{Differ, placed_if_rising, rise_in_place}
+use Rattle.oim_merge.proofs.Histories.{Differ, indexed_if_rising, rise_in_place}
 use Rattle.oim_merge.proofs.checked.rise.Goals as goal
 
 -- each number of a list is its own index
@@ -24,5 +24,5 @@ pub returns-else-count_up : goal.returns-else-count_up
 returns-else-count_up c =
     let report = c.args.report.now in (
       λ h. absurd (false≢true (sym c.if-count_up.false ∙ h)),
-      λ rises. c.count_up.ensures.1 (subst Counts (sym c.order.ensures) (placed_if_rising report.document.facts report.order c.known.ensures.order rises)),
+      λ rises. c.count_up.ensures.1 (subst Counts (sym c.order.ensures) (indexed_if_rising report.document.facts report.order c.known.ensures.order rises)),
     )

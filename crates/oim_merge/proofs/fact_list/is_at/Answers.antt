@@ -14,6 +14,6 @@ returns-then-eq-clause-same c =
     let fact = c.args.fact.now in
     let one = c.in-Some.one.now in
     let dimensions : one.dimensions.now ≡ fact.dimensions = equal_dimensions one.dimensions.now fact.dimensions (sym c.eq.ensures ∙ c.if-eq.true) in
-    OnTrue_from c.eq-then-eq.result (HoldsAt (λ g. lent g ≡ fact) facts c.args.place) (λ same.
+    OnTrue_from c.eq-then-eq.result (HoldsAt (λ g. lent g ≡ fact) facts c.args.index) (λ same.
     let value : one.value.now ≡ fact.value = value_cmp_exact one.value.now fact.value ((Equal-is (value_cmp one.value.now fact.value)).0 (sym (equal_values_tie one.value.now fact.value) ∙ sym c.eq-then-eq.ensures ∙ same)) in
     λ d. ap lent (sym (c.in-Some.ensures.lookup.3.1 d)) ∙ (λ i. record { dimensions = dimensions i; value = value i }))

@@ -4,7 +4,7 @@ use Rattle.std.proofs.lemmas.Result.{err_from_is_err_and}
 use Rattle.oim_write.specs.Sink.{written_of}
 use Rattle.oim_write.specs.SinkBuffer.{Breaks, Passes}
 use Rattle.oim_write.proofs.Passing.{Breaks-more, Breaks-trans, Passes-nil, Passes-trans}
-use Rattle.oim_merge.specs.code.Listing.{placed_text}
+use Rattle.oim_merge.specs.code.Listing.{indexed_text}
 use Rattle.oim_merge.proofs.Traces.{lines_left, lines_more}
 use Rattle.oim_merge.proofs.traced_merge.push_mentions.Goals as goal
 
@@ -14,7 +14,7 @@ loop-mention-init g c = record { passed = Passes-nil _ _; failures = refl }
 pub returns-in_default-clause-err : goal.returns-in_default-clause-err
 returns-in_default-clause-err g c =
     let l = c.loop-mention in
-    let line = placed_text (g.F.SourceFormat.source_text c.args.format.now) c.args.count in
+    let line = indexed_text (g.F.SourceFormat.source_text c.args.format.now) c.args.count in
     let all = c.args.mentions.now in
     let mention = c.mention-item.result in
     let rest = flat_map line (drop (l.mention-index + 1) all) in
@@ -25,7 +25,7 @@ returns-in_default-clause-err g c =
 pub returns-in_err-push-clause-err : goal.returns-in_err-push-clause-err
 returns-in_err-push-clause-err g c =
     let l = c.loop-mention in
-    let line = placed_text (g.F.SourceFormat.source_text c.args.format.now) c.args.count in
+    let line = indexed_text (g.F.SourceFormat.source_text c.args.format.now) c.args.count in
     let all = c.args.mentions.now in
     let mention = c.mention-item.result in
     let rest = flat_map line (drop (l.mention-index + 1) all) in
@@ -37,7 +37,7 @@ returns-in_err-push-clause-err g c =
 pub loop-mention-preserved : goal.loop-mention-preserved
 loop-mention-preserved g c =
     let l = c.loop-mention in
-    let line = placed_text (g.F.SourceFormat.source_text c.args.format.now) c.args.count in
+    let line = indexed_text (g.F.SourceFormat.source_text c.args.format.now) c.args.count in
     let all = c.args.mentions.now in
     let mention = c.mention-item.result in
     record {
@@ -50,5 +50,5 @@ loop-mention-preserved g c =
 pub returns-clause-ok : goal.returns-clause-ok
 returns-clause-ok g c =
     let l = c.loop-mention in
-    subst (λ ms. Passes (g.S.Sink.told c.args.out.now) (g.S.Sink.told l.out) c.args.buffer.now l.buffer (flat_map (placed_text (g.F.SourceFormat.source_text c.args.format.now) c.args.count) ms))
+    subst (λ ms. Passes (g.S.Sink.told c.args.out.now) (g.S.Sink.told l.out) c.args.buffer.now l.buffer (flat_map (indexed_text (g.F.SourceFormat.source_text c.args.format.now) c.args.count) ms))
     (take_all l.mention-index c.args.mentions.now (omega arith)) l.invariant.passed

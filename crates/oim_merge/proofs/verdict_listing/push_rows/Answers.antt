@@ -6,7 +6,7 @@ use Rattle.fact_base.specs.Shown.{rows_left, shown}
 use Rattle.oim_write.proofs.NumberedFacts.{rows_facts}
 use Rattle.oim_write.proofs.Passing.{Breaks-more, Breaks-trans, Passes-nil, Passes-trans}
 use Rattle.oim_merge.specs.Lines.{AreRowsFrom, IsRow}
-use Rattle.oim_merge.proofs.RowLists.{count_with_row, left_exist, one_row, places_within, row_filled, row_is, row_within, rows_both}
+use Rattle.oim_merge.proofs.RowLists.{count_with_row, left_exist, one_row, indices_within, row_filled, row_is, row_within, rows_both}
 use Rattle.oim_merge.proofs.verdict_listing.push_rows.Goals as goal
 
 left_behind : (done rest : List Row) (r : Row) (rows : List Row) → done ++ (r ∷ rest) ≡ rows → (done ++ r ∷ []) ++ rest ≡ rows
@@ -32,7 +32,7 @@ row-requires g c =
     record {
       some = row_filled facts rises (map shown l.yielded) (rows_left c.next.new.self) (shown c.in-Some.row) all;
       room = omega (arith, within, l.invariant.count);
-      places = places_within c.in-Some.row.values.now c.evidence.result c.evidence.ensures;
+      indices = indices_within c.in-Some.row.values.now c.evidence.result c.evidence.ensures;
     }
 
 pub returns-in_default-clause-err : goal.returns-in_default-clause-err

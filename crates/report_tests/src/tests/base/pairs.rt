@@ -8,9 +8,9 @@ use test_helpers::asked_again::{SHEET, read_sheet};
 
 // Returns the index of the first value that this value does not meet.
 fn first_not_met(value: &Value, values: &[Value]) -> Option<usize> {
-    for (place, other) in values.iter().enumerate() {
+    for (index, other) in values.iter().enumerate() {
         if !value_meets(value, other) {
-            return Some(place);
+            return Some(index);
         }
     }
     None
@@ -18,9 +18,9 @@ fn first_not_met(value: &Value, values: &[Value]) -> Option<usize> {
 
 // Returns the indices of the first two values that do not meet.
 fn first_apart(values: &[Value]) -> Option<(usize, usize)> {
-    for (place, value) in values.iter().enumerate() {
+    for (index, value) in values.iter().enumerate() {
         if let Some(other) = first_not_met(value, values) {
-            return Some((place, other));
+            return Some((index, other));
         }
     }
     None
@@ -121,8 +121,8 @@ fn is_each_order_judged(rt: &HostRuntime, sheet: &Sheet, row: &Row) -> bool {
 #[test]
 fn each_order_is_judged_by_pairs(rt: HostRuntime) -> Result<(), Fail> {
     let sheet = read_sheet(&rt, SHEET)?;
-    for (place, row) in ROWS.iter().enumerate() {
-        assert!(rt; is_each_order_judged(&rt, &sheet, row), "row {place}");
+    for (index, row) in ROWS.iter().enumerate() {
+        assert!(rt; is_each_order_judged(&rt, &sheet, row), "row {index}");
     }
     Ok(())
 }

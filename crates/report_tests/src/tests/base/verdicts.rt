@@ -195,33 +195,33 @@ fn is_said(rt: &HostRuntime, sheet: &Sheet, end: &str, values: &[&str], said: Sa
 // Returns the index of the first row with an unexpected verdict or evidence, or None if there is no
 // such row.
 fn first_not_common(rt: &HostRuntime, sheet: &Sheet) -> Option<usize> {
-    for (place, (values, low, high)) in COMMON.iter().enumerate() {
+    for (index, (values, low, high)) in COMMON.iter().enumerate() {
         let common = Interval {
             low: *low,
             high: *high,
         };
         let said = (Verdict::Consistent, Evidence::Common(common));
         if !is_said(rt, sheet, OF_A, values, said) {
-            return Some(place);
+            return Some(index);
         }
     }
     None
 }
 
 fn first_not_apart(rt: &HostRuntime, sheet: &Sheet) -> Option<usize> {
-    for (place, (end, values, first, second)) in APART.iter().enumerate() {
+    for (index, (end, values, first, second)) in APART.iter().enumerate() {
         let said = (Verdict::Inconsistent, Evidence::Apart(*first, *second));
         if !is_said(rt, sheet, end, values, said) {
-            return Some(place);
+            return Some(index);
         }
     }
     None
 }
 
 fn first_not_alike(rt: &HostRuntime, sheet: &Sheet) -> Option<usize> {
-    for (place, (end, values)) in ALIKE.iter().enumerate() {
+    for (index, (end, values)) in ALIKE.iter().enumerate() {
         if !is_said(rt, sheet, end, values, (Verdict::Complete, Evidence::Alike)) {
-            return Some(place);
+            return Some(index);
         }
     }
     None

@@ -59,9 +59,9 @@ fn identified<'s>(
     }
 }
 
-fn says(read: &(Report<'_>, Vec<Text>), place: usize, identifier: &str, text: &str) -> bool {
+fn says(read: &(Report<'_>, Vec<Text>), index: usize, identifier: &str, text: &str) -> bool {
     let (report, identifiers) = read;
-    match (report.facts().get(place), identifiers.get(place)) {
+    match (report.facts().get(index), identifiers.get(index)) {
         (Some(fact), Some(found)) => {
             found.as_str() == identifier
                 && matches!(&fact.value, Value::Text(said) if said.as_str() == text)

@@ -4,5 +4,5 @@ use Rattle.row_formats.specs.CsvRows.{csv_facts}
 use Rattle.row_formats.proofs.row_csv.csv_row.Given as goal
 
 -- the facts so far are written
-abbrev pub invariant-loop-place : goal.invariant-loop-place
-invariant-loop-place l = l.text.items ≡ csv_facts l.spreadsheet (names_of l.judged) l.judged.number l.judged.row.dimensions.now l.judged.evidence 0 (take l.place l.judged.row.values.now)
+abbrev pub invariant-loop-index : goal.invariant-loop-index
+invariant-loop-index l = l.text.items ≡ csv_facts l.spreadsheet (names_of l.judged) l.judged.number l.judged.row.dimensions.now l.judged.evidence 0 (take l.index l.judged.row.values.now)

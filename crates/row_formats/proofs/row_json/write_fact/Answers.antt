@@ -10,7 +10,7 @@ use Rattle.row_formats.proofs.row_json.write_fact.Goals as goal
 
 pub returns : goal.returns
 returns c =
-    let name = named c.args.identifiers.now.before c.args.identifiers.now.count c.args.place in
+    let name = named c.args.identifiers.now.before c.args.identifiers.now.count c.args.index in
     let v = c.args.value.now in
     let identifier = Adds-is (ap (λ t. Token.string t ∷ []) (c.as_str.ensures.bytes ∙ c.in_ok-identifier.ensures)) (Adds-one c.in_ok-string.ensures) in
     let rest = member (codes "value") (value_data braced v) (decimals_member v no_members) in

@@ -7,20 +7,20 @@ use Rattle.row_formats.specs.code.Items.{item_tokens}
 use Rattle.row_formats.proofs.Items.{closed_array, next_fact}
 use Rattle.row_formats.proofs.row_json.write_facts.Goals as goal
 
-pub loop-place-preserved : goal.loop-place-preserved
-loop-place-preserved c =
-    let l = c.loop-place in
+pub loop-index-preserved : goal.loop-index-preserved
+loop-index-preserved c =
+    let l = c.loop-index in
     let name = named c.args.identifiers.now.before c.args.identifiers.now.count in
     let vs = c.args.values.now in
-    let v = c.index-values-place.result in
-    let more = take_more vs l.place v (omega arith) ∙ ap (λ x. take l.place vs ++ x ∷ []) (sym c.index-values-place.is) in
-    Adds-is (sym (next_fact name 0 (take l.place vs) v l.place (omega (arith, length-take-le l.place vs (omega arith)))) ∙ ap (λ xs. item_tokens (fact_items name 0 xs)) (sym more))
+    let v = c.index-values-index.result in
+    let more = take_more vs l.index v (omega arith) ∙ ap (λ x. take l.index vs ++ x ∷ []) (sym c.index-values-index.is) in
+    Adds-is (sym (next_fact name 0 (take l.index vs) v l.index (omega (arith, length-take-le l.index vs (omega arith)))) ∙ ap (λ xs. item_tokens (fact_items name 0 xs)) (sym more))
     (Adds-trans l.invariant c.in_ok-write_fact.ensures)
 
 pub returns : goal.returns
 returns c =
-    let l = c.loop-place in
+    let l = c.loop-index in
     let vs = c.args.values.now in
     let items = fact_items (named c.args.identifiers.now.before c.args.identifiers.now.count) 0 in
     closed_array c.end_array.result (items vs) (Adds-one c.in_ok-begin_array.ensures)
-    (Adds-is (ap (λ xs. item_tokens (items xs)) (take_all l.place vs (omega arith))) l.invariant) c.end_array.ensures
+    (Adds-is (ap (λ xs. item_tokens (items xs)) (take_all l.index vs (omega arith))) l.invariant) c.end_array.ensures

@@ -322,9 +322,9 @@ fn rises_at(rt: &HostRuntime, aliases: &Aliases, low: &Row, high: &Row) -> bool 
 #[test]
 fn sets_are_ordered_part_by_part(rt: HostRuntime) -> Result<(), Fail> {
     let aliases = example(&rt)?;
-    for place in 0..13usize {
-        let (low, high) = (&RISING[place], &RISING[place + 1]);
-        assert!(rt; rises_at(&rt, &aliases, low, high), "{place}");
+    for index in 0..13usize {
+        let (low, high) = (&RISING[index], &RISING[index + 1]);
+        assert!(rt; rises_at(&rt, &aliases, low, high), "{index}");
     }
     Ok(())
 }

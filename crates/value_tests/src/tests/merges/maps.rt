@@ -9,8 +9,8 @@ type ItemsAt = SortedMap<Text, Items>;
 impl Counted for ItemsAt {
     fn item_count(&self) -> usize {
         let mut count = 0usize;
-        for place in 0..self.len() {
-            if let Some((_, items)) = self.at(place) {
+        for index in 0..self.len() {
+            if let Some((_, items)) = self.at(index) {
                 count = count.saturating_add(items.item_count());
             }
         }

@@ -23,6 +23,6 @@ refusals_more told old refusals i d made room there is before =
     ∙ ap (λ rs. rs ++ drop (suc i) old) (ap (λ m. front ++ m ∷ []) is ∙ sym (map_more refused_report_of told i d there))
     ∙ ap (λ n. refused_reports (take (i + 1) told) ++ drop n old) next
 
-pub loop-place-preserved : goal.loop-place-preserved
-loop-place-preserved c =
-    refusals_more c.args.told.now c.args.refusals.now c.loop-place.refusals c.loop-place.place _ c.new.result c.requires c.loop-place-test.true c.new.ensures c.loop-place.invariant
+pub loop-index-preserved : goal.loop-index-preserved
+loop-index-preserved c =
+    refusals_more c.args.told.now c.args.refusals.now c.loop-index.refusals c.loop-index.index _ c.new.result c.requires c.loop-index-test.true c.new.ensures c.loop-index.invariant

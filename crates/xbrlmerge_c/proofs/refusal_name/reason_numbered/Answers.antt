@@ -3,8 +3,8 @@ use Rattle.std.proofs.lemmas.Option.{slice_get-get_or, slice_get_past}
 use Rattle.oim_names.specs.Reasons.{reasons}
 use Rattle.xbrlmerge_c.proofs.refusal_name.reason_numbered.Goals as goal
 
-pub returns-then-place-lt33 : goal.returns-then-place-lt33
-returns-then-place-lt33 c = sym (slice_get-get_or reasons c.args.number _ c.if-place-lt33.true)
+pub returns-then-index-lt33 : goal.returns-then-index-lt33
+returns-then-index-lt33 c = sym (slice_get-get_or reasons c.args.number _ c.if-index-lt33.true)
 
-pub returns-else-place-lt33 : goal.returns-else-place-lt33
-returns-else-place-lt33 c = sym (slice_get_past reasons c.args.number c.if-place-lt33.false)
+pub returns-else-index-lt33 : goal.returns-else-index-lt33
+returns-else-index-lt33 c = sym (slice_get_past reasons c.args.number c.if-index-lt33.false)

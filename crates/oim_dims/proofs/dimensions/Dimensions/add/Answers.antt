@@ -1,9 +1,9 @@
-use Rattle.oim_dims.proofs.Places.{still_rises}
+use Rattle.oim_dims.proofs.Indices.{still_rises}
 use Rattle.oim_dims.proofs.dimensions.Dimensions.add.Goals as goal
 
 pub invariant_of-self : goal.invariant_of-self
 invariant_of-self c =
     let members = c.as_slice.ensures in
     let there = rw members at c.in-Some.ensures.there in
-    let placed = rw members at (c.in-Some.ensures.place c.args.member) in
-    still_rises c.insert.result c.insert.new.self c.self.inside.members c.in-Some.place c.args.name c.args.member c.self.invariant (λ t. cc (there.1 t)) placed c.insert.ensures.ok c.insert.ensures.err
+    let indexed = rw members at (c.in-Some.ensures.index c.args.member) in
+    still_rises c.insert.result c.insert.new.self c.self.inside.members c.in-Some.index c.args.name c.args.member c.self.invariant (λ t. cc (there.1 t)) indexed c.insert.ensures.ok c.insert.ensures.err

@@ -16,15 +16,15 @@ returns-in_ok-push-in-Take-clause-kept c =
     let old = c.args.self.now in
     let sheet = c.args.sheet.now in
     let reports = c.args.reports.now in
-    let place = c.in-Take.i - 1 in
+    let index = c.in-Take.i - 1 in
     let more = c.take_at.new.kept in
     let each = c.in_ok-refusal-in-Take.ensures.kept in
     let long : length more ≡ old.reports.len = kept_long sheet reports old.reports.items more c.requires.kept.taken each ∙ sym old.reports.ok.0 in
     record {
       taken = subst (AreReadings sheet reports) (sym (with_items_is old.reports more long)) each;
       held = c.requires.kept.held;
-      current = current_after_change old.messages.texts.items old.bases.items (set old.bases.items place c.take_at.new.base) old.current.items c.forget.new.current.items c.requires.kept.current
-          place c.take_at.new.base refl c.forget.ensures;
+      current = current_after_change old.messages.texts.items old.bases.items (set old.bases.items index c.take_at.new.base) old.current.items c.forget.new.current.items c.requires.kept.current
+          index c.take_at.new.base refl c.forget.ensures;
     }
 
 pub returns-in_default-clause-kept : goal.returns-in_default-clause-kept
@@ -32,15 +32,15 @@ returns-in_default-clause-kept c =
     let old = c.args.self.now in
     let sheet = c.args.sheet.now in
     let reports = c.args.reports.now in
-    let place = c.in-Take.i - 1 in
+    let index = c.in-Take.i - 1 in
     let more = c.take_at.new.kept in
     let each = c.in_ok-refusal-in-Take.ensures.kept in
     let long : length more ≡ old.reports.len = kept_long sheet reports old.reports.items more c.requires.kept.taken each ∙ sym old.reports.ok.0 in
     record {
       taken = subst (AreReadings sheet reports) (sym (with_items_is old.reports more long)) each;
       held = c.requires.kept.held;
-      current = current_after_change old.messages.texts.items old.bases.items (set old.bases.items place c.take_at.new.base) old.current.items c.forget.new.current.items c.requires.kept.current
-          place c.take_at.new.base refl c.forget.ensures;
+      current = current_after_change old.messages.texts.items old.bases.items (set old.bases.items index c.take_at.new.base) old.current.items c.forget.new.current.items c.requires.kept.current
+          index c.take_at.new.base refl c.forget.ensures;
     }
 
 pub index_mut-current-requires : goal.index_mut-current-requires
@@ -95,25 +95,25 @@ returns-in_ok-give-in-Receive-clause-world c =
 pub returns-in_ok-give-in-Receive-clause-kept : goal.returns-in_ok-give-in-Receive-clause-kept
 returns-in_ok-give-in-Receive-clause-kept c =
     let old = c.args.self.now in
-    let place = c.in-Receive.i - 1 in
+    let index = c.in-Receive.i - 1 in
     let base = c.give.new.base in
-    let more = set old.bases.items place base in
+    let more = set old.bases.items index base in
     let left = c.forget-in-Receive.new.current.items in
     let same : old.messages.texts.items ≡ c.give.new.self.texts.items = λ t. ((sym c.in_ok-give-in-Receive.ensures.texts) t).items in
     record {
       taken = c.requires.kept.taken;
       held = c.in_ok-give-in-Receive.ensures.held;
       current = subst (λ texts. AllZip (IsCurrent texts) more left) same
-          (current_after_change old.messages.texts.items old.bases.items more old.current.items left c.requires.kept.current place base refl c.forget-in-Receive.ensures);
+          (current_after_change old.messages.texts.items old.bases.items more old.current.items left c.requires.kept.current index base refl c.forget-in-Receive.ensures);
     }
 
 pub returns-in-Restart-clause-kept : goal.returns-in-Restart-clause-kept
 returns-in-Restart-clause-kept c =
     let old = c.args.self.now in
-    let place = c.in-Restart.i - 1 in
+    let index = c.in-Restart.i - 1 in
     record {
       taken = c.requires.kept.taken;
       held = c.requires.kept.held;
-      current = current_after_change old.messages.texts.items old.bases.items (set old.bases.items place c.new.result) old.current.items c.forget-in-Restart.new.current.items c.requires.kept.current
-          place c.new.result refl c.forget-in-Restart.ensures;
+      current = current_after_change old.messages.texts.items old.bases.items (set old.bases.items index c.new.result) old.current.items c.forget-in-Restart.new.current.items c.requires.kept.current
+          index c.new.result refl c.forget-in-Restart.ensures;
     }

@@ -10,8 +10,8 @@ use Rattle.oim_merge.specs.Traced.{Traced}
 use Rattle.oim_merge.proofs.Traces.{same_failures, stops_at, texts_are, traced_are_of}
 use Rattle.oim_merge.proofs.traced_merge.TracedMerge.finish.Goals as goal
 
-pub placed_by_fact-requires : goal.placed_by_fact-requires
-placed_by_fact-requires g c =
+pub indexed_by_fact-requires : goal.indexed_by_fact-requires
+indexed_by_fact-requires g c =
     let inside = c.self.inside in
     subst (λ (b : Contents). AreOf b.body.facts inside.mentions.items) (sym c.in_ok-base.ensures.base) (traced_are_of inside.consolidation inside.mentions.items c.self.invariant)
 

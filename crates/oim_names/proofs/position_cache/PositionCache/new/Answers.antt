@@ -1,7 +1,7 @@
 use Rattle.std.proofs.Common.{lit<}
 use Rattle.std.proofs.lemmas.List.{get_or-replicate}
 use Rattle.std.proofs.lemmas.Nat.{mod_below}
-use Rattle.oim_names.specs.Places.{text_class}
+use Rattle.oim_names.specs.Positions.{text_class}
 use Rattle.oim_names.proofs.position_cache.PositionCache.new.Goals as goal
 
 -- src/position_cache.rt:29:5

@@ -3,8 +3,8 @@ use Rattle.oim_dims.specs.declared.fact.Fact.{Fact}
 use Rattle.oim_report.proofs.FoundInOrder.{put_entries}
 use Rattle.oim_report.proofs.document.found_facts.by_identifier.Given as goal
 
--- the facts that were taken are stored under their identifiers, each with its place
+-- the facts that were taken are stored under their identifiers, each with its index
 abbrev pub invariant-loop-identifier : goal.invariant-loop-identifier
 invariant-loop-identifier l =
-    (taken : List (Fact × Option ℕ)) × (l.fn.read.facts.items ≡ map (λ v. v.0) taken ++ l.facts.rest.items) × (l.fn.read.places.items ≡ map (λ v. v.1) taken ++ l.places.rest.items) × (length taken ≡ length l.yielded)
+    (taken : List (Fact × Option ℕ)) × (l.fn.read.facts.items ≡ map (λ v. v.0) taken ++ l.facts.rest.items) × (l.fn.read.indices.items ≡ map (λ v. v.1) taken ++ l.indices.rest.items) × (length taken ≡ length l.yielded)
     × (l.found.entries ≡ put_entries l.yielded taken [])

@@ -13,19 +13,19 @@ loop-identifier-init c =
     let identifiers : c.in_ok-identifiers.identifiers.items ≡ [] = search rules in
     let facts : c.in_ok-facts.facts.items ≡ [] = search rules in
     let es = c.into_iter-identifier-iterator.result in
-    let places : c.in_ok-places.places.items ≡ [] = search rules in
-    (ap (λ l. l ++ map (λ e. e.0) es) identifiers, ap (λ l. l ++ map (λ e. e.1.0) es) facts, ap (λ l. l ++ map (λ e. e.1.1) es) places)
+    let indices : c.in_ok-indices.indices.items ≡ [] = search rules in
+    (ap (λ l. l ++ map (λ e. e.0) es) identifiers, ap (λ l. l ++ map (λ e. e.1.0) es) facts, ap (λ l. l ++ map (λ e. e.1.1) es) indices)
 
 pub loop-identifier-preserved : goal.loop-identifier-preserved
 loop-identifier-preserved c =
     let l = c.loop-identifier in
     let pushed : c.push.new.self.items ≡ l.identifiers.items ++ c.in-Some.identifier ∷ [] = search rules in
     let added : c.push-in-loop-identifier.new.self.items ≡ l.facts.items ++ c.in-Some.fact ∷ [] = search rules in
-    let placed : c.push-in-loop-identifier-2.new.self.items ≡ l.places.items ++ c.in-Some.place ∷ [] = search rules in
-    let e : String Global × (Fact × Option ℕ) = (c.in-Some.identifier, (c.in-Some.fact, c.in-Some.place)) in (
+    let indexed : c.push-in-loop-identifier-2.new.self.items ≡ l.indices.items ++ c.in-Some.index ∷ [] = search rules in
+    let e : String Global × (Fact × Option ℕ) = (c.in-Some.identifier, (c.in-Some.fact, c.in-Some.index)) in (
       one_on (λ e. e.0) _ _ _ e _ c.next.new.self pushed c.in-Some.ensures.steps l.invariant.0,
       one_on (λ e. e.1.0) _ _ _ e _ c.next.new.self added c.in-Some.ensures.steps l.invariant.1,
-      one_on (λ e. e.1.1) _ _ _ e _ c.next.new.self placed c.in-Some.ensures.steps l.invariant.2,
+      one_on (λ e. e.1.1) _ _ _ e _ c.next.new.self indexed c.in-Some.ensures.steps l.invariant.2,
     )
 
 pub returns : goal.returns

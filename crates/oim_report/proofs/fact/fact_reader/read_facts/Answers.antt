@@ -18,8 +18,8 @@ returns-in-Err-clause-errors c =
     (λ before. let refused = ap (λ r. fact_outcome r.sheet r.aliases object) (sym l.invariant.2) ∙ before in inr
     (sym (all_facts read (values (facts_of (view c.args.tree.now))))
     ∙ sym l.invariant.0
-    ∙ ap (λ es. facts_after read l.place l.facts.items (values (members_view es))) c.in-Some-2.ensures.steps
-    ∙ ap (λ o. facts_step l.place l.facts.items o (λ m more. facts_after read m more (values (members_view c.next.new.self)))) refused
+    ∙ ap (λ es. facts_after read l.number l.facts.items (values (members_view es))) c.in-Some-2.ensures.steps
+    ∙ ap (λ o. facts_step l.number l.facts.items o (λ m more. facts_after read m more (values (members_view c.next.new.self)))) refused
     ∙ ap Err (sym (c.of_fact.ensures.fact (λ memory. fact_other own.sheet own.aliases object (refused ∙ ap Err memory))))))
     c.in-Err.ensures.errors
 
@@ -30,7 +30,7 @@ returns-clause-ok c =
     let l = c.loop-identifier in
     sym (all_facts read (values (facts_of (view c.args.tree.now))))
     ∙ sym l.invariant.0
-    ∙ ap (λ es. facts_after read l.place l.facts.items (values (members_view es))) c.in-None.ensures.steps.0
+    ∙ ap (λ es. facts_after read l.number l.facts.items (values (members_view es))) c.in-None.ensures.steps.0
 
 pub loop-identifier-init : goal.loop-identifier-init
 loop-identifier-init c = (search rules, search rules, refl)

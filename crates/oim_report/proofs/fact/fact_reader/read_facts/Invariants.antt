@@ -9,6 +9,6 @@ use Rattle.oim_report.proofs.fact.fact_reader.read_facts.Given as goal
 abbrev pub invariant-loop-identifier : goal.invariant-loop-identifier
 invariant-loop-identifier l =
     let read = fact_outcome l.initial.reader.sheet l.initial.reader.aliases in
-    (facts_after read l.place l.facts.items (values (members_view l._identifier-iterator)) ≡ facts_after read 1 [] (values (facts_of (view l.tree))))
-    × (l.place + length l._identifier-iterator ≤ length l.initial._identifier-iterator + 1)
+    (facts_after read l.number l.facts.items (values (members_view l._identifier-iterator)) ≡ facts_after read 1 [] (values (facts_of (view l.tree))))
+    × (l.number + length l._identifier-iterator ≤ length l.initial._identifier-iterator + 1)
     × (l.reader ≡ l.initial.reader)

@@ -7,5 +7,5 @@ use Rattle.oim_report.proofs.findings.faults_reader.add_facts_faults.Given as go
 
 abbrev pub invariant-loop-identifier : goal.invariant-loop-identifier
 invariant-loop-identifier l =
-    (l.faults ++ faults_from l.sheet l.aliases l.place (values (members_view l._identifier-iterator)) ≡ l.fn.faults ++ faults_from l.sheet l.aliases 1 (values (facts_of (view l.fn.tree))))
-    × (l.place + length l._identifier-iterator ≤ length l.initial._identifier-iterator + 1)
+    (l.faults ++ faults_from l.sheet l.aliases l.number (values (members_view l._identifier-iterator)) ≡ l.fn.faults ++ faults_from l.sheet l.aliases 1 (values (facts_of (view l.fn.tree))))
+    × (l.number + length l._identifier-iterator ≤ length l.initial._identifier-iterator + 1)

@@ -6,9 +6,9 @@ use Rattle.oim_report.specs.Pieces.{IsPiece, put_all}
 use Rattle.oim_report.specs.code.Pieces.{with_rest}
 use Rattle.oim_report.proofs.PieceTexts.{append}
 use Rattle.oim_report.specs.Sheet.{Sheet}
-use Rattle.oim_report.proofs.FoundInOrder.{none_found, found_append, found_by, weaker, none_placed, placed_by, places_append}
+use Rattle.oim_report.proofs.FoundInOrder.{none_found, found_append, found_by, weaker, none_indexed, indexed_by, indices_append}
 use Rattle.oim_report.specs.code.Scope.{Scope}
-use Rattle.oim_report.specs.code.UriPlaces.{AreUriPlaces}
+use Rattle.oim_report.specs.code.UriIndices.{AreUriIndices}
 use Rattle.oim_report.proofs.PiecesInTurn.{one_more, last_one}
 use Rattle.oim_report.proofs.pieces.piece_facts.read_facts_in_pieces.Goals as goal
 
@@ -16,7 +16,7 @@ pub loop-init : goal.loop-init
 loop-init c =
     let sheet = c.args.reader.now.sheet in
     let bs = c.args.reader.now.aliases in
-    (search rules, no_members, refl, none_found sheet bs _ _ c.new-identifiers.ensures.items c.new-facts.ensures.items, refl, none_placed bs _ _ c.new-facts.ensures.items c.new-places.ensures.items)
+    (search rules, no_members, refl, none_found sheet bs _ _ c.new-identifiers.ensures.items c.new-facts.ensures.items, refl, none_indexed bs _ _ c.new-facts.ensures.items c.new-indices.ensures.items)
 
 pub returns-in-None-clause-found : goal.returns-in-None-clause-found
 returns-in-None-clause-found c =
@@ -39,18 +39,18 @@ returns-in-None-clause-found c =
     c.in_order.ensures.found
     (λ f h. (put_all (append objects new) no_members, last_one c.args.text.now c.loop.left.now piece objects new c.loop.invariant.2 next read.1, h sheet bs (append objects new) found))
 
-pub returns-in-None-clause-places : goal.returns-in-None-clause-places
-returns-in-None-clause-places c =
+pub returns-in-None-clause-indices : goal.returns-in-None-clause-indices
+returns-in-None-clause-indices c =
     let bs = c.args.reader.now.aliases in
     let more = c.in_ok-more.more in
     let added : c.append-in-loop.new.self.items ≡ c.loop.facts.items ++ more.facts.items = search rules in
-    let placed : c.append-in-loop-2.new.self.items ≡ c.loop.places.items ++ more.places.items = search rules in
-    let new = subst (λ (r : Scope). AreUriPlaces r.aliases more.facts.items more.places.items) c.loop.invariant.4 c.in_ok-more.ensures.places in
-    let all = placed_by bs _ _ _ _ added placed (places_append bs c.loop.facts.items more.facts.items c.loop.places.items more.places.items c.loop.invariant.5 new) in
+    let indexed : c.append-in-loop-2.new.self.items ≡ c.loop.indices.items ++ more.indices.items = search rules in
+    let new = subst (λ (r : Scope). AreUriIndices r.aliases more.facts.items more.indices.items) c.loop.invariant.4 c.in_ok-more.ensures.indices in
+    let all = indexed_by bs _ _ _ _ added indexed (indices_append bs c.loop.facts.items more.facts.items c.loop.indices.items more.indices.items c.loop.invariant.5 new) in
     weaker c.in_order.result
-    (λ f. (b : List Binding) → AreUriPlaces b c.append-in-loop.new.self.items c.append-in-loop-2.new.self.items → AreUriPlaces b f.facts.items f.places.items)
-    (λ f. AreUriPlaces bs f.facts.items f.places.items)
-    c.in_order.ensures.places
+    (λ f. (b : List Binding) → AreUriIndices b c.append-in-loop.new.self.items c.append-in-loop-2.new.self.items → AreUriIndices b f.facts.items f.indices.items)
+    (λ f. AreUriIndices bs f.facts.items f.indices.items)
+    c.in_order.ensures.indices
     (λ f h. h bs all)
 
 pub loop-preserved : goal.loop-preserved
@@ -68,7 +68,7 @@ loop-preserved c =
     let added : c.append-in-loop.new.self.items ≡ c.loop.facts.items ++ more.facts.items = search rules in
     let more_found = subst (λ r. AreFound r.sheet r.aliases new more.identifiers.items more.facts.items) c.loop.invariant.4 read.2 in
     let found = found_by sheet bs _ _ _ _ _ pushed added (found_append sheet bs objects new c.loop.identifiers.items more.identifiers.items c.loop.facts.items more.facts.items c.loop.invariant.3 more_found) in
-    let placed : c.append-in-loop-2.new.self.items ≡ c.loop.places.items ++ more.places.items = search rules in
-    let more_placed = subst (λ (r : Scope). AreUriPlaces r.aliases more.facts.items more.places.items) c.loop.invariant.4 c.in_ok-more.ensures.places in
-    let places = placed_by bs _ _ _ _ added placed (places_append bs c.loop.facts.items more.facts.items c.loop.places.items more.places.items c.loop.invariant.5 more_placed) in
-    (search rules, append objects new, one_more c.args.text.now c.loop.left.now piece c.in-Some.rest.now objects new c.loop.invariant.2 next read.1, found, c.read_piece_facts.ensures.same ∙ c.loop.invariant.4, places)
+    let indexed : c.append-in-loop-2.new.self.items ≡ c.loop.indices.items ++ more.indices.items = search rules in
+    let more_indexed = subst (λ (r : Scope). AreUriIndices r.aliases more.facts.items more.indices.items) c.loop.invariant.4 c.in_ok-more.ensures.indices in
+    let indices = indexed_by bs _ _ _ _ added indexed (indices_append bs c.loop.facts.items more.facts.items c.loop.indices.items more.indices.items c.loop.invariant.5 more_indexed) in
+    (search rules, append objects new, one_more c.args.text.now c.loop.left.now piece c.in-Some.rest.now objects new c.loop.invariant.2 next read.1, found, c.read_piece_facts.ensures.same ∙ c.loop.invariant.4, indices)

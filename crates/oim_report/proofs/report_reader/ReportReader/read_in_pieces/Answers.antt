@@ -13,7 +13,7 @@ use Rattle.oim_report.proofs.AcceptedFacts.{facts_fit}
 use Rattle.oim_report.proofs.Documents.{bindings_are_namespaces}
 use Rattle.oim_report.proofs.FoundInOrder.{taken, facts_same, whole_outcome, found_said, keys_found, share_uris}
 use Rattle.oim_report.proofs.KeptReferences.{references_kept}
-use Rattle.oim_report.specs.code.UriPlaces.{ShareUris}
+use Rattle.oim_report.specs.code.UriIndices.{ShareUris}
 use Rattle.oim_report.proofs.report_reader.ReportReader.read_in_pieces.Goals as goal
 
 pub new-report-requires-clause-facts : goal.new-report-requires-clause-facts
@@ -34,7 +34,7 @@ new-report-requires-clause-references c =
 
 pub new-report-requires-clause-order : goal.new-report-requires-clause-order
 new-report-requires-clause-order c =
-    subst (λ l. IsOrderOf l c.in_ok-order.order.items) c.as_slice.ensures.value (taken c.order_of.result c.in_ok-order.order (λ places. IsOrderOf c.as_slice.result.now places.items) c.order_of.ensures c.in_ok-order.ensures.value)
+    subst (λ l. IsOrderOf l c.in_ok-order.order.items) c.as_slice.ensures.value (taken c.order_of.result c.in_ok-order.order (λ indices. IsOrderOf c.as_slice.result.now indices.items) c.order_of.ensures c.in_ok-order.ensures.value)
 
 pub returns-clause-ok : goal.returns-clause-ok
 returns-clause-ok c =
@@ -65,5 +65,5 @@ returns-clause-identifiers c =
 pub order_of-requires : goal.order_of-requires
 order_of-requires c =
     let f = c.in_ok-identifiers.field-0 in
-    let shared = share_uris c.turn_to.new.self.aliases f.facts.items f.places.items c.in_ok-identifiers.ensures.places in
+    let shared = share_uris c.turn_to.new.self.aliases f.facts.items f.indices.items c.in_ok-identifiers.ensures.indices in
     subst (λ fs. ShareUris fs c.as_slice-2.result.now) (sym c.as_slice.ensures.value) (subst (ShareUris f.facts.items) (sym c.as_slice-2.ensures.value) shared)

@@ -16,5 +16,5 @@ returns c =
     let smaller : List ℕ → Bool = λ known. is_lt (slice_cmp nat_cmp known c.args.uri.now) in
     let rises = subst (IsPartitionedBy smaller) (sym c.deref.ensures.value) (parted nat_list_cmp_total c.self.inside.uris.items c.args.uri.now c.self.invariant.rises) in
     let point = IsPartitionPoint-from_clause smaller _ _ c.partition_point.ensures.partitioned rises (λ a r q k. search rules) in
-    let place = count_at smaller c.deref.result.now c.partition_point.result c.partition_point.ensures.bound point in
-    ap (λ n. 1 + n) (sym place) ∙ (add_one _ ∙ ap (rank (slice_cmp nat_cmp) c.args.uri.now) (c.deref.ensures.value ∙ c.self.view_is))
+    let index = count_at smaller c.deref.result.now c.partition_point.result c.partition_point.ensures.bound point in
+    ap (λ n. 1 + n) (sym index) ∙ (add_one _ ∙ ap (rank (slice_cmp nat_cmp) c.args.uri.now) (c.deref.ensures.value ∙ c.self.view_is))

@@ -14,11 +14,11 @@ gained us new old n uri pushed view put made named =
     let is = put ∙ ap (λ u. us ++ u ∷ []) (made ∙ named) in
     subst (λ vs. Gains vs (n ∷ []) (set_of text_cmp new)) view (subst (λ vs. Gains (set_of text_cmp us) (n ∷ []) (set_of text_cmp vs)) (sym is) (gains_one us n))
 
-pub returns-then-place-self : goal.returns-then-place-self
-returns-then-place-self c =
+pub returns-then-index-self : goal.returns-then-index-self
+returns-then-index-self c =
     subst (Gains c.args.self.now (c.args.name.now ∷ [])) (sym (ap (set_of text_cmp) c.put_in_order.ensures ∙ set_of_set text_cmp_total text_cmp_exact c.push.new.self.items))
     (gained c.self.inside.uris.items c.push.new.self.items c.args.self.now c.args.name.now c.uri-uri.result.now c.in_ok-new.field-0 c.self.view_is c.in_ok-push.ensures.items c.in_ok-new.ensures c.uri-uri.ensures)
 
-pub returns-else-place-self : goal.returns-else-place-self
-returns-else-place-self c =
+pub returns-else-index-self : goal.returns-else-index-self
+returns-else-index-self c =
     gained c.self.inside.uris.items c.push.new.self.items c.args.self.now c.args.name.now c.uri-uri.result.now c.in_ok-new.field-0 c.self.view_is c.in_ok-push.ensures.items c.in_ok-new.ensures c.uri-uri.ensures

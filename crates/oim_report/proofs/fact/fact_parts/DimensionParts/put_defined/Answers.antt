@@ -11,8 +11,8 @@ returns-clause-defined c =
     let xs = c.args.self.now.defined.items in
     let at = c.in_ok-at.at in
     let x : Bor (List ℕ) × JsonMember = (c.args.key, c.args.member) in
-    let place : with_given c.args.key.now (seen c.args.member) (seen_defined xs) ≡ insert (seen_defined xs) at (c.args.key.now, seen c.args.member) =
-    ap (λ l. with_given c.args.key.now (seen c.args.member) (seen_defined l)) (sym c.as_slice.ensures.value) ∙ c.in_ok-at.ensures.place (seen c.args.member)
+    let index : with_given c.args.key.now (seen c.args.member) (seen_defined xs) ≡ insert (seen_defined xs) at (c.args.key.now, seen c.args.member) =
+    ap (λ l. with_given c.args.key.now (seen c.args.member) (seen_defined l)) (sym c.as_slice.ensures.value) ∙ c.in_ok-at.ensures.index (seen c.args.member)
     ∙ ap (λ l. insert (seen_defined l) at (c.args.key.now, seen c.args.member)) c.as_slice.ensures.value in
-    on_some c.ok.result (λ e. ap seen_defined e ∙ seen_insert xs at x ∙ sym place)
+    on_some c.ok.result (λ e. ap seen_defined e ∙ seen_insert xs at x ∙ sym index)
     (if_inserted c.insert.result c.ok.result c.insert.new.self.items (insert xs at x) xs c.ok.ensures.value c.insert.ensures.items)

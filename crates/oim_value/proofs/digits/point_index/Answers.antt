@@ -1,7 +1,7 @@
 use Rattle.std.proofs.Common.{sym, arith, ap}
 use Rattle.std.proofs.lemmas.List.Sums.{position_or_len_is}
 use Rattle.oim_value.specs.Number.{is_point}
-use Rattle.oim_value.proofs.digits.point_place.Goals as goal
+use Rattle.oim_value.proofs.digits.point_index.Goals as goal
 
 pub returns-then-c-eq46 : goal.returns-then-c-eq46
 returns-then-c-eq46 c = sym (position_or_len_is is_point _ _ 0 (omega arith) c.loop-i.invariant (λ _. ap is_point c.if-c-eq46.true))

@@ -1,6 +1,6 @@
 use Rattle.std.proofs.Common.{◌≡◌, ◌<◌, ℕ, get_or, false}
 use Rattle.oim_value.specs.Number.{is_point}
-use Rattle.oim_value.proofs.digits.point_place.Given as goal
+use Rattle.oim_value.proofs.digits.point_index.Given as goal
 
 abbrev pub invariant-loop-i : goal.invariant-loop-i
 invariant-loop-i l = (k : ℕ) → k < l.i → is_point (get_or l.body k 0) ≡ false

@@ -66,9 +66,9 @@ rises_with n m (e ∷ es) h none =
     ] refl
 
 -- after a call that inserts a new name, the names ascend, whether or not memory was refused
-pub still_rises : {T E : Type 0} (r : Result T E) (new es : List (QName × Member)) (place : ℕ) (n : QName) (m : Member) → rises es ≡ true → (has_name n es ≡ true → ⊥) → insert es place (n, m) ≡ with_member n m es → OnOk r (new ≡ insert es place (n, m)) → OnErr r (new ≡ es) → rises new ≡ true
-still_rises (Ok x) new es place n m h none is ok err = rw (ok, is) (rises_with n m es h (false_from_ne_true (has_name n es) none))
-still_rises (Err e) new es place n m h none is ok err = rw err h
+pub still_rises : {T E : Type 0} (r : Result T E) (new es : List (QName × Member)) (index : ℕ) (n : QName) (m : Member) → rises es ≡ true → (has_name n es ≡ true → ⊥) → insert es index (n, m) ≡ with_member n m es → OnOk r (new ≡ insert es index (n, m)) → OnErr r (new ≡ es) → rises new ≡ true
+still_rises (Ok x) new es index n m h none is ok err = rw (ok, is) (rises_with n m es h (false_from_ne_true (has_name n es) none))
+still_rises (Err e) new es index n m h none is ok err = rw err h
 
 there : (n : QName) (es : List (QName × Member)) → IsTrue (has_name n es) → (m : Member) × Contains es (n, m)
 there n [] h = absurd (cc)

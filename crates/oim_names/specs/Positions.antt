@@ -10,6 +10,6 @@ byte_from_end t back = slice_index_or t (length t - back) 0
 unfoldable pub text_class : List ℕ → ℕ
 text_class t = (length t % 2048 + 31 * (byte_from_end t 1 + 31 * (byte_from_end t 2 + 31 * (byte_from_end t 3 + 31 * byte_from_end t 4)))) % 2048
 
--- the index stored for a text's class, or 0 if `places` is too short
-abbrev pub place_in : List ℕ → List ℕ → ℕ
-place_in places t = slice_index_or places (text_class t) 0
+-- the index stored for a text's class, or 0 if `indices` is too short
+abbrev pub index_in : List ℕ → List ℕ → ℕ
+index_in indices t = slice_index_or indices (text_class t) 0

@@ -13,7 +13,7 @@ use Rattle.std.proofs.lemmas.List.{get_or_default}
 use Rattle.std.proofs.lemmas.List.Sums.{position_or_len_is}
 use Rattle.std.proofs.lemmas.List.Sorted.{searchable_from_sorted}
 use Rattle.std.proofs.lemmas.Map.Keys.{Less-from_sorted}
-use Rattle.merge_laws.specs.code.Insertions.{found_at, place_of}
+use Rattle.merge_laws.specs.code.Insertions.{found_at, index_of}
 use Rattle.merge_laws.specs.Sorted.{IsRising, item_at, has_key}
 use Rattle.merge_laws.specs.code.Items.{turned_less, turned_greater}
 
@@ -34,24 +34,24 @@ module _ {K E : Type 0} {R : K → K → Ordering} (key : E → K) (o : IsTotalO
   has_none [] k apart = refl
   has_none (e ∷ es) k apart = ap (λ b. is_some (cond b (Some e) (item_at R key k es))) (apart 0 e (omega arith)) ∙ has_none es k (λ j d lt. apart (suc j) d (omega arith))
 
-  first_place : (es : List E) (k : K) (i : ℕ) (d : E) → i ≤ length es → ((j : ℕ) → j < i → R (key (get_or es j d)) k ≡ Less) → (i < length es → is_lt (R (key (get_or es i d)) k) ≡ false) → place_of R key k es ≡ i
-  first_place es k i d le below at = position_or_len_is (λ e. not (is_lt (R (key e) k))) es i d le (λ j lt. ap (λ r. not (is_lt r)) (below j lt)) (λ lt. ap not (at lt))
+  first_index : (es : List E) (k : K) (i : ℕ) (d : E) → i ≤ length es → ((j : ℕ) → j < i → R (key (get_or es j d)) k ≡ Less) → (i < length es → is_lt (R (key (get_or es i d)) k) ≡ false) → index_of R key k es ≡ i
+  first_index es k i d le below at = position_or_len_is (λ e. not (is_lt (R (key e) k))) es i d le (λ j lt. ap (λ r. not (is_lt r)) (below j lt)) (λ lt. ap not (at lt))
 
   pub found_here : (es : List E) (k : K) (i : ℕ) (d : E) → IsRising R key es → i < length es → R (key (get_or es i d)) k ≡ Equal → Ok i ≡ found_at R key k es
   found_here es k i d h lt p =
-      let place = first_place es k i d (omega (arith, lt)) (λ j below. sym (alike_right o _ k _ p) ∙ rising_at es h j i d below lt) (λ _. ap is_lt p) in
-      sym (λ n. cond (has_tied es k i d lt p n) (Ok (place n)) (Err (place n)))
+      let index = first_index es k i d (omega (arith, lt)) (λ j below. sym (alike_right o _ k _ p) ∙ rising_at es h j i d below lt) (λ _. ap is_lt p) in
+      sym (λ n. cond (has_tied es k i d lt p n) (Ok (index n)) (Err (index n)))
 
   -- if no item has the key, the search returns the index between the items below the key and the items above it
   pub found_gap : (es : List E) (k : K) (i : ℕ) → i ≤ length es → ((j : ℕ) (d : E) → j < i → R (key (get_or es j d)) k ≡ Less) → ((j : ℕ) (d : E) → i ≤ j → j < length es → R (key (get_or es j d)) k ≡ Greater) → Err i ≡ found_at R key k es
   found_gap [] k i le below above = ap Err (omega (arith, le))
   found_gap (e ∷ es) k i le below above =
-      let place = first_place (e ∷ es) k i e le (λ j lt. below j e lt) (λ lt. ap is_lt (above i e (omega arith) lt)) in
+      let index = first_index (e ∷ es) k i e le (λ j lt. below j e lt) (λ lt. ap is_lt (above i e (omega arith) lt)) in
       let absent = has_none (e ∷ es) k (λ j d lt. elim (cases_lt j i) [
         | inl under ↦ ap is_eq (turned_less key o _ _ (below j d under))
         | inr over ↦ ap is_eq (turned_greater key o _ _ (above j d over lt))
       ]) in
-      sym (λ n. cond (absent n) (Ok (place n)) (Err (place n)))
+      sym (λ n. cond (absent n) (Ok (index n)) (Err (index n)))
 
   -- for a key above the last key, the search returns the length
   pub found_behind : (es : List E) (k : K) (last : E) → IsRising R key es → 0 < length es → ((d : E) → last ≡ get_or es (length es - 1) d) → R (key last) k ≡ Less → Err (length es) ≡ found_at R key k es
@@ -82,26 +82,26 @@ module _ {K E : Type 0} {R : K → K → Ordering} (key : E → K) (o : IsTotalO
         | inr over ↦ let same : j ≡ i = omega (arith, over, ge) in ap (λ n. R (key (get_or es n d)) k) same ∙ read
       ]
 
-  pub place_bound : (k : K) (es : List E) → place_of R key k es ≤ length es
-  place_bound k [] = omega arith
-  place_bound k (e ∷ es) = let rest = place_bound k es in elim (is_lt (R (key e) k)) as (λ b. cond (not (not b)) (1 + place_of R key k es) 0 ≤ length (e ∷ es)) [ true ↦ omega (arith, rest) | false ↦ omega arith ]
+  pub index_bound : (k : K) (es : List E) → index_of R key k es ≤ length es
+  index_bound k [] = omega arith
+  index_bound k (e ∷ es) = let rest = index_bound k es in elim (is_lt (R (key e) k)) as (λ b. cond (not (not b)) (1 + index_of R key k es) 0 ≤ length (e ∷ es)) [ true ↦ omega (arith, rest) | false ↦ omega arith ]
 
-  pub before_place : (k : K) (es : List E) (j : ℕ) (d : E) → j < place_of R key k es → R (key (get_or es j d)) k ≡ Less
-  before_place k [] j d lt = absurd (omega (arith, lt))
-  before_place k (e ∷ es) zero d lt = elim (is_lt (R (key e) k)) as (λ b. is_lt (R (key e) k) ≡ b → R (key e) k ≡ Less) [
+  pub before_index : (k : K) (es : List E) (j : ℕ) (d : E) → j < index_of R key k es → R (key (get_or es j d)) k ≡ Less
+  before_index k [] j d lt = absurd (omega (arith, lt))
+  before_index k (e ∷ es) zero d lt = elim (is_lt (R (key e) k)) as (λ b. is_lt (R (key e) k) ≡ b → R (key e) k ≡ Less) [
     | true ↦ λ t. less (R (key e) k) (sym t)
-    | false ↦ λ t. let count : place_of R key k (e ∷ es) ≡ 0 = ap (λ b. cond (not (not b)) (1 + place_of R key k es) 0) t in absurd (omega (arith, lt, count))
+    | false ↦ λ t. let count : index_of R key k (e ∷ es) ≡ 0 = ap (λ b. cond (not (not b)) (1 + index_of R key k es) 0) t in absurd (omega (arith, lt, count))
   ] refl
-  before_place k (e ∷ es) (suc j) d lt = before_place k es j d (elim (is_lt (R (key e) k)) as (λ b. is_lt (R (key e) k) ≡ b → j < place_of R key k es) [
-    | true ↦ λ t. let count : place_of R key k (e ∷ es) ≡ 1 + place_of R key k es = ap (λ b. cond (not (not b)) (1 + place_of R key k es) 0) t in omega (arith, lt, count)
-    | false ↦ λ t. let count : place_of R key k (e ∷ es) ≡ 0 = ap (λ b. cond (not (not b)) (1 + place_of R key k es) 0) t in absurd (omega (arith, lt, count))
+  before_index k (e ∷ es) (suc j) d lt = before_index k es j d (elim (is_lt (R (key e) k)) as (λ b. is_lt (R (key e) k) ≡ b → j < index_of R key k es) [
+    | true ↦ λ t. let count : index_of R key k (e ∷ es) ≡ 1 + index_of R key k es = ap (λ b. cond (not (not b)) (1 + index_of R key k es) 0) t in omega (arith, lt, count)
+    | false ↦ λ t. let count : index_of R key k (e ∷ es) ≡ 0 = ap (λ b. cond (not (not b)) (1 + index_of R key k es) 0) t in absurd (omega (arith, lt, count))
   ] refl)
 
   -- all items of es that are below an item of fs are below the next item of fs
-  pub passed_next : (es fs : List E) (i : ℕ) (x d : E) → IsRising R key fs → i + 1 < length fs → x ≡ get_or fs i x → (j : ℕ) (e : E) → j < place_of R key (key x) es → R (key (get_or es j e)) (key (get_or fs (i + 1) d)) ≡ Less
+  pub passed_next : (es fs : List E) (i : ℕ) (x d : E) → IsRising R key fs → i + 1 < length fs → x ≡ get_or fs i x → (j : ℕ) (e : E) → j < index_of R key (key x) es → R (key (get_or es j e)) (key (get_or fs (i + 1) d)) ≡ Less
   passed_next es fs i x d h within is j e lt =
-      o.trans _ _ _ (before_place (key x) es j e lt)
+      o.trans _ _ _ (before_index (key x) es j e lt)
       (ap (λ f. R (key f) (key (get_or fs (i + 1) d))) (is ∙ get_or_default fs i x d (omega (arith, within))) ∙ rising_at fs h i (i + 1) d (omega arith) within)
 
-  pub passed_more : (es fs : List E) (n m : ℕ) (x d : E) → IsRising R key fs → x ≡ get_or fs n x → m ≡ n + 1 → m < length fs → (p : ℕ) → p ≡ place_of R key (key x) es → AllWithin (λ e. R (key e) (key (get_or fs m d)) ≡ Less) es 0 p
+  pub passed_more : (es fs : List E) (n m : ℕ) (x d : E) → IsRising R key fs → x ≡ get_or fs n x → m ≡ n + 1 → m < length fs → (p : ℕ) → p ≡ index_of R key (key x) es → AllWithin (λ e. R (key e) (key (get_or fs m d)) ≡ Less) es 0 p
   passed_more es fs n m x d h is next within p at j e _ lt = subst (λ i. R (key (get_or es j e)) (key (get_or fs i d)) ≡ Less) (sym next) (passed_next es fs n x d h (subst (λ i. i < length fs) next within) is j e (subst (λ i. j < i) at lt))

@@ -6,21 +6,21 @@ use Rattle.oim_merge.specs.code.Held.{AreWithin, IsTextAt, IsWritten, Stay}
 use Rattle.oim_merge.specs.Replay.{texts_at}
 use Rattle.oim_merge.specs.code.Readings.{AreReadings}
 use Rattle.oim_merge.proofs.KeptTexts.{among_more, kept_new, stands_last, stay_with_more, within_longer}
-use Rattle.oim_merge.proofs.messages.Messages.place_of.Goals as goal
+use Rattle.oim_merge.proofs.messages.Messages.index_of.Goals as goal
 
-pub returns-in_ok-push-in-Err-2-clause-place : goal.returns-in_ok-push-in-Err-2-clause-place
-returns-in_ok-push-in-Err-2-clause-place c =
+pub returns-in_ok-push-in-Err-2-clause-index : goal.returns-in_ok-push-in-Err-2-clause-index
+returns-in_ok-push-in-Err-2-clause-index c =
     let texts = c.args.self.now.texts.items in
     let text = c.in_ok-text.text in
-    let place_is : c.len-place.result ≡ length texts = c.len-place.ensures ∙ c.args.self.now.texts.ok.0 in
-    subst (λ ts. IsTextAt ts (canonical c.args.base.now.body) c.len-place.result) (sym c.in_ok-push-in-Err.ensures.items)
-    (subst (λ t. IsTextAt (texts ++ text ∷ []) t c.len-place.result) c.in_ok-text.ensures
-    (subst (IsTextAt (texts ++ text ∷ []) text) (sym place_is) (stands_last texts c.args.self.now.sent.items text)))
+    let index_is : c.len-index.result ≡ length texts = c.len-index.ensures ∙ c.args.self.now.texts.ok.0 in
+    subst (λ ts. IsTextAt ts (canonical c.args.base.now.body) c.len-index.result) (sym c.in_ok-push-in-Err.ensures.items)
+    (subst (λ t. IsTextAt (texts ++ text ∷ []) t c.len-index.result) c.in_ok-text.ensures
+    (subst (IsTextAt (texts ++ text ∷ []) text) (sym index_is) (stands_last texts c.args.self.now.sent.items text)))
 
 pub returns-in_ok-push-in-Err-2-clause-sent : goal.returns-in_ok-push-in-Err-2-clause-sent
 returns-in_ok-push-in-Err-2-clause-sent c =
     let sent = c.args.self.now.sent.items in
-    ap (λ ts. texts_at ts sent) c.in_ok-push-in-Err.ensures.items ∙ among_more c.args.self.now.texts.items c.in_ok-text.text sent c.requires.held.places
+    ap (λ ts. texts_at ts sent) c.in_ok-push-in-Err.ensures.items ∙ among_more c.args.self.now.texts.items c.in_ok-text.text sent c.requires.held.indices
 
 pub returns-in_ok-push-in-Err-2-clause-held : goal.returns-in_ok-push-in-Err-2-clause-held
 returns-in_ok-push-in-Err-2-clause-held c =
@@ -30,7 +30,7 @@ returns-in_ok-push-in-Err-2-clause-held c =
     let text = c.in_ok-text.text in
     let longer = c.in_ok-push-in-Err.ensures.items in
     record {
-      places = subst (λ ts. AreWithin ts sent) (sym longer) (within_longer texts sent text c.requires.held.places);
+      indices = subst (λ ts. AreWithin ts sent) (sym longer) (within_longer texts sent text c.requires.held.indices);
       kept = subst (λ ts. AreReadings sheet ts c.push-in-Err.new.self.items) (sym longer)
           (subst (AreReadings sheet (texts ++ text ∷ [])) (sym c.in_ok-push-in-Err-2.ensures.items) (kept_new sheet texts c.args.self.now.kept.items text c.requires.held.kept));
       written = subst (λ ts. All (IsWritten sheet) ts) (sym longer)

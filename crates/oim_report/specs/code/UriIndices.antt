@@ -11,13 +11,13 @@ abbrev pub concept_in : List Binding → FactParts → Option QName
 concept_in bs p = option_and_then (λ ds. said_concept bs ds.concept) p.dimensions
 
 -- for each fact, None or the index of a binding to the URI of its concept
-abbrev pub AreUriPlaces : List Binding → List Fact → List (Option ℕ) → Type 0
-AreUriPlaces bs [] [] = ⊤
-AreUriPlaces bs [] (p ∷ ps) = ⊥
-AreUriPlaces bs (f ∷ fs) [] = ⊥
-AreUriPlaces bs (f ∷ fs) (p ∷ ps) = IfSome p (λ i. uri_at bs i ≡ Some f.dimensions.concept.uri) × AreUriPlaces bs fs ps
+abbrev pub AreUriIndices : List Binding → List Fact → List (Option ℕ) → Type 0
+AreUriIndices bs [] [] = ⊤
+AreUriIndices bs [] (p ∷ ps) = ⊥
+AreUriIndices bs (f ∷ fs) [] = ⊥
+AreUriIndices bs (f ∷ fs) (p ∷ ps) = IfSome p (λ i. uri_at bs i ≡ Some f.dimensions.concept.uri) × AreUriIndices bs fs ps
 
 -- facts with one index have concepts with one URI
 abbrev pub ShareUris : List Fact → List (Option ℕ) → Type 0
-ShareUris facts places =
-    (i j p : ℕ) (f g : Fact) → slice_get places i ≡ Some (Some p) → slice_get places j ≡ Some (Some p) → slice_get facts i ≡ Some f → slice_get facts j ≡ Some g → f.dimensions.concept.uri ≡ g.dimensions.concept.uri
+ShareUris facts indices =
+    (i j p : ℕ) (f g : Fact) → slice_get indices i ≡ Some (Some p) → slice_get indices j ≡ Some (Some p) → slice_get facts i ≡ Some f → slice_get facts j ≡ Some g → f.dimensions.concept.uri ≡ g.dimensions.concept.uri

@@ -1,5 +1,0 @@
-use Rattle.oim_dims.proofs.Places.{IsPast}
-use Rattle.oim_dims.proofs.dimensions.place_of.Given as goal
-
-abbrev pub invariant-loop-i : goal.invariant-loop-i
-invariant-loop-i l = IsPast l.name l.members l.i
