@@ -10,7 +10,7 @@ use Rattle.oim_dims.specs.declared.fact.Fact.{Fact}
 use Rattle.oim_dims.proofs.Orders.{fact_cmp_exact, fact_cmp_total}
 use Rattle.oim_report.specs.Document.{Document}
 use Rattle.oim_report.specs.FactFits.{FactFits}
-use Rattle.oim_report.specs.Kept.{IsKeptReference}
+use Rattle.oim_report.specs.References.{IsKeptReference}
 use Rattle.oim_report.proofs.Documents.{accepted_facts_fit, accepted_references_are_kept}
 use Rattle.fact_base.specs.Body.{Body, all_facts, all_references, body, text_cmp, union}
 use Rattle.fact_base.specs.BodyLaws.{BodyHasWhatDocumentsHave, BodyIgnoresOrder, BodyOfBoth, UnionHasBoth}

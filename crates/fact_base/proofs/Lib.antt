@@ -9,7 +9,7 @@ pub mod Verdicts
 pub mod RowsOf
 pub mod Fitting
 pub mod Stored
-pub mod Gathers
+pub mod BuilderLaws
 pub mod Walks
 pub mod Passed
 pub mod Swaps

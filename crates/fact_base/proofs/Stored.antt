@@ -32,7 +32,7 @@ use Rattle.fact_base.proofs.EntryFacts.{all_fit_together, facts_of_both, Fit, fi
 use mathlib.Core.Bool.{true≢false}
 use Rattle.std.specs.Result.{is_err}
 use Rattle.oim_report.specs.Document.{Document}
-use Rattle.oim_report.specs.Kept.{IsKeptReference}
+use Rattle.oim_report.specs.References.{IsKeptReference}
 use Rattle.oim_report.specs.Sheet.{Sheet}
 use Rattle.fact_base.specs.Body.{Body, body, text_cmp, union}
 use Rattle.fact_base.specs.Fits.{Fits}

@@ -1,8 +1,8 @@
--- Bases and gatherings as contracts see them (own).
+-- Bases and builders as contracts see them (own).
 use Rattle.oim_report.specs.Sheet.{Sheet}
 use Rattle.fact_base.specs.Body.{Body}
 
--- the sheet that a base or a gathering borrows, and the body of its facts and references
+-- the sheet that a base or a builder borrows, and the body of its facts and references
 pub record Contents : Type 0 where
   pub sheet : Sheet
   pub body : Body

@@ -3,7 +3,7 @@ use Rattle.std.specs.Prelude.{◌≡◌, ℕ, List, Ok}
 use Rattle.std.specs.List.{All}
 use Rattle.oim_report.specs.Document.{Document}
 use Rattle.oim_report.specs.FactFits.{FactFits}
-use Rattle.oim_report.specs.Kept.{IsKeptReference}
+use Rattle.oim_report.specs.References.{IsKeptReference}
 use Rattle.oim_report.specs.Outcome.{outcome}
 use Rattle.oim_report.specs.Sheet.{Sheet}
 use Rattle.fact_base.specs.Body.{Body, body, union}

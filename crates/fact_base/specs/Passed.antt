@@ -5,7 +5,7 @@ pub use Rattle.oim_report.specs.Document.{Document}
 pub use Rattle.oim_report.specs.Duplicates.{level_of}
 pub use Rattle.oim_report.specs.FactFits.{DimensionFits, EntityFits, FactFits, FitsName, IsNamespace, MemberFits, UnitFits, ValueFits}
 pub use Rattle.oim_report.specs.FactObject.{fact_object, member_data, option_spelled, option_unit_text, put_text, value_data, with_decimals, with_defined, dimension_members}
-pub use Rattle.oim_report.specs.Kept.{IsKeptReference}
+pub use Rattle.oim_report.specs.References.{IsKeptReference}
 pub use Rattle.oim_report.specs.PlainJson.{HasUtf8, IsBefore, IsPlain, IsPlainJson, ItemsArePlain, ItemsHaveUtf8, MembersArePlain, MembersHaveUtf8}
 pub use Rattle.oim_report.specs.ReadBack.{SpellsDimension, SpellsFact, SpellsMeasures, SpellsName, SpellsValue}
 pub use Rattle.oim_report.specs.Sheet.{Sheet}

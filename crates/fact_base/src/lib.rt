@@ -2,16 +2,16 @@
 #![tactic(auto)]
 
 mod base;
+mod base_builder;
 mod entries;
 mod evidence;
-mod gathering;
 pub mod laws;
 mod ordering;
 mod rows;
 mod verdict;
 
 pub use base::Base;
+pub use base_builder::BaseBuilder;
 pub use evidence::Evidence;
-pub use gathering::Gathering;
 pub use rows::{Row, Rows};
 pub use verdict::Verdict;

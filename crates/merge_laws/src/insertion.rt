@@ -59,7 +59,7 @@ fn lift<E: Drop>(items: &mut Vec<E>, index: usize, above: &mut Vec<E>)
     ensures above { reverse above.new.items ≡ drop index items.old.items ++ reverse above.old.items }
     ensures together { vec_len above.new + vec_len items.new ≡ vec_len above.old + vec_len items.old }
     ensures untouched { vec_len items.new < index → vec_len items.new ≡ vec_len items.old }
-    ensures room { vec_capacity above.new ≡ vec_capacity above.old }
+    ensures storage { vec_capacity above.new ≡ vec_capacity above.old }
     ensures kept { vec_capacity items.new ≡ vec_capacity items.old }
 {
     while items.len() > index {

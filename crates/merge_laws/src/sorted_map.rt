@@ -253,7 +253,7 @@ fn set_values<K: Drop, V: Drop>(entries: &mut Vec<(K, V)>, values: Vec<(usize, V
     requires { AllByRecursion (λ c. c.0 < vec_len entries.old) values.items }
     ensures items { entries.new.items ≡ with_values entries.old.items values.items }
     ensures len { vec_len entries.new ≡ vec_len entries.old }
-    ensures room { vec_capacity entries.new ≡ vec_capacity entries.old }
+    ensures storage { vec_capacity entries.new ≡ vec_capacity entries.old }
 {
     for (index, value) in values {
         entries[index].1 = value;

@@ -157,11 +157,11 @@ impl<T: Key> Merge for SortedSet<T> {
 /// A list that can store a single item without heap memory. Contracts see only the items.
 #[derive(Drop)]
 struct Few<T: Key> {
-    room: Room<T>,
+    storage: Storage<T>,
 }
 
 #[derive(Drop)]
-enum Room<T: Key> {
+enum Storage<T: Key> {
     One(Global, [T; 1]),
     Many(Vec<T>),
 }
@@ -172,7 +172,7 @@ impl<T: Key> Model for Few<T> {
 
     ghost Value = { List T };
 
-    ghost view = { λ a. items_of a.room };
+    ghost view = { λ a. items_of a.storage };
 }
 
 impl<T: Key> Few<T> {
@@ -180,7 +180,7 @@ impl<T: Key> Few<T> {
         ensures { result ≡ item ∷ [] }
     {
         Few {
-            room: Room::One(alloc, [item]),
+            storage: Storage::One(alloc, [item]),
         }
     }
 
@@ -188,23 +188,23 @@ impl<T: Key> Few<T> {
         ensures { result ≡ items.items }
     {
         Few {
-            room: Room::Many(items),
+            storage: Storage::Many(items),
         }
     }
 
     fn as_slice(&self) -> &[T]
         ensures { result.now ≡ self.now }
     {
-        match &self.room {
-            Room::One(_alloc, item) => &item[..],
-            Room::Many(items) => items.as_slice(),
+        match &self.storage {
+            Storage::One(_alloc, item) => &item[..],
+            Storage::Many(items) => items.as_slice(),
         }
     }
 
     fn allocator(&self) -> Global {
-        match &self.room {
-            Room::One(alloc, _item) => *alloc,
-            Room::Many(items) => *items.allocator(),
+        match &self.storage {
+            Storage::One(alloc, _item) => *alloc,
+            Storage::Many(items) => *items.allocator(),
         }
     }
 
@@ -213,13 +213,13 @@ impl<T: Key> Few<T> {
         ensures ok { OnOk result (self.new ≡ insert self.old index item) }
         ensures err { OnErr result (self.new ≡ self.old) }
     {
-        if let Room::Many(items) = &mut self.room {
+        if let Storage::Many(items) = &mut self.storage {
             items.insert(index, item)?;
             return Ok(());
         }
         let mut items = copies_of(self.allocator(), self.as_slice(), 1)?;
         items.insert(index, item)?;
-        self.room = Room::Many(items);
+        self.storage = Storage::Many(items);
         Ok(())
     }
 
@@ -231,21 +231,21 @@ impl<T: Key> Few<T> {
         if news.is_empty() {
             return Ok(());
         }
-        if let Room::Many(items) = &mut self.room {
+        if let Storage::Many(items) = &mut self.storage {
             return insert_new(items, news);
         }
         let mut items = copies_of(self.allocator(), self.as_slice(), news.len())?;
         insert_new(&mut items, news)?;
-        self.room = Room::Many(items);
+        self.storage = Storage::Many(items);
         Ok(())
     }
 }
 
 impl<T: Key> Copied for Few<T> {
     fn copied(&self, alloc: Global) -> Result<Self, AllocError> {
-        Ok(match &self.room {
-            Room::One(_alloc, [item]) => Few::one(alloc, item.copied(alloc)?),
-            Room::Many(items) => Few::many(copies_of(alloc, items.as_slice(), 0)?),
+        Ok(match &self.storage {
+            Storage::One(_alloc, [item]) => Few::one(alloc, item.copied(alloc)?),
+            Storage::Many(items) => Few::many(copies_of(alloc, items.as_slice(), 0)?),
         })
     }
 }

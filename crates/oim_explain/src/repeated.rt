@@ -75,7 +75,10 @@ fn push_of(
     for key in repeated_keys(lines.alloc, members.as_slice())? {
         let mut sentence = String::from_str(lines.alloc, before)?;
         push_text(lines.alloc, &mut sentence, key)?;
-        write!(sentence, " is repeated{location}; only the last one is read")?;
+        write!(
+            sentence,
+            " is repeated{location}; only the last one is read"
+        )?;
         lines.push_repeated(key, sentence.as_str())?;
     }
     Ok(())

@@ -25,7 +25,7 @@ use Rattle.oim_merge.specs.Mentions.{AreOf, all_indexed, index, indexed}
 use Rattle.oim_merge.specs.Sources.{by_fact, is_of}
 use Rattle.oim_merge.specs.declared.mentions.Mention.{Mention}
 use Rattle.std.proofs.lemmas.Map.Keys.{Less-from_sorted}
-use Rattle.oim_merge.specs.code.Listing.{lent}
+use Rattle.oim_merge.specs.code.BufferedRows.{lent}
 use Rattle.oim_merge.specs.declared.fact_list.LentFact.{LentFact}
 
 -- ---- indices

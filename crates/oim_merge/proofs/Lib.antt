@@ -8,7 +8,7 @@ pub mod ReadsBack
 pub mod AllowedLevels
 pub mod Histories
 pub mod Agreement
-pub mod KeptTexts
+pub mod StoredTexts
 pub mod Replays
 pub mod IndexedFacts
 pub mod Traces

@@ -32,7 +32,7 @@ use Rattle.oim_report.specs.Json.{any_member, given, other, text, values, json}
 use Rattle.oim_report.specs.Namespaces.{binds_nothing, bindings_in}
 use Rattle.oim_report.specs.Holds.{document_refusal}
 use Rattle.oim_report.specs.Info.{declarations, document_type, level_said, said_level, said_references, said_reference}
-use Rattle.oim_report.specs.Kept.{IsKeptReference}
+use Rattle.oim_report.specs.References.{IsKeptReference}
 use Rattle.oim_report.specs.Outcome.{all_or_first, at, fact_outcome, facts_said, tree_outcome, unless_above, outcome}
 use Rattle.oim_report.specs.Refusal.{map_ok}
 use Rattle.oim_report.specs.Sheet.{Sheet}

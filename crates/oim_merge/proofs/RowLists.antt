@@ -23,10 +23,10 @@ use Rattle.oim_write.proofs.NumberedFacts.{length-next_row, row_facts, rows_fact
 use Rattle.oim_write.proofs.Ranks.{rank_at}
 use Rattle.oim_merge.specs.Lines.{AreRowsFrom, AreRowsOf, HasOneText, IsRow, LinesAreOne, RowText, identifier_at, line_text}
 use Rattle.oim_merge.specs.Judged.{DependsOnItsNames}
-use Rattle.oim_merge.specs.Named.{HasIndices, named}
+use Rattle.oim_merge.specs.Identifiers.{HasIndices, named}
 use Rattle.oim_merge.proofs.Evidenced.{evidence_exists, one_evidence}
 use Rattle.std.proofs.lemmas.Option.{slice_get_within}
-use Rattle.oim_merge.specs.Listing.{ListStops}
+use Rattle.oim_merge.specs.VerdictCalls.{ListStops}
 use Rattle.oim_merge.specs.Run.{fault_of}
 use Rattle.oim_write.specs.Sink.{AppendsFront, written_of}
 use Rattle.oim_write.specs.declared.write_fault.WriteFault.{WriteFault}

@@ -27,9 +27,9 @@ use Rattle.oim_write.specs.Rank.{padded, width}
 use Rattle.oim_write.specs.Sink.{AppendsFront, written_of, failures_after_fault}
 use Rattle.oim_write.specs.declared.write_fault.WriteFault.{WriteFault}
 use Rattle.oim_write.specs.declared.write_fault.WriteFault.TheVariants.{OutOfMemory, Device}
-use Rattle.oim_merge.specs.code.Listing.{indexed_text}
+use Rattle.oim_merge.specs.code.BufferedRows.{indexed_text}
 use Rattle.oim_merge.specs.Run.{fault_of, failures_after_run}
-use Rattle.oim_merge.specs.SourceListing.{MentionsStop, mention_texts}
+use Rattle.oim_merge.specs.SourceCalls.{MentionsStop, mention_texts}
 use Rattle.oim_merge.specs.declared.mentions.IndexedMention.{IndexedMention}
 use Rattle.std.specs.List.{AllByRecursion}
 

@@ -4,7 +4,7 @@ use Rattle.fact_base.specs.Rows.{Row}
 use Rattle.fact_base.specs.Shown.{shown}
 use Rattle.fact_base.specs.declared.evidence.Evidence.{Evidence}
 use Rattle.oim_merge.specs.Lines.{RowText}
-use Rattle.oim_merge.specs.Named.{HasIndices, named}
+use Rattle.oim_merge.specs.Identifiers.{HasIndices, named}
 use Rattle.oim_merge.specs.declared.verdict_format.JudgedRow.{JudgedRow}
 
 -- the row has values; the number of facts up to the end of the row is at most the number of all facts; the indices in the evidence are in range

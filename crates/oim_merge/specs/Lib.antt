@@ -5,13 +5,13 @@ pub mod Above
 pub mod Run
 pub mod Bases
 pub mod Lines
-pub mod Named
+pub mod Identifiers
 pub mod Judged
-pub mod Listing
+pub mod VerdictCalls
 pub mod Sources
 pub mod Mentions
 pub mod Traced
-pub mod SourceListing
+pub mod SourceCalls
 pub mod Checked
 pub mod Source
 pub mod ReadBack

@@ -1,8 +1,8 @@
 -- Definitions that no public contract uses: parts of event lines, cached readings, stored texts, buffered rows, traced merges, and a law about verdict lines.
-pub mod EventParts
+pub mod EventTokens
 pub mod Held
 pub mod Readings
-pub mod Listing
+pub mod BufferedRows
 pub mod Outcomes
 pub mod SameLine
 pub mod Traces

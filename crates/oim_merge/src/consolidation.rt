@@ -3,7 +3,7 @@ ghost use Rattle.oim_report.specs.Identifiers.{identifiers};
 ghost use Rattle.oim_report.specs.Outcome.{outcome};
 ghost use Rattle.oim_merge.specs.Added.{added, begun, with_report};
 ghost use Rattle.oim_merge.specs.Lines.{line_text};
-ghost use Rattle.oim_merge.specs.Listing.{ListStops, Lists};
+ghost use Rattle.oim_merge.specs.VerdictCalls.{ListStops, Lists};
 ghost use Rattle.oim_merge.specs.Run.{Consolidates, ConsolidationStops, Stops, Writes, failures_after_run};
 ghost use Rattle.oim_merge.specs.Sources.{mentions_of};
 ghost use Rattle.oim_merge.specs.code.Outcomes.{IsOutcome};
@@ -13,8 +13,8 @@ use crate::fault::Fault;
 use crate::mentions::{Mention, mentions_in};
 use crate::refusals::Refusals;
 use crate::verdict_format::VerdictFormat;
-use crate::verdict_listing::{VerdictLines, write_verdicts};
-use fact_base::{Base, Gathering};
+use crate::verdict_rows::{VerdictLines, write_verdicts};
+use fact_base::{Base, BaseBuilder};
 use oim_names::Reason;
 use oim_report::{Refusal, Report, ReportReader, Sheet};
 use oim_value::Level;
@@ -52,7 +52,7 @@ pub fn consolidate<S: Sink>(
 pub struct Consolidation<'s> {
     alloc: Global,
     reader: ReportReader<'s>,
-    gathered: Gathering<'s>,
+    gathered: BaseBuilder<'s>,
     refusals: Refusals,
     reports: u64,
 }
@@ -81,7 +81,7 @@ impl<'s> Consolidation<'s> {
         Consolidation {
             alloc,
             reader: ReportReader::new(alloc, sheet),
-            gathered: Gathering::new(alloc, sheet),
+            gathered: BaseBuilder::new(alloc, sheet),
             refusals: Refusals::new(alloc),
             reports: 0,
         }

@@ -5,7 +5,7 @@ ghost use Rattle.std.specs.Ordering.{is_lt};
 ghost use Rattle.fact_base.specs.Entries.{facts_with};
 ghost use Rattle.merge_laws.specs.Sorted.{IsSet};
 ghost use Rattle.oim_dims.specs.FactOrder.{fact_cmp};
-ghost use Rattle.oim_merge.specs.code.Listing.{lent};
+ghost use Rattle.oim_merge.specs.code.BufferedRows.{lent};
 
 use fact_base::{Base, Row};
 use oim_dims::{Dimensions, Fact};

@@ -22,7 +22,7 @@ mod source_format;
 mod source_reader;
 mod traced_merge;
 mod verdict_format;
-mod verdict_listing;
+mod verdict_rows;
 
 // merging
 pub use bundle::consolidate_bundle;
@@ -35,7 +35,7 @@ pub use mentions::IndexedMention;
 pub use source_format::{SourceFormat, SourceLines};
 pub use traced_merge::{TracedMerge, source_lines};
 pub use verdict_format::{Identifiers, JudgedRow, VerdictFormat};
-pub use verdict_listing::verdict_lines;
+pub use verdict_rows::verdict_lines;
 // replicas
 pub use event::Event;
 pub use events::{Events, ReplayFault, read_events};

@@ -3,7 +3,7 @@ ghost use Rattle.merge_laws.specs.Sorted.{IsSet};
 ghost use Rattle.oim_dims.specs.FactOrder.{fact_cmp};
 ghost use Rattle.oim_merge.specs.Mentions.{AreOf, all_indexed};
 ghost use Rattle.oim_merge.specs.Sources.{by_fact, mentions_in};
-ghost use Rattle.oim_merge.specs.code.Listing.{lent};
+ghost use Rattle.oim_merge.specs.code.BufferedRows.{lent};
 
 use crate::fact_list::{LentFact, Run, facts_of, index_of};
 use fact_base::Base;

@@ -6,7 +6,7 @@ ghost use Rattle.oim_merge.specs.code.Readings.{AreReadings, read_as, with_read}
 ghost use Rattle.oim_merge.specs.Replicas.{joined_with, with_outcome};
 
 use crate::consolidation::read;
-use fact_base::{Base, Gathering};
+use fact_base::{Base, BaseBuilder};
 use oim_report::{Refusal, ReportReader, Sheet};
 use oim_write::Encoded;
 use std::alloc::{AllocError, Global};
@@ -67,7 +67,7 @@ fn read_base<'s>(
     let mut reader = ReportReader::new(alloc, sheet);
     match read(&mut reader, bytes)? {
         Ok(report) => {
-            let mut gathered = Gathering::new(alloc, sheet);
+            let mut gathered = BaseBuilder::new(alloc, sheet);
             gathered.add(report)?;
             Ok(Ok(gathered.into_base()?))
         }

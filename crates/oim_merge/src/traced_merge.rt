@@ -2,13 +2,13 @@ ghost use Rattle.std.specs.Prelude.{◌≡◌, ◌+◌, ◌-◌, ◌^◌, ◌<�
 ghost use Rattle.oim_write.specs.Sink.{failures_after_write, written_of};
 ghost use Rattle.oim_write.specs.SinkBuffer.{Breaks, Passes};
 ghost use Rattle.oim_merge.specs.Run.{failures_after_run};
-ghost use Rattle.oim_merge.specs.SourceListing.{AppendsMentions, ListsSources, MentionsStop, SourcesStop};
+ghost use Rattle.oim_merge.specs.SourceCalls.{AppendsMentions, ListsSources, MentionsStop, SourcesStop};
 ghost use Rattle.oim_merge.specs.Traced.{traced, untraced, with_traced};
-ghost use Rattle.oim_merge.specs.code.Listing.{indexed_text};
+ghost use Rattle.oim_merge.specs.code.BufferedRows.{indexed_text};
 
 use crate::consolidation::{Consolidation, Merged};
 use crate::fault::Fault;
-use crate::mentions::{Mention, IndexedMention, indexed_by_fact};
+use crate::mentions::{IndexedMention, Mention, indexed_by_fact};
 use crate::refusals::Refusals;
 use crate::source_format::{SourceFormat, SourceLines};
 use oim_report::Sheet;

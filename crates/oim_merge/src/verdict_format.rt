@@ -1,7 +1,7 @@
 ghost use Rattle.std.specs.Prelude.{◌≡◌, ℕ, ◌+◌, ◌<◌, List, IfOk};
 ghost use Rattle.oim_merge.specs.Lines.{RowText};
 ghost use Rattle.oim_merge.specs.Judged.{DependsOnItsNames, IsJudged, judged_text};
-ghost use Rattle.oim_merge.specs.Named.{named};
+ghost use Rattle.oim_merge.specs.Identifiers.{named};
 
 use fact_base::{Evidence, Row};
 use oim_names::Text;

@@ -9,7 +9,7 @@ use Rattle.oim_report.specs.declared.concept_kind.ConceptKind.{ConceptKind}
 use Rattle.oim_report.specs.Holds.{holds}
 use Rattle.oim_report.specs.Least.{least}
 use Rattle.oim_report.specs.Outcome.{fact_or, fact_outcome}
-use Rattle.oim_report.specs.Parts.{DimensionParts, FactParts, fact_parts}
+use Rattle.oim_report.specs.FactMembers.{DimensionMembers, FactMembers, fact_parts}
 use Rattle.oim_report.specs.Said.{concept_kind, fact_of, fact_with, said_concept, said_dimensions, said_entity, said_fact, said_language, said_members, said_period, said_unit, said_value}
 use Rattle.oim_report.specs.Sheet.{Sheet}
 
@@ -21,7 +21,7 @@ pub map_some : {A B : Type 0} (g : A → B) (o : Option A) (b : B) → option_ma
 map_some g None b e = absurd (cc)
 map_some g (Some a) b e = (a, refl, cc)
 
-pub record EachSays (sheet : Sheet) (bs : List Binding) (kind : ConceptKind) (ds : DimensionParts) (said : DimensionSet) : Type 0 where
+pub record EachSays (sheet : Sheet) (bs : List Binding) (kind : ConceptKind) (ds : DimensionMembers) (said : DimensionSet) : Type 0 where
   pub concept : said_concept bs ds.concept ≡ Some said.concept
   pub entity : said_entity bs ds.entity ≡ Some said.entity
   pub period : said_period ds.period ≡ Some said.period
@@ -29,7 +29,7 @@ pub record EachSays (sheet : Sheet) (bs : List Binding) (kind : ConceptKind) (ds
   pub language : said_language kind ds.language ≡ Some said.language
   pub members : said_members sheet bs ds.defined ≡ Some said.members
 
-each_says : (sheet : Sheet) (bs : List Binding) (kind : ConceptKind) (ds : DimensionParts) (said : DimensionSet) → said_dimensions sheet bs kind ds ≡ Some said → EachSays sheet bs kind ds said
+each_says : (sheet : Sheet) (bs : List Binding) (kind : ConceptKind) (ds : DimensionMembers) (said : DimensionSet) → said_dimensions sheet bs kind ds ≡ Some said → EachSays sheet bs kind ds said
 each_says sheet bs kind ds said e =
     let a = and_then_some _ (said_concept bs ds.concept) said e in
     let b = and_then_some _ (said_entity bs ds.entity) said a.2 in
@@ -47,13 +47,13 @@ each_says sheet bs kind ds said e =
       members = g.1 ∙ ap (λ (s : DimensionSet). Some s.members) is;
     }
 
-pub record IsSaid (sheet : Sheet) (bs : List Binding) (p : FactParts) (ds : DimensionParts) (f : Fact) : Type 0 where
+pub record IsSaid (sheet : Sheet) (bs : List Binding) (p : FactMembers) (ds : DimensionMembers) (f : Fact) : Type 0 where
   pub kind : ConceptKind
   pub listed : concept_kind sheet bs ds.concept ≡ Some kind
   pub each : EachSays sheet bs kind ds f.dimensions
   pub value : said_value bs kind p.value p.decimals ≡ Some f.value
 
-pub is_said : (sheet : Sheet) (bs : List Binding) (p : FactParts) (ds : DimensionParts) (f : Fact) → fact_of sheet bs p ds ≡ Some f → IsSaid sheet bs p ds f
+pub is_said : (sheet : Sheet) (bs : List Binding) (p : FactMembers) (ds : DimensionMembers) (f : Fact) → fact_of sheet bs p ds ≡ Some f → IsSaid sheet bs p ds f
 is_said sheet bs p ds f e =
     let k = and_then_some (fact_with sheet bs p ds) (concept_kind sheet bs ds.concept) f e in
     let a = and_then_some _ (said_dimensions sheet bs k.0 ds) f k.2 in
@@ -66,9 +66,9 @@ is_said sheet bs p ds f e =
     }
 
 pub record HasAccepted (sheet : Sheet) (bs : List Binding) (d : Data) (f : Fact) : Type 0 where
-  pub parts : FactParts
+  pub parts : FactMembers
   pub are : fact_parts d ≡ Some parts
-  pub dimensions : DimensionParts
+  pub dimensions : DimensionMembers
   pub there : parts.dimensions ≡ Some dimensions
   pub said : IsSaid sheet bs parts dimensions f
 

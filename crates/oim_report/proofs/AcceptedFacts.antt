@@ -15,7 +15,7 @@ use Rattle.oim_report.specs.Fact.{SaysFact, SaysValue}
 use Rattle.oim_report.specs.FactFits.{FactFits}
 use Rattle.oim_report.specs.Json.{values}
 use Rattle.oim_report.specs.Outcome.{all_or_first, fact_outcome, facts_said}
-use Rattle.oim_report.specs.Parts.{DimensionParts, FactParts}
+use Rattle.oim_report.specs.FactMembers.{DimensionMembers, FactMembers}
 use Rattle.oim_report.specs.Refusal.{map_ok}
 use Rattle.oim_report.specs.Sheet.{Sheet}
 use Rattle.oim_report.proofs.Accepted.{IsSaid, accepted}
@@ -23,7 +23,7 @@ use Rattle.oim_report.proofs.Fitting.{AreNamespaces, AreCleanDimensions, AreClea
 use Rattle.oim_report.proofs.MembersSay.{members_fit, members_rise, members_say}
 use Rattle.oim_report.proofs.UnitSays.{unit_fits, unit_is_one, unit_says}
 
-module _ (sheet : Sheet) (bs : List Binding) (are : AreNamespaces bs) (p : FactParts) (ds : DimensionParts) (f : Fact) (clean : AreClean p) (there : p.dimensions ≡ Some ds) (is : IsSaid sheet bs p ds f) where
+module _ (sheet : Sheet) (bs : List Binding) (are : AreNamespaces bs) (p : FactMembers) (ds : DimensionMembers) (f : Fact) (clean : AreClean p) (there : p.dimensions ≡ Some ds) (is : IsSaid sheet bs p ds f) where
   listed : map.get sheet.concepts f.dimensions.concept ≡ Some is.kind
   listed = sym (ap (option_and_then (map.get sheet.concepts)) is.each.concept) ∙ is.listed
 

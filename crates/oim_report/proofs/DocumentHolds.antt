@@ -18,7 +18,7 @@ use Rattle.serde_json.specs.Data.{Data, Items, no_items, item, Members, no_membe
 use Rattle.oim_report.specs.Info.{accepted_reference, base_url_said, bindings_of, declarations, document_type, features_of, info, is_allowed_duplicates, level_said, namespaces_of, references_said, said_base_url, said_level, said_reference, said_references, taxonomy_of, info_keys, root_keys}
 use Rattle.oim_report.specs.Json.{Given, any_in, entries, given, given_of, is_no_array, is_no_object, is_object, is_unknown, object_at, text_of}
 use Rattle.oim_report.specs.code.Findings.{is_text}
-use Rattle.oim_report.specs.Kept.{base_url, is_reference_refused, is_text_within_limit, is_within_limit, kept}
+use Rattle.oim_report.specs.References.{base_url, is_reference_refused, is_text_within_limit, is_within_limit, kept}
 use Rattle.oim_report.specs.Namespaces.{binds_nothing}
 use Rattle.oim_report.specs.Holds.{any_item, as_text, declared, document_base_url, document_holds, document_refusal, is_some_and}
 use Rattle.oim_report.specs.Least.{least}

@@ -26,7 +26,7 @@ use Rattle.oim_report.specs.Outcome.{at, document_with, facts_said, outcome, the
 use Rattle.oim_report.specs.Refusal.{map_ok}
 use Rattle.oim_report.specs.Sheet.{Sheet}
 use Rattle.oim_report.specs.Report.{AcceptedFactsFit, AcceptedReferencesAreKept, OutcomesAreSaid}
-use Rattle.oim_report.proofs.KeptReferences.{references_kept}
+use Rattle.oim_report.proofs.ReferenceTexts.{references_kept}
 use Rattle.oim_report.proofs.AcceptedFacts.{facts_are_said, facts_fit, ok_of}
 use Rattle.oim_report.proofs.Fitting.{AreNamespaces, bindings_are}
 

@@ -13,7 +13,7 @@ use Rattle.oim_value.specs.declared.level.Level.TheVariants.{All as AllLevel}
 use Rattle.oim_dims.specs.declared.fact.Fact.{Fact}
 use Rattle.serde_json.specs.Data.{Data}
 use Rattle.oim_report.specs.Outcome.{IsFree, fact_or, fact_outcome, AcceptedWhereFree, Accepts, all_or_first, at, document_with, facts_said, outcome, then_allowed, tree_outcome, unless_above, unless_refused, RefusedWhereHeld, Refuses, RefusesFacts, RefusesOne, RefusesTree, OutcomesWantNoMemory}
-use Rattle.oim_report.specs.Parts.{fact_parts}
+use Rattle.oim_report.specs.FactMembers.{fact_parts}
 use Rattle.oim_report.specs.Said.{said_fact}
 use Rattle.oim_report.specs.Sheet.{Sheet, RefusesSheet, SheetOutcomesWantNoMemory, sheet_holds}
 use Rattle.oim_report.specs.Holds.{holds, document_holds, document_refusal}

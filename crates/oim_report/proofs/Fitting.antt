@@ -33,12 +33,12 @@ use Rattle.oim_report.specs.Json.{Given, absent, nil, text, whole, text_of, any_
 use Rattle.oim_report.specs.Names.{entity_named, named}
 use Rattle.oim_report.specs.Said.{said_concept, said_decimals, said_entity, said_language, said_period, said_value, value_with}
 use Rattle.oim_report.specs.FactFits.{EntityFits, FitsEntity, FitsName, IsNamespace, LanguageFits, ValueFits}
-use Rattle.oim_report.specs.Parts.{DimensionParts, FactParts, defined_in, dimension_parts, fact_parts, parts_of}
+use Rattle.oim_report.specs.FactMembers.{DimensionMembers, FactMembers, defined_in, dimension_parts, fact_parts, parts_of}
 use Rattle.oim_report.specs.Namespaces.{binds_nothing, bindings_in}
 use Rattle.oim_report.proofs.Accepted.{and_then_some, map_some}
 use Rattle.oim_report.proofs.Naming.{stands}
-use Rattle.oim_report.proofs.KeptReferences.{text_utf8}
-use Rattle.oim_report.proofs.Utf8Parts.{after_utf8, only_colon}
+use Rattle.oim_report.proofs.ReferenceTexts.{text_utf8}
+use Rattle.oim_report.proofs.CutUtf8.{after_utf8, only_colon}
 
 -- ---- if `said_period` returns a period, `SaysPeriod` holds for it. The same is proved for the
 -- concept, the entity, the language and the value.
@@ -176,7 +176,7 @@ at_clean key ms = of_clean (get_member key ms)
 
 -- ---- the parts of a fact object
 
-pub record AreCleanDimensions (ds : DimensionParts) : Type 0 where
+pub record AreCleanDimensions (ds : DimensionMembers) : Type 0 where
   pub concept : IsClean ds.concept
   pub entity : IsClean ds.entity
   pub language : IsClean ds.language
@@ -203,11 +203,11 @@ dimensions_clean ms = record {
 
 -- the value, the concept, the entity, the language, the unit and the taxonomy-defined members of a fact object are UTF-8 if
 -- they are texts; the keys of taxonomy-defined dimensions are UTF-8
-pub record AreClean (p : FactParts) : Type 0 where
+pub record AreClean (p : FactMembers) : Type 0 where
   pub value : IsClean p.value
-  pub dimensions : (ds : DimensionParts) → p.dimensions ≡ Some ds → AreCleanDimensions ds
+  pub dimensions : (ds : DimensionMembers) → p.dimensions ≡ Some ds → AreCleanDimensions ds
 
-inside_clean : (o : Option Members) (ds : DimensionParts) → option_map dimension_parts o ≡ Some ds → AreCleanDimensions ds
+inside_clean : (o : Option Members) (ds : DimensionMembers) → option_map dimension_parts o ≡ Some ds → AreCleanDimensions ds
 inside_clean o ds e = let ms = map_some dimension_parts o ds e in subst AreCleanDimensions ms.2 (dimensions_clean ms.0)
 
 parts_clean : (ms : Members) → AreClean (parts_of ms)
@@ -216,7 +216,7 @@ parts_clean ms = record {
   dimensions = λ ds e. inside_clean (option_and_then as_object (get_member (codes "dimensions") ms)) ds e;
 }
 
-pub are_clean : (d : Data) (p : FactParts) → fact_parts d ≡ Some p → AreClean p
+pub are_clean : (d : Data) (p : FactMembers) → fact_parts d ≡ Some p → AreClean p
 are_clean d p e = let ms = map_some parts_of (as_object d) p e in subst AreClean ms.2 (parts_clean ms.0)
 
 -- ---- each part of the denoted fact fits the sheet

@@ -32,11 +32,11 @@ use Rattle.oim_report.specs.Sheet.{Sheet}
 use Rattle.oim_report.specs.Pieces.{IsPiece, put_all}
 use Rattle.oim_report.specs.code.Pieces.{IsOutline}
 use Rattle.oim_report.proofs.PieceTexts.{append}
-use Rattle.oim_report.specs.code.TapeParts.{Ascends}
+use Rattle.oim_report.specs.code.TapeValues.{Ascends}
 use Rattle.oim_report.specs.PlainJson.{IsBefore}
 use Rattle.oim_report.specs.code.FoundFacts.{AreFound, is_above, rise_after}
 use Rattle.oim_report.specs.Identifiers.{identifiers_in}
-use Rattle.oim_report.specs.Parts.{DimensionParts, FactParts, HasForm}
+use Rattle.oim_report.specs.FactMembers.{DimensionMembers, FactMembers, HasForm}
 use Rattle.oim_report.specs.Said.{fact_of, said_concept}
 use Rattle.oim_report.specs.code.UriIndices.{AreUriIndices, ShareUris, concept_in}
 use Rattle.oim_report.proofs.DocumentHolds.{document_least, has_misshapen_part, has_other_type, has_unknown_part, info_refusal, shape_refusal}
@@ -337,10 +337,10 @@ indexed_by bs fs gs ps qs e k h = subst (λ l. AreUriIndices bs l qs) (sym e) (s
 -- ---- facts that are read
 
 -- the parts of a fact that was read name its concept
-pub concept_read : (sheet : Sheet) (bs : List Binding) (p : FactParts) (ds : DimensionParts) (read : Result Fact Reason) → HasForm p ds → IfOk read (λ f. fact_of sheet bs p ds ≡ Some f) → IfOk read (λ f. concept_in bs p ≡ Some f.dimensions.concept)
-concept_read sheet bs p ds (Ok f) form said = ap (option_and_then (λ (x : DimensionParts). said_concept bs x.concept)) form.there ∙ (is_said sheet bs p ds f said).each.concept
+pub concept_read : (sheet : Sheet) (bs : List Binding) (p : FactMembers) (ds : DimensionMembers) (read : Result Fact Reason) → HasForm p ds → IfOk read (λ f. fact_of sheet bs p ds ≡ Some f) → IfOk read (λ f. concept_in bs p ≡ Some f.dimensions.concept)
+concept_read sheet bs p ds (Ok f) form said = ap (option_and_then (λ (x : DimensionMembers). said_concept bs x.concept)) form.there ∙ (is_said sheet bs p ds f said).each.concept
 concept_read sheet bs p ds (Err r) form said = tt
 
-pub index_read : (bs : List Binding) (parts : FactParts) (f : Fact) (p : Option ℕ) → IfSome p (λ i. (q : QName) → concept_in bs parts ≡ Some q → uri_at bs i ≡ Some q.uri) → concept_in bs parts ≡ Some f.dimensions.concept → IfSome p (λ i. uri_at bs i ≡ Some f.dimensions.concept.uri)
+pub index_read : (bs : List Binding) (parts : FactMembers) (f : Fact) (p : Option ℕ) → IfSome p (λ i. (q : QName) → concept_in bs parts ≡ Some q → uri_at bs i ≡ Some q.uri) → concept_in bs parts ≡ Some f.dimensions.concept → IfSome p (λ i. uri_at bs i ≡ Some f.dimensions.concept.uri)
 index_read bs parts f None h said = tt
 index_read bs parts f (Some i) h said = h f.dimensions.concept said

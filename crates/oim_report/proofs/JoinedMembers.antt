@@ -15,7 +15,7 @@ use Rattle.json.proofs.Unique.Spelling.{value-json_tokens_back}
 use Rattle.json.proofs.Nesting.{value-depth}
 use Rattle.oim_report.specs.Pieces.{alone}
 use Rattle.oim_report.proofs.PieceTexts.{Closed}
-use Rattle.oim_report.specs.code.TapeParts.{one}
+use Rattle.oim_report.specs.code.TapeValues.{one}
 use Rattle.oim_report.proofs.JsonLexemes.{NoQuote, AllGood, piece_of}
 
 -- ---- the tokens of lexemes do not depend on the text that follows, unless this text begins with a colon or a token is bad

@@ -15,7 +15,7 @@ use Rattle.oim_report.specs.Identifiers.{identifiers_in, IdentifiersRise}
 use Rattle.oim_report.specs.Json.{entries, json_text, members, without_mark}
 use Rattle.oim_report.specs.Info.{facts_of}
 use Rattle.oim_report.specs.PlainJson.{IsBefore}
-use Rattle.oim_report.specs.code.TapeParts.{Ascends}
+use Rattle.oim_report.specs.code.TapeValues.{Ascends}
 use Rattle.oim_report.proofs.PutMembers.{ascends_put}
 use Rattle.oim_report.proofs.ReadUtf8.{Has, has_mapped, has_then, any}
 

@@ -1,9 +1,9 @@
-pub mod KeptLaws
-pub mod Givens
+pub mod ReferenceLaws
+pub mod JsonTexts
 pub mod Filled
 pub mod Texts
 pub mod Naming
-pub mod ShownParts
+pub mod ShownFaults
 pub mod DimensionAt
 pub mod ReasonTests
 pub mod ReadInTurn
@@ -15,9 +15,9 @@ pub mod Passed
 pub mod Indices
 pub mod Facts
 pub mod FaultLaws
-pub mod KeptReferences
+pub mod ReferenceTexts
 pub mod Accepted
-pub mod Utf8Parts
+pub mod CutUtf8
 pub mod Fitting
 pub mod UnitSays
 pub mod MembersSay
@@ -31,7 +31,7 @@ pub mod MemberOrder
 pub mod WrittenTexts
 pub mod ReadFact
 pub mod PutMembers
-pub mod PartsPut
+pub mod MembersPut
 pub mod PlainFact
 pub mod ReadBack
 pub mod TextUtf8
@@ -44,8 +44,8 @@ pub mod DocumentHolds
 pub mod EachRefusal
 pub mod LeastOf
 pub mod ValueWords
-pub mod AllTold
-pub mod FreeParts
+pub mod AllFaults
+pub mod FreeMembers
 pub mod SaidWhereFree
 pub mod JsonStrings
 pub mod JsonWords

@@ -27,7 +27,7 @@ use Rattle.oim_report.specs.Said.{dimension_names, members_with, said_member, sa
 use Rattle.oim_report.specs.Sheet.{Sheet, dimension_kind}
 use Rattle.oim_report.specs.declared.fact.json_member.JsonMember.{JsonMember}
 use Rattle.oim_report.specs.code.JsonMember.{seen}
-use Rattle.oim_report.specs.code.SeenParts.{seen_defined}
+use Rattle.oim_report.specs.code.SeenMembers.{seen_defined}
 use Rattle.oim_report.proofs.Accepted.{and_then_some, map_some}
 use Rattle.oim_report.proofs.Fitting.{AreNamespaces, IsClean, name_fits}
 use Rattle.oim_report.proofs.Naming.{stands}

@@ -27,7 +27,7 @@ use Rattle.oim_report.specs.Document.{ObjectSays, SaysOneDocument}
 use Rattle.oim_report.specs.Fact.{GivesText, GivesTextOr, SaysDecimals, SaysDimensions, SaysEntity, SaysFact, SaysLanguage, SaysNumber, SaysPeriod, SaysUnit, SaysValue}
 use Rattle.oim_report.specs.Info.{bindings_of, facts_of, references_said, level_said}
 use Rattle.oim_report.specs.Json.{Given, absent, nil, text, whole, json, values}
-use Rattle.oim_report.specs.Parts.{DimensionParts, FactParts, fact_parts}
+use Rattle.oim_report.specs.FactMembers.{DimensionMembers, FactMembers, fact_parts}
 use Rattle.oim_report.specs.Sheet.{Sheet}
 use Rattle.oim_report.proofs.MembersSay.{given_name, no_text, one_list, one_some, one_text}
 
@@ -69,7 +69,7 @@ one_language g x y a b =
     (λ p q. p ∙ sym q)
     (λ t p q. p.1 ∙ sym q.1)
 
-one_set : (sheet : Sheet) (bs : List Binding) (ds : DimensionParts) (x y : DimensionSet) → SaysDimensions sheet bs ds x → SaysDimensions sheet bs ds y → x ≡ y
+one_set : (sheet : Sheet) (bs : List Binding) (ds : DimensionMembers) (x y : DimensionSet) → SaysDimensions sheet bs ds x → SaysDimensions sheet bs ds y → x ≡ y
 one_set sheet bs ds x y a b =
     let concept = given_name bs ds.concept x.concept y.concept a.concept b.concept in
     let entity = one_entity bs ds.entity x.entity y.entity a.entity b.entity in
@@ -112,7 +112,7 @@ one_value bs Name g decimals v (Number n q) a b = absurd b
 one_value bs Name g decimals v (AText t) a b = absurd b
 one_value bs k g decimals v w a b = absurd a
 
-one_fact : (sheet : Sheet) (bs : List Binding) (p : FactParts) (f g : Fact) → SaysFact sheet bs p f → SaysFact sheet bs p g → f ≡ g
+one_fact : (sheet : Sheet) (bs : List Binding) (p : FactMembers) (f g : Fact) → SaysFact sheet bs p f → SaysFact sheet bs p g → f ≡ g
 one_fact sheet bs p f g a b =
     let parts : a.parts ≡ b.parts = one_some p.dimensions a.parts b.parts a.there b.there in
     let set : f.dimensions ≡ g.dimensions = one_set sheet bs b.parts f.dimensions g.dimensions (subst (λ ds. SaysDimensions sheet bs ds f.dimensions) parts a.dimensions) b.dimensions in

@@ -18,7 +18,7 @@ use Rattle.serde_json.specs.Data as d
 use Rattle.oim_report.specs.Pieces.{IsPiece, put_all, one_data}
 use Rattle.oim_report.specs.code.Pieces.{AreSpaces, facts_key, IsOutline, AfterSpaces, BeforeSpaces, IsEnd, IsTail, IsSplit, IsBeside, with_before, with_behind}
 use Rattle.oim_report.proofs.PieceTexts.{facts_text}
-use Rattle.oim_report.specs.code.TapeParts.{Ascends}
+use Rattle.oim_report.specs.code.TapeValues.{Ascends}
 use Rattle.oim_report.proofs.JsonWords.{each_space}
 use Rattle.oim_report.proofs.JoinedMembers.{body, plus, closed_body, depth-plus, HasSome, Members_of, members_of, IsKeyed, behind_comma, lex_comma, after_one, room}
 use Rattle.oim_report.proofs.PiecesInTurn.{some_read, ends_closed, read_as, both_pieces}

@@ -14,7 +14,7 @@ use Rattle.serde_json.specs.declared.value.Value.{Value, Array, Object}
 use Rattle.serde_json.specs.Data as d
 use Rattle.serde_json.proofs.Views.{Entry, view-Array, view-Object}
 use Rattle.oim_report.specs.Pieces.{alone, one_data, HasMember, EndsWithBrace, IsPiece, put_all}
-use Rattle.oim_report.specs.code.TapeParts.{one, Ascends}
+use Rattle.oim_report.specs.code.TapeValues.{one, Ascends}
 use Rattle.oim_report.proofs.PieceTexts.{Closed, append}
 use Rattle.oim_report.proofs.JoinedMembers.{Reads, HasSome, plus, joined}
 use Rattle.oim_report.proofs.Accepted.{map_some, and_then_some}

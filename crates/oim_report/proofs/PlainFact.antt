@@ -33,14 +33,14 @@ use Rattle.oim_report.specs.declared.concept_kind.ConceptKind.TheVariants.{Numer
 use Rattle.oim_report.specs.declared.dimension_kind.DimensionKind.{DimensionKind}
 use Rattle.oim_report.specs.declared.dimension_kind.DimensionKind.TheVariants.{Explicit, Typed}
 use Rattle.oim_report.specs.Json.{given, given_of, has_colon, any_member, is_unknown}
-use Rattle.oim_report.specs.Parts.{core_keys, defined_in, dimension_parts, parts_of}
+use Rattle.oim_report.specs.FactMembers.{core_keys, defined_in, dimension_parts, parts_of}
 use Rattle.oim_report.specs.FactFits.{EntityFits, LanguageFits, UnitFits, MemberFits, DimensionFits, ValueFits, FactFits}
 use Rattle.oim_report.specs.FactObject.{put_text, option_spelled, option_unit_text, member_data, with_defined, dimension_members, value_data, with_decimals, fact_members}
 use Rattle.oim_report.specs.Sheet.{Sheet}
 use Rattle.oim_report.specs.ReadBack.{SpellsName, SpellsMeasures, SpellsMember, SpellsDimension, SpellsFact, SpellsValue, option_given, with_given, member_given, defined_given, dimensions_given, value_given, decimals_given, FactObjectHasParts, FactObjectIsPlain}
-use Rattle.oim_report.specs.code.TapeParts.{Ascends}
+use Rattle.oim_report.specs.code.TapeValues.{Ascends}
 use Rattle.oim_report.specs.PlainJson.{IsWhole, IsBefore, IsPlain, MembersArePlain, HasUtf8, MembersHaveUtf8}
-use Rattle.oim_report.proofs.Givens.{given_text}
+use Rattle.oim_report.proofs.JsonTexts.{given_text}
 use Rattle.oim_report.proofs.WrittenTexts.{spelled_utf8, spelled_colon, plain_utf8, period_utf8, language_utf8, unit_utf8}
 use Rattle.oim_report.proofs.PutMembers.{ascends_put, defined_put, known_put, text_there, text_past, text_ascends, text_undefined, text_known, before_all, before_put}
 

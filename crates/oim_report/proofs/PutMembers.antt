@@ -15,10 +15,10 @@ use Rattle.serde_json.specs.Read.{of_json, of_members}
 use Rattle.serde_json.proofs.Views.{get_member-put, get_member-put_other}
 use Rattle.oim_report.specs.FactObject.{put_text}
 use Rattle.oim_report.specs.Json.{Given, given, any_member, has_colon, is_unknown}
-use Rattle.oim_report.specs.Parts.{defined_in, is_defined}
+use Rattle.oim_report.specs.FactMembers.{defined_in, is_defined}
 use Rattle.oim_report.specs.PlainJson.{IsBefore}
 use Rattle.oim_report.specs.ReadBack.{with_given}
-use Rattle.oim_report.specs.code.TapeParts.{Ascends}
+use Rattle.oim_report.specs.code.TapeValues.{Ascends}
 use Rattle.oim_report.specs.Pieces.{put_all}
 use Rattle.oim_report.proofs.JoinedMembers.{plus}
 use Rattle.oim_report.proofs.Accepted.{and_then_some}

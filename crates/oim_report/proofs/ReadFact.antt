@@ -33,7 +33,7 @@ use Rattle.oim_report.specs.FactFits.{MemberFits, DimensionFits, UnitFits, Measu
 use Rattle.oim_report.specs.Said.{dimension_names, members_with, said_member, said_members, fact_of, fact_with, said_dimensions}
 use Rattle.oim_report.specs.Sheet.{Sheet, dimension_kind}
 use Rattle.oim_report.specs.declared.concept_kind.ConceptKind.{ConceptKind}
-use Rattle.oim_report.specs.Parts.{DimensionParts, FactParts, fact_parts}
+use Rattle.oim_report.specs.FactMembers.{DimensionMembers, FactMembers, fact_parts}
 use Rattle.oim_report.specs.FactObject.{option_spelled, option_unit_text, fact_object}
 use Rattle.oim_report.specs.Outcome.{IsFree, fact_outcome}
 use Rattle.oim_report.proofs.ReadBack.{DimensionsReadBack, ConceptReadsBack, EntityReadsBack, PeriodReadsBack, UnitReadsBack, LanguageReadsBack, MembersReadBack, ValueReadsBack, concept_back, entity_part_back, period_part_back, language_back, unit_part_back, value_part_back}
@@ -308,10 +308,10 @@ measures_fit kind None fits = tt
 measures_fit kind (Some m) fits = fits
 
 module _ (sheet : Sheet) (bs : List Binding) (spelled : QName → List ℕ) (f : Fact) (fits : FactFits sheet f) (s : SpellsFact bs spelled f) where
-  abbrev parts : FactParts
+  abbrev parts : FactMembers
   parts = parts_given spelled f
 
-  abbrev given : DimensionParts
+  abbrev given : DimensionMembers
   given = dimensions_given spelled f.dimensions
 
   concept : ConceptReadsBack sheet bs spelled f.dimensions.concept fits.kind

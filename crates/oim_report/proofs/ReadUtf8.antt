@@ -19,7 +19,7 @@ use Rattle.serde_json.specs.Read.{of_json, of_items, of_members, number_of, read
 use Rattle.oim_report.specs.Json.{json_text, without_mark}
 use Rattle.oim_report.specs.PlainJson.{HasUtf8, ItemsHaveUtf8, MembersHaveUtf8, ReadHasUtf8}
 use Rattle.oim_report.proofs.StringsUtf8.{IsUtf8Behind, content_utf8}
-use Rattle.oim_report.proofs.Utf8Parts.{both_utf8}
+use Rattle.oim_report.proofs.CutUtf8.{both_utf8}
 
 -- ---- lexemes
 

@@ -23,11 +23,11 @@ use Rattle.oim_report.specs.Holds.{as_text, holds, holds_with, is_kind, is_some_
 use Rattle.oim_report.specs.Json.{given_of, is_absent, is_no_object, members, text_of}
 use Rattle.oim_report.specs.Names.{comes_again, named, names_refusal}
 use Rattle.oim_report.specs.Outcome.{FactsAreSaid, IsFree, fact_or, fact_outcome}
-use Rattle.oim_report.specs.Parts.{DimensionParts, FactParts, HasForm, defined_members, dimension_parts, fact_parts, parts_of}
+use Rattle.oim_report.specs.FactMembers.{DimensionMembers, FactMembers, HasForm, defined_members, dimension_parts, fact_parts, parts_of}
 use Rattle.oim_report.specs.Said.{concept_kind, fact_of, fact_with, said_concept, said_dimensions, said_fact, said_members, said_value, value_with}
 use Rattle.oim_report.specs.Sheet.{Sheet, same_concept_kind}
 use Rattle.oim_report.proofs.Accepted.{EachSays, IsSaid, and_then_some, is_said, map_some}
-use Rattle.oim_report.proofs.FreeParts.{ConceptFree, ConceptSaid, DecimalsFree, EntityFree, LanguageFree, MembersFree, PeriodFree, UnitFree, ValueFree, concept_free, concept_said, decimals_free, decimals_said, entity_free, entity_said, is_misfit, is_misplaced, language_free, language_said, members_free, members_said, names_in, period_free, period_said, spelled_by, unit_free, unit_said, value_free, value_said}
+use Rattle.oim_report.proofs.FreeMembers.{ConceptFree, ConceptSaid, DecimalsFree, EntityFree, LanguageFree, MembersFree, PeriodFree, UnitFree, ValueFree, concept_free, concept_said, decimals_free, decimals_said, entity_free, entity_said, is_misfit, is_misplaced, language_free, language_said, members_free, members_said, names_in, period_free, period_said, spelled_by, unit_free, unit_said, value_free, value_said}
 use Rattle.oim_report.proofs.LeastOf.{none_is}
 use Rattle.oim_report.proofs.SheetEntries.{AreFree, are_free, names-parts, names_append, none_refused}
 use Rattle.oim_report.proofs.ValueWords.{absent_same, defined_same, no_text_same, no_value_same, no_whole_same, seen_member, text_same, there_same, whole_of, whole_same}
@@ -36,7 +36,7 @@ use Rattle.oim_report.proofs.Passed.{second_false}
 -- ---- the parts of an object that denotes a fact
 
 -- no condition on the parts applies; `xs` are the taxonomy-defined dimensions
-record PartsFree (sheet : Sheet) (bs : List Binding) (kind : ConceptKind) (p : FactParts) (ds : DimensionParts) (xs : List (List ℕ × Data)) : Type 0 where
+record PartsFree (sheet : Sheet) (bs : List Binding) (kind : ConceptKind) (p : FactMembers) (ds : DimensionMembers) (xs : List (List ℕ × Data)) : Type 0 where
   concept : ConceptFree sheet bs ds.concept
   entity : EntityFree bs ds.entity
   period : PeriodFree ds.period
@@ -46,7 +46,7 @@ record PartsFree (sheet : Sheet) (bs : List Binding) (kind : ConceptKind) (p : F
   value : ValueFree bs kind p.value
   decimals : DecimalsFree kind p.decimals
 
-parts_free : (sheet : Sheet) (bs : List Binding) (p : FactParts) (ds : DimensionParts) (xs : List (List ℕ × Data)) (f : Fact) → ds.defined ≡ map seen_member xs → (is : IsSaid sheet bs p ds f) → PartsFree sheet bs is.kind p ds xs
+parts_free : (sheet : Sheet) (bs : List Binding) (p : FactMembers) (ds : DimensionMembers) (xs : List (List ℕ × Data)) (f : Fact) → ds.defined ≡ map seen_member xs → (is : IsSaid sheet bs p ds f) → PartsFree sheet bs is.kind p ds xs
 parts_free sheet bs p ds xs f same is =
     let each = is.each in
     let d = and_then_some (value_with bs is.kind p.value) _ f.value is.value in
@@ -61,13 +61,13 @@ parts_free sheet bs p ds xs f same is =
       decimals = decimals_free is.kind p.decimals d.0 d.1;
     }
 
-together : (sheet : Sheet) (bs : List Binding) (kind : ConceptKind) (ds : DimensionParts) (d : DimensionSet) → EachSays sheet bs kind ds d → said_dimensions sheet bs kind ds ≡ Some d
+together : (sheet : Sheet) (bs : List Binding) (kind : ConceptKind) (ds : DimensionMembers) (d : DimensionSet) → EachSays sheet bs kind ds d → said_dimensions sheet bs kind ds ≡ Some d
 together sheet bs kind ds d each = rw (each.concept, each.entity, each.period, each.unit, each.language, each.members) refl
 
-with_value : (sheet : Sheet) (bs : List Binding) (kind : ConceptKind) (p : FactParts) (ds : DimensionParts) (d : DimensionSet) (v : Value) → concept_kind sheet bs ds.concept ≡ Some kind → said_dimensions sheet bs kind ds ≡ Some d → said_value bs kind p.value p.decimals ≡ Some v → fact_of sheet bs p ds ≡ Some (record { dimensions = d; value = v })
+with_value : (sheet : Sheet) (bs : List Binding) (kind : ConceptKind) (p : FactMembers) (ds : DimensionMembers) (d : DimensionSet) (v : Value) → concept_kind sheet bs ds.concept ≡ Some kind → said_dimensions sheet bs kind ds ≡ Some d → said_value bs kind p.value p.decimals ≡ Some v → fact_of sheet bs p ds ≡ Some (record { dimensions = d; value = v })
 with_value sheet bs kind p ds d v listed dimensions value = ap (option_and_then (fact_with sheet bs p ds)) listed ∙ rw (dimensions, value) refl
 
-parts_said : (sheet : Sheet) (bs : List Binding) (p : FactParts) (ds : DimensionParts) (xs : List (List ℕ × Data)) → ds.defined ≡ map seen_member xs → (c : ConceptSaid sheet bs ds.concept) → PartsFree sheet bs c.kind p ds xs → (f : Fact) × (fact_of sheet bs p ds ≡ Some f)
+parts_said : (sheet : Sheet) (bs : List Binding) (p : FactMembers) (ds : DimensionMembers) (xs : List (List ℕ × Data)) → ds.defined ≡ map seen_member xs → (c : ConceptSaid sheet bs ds.concept) → PartsFree sheet bs c.kind p ds xs → (f : Fact) × (fact_of sheet bs p ds ≡ Some f)
 parts_said sheet bs p ds xs same c free =
     let e = entity_said bs ds.entity free.entity in
     let t = period_said ds.period free.period in
@@ -114,7 +114,7 @@ module _ (sheet : Sheet) (bs : List Binding) (fms ms : Members) where
   abbrev fact : Data
   fact = object fms
 
-  abbrev ds : DimensionParts
+  abbrev ds : DimensionMembers
   ds = dimension_parts ms
 
   abbrev at : List ℕ → Option Data
@@ -301,18 +301,18 @@ free_inside sheet bs fms ms f is form said r =
     let parts = parts_free sheet bs (parts_of fms) (dimension_parts ms) (defined_members ms) f (defined_same ms) all in
     ap (λ o. holds_with sheet bs (object fms) (members o) r) is ∙ rows_free sheet bs fms ms all.kind all.listed parts form is r
 
-free_object : (sheet : Sheet) (bs : List Binding) (fms : Members) (ds : DimensionParts) (f : Fact) → HasForm (parts_of fms) ds → fact_of sheet bs (parts_of fms) ds ≡ Some f → IsFree sheet bs (object fms)
+free_object : (sheet : Sheet) (bs : List Binding) (fms : Members) (ds : DimensionMembers) (f : Fact) → HasForm (parts_of fms) ds → fact_of sheet bs (parts_of fms) ds ≡ Some f → IsFree sheet bs (object fms)
 free_object sheet bs fms ds f form said =
     let ms = map_some dimension_parts (option_and_then as_object (get_member (codes "dimensions") fms)) ds form.there in
     free_inside sheet bs fms ms.0 f ms.1 (subst (HasForm (parts_of fms)) (sym ms.2) form) (ap (fact_of sheet bs (parts_of fms)) ms.2 ∙ said)
 
-pub said_free : (sheet : Sheet) (bs : List Binding) (d : Data) (p : FactParts) (ds : DimensionParts) (f : Fact) → fact_parts d ≡ Some p → HasForm p ds → fact_of sheet bs p ds ≡ Some f → IsFree sheet bs d
+pub said_free : (sheet : Sheet) (bs : List Binding) (d : Data) (p : FactMembers) (ds : DimensionMembers) (f : Fact) → fact_parts d ≡ Some p → HasForm p ds → fact_of sheet bs p ds ≡ Some f → IsFree sheet bs d
 said_free sheet bs (object fms) p ds f are form said =
     let same : p ≡ parts_of fms = cc in
     free_object sheet bs fms ds f (subst (λ q. HasForm q ds) same form) (ap (λ q. fact_of sheet bs q ds) (sym same) ∙ said)
 said_free sheet bs d p ds f are form said = absurd (cc)
 
-pub said_outcome : (sheet : Sheet) (bs : List Binding) (d : Data) (p : FactParts) (ds : DimensionParts) (f : Fact) → fact_parts d ≡ Some p → HasForm p ds → fact_of sheet bs p ds ≡ Some f → fact_outcome sheet bs d ≡ Ok f
+pub said_outcome : (sheet : Sheet) (bs : List Binding) (d : Data) (p : FactMembers) (ds : DimensionMembers) (f : Fact) → fact_parts d ≡ Some p → HasForm p ds → fact_of sheet bs p ds ≡ Some f → fact_outcome sheet bs d ≡ Ok f
 said_outcome sheet bs d p ds f are form said =
     let none = (none_is (holds sheet bs d)).1 (said_free sheet bs d p ds f are form said) in
     let says : option_and_then (said_fact sheet bs) (fact_parts d) ≡ Some f = ap (option_and_then (said_fact sheet bs)) are ∙ ap (option_and_then (fact_of sheet bs p)) form.there ∙ said in

@@ -1,7 +1,7 @@
 -- Lemmas with the statements of laws in `src/laws.rt`.
 use Rattle.oim_report.proofs.Documents.{outcomes_are_said}
 use Rattle.oim_report.proofs.FaultLaws.{first_fault, no_faults, outcomes_want_no_memory, sheet_outcomes_want_no_memory}
-use Rattle.oim_report.proofs.KeptLaws.{accepted_again, kept_again, kept_utf8}
+use Rattle.oim_report.proofs.ReferenceLaws.{accepted_again, kept_again, kept_utf8}
 use Rattle.oim_report.proofs.KeyedFacts.{each_fact_has_an_identifier}
 use Rattle.oim_report.proofs.KeysRise.{identifiers_rise}
 use Rattle.oim_report.proofs.Pairs.{level_ignores_order, level_is_strictest}

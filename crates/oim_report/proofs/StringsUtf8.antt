@@ -7,7 +7,7 @@ use Rattle.std.proofs.lemmas.Bool.Decides.{nat_tests}
 use Rattle.std.proofs.lemmas.List.{append_assoc, append-nil}
 use Rattle.std.proofs.lemmas.Str.{IsUtf8-append, IsUtf8-encode}
 use Rattle.json.specs.Text.{code_unit, short_escape, is_high_surrogate, is_low_surrogate, surrogate_pair, Within, plain, after_backslash, after_u, after_high, prepend, content}
-use Rattle.oim_report.proofs.Utf8Parts.{both_utf8}
+use Rattle.oim_report.proofs.CutUtf8.{both_utf8}
 
 -- `run` followed by the bytes in the option is UTF-8; `None` always satisfies this
 abbrev pub IsUtf8Behind : List ℕ → Option (List ℕ) → Type 0

@@ -11,7 +11,7 @@ use Rattle.json.proofs.Unique.Spelling.{value-json_tokens_back}
 use Rattle.serde_json.specs.Data.{Data, Members, no_members, put, member}
 use Rattle.serde_json.specs.Read.{of_json, of_members, max_depth}
 use Rattle.oim_dims.specs.declared.fact.Fact.{Fact}
-use Rattle.oim_report.specs.code.TapeParts.{Ascends, AreData, one}
+use Rattle.oim_report.specs.code.TapeValues.{Ascends, AreData, one}
 use Rattle.oim_report.specs.Pieces.{alone, HasMember, EndsWithBrace, IsPiece, put_all}
 use Rattle.oim_report.specs.Outcome.{fact_outcome}
 use Rattle.oim_report.specs.code.FoundFacts.{AreFound}

@@ -31,7 +31,7 @@ use Rattle.oim_report.proofs.Naming.{expanded, stands}
 use Rattle.oim_report.proofs.MemberOrder.{other_way}
 use Rattle.oim_report.proofs.Accepted.{and_then_some, map_some}
 use Rattle.oim_report.proofs.Fitting.{AreNamespaces, IsClean, bound_uri, name_fits}
-use Rattle.oim_report.proofs.Utf8Parts.{denominators_utf8, numerators_utf8}
+use Rattle.oim_report.proofs.CutUtf8.{denominators_utf8, numerators_utf8}
 
 -- ---- if a text denotes a unit that satisfies `IsUnit`, `unit_of` returns this unit. For `pure` alone, `unit_of` returns
 -- `Some None`.

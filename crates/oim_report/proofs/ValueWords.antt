@@ -5,7 +5,7 @@ use Rattle.std.specs.Str.{is_utf8}
 use Rattle.serde_json.specs.Data.{Data, Members, no_members, member, null, number, string, unsigned, negative}
 use Rattle.serde_json.specs.Find.{as_null}
 use Rattle.oim_report.specs.Json.{Given, absent, given, given_of, has_colon, is_absent, is_no_text, nil, other, text, text_of, whole}
-use Rattle.oim_report.specs.Parts.{defined_in, defined_members}
+use Rattle.oim_report.specs.FactMembers.{defined_in, defined_members}
 use Rattle.oim_report.specs.Holds.{as_text, as_whole, is_some_and, no_text, no_text_or_null}
 
 -- a property holds for each value if it holds for null, texts, whole numbers and all other values

@@ -8,7 +8,7 @@ use Rattle.serde_json.specs.Data.{Data}
 use Rattle.oim_report.specs.Fact.{SaysFact}
 use Rattle.oim_report.specs.Info.{bindings_of, facts_of, references_said, level_said}
 use Rattle.oim_report.specs.Json.{json, values}
-use Rattle.oim_report.specs.Parts.{FactParts, fact_parts}
+use Rattle.oim_report.specs.FactMembers.{FactMembers, fact_parts}
 use Rattle.oim_report.specs.Sheet.{Sheet}
 
 -- a report's facts with repeats, in byte order of their identifiers (law `identifiers_rise`); the kept texts of its references,
@@ -20,7 +20,7 @@ pub record Document : Type 0 where
 
 -- the parts of a fact object denote this fact
 pub record ObjectSays (sheet : Sheet) (bs : List Binding) (object : Data) (said : Fact) : Type 0 where
-  pub parts : FactParts
+  pub parts : FactMembers
   pub are : fact_parts object ≡ Some parts
   pub says : SaysFact sheet bs parts said
 

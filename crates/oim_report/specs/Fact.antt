@@ -23,7 +23,7 @@ use Rattle.oim_report.specs.declared.concept_kind.ConceptKind.TheVariants.{Numer
 use Rattle.oim_report.specs.declared.dimension_kind.DimensionKind.{DimensionKind}
 use Rattle.oim_report.specs.declared.dimension_kind.DimensionKind.TheVariants.{Explicit, Typed}
 use Rattle.oim_report.specs.Json.{Given, absent, nil, text, whole, other}
-use Rattle.oim_report.specs.Parts.{DimensionParts, FactParts}
+use Rattle.oim_report.specs.FactMembers.{DimensionMembers, FactMembers}
 use Rattle.oim_report.specs.Sheet.{Sheet}
 
 -- the value is a text for which `Says` holds
@@ -103,7 +103,7 @@ SaysValue bs kind g decimals said = ⊥
 -- ---- the fact
 
 -- the members of `dimensions` denote this dimension set; the sheet lists the set's taxonomy-defined dimensions
-pub record SaysDimensions (sheet : Sheet) (bs : List Binding) (ds : DimensionParts) (said : DimensionSet) : Type 0 where
+pub record SaysDimensions (sheet : Sheet) (bs : List Binding) (ds : DimensionMembers) (said : DimensionSet) : Type 0 where
   pub concept : GivesText ds.concept (λ t. Expands bs t said.concept)
   pub entity : SaysEntity bs ds.entity said.entity
   pub period : SaysPeriod ds.period said.period
@@ -113,8 +113,8 @@ pub record SaysDimensions (sheet : Sheet) (bs : List Binding) (ds : DimensionPar
   pub set : IsDimensionSet said
 
 -- a fact object with these parts denotes the fact under this sheet and these bindings
-pub record SaysFact (sheet : Sheet) (bs : List Binding) (p : FactParts) (said : Fact) : Type 0 where
-  pub parts : DimensionParts
+pub record SaysFact (sheet : Sheet) (bs : List Binding) (p : FactMembers) (said : Fact) : Type 0 where
+  pub parts : DimensionMembers
   pub there : p.dimensions ≡ Some parts
   pub dimensions : SaysDimensions sheet bs parts said.dimensions
   pub kind : ConceptKind

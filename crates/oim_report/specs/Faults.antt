@@ -17,7 +17,7 @@ use Rattle.oim_report.specs.Document.{Document}
 use Rattle.oim_report.specs.Duplicates.{level_of}
 use Rattle.oim_report.specs.Info.{bindings_of, facts_of, level_said}
 use Rattle.oim_report.specs.Json.{json, values}
-use Rattle.oim_report.specs.Parts.{fact_parts}
+use Rattle.oim_report.specs.FactMembers.{fact_parts}
 use Rattle.oim_report.specs.Said.{said_fact}
 use Rattle.oim_report.specs.Sheet.{Sheet}
 use Rattle.oim_report.specs.Holds.{document_holds, holds}

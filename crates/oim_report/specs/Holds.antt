@@ -26,11 +26,11 @@ use Rattle.oim_report.specs.declared.dimension_kind.DimensionKind.{DimensionKind
 use Rattle.oim_report.specs.declared.dimension_kind.DimensionKind.TheVariants.{Explicit, Typed}
 use Rattle.oim_report.specs.Info.{bindings_of, document_type, features_of, info, info_keys, is_allowed_duplicates, namespaces_of, root_keys, taxonomy_of}
 use Rattle.oim_report.specs.Json.{any_in, any_member, entries, has_member, is_no_array, is_no_object, is_object, is_unknown, members, object_at}
-use Rattle.oim_report.specs.Kept.{base_url, is_reference_refused}
+use Rattle.oim_report.specs.References.{base_url, is_reference_refused}
 use Rattle.oim_report.specs.Least.{least}
 use Rattle.oim_report.specs.Names.{comes_again, named, refuses_some}
 use Rattle.oim_report.specs.Namespaces.{binds_nothing}
-use Rattle.oim_report.specs.Parts.{core_keys, defined_members, fact_keys}
+use Rattle.oim_report.specs.FactMembers.{core_keys, defined_members, fact_keys}
 use Rattle.oim_report.specs.Sheet.{Sheet, dimension_kind, same_concept_kind, same_dimension_kind}
 
 -- ---- values

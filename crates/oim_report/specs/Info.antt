@@ -11,7 +11,7 @@ use Rattle.serde_json.specs.Data.{Data, Items, no_items, item, Members, no_membe
 use Rattle.serde_json.specs.Find.{as_array, as_object}
 use Rattle.oim_report.specs.Json.{Given, absent, nil, text, whole, other, given, given_of, text_of, object_at, within, members}
 use Rattle.url.specs.Parts.{Parts}
-use Rattle.oim_report.specs.Kept.{base_url, is_reference_refused, kept}
+use Rattle.oim_report.specs.References.{base_url, is_reference_refused, kept}
 use Rattle.oim_report.specs.Namespaces.{bindings_in}
 
 -- ---- the parts

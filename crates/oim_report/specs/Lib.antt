@@ -3,14 +3,14 @@ pub mod Least
 pub mod Shown
 pub mod Json
 pub mod Pieces
-pub mod Parts
+pub mod FactMembers
 pub mod Namespaces
 pub mod Names
 pub mod Sheet
 pub mod Listed
 pub mod Said
 pub mod Fact
-pub mod Kept
+pub mod References
 pub mod Duplicates
 pub mod Info
 pub mod Document

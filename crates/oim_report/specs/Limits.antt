@@ -4,7 +4,7 @@ use Rattle.serde_json.specs.Data.{Data, object, Members, depth}
 use Rattle.serde_json.specs.Written.{compact_text}
 use Rattle.oim_report.specs.declared.limits.TheConstants.{MOST_LEVELS}
 use Rattle.oim_report.specs.Json.{json}
-use Rattle.oim_report.specs.Kept.{is_within_limit}
+use Rattle.oim_report.specs.References.{is_within_limit}
 use Rattle.oim_report.specs.PlainJson.{IsPlainJson}
 
 -- the limit for each base URL, reference and kept text is 65,536 bytes

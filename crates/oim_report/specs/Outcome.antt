@@ -18,7 +18,7 @@ use Rattle.oim_report.specs.Document.{Document, SaysDocument}
 use Rattle.oim_report.specs.Duplicates.{level_of}
 use Rattle.oim_report.specs.Info.{bindings_of, facts_of, references_said, level_said}
 use Rattle.oim_report.specs.Json.{json, values}
-use Rattle.oim_report.specs.Parts.{fact_parts}
+use Rattle.oim_report.specs.FactMembers.{fact_parts}
 use Rattle.oim_report.specs.Refusal.{map_ok}
 use Rattle.oim_report.specs.Said.{said_fact}
 use Rattle.oim_report.specs.Sheet.{Sheet}

@@ -18,7 +18,7 @@ use Rattle.oim_dims.specs.declared.member.Member.{Member}
 use Rattle.oim_dims.specs.declared.member.Member.TheVariants.{Nil as NoMember, Text as MemberText, Name as MemberName}
 use Rattle.serde_json.specs.Data.{Data}
 use Rattle.oim_report.specs.Json.{Given, absent, nil, text, whole, is_absent, is_no_text}
-use Rattle.oim_report.specs.Parts.{DimensionParts, FactParts, HasForm, fact_parts}
+use Rattle.oim_report.specs.FactMembers.{DimensionMembers, FactMembers, HasForm, fact_parts}
 use Rattle.oim_report.specs.Fact.{SaysFact}
 use Rattle.oim_report.specs.FactFits.{FactFits}
 use Rattle.oim_report.specs.FactObject.{option_spelled, option_unit_text, fact_object}
@@ -86,7 +86,7 @@ module _ (spelled : QName → List ℕ) where
   defined_given [] = []
   defined_given (e ∷ es) = with_given (spelled e.0) (member_given e.1) (defined_given es)
 
-  abbrev pub dimensions_given : DimensionSet → DimensionParts
+  abbrev pub dimensions_given : DimensionSet → DimensionMembers
   dimensions_given d = record {
     concept = text (spelled d.concept);
     entity = option_given (option_spelled spelled d.entity);
@@ -111,7 +111,7 @@ module _ (spelled : QName → List ℕ) where
   decimals_given (AText t) = absent
   decimals_given (AName n) = absent
 
-  abbrev pub parts_given : Fact → FactParts
+  abbrev pub parts_given : Fact → FactMembers
   parts_given f = record {
     value = value_given f.value;
     decimals = decimals_given f.value;
@@ -128,7 +128,7 @@ FactObjectHasParts = (sheet : Sheet) (bs : List Binding) (spelled : QName → Li
 -- ---- all parts are accepted
 
 -- the parts have the form of a fact, there is a value, and each core dimension is a text or absent
-pub record AreFormed (p : FactParts) (ds : DimensionParts) : Type 0 where
+pub record AreFormed (p : FactMembers) (ds : DimensionMembers) : Type 0 where
   pub form : HasForm p ds
   pub value : is_absent p.value ≡ false
   pub texts : (is_no_text ds.concept || is_no_text ds.entity || is_no_text ds.period || is_no_text ds.unit || is_no_text ds.language) ≡ false
@@ -148,7 +148,7 @@ FactObjectIsPlain = (sheet : Sheet) (bs : List Binding) (spelled : QName → Lis
 
 -- no condition applies to a fact object, its parts denote the fact, and the outcome of the object is this fact
 pub record IsReadAs (sheet : Sheet) (bs : List Binding) (d : Data) (f : Fact) : Type 0 where
-  pub parts : FactParts
+  pub parts : FactMembers
   pub are : fact_parts d ≡ Some parts
   pub accepted : IsFree sheet bs d
   pub says : SaysFact sheet bs parts f

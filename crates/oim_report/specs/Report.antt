@@ -8,7 +8,7 @@ use Rattle.oim_dims.specs.FactOrder.{fact_cmp}
 use Rattle.oim_dims.specs.declared.fact.Fact.{Fact}
 use Rattle.oim_report.specs.Document.{Document, SaysDocument}
 use Rattle.oim_report.specs.FactFits.{FactFits}
-use Rattle.oim_report.specs.Kept.{IsKeptReference}
+use Rattle.oim_report.specs.References.{IsKeptReference}
 use Rattle.oim_report.specs.Outcome.{outcome}
 use Rattle.oim_report.specs.Sheet.{Sheet}
 

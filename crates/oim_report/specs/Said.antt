@@ -29,7 +29,7 @@ use Rattle.oim_report.specs.declared.dimension_kind.DimensionKind.{DimensionKind
 use Rattle.oim_report.specs.declared.dimension_kind.DimensionKind.TheVariants.{Explicit, Typed}
 use Rattle.oim_report.specs.Json.{Given, absent, nil, text, whole, other, text_of}
 use Rattle.oim_report.specs.Names.{comes_again, named, entity_named}
-use Rattle.oim_report.specs.Parts.{DimensionParts, FactParts}
+use Rattle.oim_report.specs.FactMembers.{DimensionMembers, FactMembers}
 use Rattle.oim_report.specs.Sheet.{Sheet, dimension_kind, same_concept_kind}
 
 -- ---- kinds
@@ -141,7 +141,7 @@ said_value bs kind value decimals = option_and_then (value_with bs kind value) (
 
 -- ---- the fact
 
-abbrev pub said_dimensions : Sheet → List Binding → ConceptKind → DimensionParts → Option DimensionSet
+abbrev pub said_dimensions : Sheet → List Binding → ConceptKind → DimensionMembers → Option DimensionSet
 said_dimensions sheet bs kind ds =
     option_and_then (λ concept.
     option_and_then (λ entity.
@@ -157,12 +157,12 @@ said_dimensions sheet bs kind ds =
     (said_concept bs ds.concept)
 
 -- the fact, given the kind of its concept
-abbrev pub fact_with : Sheet → List Binding → FactParts → DimensionParts → ConceptKind → Option Fact
+abbrev pub fact_with : Sheet → List Binding → FactMembers → DimensionMembers → ConceptKind → Option Fact
 fact_with sheet bs p ds kind =
     option_and_then (λ dimensions. option_map (λ value. record { dimensions = dimensions; value = value }) (said_value bs kind p.value p.decimals)) (said_dimensions sheet bs kind ds)
 
-abbrev pub fact_of : Sheet → List Binding → FactParts → DimensionParts → Option Fact
+abbrev pub fact_of : Sheet → List Binding → FactMembers → DimensionMembers → Option Fact
 fact_of sheet bs p ds = option_and_then (fact_with sheet bs p ds) (concept_kind sheet bs ds.concept)
 
-abbrev pub said_fact : Sheet → List Binding → FactParts → Option Fact
+abbrev pub said_fact : Sheet → List Binding → FactMembers → Option Fact
 said_fact sheet bs p = option_and_then (fact_of sheet bs p) p.dimensions

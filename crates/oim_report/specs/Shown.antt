@@ -22,7 +22,7 @@ use Rattle.oim_report.specs.Json.{entries, is_no_array, is_no_object, is_object,
 use Rattle.oim_report.specs.Least.{is_shown, least}
 use Rattle.oim_report.specs.Names.{named}
 use Rattle.oim_report.specs.Namespaces.{binds_nothing}
-use Rattle.oim_report.specs.Parts.{core_keys, defined_members, fact_keys}
+use Rattle.oim_report.specs.FactMembers.{core_keys, defined_members, fact_keys}
 use Rattle.oim_report.specs.Sheet.{Sheet, concept_kind_named, dimension_kind_named, has_other_kind, kind_in, names_no_kind, same_concept_kind, same_dimension_kind, sheet_bindings, sheet_concepts, sheet_dimensions, sheet_holds, sheet_keys, sheet_names, sheet_namespaces}
 
 -- ---- parts

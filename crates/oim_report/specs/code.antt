@@ -9,8 +9,8 @@ pub mod KindLaws
 pub mod Pieces
 pub mod Rows
 pub mod Scope
-pub mod SeenParts
+pub mod SeenMembers
 pub mod SheetCode
-pub mod TapeParts
+pub mod TapeValues
 pub mod TextCache
 pub mod UriIndices

@@ -1,7 +1,7 @@
 //! Reads the facts of a report.
 
 pub(crate) mod fact_content;
-pub(crate) mod fact_parts;
+pub(crate) mod fact_members;
 pub(crate) mod fact_reader;
 pub(crate) mod fact_values;
 pub(crate) mod json_member;

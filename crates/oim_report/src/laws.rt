@@ -11,7 +11,7 @@ ghost use Rattle.oim_report.specs.Outcome.{AcceptedWhereFree, OutcomesWantNoMemo
 ghost use Rattle.oim_report.specs.Duplicates.{LevelIgnoresOrder, LevelIsStrictest, ValuesMeetIsMeets};
 ghost use Rattle.oim_report.specs.Identifiers.{EachFactHasAnIdentifier, IdentifiersRise};
 ghost use Rattle.oim_report.specs.Faults.{FirstFaultIsAnswered, NoFaultsWhereAccepted};
-ghost use Rattle.oim_report.specs.Kept.{KeptIsAccepted, KeptIsKept, KeptIsUtf8, is_web, web_text};
+ghost use Rattle.oim_report.specs.References.{KeptIsAccepted, KeptIsKept, KeptIsUtf8, is_web, web_text};
 ghost use Rattle.oim_report.specs.Limits.{NestedIsRead, NestsWithinLimit, TextsAreWithinLimit};
 ghost use Rattle.oim_report.specs.Listed.{ConceptsAreListed, DimensionsAreListed};
 ghost use Rattle.oim_report.specs.Names.{entity_named, named};

@@ -1,7 +1,7 @@
 ghost use Rattle.std.specs.Prelude.{◌≡◌, All};
 ghost use Rattle.oim_report.specs.Duplicates.{level_of};
 ghost use Rattle.oim_report.specs.FactFits.{FactFits};
-ghost use Rattle.oim_report.specs.Kept.{IsKeptReference};
+ghost use Rattle.oim_report.specs.References.{IsKeptReference};
 ghost use Rattle.oim_report.specs.Report.{IsOrderOf, IsReading};
 
 use crate::document::duplicates::level_of;

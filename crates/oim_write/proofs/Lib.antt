@@ -3,7 +3,7 @@ pub mod UriSets
 pub mod Passing
 pub mod Tokens
 pub mod WrittenOrder
-pub mod PartTexts
+pub mod PieceTexts
 pub mod NumberedFacts
 pub mod SpelledFacts
 pub mod Namespaces

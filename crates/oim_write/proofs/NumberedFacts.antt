@@ -10,7 +10,7 @@ use Rattle.fact_base.specs.Entries.{Entry, facts_of_entries, facts_of_entry, fac
 use Rattle.fact_base.specs.Rows.{Row, rows_of}
 use Rattle.fact_base.proofs.RowsOf.{facts_are}
 use Rattle.oim_write.specs.Ordered.{ordered_fact}
-use Rattle.oim_write.specs.code.Parts.{numbered_members, numbered_text, part, parts}
+use Rattle.oim_write.specs.code.TextPieces.{numbered_members, numbered_text, part, parts}
 use Rattle.oim_write.specs.Rank.{padded}
 use Rattle.oim_write.specs.Tree.{name_text}
 

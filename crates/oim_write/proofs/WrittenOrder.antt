@@ -11,7 +11,7 @@ use Rattle.oim_value.specs.declared.value.Value.TheVariants.{Number}
 use Rattle.oim_dims.specs.DimensionSet.{DimensionSet, is_below, rises}
 use Rattle.oim_dims.specs.Period.{period_text}
 use Rattle.oim_dims.specs.declared.member.Member.{Member}
-use Rattle.oim_dims.proofs.Places.{less_is}
+use Rattle.oim_dims.proofs.Indices.{less_is}
 use Rattle.fact_base.specs.Passed.{IsBefore, IsSet, dimension_members, member_data, option_spelled, option_unit_text, put_text, value_data, with_decimals, with_defined}
 use Rattle.fact_base.specs.Body.{text_cmp}
 use Rattle.fact_base.proofs.Members.{first_there, later_there}

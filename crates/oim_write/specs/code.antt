@@ -1,3 +1,3 @@
 -- Definitions that no public contract uses: the parts of a text and the table of prefixes.
-pub mod Parts
+pub mod TextPieces
 pub mod Table

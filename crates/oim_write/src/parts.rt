@@ -3,7 +3,7 @@ ghost use Rattle.serde_json.specs.Data.{string};
 ghost use Rattle.serde_json.specs.Written.{comma_if};
 ghost use Rattle.json.specs.Print.{quoted};
 ghost use Rattle.oim_write.specs.Ordered.{ordered_fact};
-ghost use Rattle.oim_write.specs.code.Parts.{head_text, namespace_members, part, parts};
+ghost use Rattle.oim_write.specs.code.TextPieces.{head_text, namespace_members, part, parts};
 ghost use Rattle.oim_write.specs.Rank.{padded};
 ghost use Rattle.oim_write.specs.Tree.{name_text, prefix};
 

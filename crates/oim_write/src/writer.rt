@@ -2,7 +2,7 @@ ghost use Rattle.std.specs.Prelude.{◌≡◌, ◌+◌, ◌-◌, ◌^◌, ◌<�
 ghost use Rattle.std.specs.Io.KnownBytes.{Appends};
 ghost use Rattle.fact_base.specs.Entries.{facts_with};
 ghost use Rattle.oim_write.specs.Bytes.{canonical};
-ghost use Rattle.oim_write.specs.code.Parts.{facts_text, numbered_text, text_parts};
+ghost use Rattle.oim_write.specs.code.TextPieces.{facts_text, numbered_text, text_parts};
 ghost use Rattle.oim_write.specs.SinkBuffer.{Breaks, Passes};
 ghost use Rattle.oim_write.specs.Sink.{AppendsFront, failures_after_write, written_of};
 ghost use Rattle.oim_write.specs.Tree.{name_text};

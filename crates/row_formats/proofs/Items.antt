@@ -9,7 +9,7 @@ use Rattle.serde_json.specs.Data.{Data, array, object, Items, no_items, item, no
 use Rattle.serde_json.specs.Written.{compact_text, items_outline, outline}
 use Rattle.oim_value.specs.declared.value.Value.{Value}
 use Rattle.oim_write.specs.Tokens.{Adds, AddsMembers, AddsValue}
-use Rattle.oim_write.proofs.PartTexts.{behind, item_is}
+use Rattle.oim_write.proofs.PieceTexts.{behind, item_is}
 use Rattle.oim_write.proofs.Tokens.{Adds-is, Adds-none, Adds-one, Adds-trans, closed_object, then_member}
 use Rattle.row_formats.specs.JsonRows.{evidence_member, fact_data, fact_items}
 use Rattle.row_formats.specs.code.Items.{item_tokens}

@@ -1,6 +1,6 @@
 use crate::row_csv::{csv_header, csv_row, csv_source, source_header};
 use crate::row_json::{json_row, json_source};
-use oim_merge::{JudgedRow, IndexedMention, SourceFormat, VerdictFormat};
+use oim_merge::{IndexedMention, JudgedRow, SourceFormat, VerdictFormat};
 use oim_write::Scratch;
 use std::alloc::{AllocError, Global};
 

@@ -4,7 +4,7 @@ ghost use Rattle.fact_base.specs.Shown.{shown};
 ghost use Rattle.oim_write.specs.Tokens.{AddsMembers, AddsValue};
 ghost use Rattle.oim_merge.specs.Lines.{verdict_shown, verdict_word};
 ghost use Rattle.oim_merge.specs.Judged.{IsJudged, judged_text, names_of};
-ghost use Rattle.oim_merge.specs.Named.{named};
+ghost use Rattle.oim_merge.specs.Identifiers.{named};
 ghost use Rattle.row_formats.specs.JsonRows.{apart_data, common_data, evidence_members, fact_data, fact_items, json_row, row_data};
 ghost use Rattle.row_formats.specs.SourceRows.{json_source, source_data};
 

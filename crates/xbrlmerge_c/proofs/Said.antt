@@ -16,10 +16,10 @@ use Rattle.row_formats.specs.Rows.{AreRows}
 use Rattle.row_formats.specs.SourceRows.{sources_in}
 use Rattle.row_formats.specs.declared.row_format.RowFormat.TheVariants.{Json}
 use Rattle.xbrlmerge_c.specs.Answers.{StopsBy}
-use Rattle.xbrlmerge_c.specs.Calls.{IsListing, IsLoose, IsSheetRefused, Merges}
-use Rattle.xbrlmerge_c.specs.code.Listing.{AppendsListing}
-use Rattle.xbrlmerge_c.specs.declared.listing.Listing.{Listing}
-use Rattle.xbrlmerge_c.specs.declared.listing.Listing.TheVariants.{Sources, SourcesJson, Verdicts, VerdictsJson}
+use Rattle.xbrlmerge_c.specs.Calls.{IsTextOf, IsLoose, IsSheetRefused, Merges}
+use Rattle.xbrlmerge_c.specs.code.RowCall.{AppendsRowCall}
+use Rattle.xbrlmerge_c.specs.declared.row_call.RowCall.{RowCall}
+use Rattle.xbrlmerge_c.specs.declared.row_call.RowCall.TheVariants.{Sources, SourcesJson, Verdicts, VerdictsJson}
 
 module _ (sheet : List ℕ) (reports : List (List ℕ)) (listed : Sheet) (a : Added) (read : sheet_outcome sheet ≡ Ok listed) (is : a ≡ added listed reports) where
   pub merges : (level : Level) (before after : List ℕ) (told : List (ℕ × Refusal)) → before ≡ [] → Writes level a.body a.refusals (Some before) (Some after) told → Merges sheet reports level after told
@@ -43,7 +43,7 @@ module _ (sheet : List ℕ) (reports : List (List ℕ)) (listed : Sheet) (a : Ad
   stops level old new (SheetFault reason) s = absurd s
 
 module _ (sheet : Sheet) (reports : List (List ℕ)) (before after : List ℕ) (told : List (ℕ × Refusal)) (none : before ≡ []) where
-  pub lists : (listing : Listing) → AppendsListing listing sheet reports (Some before) (Some after) told → IsListing listing sheet reports after × (told ≡ refused sheet reports)
+  pub lists : (call : RowCall) → AppendsRowCall call sheet reports (Some before) (Some after) told → IsTextOf call sheet reports after × (told ≡ refused sheet reports)
   lists Verdicts w = (subst (AreLines (merged sheet reports)) (sym (w.listed.appended ∙ ap (λ b. b ++ w.listed.rows) none)) w.listed.are, w.refusals_are)
   lists Sources w = (w.appended ∙ ap (λ b. b ++ sources sheet reports) none, w.refusals_are)
   lists VerdictsJson w = (subst (AreRows Json (merged sheet reports)) (sym (w.listed.appended ∙ ap (λ b. b ++ w.listed.rows) none)) (record { rows = w.listed.rows; are = w.listed.are; whole = refl }), w.refusals_are)

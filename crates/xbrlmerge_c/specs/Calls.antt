@@ -15,8 +15,8 @@ use Rattle.row_formats.specs.declared.row_format.RowFormat.TheVariants.{Json}
 use Rattle.xbrlmerge_c.specs.Ends.{AreEnds, reports_at}
 use Rattle.xbrlmerge_c.specs.CallerMemory.{Asks, CallerMemory, Hands, Rejects}
 use Rattle.xbrlmerge_c.specs.Statuses.{bad_ends, done, no_memory, refused_some, sheet_refused, too_loose, too_short}
-use Rattle.xbrlmerge_c.specs.declared.listing.Listing.{Listing}
-use Rattle.xbrlmerge_c.specs.declared.listing.Listing.TheVariants.{Sources, SourcesJson, Verdicts, VerdictsJson}
+use Rattle.xbrlmerge_c.specs.declared.row_call.RowCall.{RowCall}
+use Rattle.xbrlmerge_c.specs.declared.row_call.RowCall.TheVariants.{Sources, SourcesJson, Verdicts, VerdictsJson}
 
 abbrev pub IsSheetRefused : List ℕ → Reason → Type 0
 IsSheetRefused sheet reason = sheet_outcome sheet ≡ Err reason
@@ -36,28 +36,28 @@ pub record IsLoose (sheet : List ℕ) (reports : List (List ℕ)) (level : Level
   pub first : IsFirstAbove level (merged listed reports) number
   pub refusals_are : told ≡ refused listed reports
 
-abbrev pub IsListing : Listing → Sheet → List (List ℕ) → List ℕ → Type 0
-IsListing Verdicts sheet reports text = AreLines (merged sheet reports) text
-IsListing Sources sheet reports text = text ≡ sources sheet reports
-IsListing VerdictsJson sheet reports text = AreRows Json (merged sheet reports) text
-IsListing SourcesJson sheet reports text = text ≡ sources_in Json sheet reports
+abbrev pub IsTextOf : RowCall → Sheet → List (List ℕ) → List ℕ → Type 0
+IsTextOf Verdicts sheet reports text = AreLines (merged sheet reports) text
+IsTextOf Sources sheet reports text = text ≡ sources sheet reports
+IsTextOf VerdictsJson sheet reports text = AreRows Json (merged sheet reports) text
+IsTextOf SourcesJson sheet reports text = text ≡ sources_in Json sheet reports
 
 -- the sheet is accepted; `text` lists the rows or sources of the accepted reports; `told` lists the refusals of the other reports
-pub record Lists (listing : Listing) (sheet : List ℕ) (reports : List (List ℕ)) (text : List ℕ) (told : List (ℕ × Refusal)) : Type 0 where
+pub record Lists (call : RowCall) (sheet : List ℕ) (reports : List (List ℕ)) (text : List ℕ) (told : List (ℕ × Refusal)) : Type 0 where
   pub listed : Sheet
   pub read : sheet_outcome sheet ≡ Ok listed
-  pub is : IsListing listing listed reports text
+  pub is : IsTextOf call listed reports text
   pub refusals_are : told ≡ refused listed reports
 
 -- the result of a call that lists rows or sources: the status, and the caller's memory before and after the call
-pub record AnswersListing (listing : Listing) (sheet bytes ends : List ℕ) (status : ℕ) (old new : CallerMemory) : Type 0 where
+pub record AnswersRowCall (call : RowCall) (sheet bytes ends : List ℕ) (status : ℕ) (old new : CallerMemory) : Type 0 where
   pub within : status ≤ bad_ends
   pub not_loose : status ≢ too_loose
   pub are_ends : status ≤ no_memory → AreEnds bytes ends
-  pub listed : status ≤ refused_some → Hands (Lists listing sheet (reports_at bytes ends)) old new
+  pub listed : status ≤ refused_some → Hands (Lists call sheet (reports_at bytes ends)) old new
   pub none_refused : status ≡ done → new.refused ≡ 0
   pub some_refused : status ≡ refused_some → 0 < new.refused
-  pub short : status ≡ too_short → Asks (Lists listing sheet (reports_at bytes ends)) old new
+  pub short : status ≡ too_short → Asks (Lists call sheet (reports_at bytes ends)) old new
   pub sheet_is_refused : status ≡ sheet_refused → Rejects (IsSheetRefused sheet) old new
   pub no_ends : status ≡ bad_ends → AreEnds bytes ends → ⊥
   pub same : no_memory ≤ status → new ≡ old

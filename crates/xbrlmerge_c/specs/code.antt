@@ -1,3 +1,3 @@
--- Definitions that no public contract uses: the caller's memory after a call, by status, and listings in a sink.
+-- Definitions that no public contract uses: the caller's memory after a call, by status, and lines in a sink.
 pub mod Answers
-pub mod Listing
+pub mod RowCall

@@ -2,15 +2,15 @@ ghost use Rattle.std.specs.Prelude.{◌≡◌, slice_get, ◌⊎◌, ◌↔◌, 
 ghost use Rattle.oim_value.specs.Level.{levels};
 ghost use Rattle.oim_value.specs.declared.level.Level.{Level as Allowed};
 ghost use Rattle.xbrlmerge_c.specs.Answers.{StopsBy};
-ghost use Rattle.xbrlmerge_c.specs.Calls.{AnswersListing, IsLoose, IsSheetRefused, Merges};
+ghost use Rattle.xbrlmerge_c.specs.Calls.{AnswersRowCall, IsLoose, IsSheetRefused, Merges};
 ghost use Rattle.xbrlmerge_c.specs.Ends.{AreEnds, reports_at};
 ghost use Rattle.xbrlmerge_c.specs.CallerMemory.{Asks, Hands, HasNoText, Rejects, TellsFirst, memory};
 ghost use Rattle.xbrlmerge_c.specs.Statuses.{bad_ends, bad_level, done, no_memory, refused_some, sheet_refused, too_loose, too_short};
-ghost use Rattle.xbrlmerge_c.specs.declared.listing.Listing.TheVariants.{Sources, SourcesJson, Verdicts, VerdictsJson};
+ghost use Rattle.xbrlmerge_c.specs.declared.row_call.RowCall.TheVariants.{Sources, SourcesJson, Verdicts, VerdictsJson};
 
-use crate::listing::Listing;
 use crate::output::{BAD_ENDS, BAD_LEVEL, Made, RefusedReport, answer};
 use crate::reports::{add_reports, are_ends, read_sheet};
+use crate::row_call::RowCall;
 use oim_merge::Fault;
 use oim_value::Level;
 use oim_write::StdSink;
@@ -121,10 +121,10 @@ pub extern "C" fn xbrlmerge_verdicts(
     refusals: &mut [RefusedReport],
     refused: &mut usize,
 ) -> u32
-    ensures { AnswersListing Verdicts sheet.now reports.now ends.now result
+    ensures { AnswersRowCall Verdicts sheet.now reports.now ends.now result
         (memory out.old needed.old refusals.old refused.old) (memory out.new needed.new refusals.new refused.new) }
 {
-    Listing::Verdicts.list(alloc, sheet, reports, ends, out, needed, refusals, refused)
+    RowCall::Verdicts.list(alloc, sheet, reports, ends, out, needed, refusals, refused)
 }
 
 /// Writes a line for each source of a fact, as `oim_merge::source_lines` does. Otherwise the call
@@ -140,10 +140,10 @@ pub extern "C" fn xbrlmerge_sources(
     refusals: &mut [RefusedReport],
     refused: &mut usize,
 ) -> u32
-    ensures { AnswersListing Sources sheet.now reports.now ends.now result
+    ensures { AnswersRowCall Sources sheet.now reports.now ends.now result
         (memory out.old needed.old refusals.old refused.old) (memory out.new needed.new refusals.new refused.new) }
 {
-    Listing::Sources.list(alloc, sheet, reports, ends, out, needed, refusals, refused)
+    RowCall::Sources.list(alloc, sheet, reports, ends, out, needed, refusals, refused)
 }
 
 /// Writes one JSON object for each row, one per line, as `verdicts --format json` does.
@@ -159,10 +159,10 @@ pub extern "C" fn xbrlmerge_verdicts_json(
     refusals: &mut [RefusedReport],
     refused: &mut usize,
 ) -> u32
-    ensures { AnswersListing VerdictsJson sheet.now reports.now ends.now result
+    ensures { AnswersRowCall VerdictsJson sheet.now reports.now ends.now result
         (memory out.old needed.old refusals.old refused.old) (memory out.new needed.new refusals.new refused.new) }
 {
-    Listing::VerdictsJson.list(alloc, sheet, reports, ends, out, needed, refusals, refused)
+    RowCall::VerdictsJson.list(alloc, sheet, reports, ends, out, needed, refusals, refused)
 }
 
 /// Writes a JSON object for each source of a fact, one per line, as `sources --format json` does.
@@ -178,8 +178,8 @@ pub extern "C" fn xbrlmerge_sources_json(
     refusals: &mut [RefusedReport],
     refused: &mut usize,
 ) -> u32
-    ensures { AnswersListing SourcesJson sheet.now reports.now ends.now result
+    ensures { AnswersRowCall SourcesJson sheet.now reports.now ends.now result
         (memory out.old needed.old refusals.old refused.old) (memory out.new needed.new refusals.new refused.new) }
 {
-    Listing::SourcesJson.list(alloc, sheet, reports, ends, out, needed, refusals, refused)
+    RowCall::SourcesJson.list(alloc, sheet, reports, ends, out, needed, refusals, refused)
 }

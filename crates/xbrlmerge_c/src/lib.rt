@@ -4,9 +4,9 @@
 
 mod calls;
 mod check;
-mod listing;
 mod output;
 mod refusal_name;
 mod reports;
+mod row_call;
 #[cfg(test)]
 mod tests;

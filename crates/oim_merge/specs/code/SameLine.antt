@@ -5,7 +5,7 @@ use Rattle.fact_base.specs.declared.evidence.Evidence.{Evidence}
 use Rattle.fact_base.specs.declared.evidence.Evidence.TheVariants.{Alike, Common, Apart}
 use Rattle.oim_merge.specs.Lines.{evidence_text, line_text}
 use Rattle.oim_merge.specs.Judged.{DependsOnItsNames}
-use Rattle.oim_merge.specs.Named.{HasIndices}
+use Rattle.oim_merge.specs.Identifiers.{HasIndices}
 
 same_evidence : (name other : ℕ → List ℕ) (n : ℕ) → ((i : ℕ) → i < n → name i ≡ other i) → (e : Evidence) → HasIndices n e → evidence_text name e ≡ evidence_text other e
 same_evidence name other n same Alike within = refl

@@ -10,7 +10,7 @@ use Rattle.oim_report.specs.Holds.{declares_no_level, explicit_text, is_some_and
 use Rattle.oim_report.specs.Info.{declarations, features_of, info, is_allowed_duplicates, said_level}
 use Rattle.oim_report.specs.Json.{entries}
 use Rattle.oim_report.specs.Names.{named}
-use Rattle.oim_report.specs.Parts.{is_defined}
+use Rattle.oim_report.specs.FactMembers.{is_defined}
 use Rattle.oim_names.specs.Expansion.{Spelled, a_name}
 use Rattle.oim_report.specs.Sheet.{Sheet}
 use Rattle.oim_report.specs.Shown.{Shown, entry, value_or_nothing, when}

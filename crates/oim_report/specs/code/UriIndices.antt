@@ -3,11 +3,11 @@ use Rattle.std.specs.Prelude.{◌≡◌, ℕ, List, [], ◌∷◌, Option, Some,
 use Rattle.oim_names.specs.Bindings.{Binding, uri_at}
 use Rattle.oim_names.specs.QName.{QName}
 use Rattle.oim_dims.specs.declared.fact.Fact.{Fact}
-use Rattle.oim_report.specs.Parts.{FactParts}
+use Rattle.oim_report.specs.FactMembers.{FactMembers}
 use Rattle.oim_report.specs.Said.{said_concept}
 
 -- the concept that the parts of a fact name
-abbrev pub concept_in : List Binding → FactParts → Option QName
+abbrev pub concept_in : List Binding → FactMembers → Option QName
 concept_in bs p = option_and_then (λ ds. said_concept bs ds.concept) p.dimensions
 
 -- for each fact, None or the index of a binding to the URI of its concept

@@ -2,7 +2,7 @@ ghost use Rattle.std.specs.Prelude.{◌≡◌, ◌⊎◌, Some, None, IfOk, IfEr
 ghost use Rattle.serde_json.specs.View.{view};
 ghost use Rattle.url.specs.Parser.{Gives, parse_url};
 ghost use Rattle.oim_report.specs.Info.{base_url_said};
-ghost use Rattle.oim_report.specs.Kept.{base_url, is_web};
+ghost use Rattle.oim_report.specs.References.{base_url, is_web};
 ghost use Rattle.oim_report.specs.code.Findings.{is_base_refused};
 
 use crate::document::json_tree::within;

@@ -3,7 +3,7 @@ ghost use Rattle.std.specs.Option.{option_copied};
 ghost use Rattle.serde_json.specs.View.{view};
 ghost use Rattle.url.specs.Parser.{parse_url};
 ghost use Rattle.oim_report.specs.Info.{said_reference, said_references, taxonomy_of};
-ghost use Rattle.oim_report.specs.Kept.{is_reference_refused, is_within_limit, is_text_within_limit, is_web, kept, web_text, web_url};
+ghost use Rattle.oim_report.specs.References.{is_reference_refused, is_within_limit, is_text_within_limit, is_web, kept, web_text, web_url};
 
 use crate::document::base_url::{BaseUrl, is_web};
 use crate::document::json_tree::within;

@@ -6,12 +6,12 @@ ghost use Rattle.oim_names.specs.QName.{QName};
 ghost use Rattle.oim_report.specs.code.JsonMember.{seen};
 ghost use Rattle.oim_report.specs.code.TextCache.{concept_with};
 ghost use Rattle.oim_report.specs.code.UriIndices.{concept_in};
-ghost use Rattle.oim_report.specs.code.SeenParts.{seen_defined, seen_dimensions, seen_parts};
+ghost use Rattle.oim_report.specs.code.SeenMembers.{seen_defined, seen_dimensions, seen_parts};
 ghost use Rattle.oim_report.specs.Info.{facts_of};
 ghost use Rattle.oim_report.specs.Outcome.{at, fact_outcome, facts_said};
 ghost use Rattle.oim_report.specs.Said.{concept_kind, fact_of, said_concept, said_dimensions, said_member, said_members};
 ghost use Rattle.oim_report.specs.Names.{named};
-ghost use Rattle.oim_report.specs.Parts.{fact_parts};
+ghost use Rattle.oim_report.specs.FactMembers.{fact_parts};
 ghost use Rattle.oim_report.specs.Sheet.{dimension_kind};
 
 use crate::concept_kind::ConceptKind;
@@ -21,7 +21,7 @@ use crate::document::json_tree::object_at;
 use crate::fact::fact_content::{
     cached_entity, cached_language, cached_name, cached_period, cached_unit, read_value,
 };
-use crate::fact::fact_parts::{DimensionParts, FactParts, well_formed};
+use crate::fact::fact_members::{DimensionMembers, FactMembers, well_formed};
 use crate::fact::json_member::JsonMember;
 use crate::fact::text_cache::TextCaches;
 use crate::findings::fact_rows::FactInScope;
@@ -102,7 +102,7 @@ impl<'s> FactReader<'s> {
             (λ r. (r ≡ Reason.OutOfMemory)
             ⊎ (fact_outcome self.old.sheet self.old.aliases (view object.now) ≡ Err r)) }
     {
-        let Some(parts) = FactParts::of(self.alloc, object)? else {
+        let Some(parts) = FactMembers::of(self.alloc, object)? else {
             return Err(self.least_fault(object));
         };
         match self.read_parts(&parts) {
@@ -133,7 +133,7 @@ impl<'s> FactReader<'s> {
 
     /// Reads a fact from the parts of its object. An error shows only that some condition applies,
     /// or that a request for memory was refused.
-    pub(crate) fn read_parts(&mut self, parts: &FactParts<'_>) -> Result<Fact, Reason>
+    pub(crate) fn read_parts(&mut self, parts: &FactMembers<'_>) -> Result<Fact, Reason>
         ensures same { self.new ≡ self.old }
         ensures ok { IfOk result (λ f. (d : Data) → fact_parts d ≡ Some (seen_parts parts.now)
             → fact_outcome self.old.sheet self.old.aliases d ≡ Ok f) }
@@ -148,7 +148,7 @@ impl<'s> FactReader<'s> {
 
     /// Returns the index of the binding of the concept's prefix, if the aliases have it in their
     /// cache. Facts with one index have concepts in one namespace.
-    pub(crate) fn uri_index(&self, parts: &FactParts<'_>) -> Option<usize>
+    pub(crate) fn uri_index(&self, parts: &FactMembers<'_>) -> Option<usize>
         ensures { IfSome result (λ index. (q : QName) → concept_in self.now.aliases (seen_parts parts.now) ≡ Some q
             → uri_at self.now.aliases index ≡ Some q.uri) }
     {
@@ -159,8 +159,8 @@ impl<'s> FactReader<'s> {
 
     fn read_content(
         &mut self,
-        parts: &FactParts<'_>,
-        dimensions: &DimensionParts<'_>,
+        parts: &FactMembers<'_>,
+        dimensions: &DimensionMembers<'_>,
     ) -> Result<Fact, Reason>
         ensures same { self.new ≡ self.old }
         ensures said { let p = seen_parts parts.now in
@@ -194,7 +194,7 @@ impl<'s> FactReader<'s> {
     fn read_dimensions(
         &mut self,
         kind: ConceptKind,
-        parts: &DimensionParts<'_>,
+        parts: &DimensionMembers<'_>,
         read: &mut Dimensions,
     ) -> Result<(), Reason>
         requires concept { said_concept self.old.aliases (seen parts.now.concept) ≡ Some read.old.concept }

@@ -7,7 +7,7 @@ ghost use Rattle.serde_json.specs.Find.{as_integer};
 ghost use Rattle.serde_json.specs.Read.{number_of, number_from};
 ghost use Rattle.serde_json.specs.View.{view};
 ghost use Rattle.oim_report.specs.code.JsonMember.{seen};
-ghost use Rattle.oim_report.specs.code.TapeParts.{IsLeaf};
+ghost use Rattle.oim_report.specs.code.TapeValues.{IsLeaf};
 ghost use Rattle.oim_report.specs.Json.{given, given_of, is_absent, is_no_text, text_of};
 
 use fast_float::Numeral;

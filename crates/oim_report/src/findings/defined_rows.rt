@@ -7,7 +7,7 @@ ghost use Rattle.oim_report.specs.Json.{entries, members, object_at};
 ghost use Rattle.oim_report.specs.Names.{named};
 ghost use Rattle.oim_report.specs.Shown.{beside_first, entry, fact_part, name, repeated, seen, spell_same};
 ghost use Rattle.oim_report.specs.Holds.{is_misfit, is_unlisted};
-ghost use Rattle.oim_report.specs.Parts.{defined_members, is_defined};
+ghost use Rattle.oim_report.specs.FactMembers.{defined_members, is_defined};
 ghost use Rattle.oim_report.specs.code.Rows.{defined_name, first_defined};
 
 use crate::dimension_kind::DimensionKind;
@@ -85,7 +85,7 @@ impl<'a> FactInScope<'_, 'a> {
     }
 }
 
-#[tactic(auto, using(crate::proofs::ShownParts::colon_utf8))]
+#[tactic(auto, using(crate::proofs::ShownFaults::colon_utf8))]
 pub(crate) fn is_defined(key: &str) -> bool
     ensures { result ≡ is_defined key.now }
 {
@@ -152,7 +152,7 @@ fn dimension_name(aliases: &Aliases, key: &str) -> Result<Option<Name>, AllocErr
     }
 }
 
-#[tactic(auto, using(crate::proofs::ShownParts::read_name))]
+#[tactic(auto, using(crate::proofs::ShownFaults::read_name))]
 pub(crate) fn name_of(aliases: &Aliases, key: &str) -> Result<Option<Name>, AllocError>
     ensures { IfOk result (λ name. name ≡ named aliases.now key.now) }
 {

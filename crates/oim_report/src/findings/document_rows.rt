@@ -61,7 +61,7 @@ fn other_type(tree: &Value) -> Option<Part<'_>>
     )
 }
 
-#[tactic(auto, unfolding(crate::specs::Holds::document_holds, crate::specs::Shown::document_shown), using(crate::proofs::ShownParts::entry_shown))]
+#[tactic(auto, unfolding(crate::specs::Holds::document_holds, crate::specs::Shown::document_shown), using(crate::proofs::ShownFaults::entry_shown))]
 fn refused_entry(alloc: Global, tree: &Value) -> Result<Option<Part<'_>>, AllocError>
     ensures { IfOk result (λ part. option_map seen part ≡ document_part (view tree.now) Reason.Namespace) }
 {

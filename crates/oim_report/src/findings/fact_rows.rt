@@ -46,7 +46,7 @@ pub fn fact_part<'a>(
 }
 
 impl<'a> FactInScope<'_, 'a> {
-    #[tactic(auto, unfolding(crate::specs::Holds::holds, crate::specs::Shown::fact_shown), using(crate::proofs::ShownParts::name_shown, crate::proofs::ShownParts::unlisted_shown))]
+    #[tactic(auto, unfolding(crate::specs::Holds::holds, crate::specs::Shown::fact_shown), using(crate::proofs::ShownFaults::name_shown, crate::proofs::ShownFaults::unlisted_shown))]
     pub(crate) fn part(&self, alloc: Global, reason: Reason) -> Result<Option<Part<'a>>, AllocError>
         ensures { IfOk result (λ part. option_map seen part
             ≡ fact_part self.now.sheet.now self.now.aliases.now (view self.now.object.now) reason) }

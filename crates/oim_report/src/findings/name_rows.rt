@@ -9,7 +9,7 @@ ghost use Rattle.oim_report.specs.Holds.{as_text, is_kind, names, pieces, value_
 ghost use Rattle.oim_report.specs.Json.{members, object_at};
 ghost use Rattle.oim_names.specs.Expansion.{a_name, an_entity, refuses};
 ghost use Rattle.oim_report.specs.Shown.{name, seen};
-ghost use Rattle.oim_report.specs.Parts.{is_defined};
+ghost use Rattle.oim_report.specs.FactMembers.{is_defined};
 ghost use Rattle.oim_report.specs.code.Rows.{names_at, names_in};
 
 use crate::concept_kind::ConceptKind;
@@ -25,7 +25,7 @@ use oim_names::{Aliases, Reason};
 use serde_json::Value;
 
 impl<'a> FactInScope<'_, 'a> {
-    #[tactic(auto, using(crate::proofs::ShownParts::shown_parts))]
+    #[tactic(auto, using(crate::proofs::ShownFaults::shown_parts))]
     pub(crate) fn refused_name(&self, reason: Reason) -> Option<Part<'a>>
         ensures { let dimensions = members (object_at (codes "dimensions") (view self.now.object.now)) in
             let all = names self.now.sheet.now self.now.aliases.now (view self.now.object.now) dimensions in
@@ -46,7 +46,7 @@ impl<'a> FactInScope<'_, 'a> {
         self.refused_value(reason)
     }
 
-    #[tactic(auto, using(crate::proofs::ShownParts::none_before))]
+    #[tactic(auto, using(crate::proofs::ShownFaults::none_before))]
     fn refused_dimension(&self, reason: Reason) -> Option<Part<'a>>
         ensures { let dimensions = members (object_at (codes "dimensions") (view self.now.object.now)) in
             let all = names_in self.now.sheet.now self.now.aliases.now dimensions in

@@ -108,7 +108,7 @@ fn entry_at_fault<'a>(
     }
 }
 
-#[tactic(auto, using(crate::proofs::ShownParts::first_name))]
+#[tactic(auto, using(crate::proofs::ShownFaults::first_name))]
 fn name_at_fault<'a>(tree: &'a Value, aliases: &Aliases, reason: Reason) -> Part<'a>
     ensures { let all = sheet_names (view tree.now) in
         seen result ≡ option_map_or name (find (refuses reason aliases.now) all) nothing }

@@ -6,11 +6,11 @@ ghost use Rattle.serde_json.specs.Data as tree;
 ghost use Rattle.serde_json.specs.Data.{no_members};
 ghost use Rattle.oim_report.specs.Pieces.{put_all, HasMember, IsPiece};
 ghost use Rattle.oim_report.specs.code.FoundFacts.{AreFound};
-ghost use Rattle.oim_report.specs.code.TapeParts.{AreData, one};
+ghost use Rattle.oim_report.specs.code.TapeValues.{AreData, one};
 ghost use Rattle.oim_report.specs.code.UriIndices.{AreUriIndices};
 
 use crate::document::found_facts::FoundFacts;
-use crate::fact::fact_parts::FactParts;
+use crate::fact::fact_members::FactMembers;
 use crate::fact::fact_reader::FactReader;
 use crate::limits::MOST_KEPT_BYTES;
 use crate::pieces::cuts::split_piece;
@@ -130,7 +130,7 @@ fn read_members(
     let mut facts = Vec::new(alloc);
     let mut indices = Vec::new(alloc);
     while let Some((key, object)) = members.next() {
-        let parts = FactParts::of_element(alloc, &object)?;
+        let parts = FactMembers::of_element(alloc, &object)?;
         indices.push(reader.uri_index(&parts)).ok()?;
         facts.push(reader.read_parts(&parts).ok()?).ok()?;
         identifiers.push(String::from_str(alloc, key).ok()?).ok()?;

@@ -7,7 +7,7 @@ use Rattle.oim_dims.specs.DimensionSet.{DimensionSet}
 use Rattle.fact_base.specs.declared.evidence.Evidence.{Evidence}
 use Rattle.fact_base.specs.declared.evidence.Evidence.TheVariants.{Alike, Common, Apart}
 use Rattle.oim_merge.specs.Judged.{DependsOnItsNames}
-use Rattle.oim_merge.specs.Named.{HasIndices}
+use Rattle.oim_merge.specs.Identifiers.{HasIndices}
 use Rattle.row_formats.specs.CsvRows.{csv_facts, csv_row, evidence_fields, fact_fields, record_text}
 use Rattle.row_formats.specs.JsonRows.{apart_data, evidence_member, evidence_members, fact_data, fact_items, json_row, row_object}
 use Rattle.row_formats.specs.Rows.{row_text}

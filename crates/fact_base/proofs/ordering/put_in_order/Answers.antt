@@ -1,5 +1,5 @@
 use Rattle.std.proofs.lemmas.List.Filters.{dedup_is}
-use Rattle.fact_base.proofs.Gathers.{sorted_once}
+use Rattle.fact_base.proofs.BuilderLaws.{sorted_once}
 use Rattle.fact_base.proofs.ordering.put_in_order.Goals as goal
 
 pub returns-clause-ok : goal.returns-clause-ok

@@ -1,6 +1,6 @@
 use Rattle.std.proofs.Common.{ap, ◌∙◌}
 use Rattle.fact_base.specs.Sets.{set_of}
-use Rattle.fact_base.proofs.Gathers.{set_of_set}
+use Rattle.fact_base.proofs.BuilderLaws.{set_of_set}
 use Rattle.fact_base.proofs.ordering.settle.Goals as goal
 
 pub returns-in_ok-put_in_order : goal.returns-in_ok-put_in_order

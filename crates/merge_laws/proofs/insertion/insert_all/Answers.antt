@@ -27,6 +27,6 @@ loop-index-preserved g c =
       order = all_front (λ n. first_index (vec_len c.args.items.now) c.args.news.items ≤ n.0) rest ((index, item) ∷ []) each;
       together = omega (arith, l.invariant.together, c.lift.ensures.together, c.push_reserved.ensures.len, c.in-Some.ensures.cases);
       untouched = λ low. let same = c.lift.ensures.untouched (omega (arith, low, last)) in same ∙ l.invariant.untouched (omega (arith, low, same));
-      room = c.push_reserved.ensures.capacity ∙ c.lift.ensures.room ∙ l.invariant.room;
+      storage = c.push_reserved.ensures.capacity ∙ c.lift.ensures.storage ∙ l.invariant.storage;
       kept = c.lift.ensures.kept ∙ l.invariant.kept;
     }

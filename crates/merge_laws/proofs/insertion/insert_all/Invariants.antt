@@ -10,7 +10,7 @@ invariant-loop-index g l = record {
   order : AllByRecursion (λ n. first_index (vec_len l.initial.items) l.initial.news.items ≤ n.0) l.news.items;
   together : vec_len l.items + vec_len l.above + vec_len l.news ≡ vec_len l.initial.items + vec_len l.initial.news;
   untouched : vec_len l.items < first_index (vec_len l.initial.items) l.initial.news.items → vec_len l.items ≡ vec_len l.initial.items;
-  room : vec_capacity l.above ≡ vec_capacity l.initial.above;
+  storage : vec_capacity l.above ≡ vec_capacity l.initial.above;
   kept : vec_capacity l.items ≡ vec_capacity l.initial.items;
 }
 

@@ -8,7 +8,7 @@ invariant-loop-above g l = record {
   moved : (es : List g.row.E.Denot) × (l.initial.items.items ≡ l.items.items ++ es) × (reverse l.above.items ≡ es ++ reverse l.initial.above.items);
   together : vec_len l.above + vec_len l.items ≡ vec_len l.initial.above + vec_len l.initial.items;
   untouched : vec_len l.items < l.index → vec_len l.items ≡ vec_len l.initial.items;
-  room : vec_len l.above + (vec_len l.items - l.index) ≤ vec_capacity l.above;
+  storage : vec_len l.above + (vec_len l.items - l.index) ≤ vec_capacity l.above;
   same_room : vec_capacity l.above ≡ vec_capacity l.initial.above;
   kept : vec_capacity l.items ≡ vec_capacity l.initial.items;
 }

@@ -6,5 +6,5 @@ abbrev pub invariant-loop-index : goal.invariant-loop-index
 invariant-loop-index g l = record {
   items : l.entries.items ≡ with_values l.initial.entries.items l.yielded;
   len : vec_len l.entries ≡ vec_len l.initial.entries;
-  room : vec_capacity l.entries ≡ vec_capacity l.initial.entries;
+  storage : vec_capacity l.entries ≡ vec_capacity l.initial.entries;
 }

@@ -3,7 +3,7 @@ use Rattle.std.specs.List.Sorted.{IsPermutation, IsStableByKey}
 use Rattle.std.specs.Ordering.{nat_cmp}
 use Rattle.std.proofs.lemmas.List.Sorted.{IsNonDecreasingBy-from_sort_by_key, answers_always}
 use Rattle.oim_merge.specs.Mentions.{all_indexed}
-use Rattle.oim_merge.specs.code.Listing.{lent}
+use Rattle.oim_merge.specs.code.BufferedRows.{lent}
 use Rattle.oim_merge.specs.declared.mentions.IndexedMention.{IndexedMention}
 use Rattle.oim_merge.proofs.IndexedFacts.{sorted_are}
 use Rattle.oim_merge.proofs.mentions.indexed_by_fact.Goals as goal

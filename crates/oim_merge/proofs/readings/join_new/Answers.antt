@@ -1,4 +1,4 @@
-use Rattle.oim_merge.proofs.KeptTexts.{joins_same}
+use Rattle.oim_merge.proofs.StoredTexts.{joins_same}
 use Rattle.oim_merge.proofs.readings.join_new.Goals as goal
 
 pub returns-then-same_as : goal.returns-then-same_as

@@ -1,6 +1,6 @@
 use Rattle.std.proofs.Common.{◌∙◌, []}
 use Rattle.oim_merge.specs.Bases.{base_of}
-use Rattle.oim_merge.proofs.KeptTexts.{joins_itself, joins_other, read_default}
+use Rattle.oim_merge.proofs.StoredTexts.{joins_itself, joins_other, read_default}
 use Rattle.oim_merge.proofs.replicas.join_at.Goals as goal
 
 pub returns-then-index-other : goal.returns-then-index-other

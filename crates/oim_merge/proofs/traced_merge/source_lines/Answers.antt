@@ -1,6 +1,6 @@
 use Rattle.std.proofs.Common.{[], subst}
 use Rattle.std.specs.Prelude.{IfErr, IfOk}
-use Rattle.oim_merge.specs.SourceListing.{AppendsMentions, MentionsStop}
+use Rattle.oim_merge.specs.SourceCalls.{AppendsMentions, MentionsStop}
 use Rattle.oim_merge.specs.Sources.{source_line}
 use Rattle.oim_merge.specs.Traced.{Traced}
 use Rattle.oim_merge.proofs.traced_merge.source_lines.Goals as goal

@@ -3,7 +3,7 @@ use Rattle.json.specs.Token.{key}
 use Rattle.oim_write.specs.Ordered.{ordered_fact}
 use Rattle.oim_write.specs.Rank.{padded}
 use Rattle.oim_write.specs.Tree.{name_text}
-use Rattle.oim_write.proofs.PartTexts.{behind, part_is}
+use Rattle.oim_write.proofs.PieceTexts.{behind, part_is}
 use Rattle.oim_write.proofs.parts.append_fact.Goals as goal
 
 pub returns : goal.returns

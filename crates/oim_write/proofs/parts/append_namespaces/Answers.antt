@@ -1,9 +1,9 @@
 use Rattle.std.proofs.Common.{◌≡◌, ◌+◌, ◌∷◌, ◌++◌, drop, true, sym, ap, ◌∙◌, arith}
 use Rattle.std.proofs.lemmas.List.{drop_more}
 use Rattle.serde_json.specs.Data.{string}
-use Rattle.oim_write.specs.code.Parts.{namespace_members, part, parts}
+use Rattle.oim_write.specs.code.TextPieces.{namespace_members, part, parts}
 use Rattle.oim_write.specs.Tree.{prefix}
-use Rattle.oim_write.proofs.PartTexts.{next_part}
+use Rattle.oim_write.proofs.PieceTexts.{next_part}
 use Rattle.oim_write.proofs.parts.append_namespaces.Goals as goal
 
 pub loop-uri-preserved : goal.loop-uri-preserved

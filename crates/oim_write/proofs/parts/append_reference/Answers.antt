@@ -1,7 +1,7 @@
 use Rattle.std.proofs.Common.{[], ◌∷◌, ◌++◌, ap, ◌∙◌}
 use Rattle.json.specs.Token as token
 use Rattle.serde_json.specs.Data.{string}
-use Rattle.oim_write.proofs.PartTexts.{behind, item_is}
+use Rattle.oim_write.proofs.PieceTexts.{behind, item_is}
 use Rattle.oim_write.proofs.parts.append_reference.Goals as goal
 
 pub returns : goal.returns

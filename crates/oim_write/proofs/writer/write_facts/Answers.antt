@@ -1,7 +1,7 @@
 use Rattle.std.proofs.Common.{◌++◌, [], length, refl, string_bytes, sym, ap, subst, ◌∙◌, append-nil, append_assoc, arith}
 use Rattle.std.proofs.lemmas.Result.{err_from_is_err_and}
 use Rattle.fact_base.specs.Shown.{rows_left}
-use Rattle.oim_write.specs.code.Parts.{numbered_text}
+use Rattle.oim_write.specs.code.TextPieces.{numbered_text}
 use Rattle.oim_write.specs.code.Table.{SharePrefix}
 use Rattle.oim_write.specs.Rank.{width}
 use Rattle.oim_write.specs.Sink.{written_of}

@@ -1,6 +1,6 @@
 use Rattle.std.proofs.Common.{◌≡◌, ◌+◌, ◌++◌, ℕ, List, length, string_bytes}
 use Rattle.fact_base.specs.Shown.{rows_left}
-use Rattle.oim_write.specs.code.Parts.{facts_text, numbered_text}
+use Rattle.oim_write.specs.code.TextPieces.{facts_text, numbered_text}
 use Rattle.oim_write.specs.code.Table.{SharePrefix}
 use Rattle.oim_write.specs.SinkBuffer.{Passes}
 use Rattle.oim_write.proofs.NumberedFacts.{rows_facts}

@@ -1,5 +1,5 @@
 use Rattle.std.proofs.Common.{◌≡◌, ◌++◌, ℕ, List, drop, false}
-use Rattle.oim_write.specs.code.Parts.{text_parts}
+use Rattle.oim_write.specs.code.TextPieces.{text_parts}
 use Rattle.oim_write.specs.SinkBuffer.{Passes}
 use Rattle.oim_write.proofs.writer.write_references.Given as goal
 

@@ -2,11 +2,11 @@ use Rattle.std.proofs.Common.{◌+◌, ◌++◌, [], refl, sym, ap, subst, ◌�
 use Rattle.std.proofs.lemmas.List.{drop_all}
 use Rattle.std.proofs.lemmas.Result.{err_from_is_err_and}
 use Rattle.fact_base.specs.Entries.{facts_with}
-use Rattle.oim_write.specs.code.Parts.{numbered_text}
+use Rattle.oim_write.specs.code.TextPieces.{numbered_text}
 use Rattle.oim_write.specs.Sink.{written_of}
 use Rattle.oim_write.specs.SinkBuffer.{Breaks, Passes}
 use Rattle.oim_write.proofs.NumberedFacts.{left_facts}
-use Rattle.oim_write.proofs.PartTexts.{behind_nothing}
+use Rattle.oim_write.proofs.PieceTexts.{behind_nothing}
 use Rattle.oim_write.proofs.Passing.{Breaks-more, Breaks-trans, Passes-nil, Passes-trans, holds_where_ok}
 use Rattle.oim_write.proofs.writer.write_row.Goals as goal
 

@@ -1,6 +1,6 @@
 use Rattle.std.proofs.Common.{◌≡◌, ◌+◌, ◌++◌, ℕ, List, drop}
 use Rattle.fact_base.specs.Entries.{facts_with}
-use Rattle.oim_write.specs.code.Parts.{numbered_text}
+use Rattle.oim_write.specs.code.TextPieces.{numbered_text}
 use Rattle.oim_write.specs.SinkBuffer.{Passes}
 use Rattle.oim_write.proofs.writer.write_row.Given as goal
 

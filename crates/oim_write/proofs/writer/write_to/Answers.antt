@@ -4,7 +4,7 @@ use Rattle.std.specs.Prelude.{IfErr, OnOk}
 use Rattle.std.proofs.lemmas.Result.{err_from_is_err_and}
 use Rattle.oim_write.specs.Sink.{AppendsFront, written_of}
 use Rattle.oim_write.specs.SinkBuffer.{Breaks, Pending, nothing_yet}
-use Rattle.oim_write.proofs.PartTexts.{canonical_of}
+use Rattle.oim_write.proofs.PieceTexts.{canonical_of}
 use Rattle.oim_write.proofs.Passing.{Breaks-more, Breaks-trans, Passes-trans, Appends-passed, AppendsFront-broken, AppendsFront-flushed}
 use Rattle.oim_write.proofs.writer.write_to.Goals as goal
 

@@ -3,7 +3,7 @@
 // exceeds its length after the last sort.
 
 use super::{OF_A, base_between};
-use fact_base::{Base, Gathering};
+use fact_base::{Base, BaseBuilder};
 use oim_report::Sheet;
 use std::alloc::AllocError;
 use std::test::Fail;
@@ -34,7 +34,7 @@ const PARTS: [&str; 9] = [
 ];
 
 // Returns `Some(false)` if memory for `add` is refused; the report is then lost.
-fn add(rt: &HostRuntime, gathered: &mut Gathering<'_>, part: &str, end: &str) -> Option<bool> {
+fn add(rt: &HostRuntime, gathered: &mut BaseBuilder<'_>, part: &str, end: &str) -> Option<bool> {
     let text = joined(rt, &[START, part, end]).ok()?;
     let report = read(rt, gathered.sheet(), &text).ok()?;
     if !gathered.sheet().same_as(report.sheet()) {
@@ -43,7 +43,7 @@ fn add(rt: &HostRuntime, gathered: &mut Gathering<'_>, part: &str, end: &str) ->
     Some(gathered.add(report).is_ok())
 }
 
-fn adds(rt: &HostRuntime, gathered: &mut Gathering<'_>, part: &str, end: &str) -> bool {
+fn adds(rt: &HostRuntime, gathered: &mut BaseBuilder<'_>, part: &str, end: &str) -> bool {
     match add(rt, gathered, part, end) {
         Some(false) => {
             tell_refused(rt);
@@ -58,7 +58,7 @@ fn gather<'s>(
     sheet: &'s Sheet,
     end: &str,
 ) -> Option<Result<Base<'s>, AllocError>> {
-    let mut gathered = Gathering::new(rt.alloc(), sheet);
+    let mut gathered = BaseBuilder::new(rt.alloc(), sheet);
     for part in &PARTS {
         if !adds(rt, &mut gathered, part, end) {
             return None;
@@ -85,7 +85,7 @@ fn is_gathered(rt: &HostRuntime, all: &Base<'_>, end: &str) -> bool {
     }
 }
 
-// Returns whether gathering the reports gives the same base as taking them one by one.
+// Returns whether collecting the reports gives the same base as taking them one by one.
 fn are_gathered(rt: &HostRuntime, sheet: &Sheet, end: &str) -> bool {
     match base_between(rt, sheet, START, &PARTS, end) {
         Some(all) => is_gathered(rt, &all, end),

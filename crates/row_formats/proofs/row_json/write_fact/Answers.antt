@@ -4,7 +4,7 @@ use Rattle.serde_json.specs.Data.{member, no_members, string}
 use Rattle.fact_base.specs.Passed.{value_data}
 use Rattle.oim_write.specs.Ordered.{decimals_member}
 use Rattle.oim_write.proofs.Tokens.{Adds-is, Adds-one, closed_object, then_member}
-use Rattle.oim_merge.specs.Named.{named}
+use Rattle.oim_merge.specs.Identifiers.{named}
 use Rattle.row_formats.specs.Spelled.{braced}
 use Rattle.row_formats.proofs.row_json.write_fact.Goals as goal
 

@@ -1,7 +1,7 @@
 use Rattle.std.proofs.Common.{[], ◌∷◌, ◌++◌, take, sym, ap, ◌∙◌, arith}
 use Rattle.std.proofs.lemmas.List.{length-take-le, take_all, take_more}
 use Rattle.oim_write.proofs.Tokens.{Adds-is, Adds-one, Adds-trans}
-use Rattle.oim_merge.specs.Named.{named}
+use Rattle.oim_merge.specs.Identifiers.{named}
 use Rattle.row_formats.specs.JsonRows.{fact_items}
 use Rattle.row_formats.specs.code.Items.{item_tokens}
 use Rattle.row_formats.proofs.Items.{closed_array, next_fact}

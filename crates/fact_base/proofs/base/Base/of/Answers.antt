@@ -1,6 +1,6 @@
 use Rattle.std.proofs.Common.{◌∙◌}
 use Rattle.fact_base.specs.Body.{gathered}
-use Rattle.fact_base.proofs.Gathers.{Bases, becomes_base, derived_sorted}
+use Rattle.fact_base.proofs.BuilderLaws.{Bases, becomes_base, derived_sorted}
 use Rattle.fact_base.proofs.base.Base.of.Goals as goal
 
 pub entries_in_order-requires : goal.entries_in_order-requires

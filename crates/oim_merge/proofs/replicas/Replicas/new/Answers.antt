@@ -3,7 +3,7 @@ use Rattle.std.specs.List.{AllZip}
 use Rattle.oim_merge.specs.Bases.{base_of}
 use Rattle.oim_merge.specs.code.Held.{IsCurrent}
 use Rattle.oim_merge.specs.code.Readings.{AreReadings}
-use Rattle.oim_merge.proofs.KeptTexts.{none_is_current, none_is_kept}
+use Rattle.oim_merge.proofs.StoredTexts.{none_is_current, none_is_kept}
 use Rattle.oim_merge.proofs.replicas.Replicas.new.Goals as goal
 
 pub returns-clause-kept : goal.returns-clause-kept

@@ -5,7 +5,7 @@ use Rattle.oim_merge.specs.code.Held.{AreHeld, IsCurrent, sent_texts, world_in}
 use Rattle.oim_merge.specs.Replicas.{wire}
 use Rattle.oim_merge.specs.Schedule.{happens}
 use Rattle.oim_merge.specs.declared.event.Event.TheVariants.{Receive}
-use Rattle.oim_merge.proofs.KeptTexts.{current_after_change, current_after_send, current_at, names_good, receives_text, sender_within, kept_long}
+use Rattle.oim_merge.proofs.StoredTexts.{current_after_change, current_after_send, current_at, names_good, receives_text, sender_within, kept_long}
 use Rattle.std.proofs.lemmas.Slice.Zip.{AllZip-long}
 use Rattle.std.proofs.lemmas.List.{with_items_is}
 use Rattle.oim_merge.specs.code.Readings.{AreReadings}

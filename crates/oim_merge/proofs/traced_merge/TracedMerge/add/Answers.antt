@@ -1,7 +1,7 @@
 use Rattle.std.proofs.Common.{◌≡◌, ◌+◌, ◌++◌, if◌then◌else◌, sym, ap, subst, ◌∙◌, arith}
 use Rattle.oim_report.specs.Identifiers.{identifiers}
 use Rattle.oim_report.specs.Outcome.{outcome}
-use Rattle.fact_base.proofs.Gathers.{always_ok}
+use Rattle.fact_base.proofs.BuilderLaws.{always_ok}
 use Rattle.oim_merge.specs.Added.{Added, with_report}
 use Rattle.oim_merge.specs.Sources.{mentions_of}
 use Rattle.oim_merge.specs.Traced.{with_traced}

@@ -2,10 +2,10 @@ use Rattle.std.proofs.Common.{◌≡◌, Some, rules, string_bytes, sym, ap, ◌
 use Rattle.std.specs.Prelude.{if◌then◌else◌}
 use Rattle.std.specs.FinMap as map
 use Rattle.serde_json.specs.View.{view, members_view}
-use Rattle.oim_report.specs.Parts.{defined_members}
+use Rattle.oim_report.specs.FactMembers.{defined_members}
 use Rattle.oim_report.specs.code.Rows.{defined_name}
 use Rattle.oim_report.specs.declared.dimension_kind.DimensionKind.TheVariants.{Explicit}
-use Rattle.oim_report.proofs.ShownParts.{repeated_in, in_none, goes_on}
+use Rattle.oim_report.proofs.ShownFaults.{repeated_in, in_none, goes_on}
 use Rattle.oim_report.proofs.findings.defined_rows.two_keys.Goals as goal
 
 pub loop-key-init : goal.loop-key-init

@@ -1,8 +1,8 @@
 use Rattle.std.proofs.Common.{◌≡◌, []}
 use Rattle.serde_json.specs.View.{members_view}
 use Rattle.oim_report.specs.Shown.{repeated}
-use Rattle.oim_report.specs.Parts.{defined_members}
-use Rattle.oim_report.proofs.ShownParts.{repeated_in}
+use Rattle.oim_report.specs.FactMembers.{defined_members}
+use Rattle.oim_report.proofs.ShownFaults.{repeated_in}
 use Rattle.oim_report.proofs.findings.defined_rows.two_keys.Given as goal
 
 abbrev pub invariant-loop-key : goal.invariant-loop-key

@@ -7,7 +7,7 @@ use Rattle.oim_report.specs.Info.{namespaces_of}
 use Rattle.oim_report.specs.Json.{entries, members}
 use Rattle.oim_report.specs.Namespaces.{binds_nothing}
 use Rattle.oim_report.specs.Shown.{document_shown, entry}
-use Rattle.oim_report.proofs.ShownParts.{entry_shown}
+use Rattle.oim_report.proofs.ShownFaults.{entry_shown}
 use Rattle.oim_report.proofs.findings.document_rows.refused_entry.Goals as goal
 
 pub returns : goal.returns

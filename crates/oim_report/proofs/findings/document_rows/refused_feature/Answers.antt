@@ -2,7 +2,7 @@ use Rattle.std.proofs.Common.{sym, ap, ◌∙◌}
 use Rattle.std.specs.Prelude.{option_and_then}
 use Rattle.serde_json.specs.View.{view}
 use Rattle.oim_report.specs.code.Rows.{misdeclared}
-use Rattle.oim_report.proofs.ShownParts.{feature_shown}
+use Rattle.oim_report.proofs.ShownFaults.{feature_shown}
 use Rattle.oim_report.proofs.findings.document_rows.refused_feature.Goals as goal
 
 pub returns-in-Some : goal.returns-in-Some

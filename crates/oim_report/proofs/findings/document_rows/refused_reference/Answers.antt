@@ -7,7 +7,7 @@ use Rattle.oim_report.specs.Holds.{document_base_url, document_holds, is_no_refe
 use Rattle.oim_report.specs.Info.{info, taxonomy_of}
 use Rattle.oim_report.specs.Shown.{document_shown, first_item, value}
 use Rattle.oim_report.proofs.DocumentHolds.{flat_base}
-use Rattle.oim_report.proofs.ShownParts.{item_shown}
+use Rattle.oim_report.proofs.ShownFaults.{item_shown}
 use Rattle.oim_report.proofs.findings.document_rows.refused_reference.Goals as goal
 
 pub returns : goal.returns

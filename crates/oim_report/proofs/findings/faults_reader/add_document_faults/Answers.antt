@@ -3,7 +3,7 @@ use Rattle.std.proofs.lemmas.Result.{IfOk-equal}
 use Rattle.serde_json.specs.View.{view}
 use Rattle.oim_report.specs.Outcome.{at}
 use Rattle.oim_report.specs.declared.place.Place.TheVariants.{Document}
-use Rattle.oim_report.proofs.AllTold.{document_told}
+use Rattle.oim_report.proofs.AllFaults.{document_told}
 use Rattle.oim_report.proofs.findings.faults_reader.add_document_faults.Goals as goal
 
 pub returns : goal.returns

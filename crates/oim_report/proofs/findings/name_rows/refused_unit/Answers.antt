@@ -1,6 +1,6 @@
 use Rattle.std.proofs.Common.{sym, ap, ◌∙◌, option_map, rules}
 use Rattle.oim_names.specs.Expansion.{refuses}
-use Rattle.oim_report.proofs.ShownParts.{piece_shown}
+use Rattle.oim_report.proofs.ShownFaults.{piece_shown}
 use Rattle.oim_report.proofs.findings.name_rows.refused_unit.Goals as goal
 
 pub returns-in-Some : goal.returns-in-Some

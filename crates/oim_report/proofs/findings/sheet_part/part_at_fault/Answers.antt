@@ -4,7 +4,7 @@ use Rattle.serde_json.specs.View.{view, members_view}
 use Rattle.oim_report.specs.Json.{any_in, entries, members}
 use Rattle.oim_report.specs.Namespaces.{binds_nothing, bindings_in}
 use Rattle.oim_report.specs.Shown.{entry, seen, sheet_shown, unbound_entry}
-use Rattle.oim_report.proofs.ShownParts.{namespaces_first, or_nothing, refused_if}
+use Rattle.oim_report.proofs.ShownFaults.{namespaces_first, or_nothing, refused_if}
 use Rattle.oim_report.proofs.findings.sheet_part.part_at_fault.Goals as goal
 
 pub returns-in_ok-entry-in-Namespace : goal.returns-in_ok-entry-in-Namespace

@@ -1,8 +1,8 @@
 use Rattle.std.proofs.Common.{rules, ◌≡◌, [], ◌∷◌, ◌++◌, Some, Ok, string_bytes, refl, sym, ap, subst, ◌∙◌, IfSome}
 use Rattle.serde_json.specs.Data.{Data}
 use Rattle.oim_report.specs.Outcome.{fact_outcome}
-use Rattle.oim_report.specs.Parts.{fact_parts}
-use Rattle.oim_report.specs.code.SeenParts.{seen_parts}
+use Rattle.oim_report.specs.FactMembers.{fact_parts}
+use Rattle.oim_report.specs.code.SeenMembers.{seen_parts}
 use Rattle.oim_report.proofs.FoundInOrder.{taken, none_indexed, index_read, indices_push}
 use Rattle.oim_names.specs.Bindings.{uri_at}
 use Rattle.oim_report.specs.code.Scope.{Scope}

@@ -5,7 +5,7 @@ use Rattle.json.specs.Find.{BeginsWith}
 use Rattle.serde_json.specs.Data.{Members, no_members}
 use Rattle.oim_report.specs.Pieces.{alone, put_all, HasMember, EndsWithBrace, IsPiece}
 use Rattle.oim_report.specs.code.FoundFacts.{AreFound}
-use Rattle.oim_report.specs.code.TapeParts.{AreData}
+use Rattle.oim_report.specs.code.TapeValues.{AreData}
 use Rattle.oim_report.proofs.FoundInOrder.{taken, weaker}
 use Rattle.oim_report.proofs.TapedFacts.{taped_piece}
 use Rattle.oim_report.proofs.pieces.piece_facts.read_piece_facts.Goals as goal

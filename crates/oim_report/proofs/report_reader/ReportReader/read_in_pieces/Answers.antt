@@ -12,7 +12,7 @@ use Rattle.oim_report.specs.code.Scope.{Scope}
 use Rattle.oim_report.proofs.AcceptedFacts.{facts_fit}
 use Rattle.oim_report.proofs.Documents.{bindings_are_namespaces}
 use Rattle.oim_report.proofs.FoundInOrder.{taken, facts_same, whole_outcome, found_said, keys_found, share_uris}
-use Rattle.oim_report.proofs.KeptReferences.{references_kept}
+use Rattle.oim_report.proofs.ReferenceTexts.{references_kept}
 use Rattle.oim_report.specs.code.UriIndices.{ShareUris}
 use Rattle.oim_report.proofs.report_reader.ReportReader.read_in_pieces.Goals as goal
 

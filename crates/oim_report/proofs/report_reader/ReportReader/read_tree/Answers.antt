@@ -4,7 +4,7 @@ use Rattle.oim_report.specs.Info.{facts_of}
 use Rattle.oim_report.specs.Outcome.{facts_said}
 use Rattle.oim_report.specs.code.Scope.{Scope}
 use Rattle.oim_report.proofs.Documents.{report_fits}
-use Rattle.oim_report.proofs.KeptReferences.{references_kept}
+use Rattle.oim_report.proofs.ReferenceTexts.{references_kept}
 use Rattle.oim_report.proofs.report_reader.ReportReader.read_tree.Goals as goal
 
 pub new-requires-clause-references : goal.new-requires-clause-references

@@ -4,15 +4,15 @@ use Rattle.oim_names.specs.Bindings.{Binding}
 use Rattle.oim_names.specs.declared.reason.Reason.{Reason}
 use Rattle.oim_dims.specs.declared.fact.Fact.{Fact}
 use Rattle.oim_report.specs.Outcome.{fact_outcome}
-use Rattle.oim_report.specs.Parts.{DimensionParts, FactParts, HasForm, fact_parts}
+use Rattle.oim_report.specs.FactMembers.{DimensionMembers, FactMembers, HasForm, fact_parts}
 use Rattle.oim_report.specs.Said.{fact_of}
 use Rattle.oim_report.specs.Sheet.{Sheet}
-use Rattle.oim_report.specs.code.SeenParts.{seen_dimensions, seen_parts}
+use Rattle.oim_report.specs.code.SeenMembers.{seen_dimensions, seen_parts}
 use Rattle.oim_report.proofs.SaidWhereFree.{said_outcome}
 use Rattle.oim_report.proofs.FoundInOrder.{concept_read}
 use Rattle.oim_report.proofs.fact.fact_reader.FactReader.read_parts.Goals as goal
 
-as_said : (sheet : Sheet) (bs : List Binding) (p : FactParts) (ds : DimensionParts) (read : Result Fact Reason) → HasForm p ds → IfOk read (λ f. fact_of sheet bs p ds ≡ Some f)
+as_said : (sheet : Sheet) (bs : List Binding) (p : FactMembers) (ds : DimensionMembers) (read : Result Fact Reason) → HasForm p ds → IfOk read (λ f. fact_of sheet bs p ds ≡ Some f)
     → IfOk read (λ f. (d : Data) → fact_parts d ≡ Some p → fact_outcome sheet bs d ≡ Ok f)
 as_said sheet bs p ds (Ok f) form said = λ d are. said_outcome sheet bs d p ds f are form said
 as_said sheet bs p ds (Err r) form said = tt

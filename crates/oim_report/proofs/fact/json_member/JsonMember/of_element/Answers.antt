@@ -9,7 +9,7 @@ use Rattle.serde_json.specs.Find.{as_integer}
 use Rattle.serde_json.specs.Read.{of_json, number_of}
 use Rattle.oim_report.specs.Json.{Given, nil, whole, other, given}
 use Rattle.oim_report.specs.code.JsonMember.{seen}
-use Rattle.oim_report.specs.code.TapeParts.{IsLeaf}
+use Rattle.oim_report.specs.code.TapeValues.{IsLeaf}
 use Rattle.oim_report.proofs.fact.json_member.JsonMember.of_element.Goals as goal
 
 is_string : (v : Json) (s : List ℕ) → find.as_str v ≡ Some s → v ≡ j.string s

@@ -1,4 +1,4 @@
-use Rattle.oim_report.proofs.Givens.{given_text}
+use Rattle.oim_report.proofs.JsonTexts.{given_text}
 use Rattle.oim_report.proofs.fact.json_member.JsonMember.of_text.Goals as goal
 
 pub returns : goal.returns

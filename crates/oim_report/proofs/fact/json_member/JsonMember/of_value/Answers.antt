@@ -1,5 +1,5 @@
 -- A string that was read is UTF-8, so it is a text.
-use Rattle.oim_report.proofs.Givens.{string_gives}
+use Rattle.oim_report.proofs.JsonTexts.{string_gives}
 use Rattle.oim_report.proofs.fact.json_member.JsonMember.of_value.Goals as goal
 
 pub returns-in-String : goal.returns-in-String

@@ -2,7 +2,7 @@ use Rattle.std.proofs.Common.{◌++◌, map, ap, sym}
 use Rattle.std.proofs.lemmas.Result.{IfOk-equal}
 use Rattle.serde_json.specs.View.{view}
 use Rattle.oim_report.specs.Outcome.{at}
-use Rattle.oim_report.proofs.AllTold.{fact_told}
+use Rattle.oim_report.proofs.AllFaults.{fact_told}
 use Rattle.oim_report.proofs.findings.fact_rows.FactInScope.add_faults.Goals as goal
 
 pub returns : goal.returns

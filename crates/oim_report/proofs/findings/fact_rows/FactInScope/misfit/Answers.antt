@@ -7,8 +7,8 @@ use Rattle.serde_json.specs.View.{view, members_view}
 use Rattle.oim_report.specs.Holds.{holds, holds_with}
 use Rattle.oim_report.specs.Json.{entries, members, object_at}
 use Rattle.oim_report.specs.Shown.{beside_first, fact_shown, repeated, seen, shown_with, when}
-use Rattle.oim_report.specs.Parts.{defined_members}
-use Rattle.oim_report.proofs.ShownParts.{misfit_shown}
+use Rattle.oim_report.specs.FactMembers.{defined_members}
+use Rattle.oim_report.proofs.ShownFaults.{misfit_shown}
 use Rattle.oim_report.proofs.findings.fact_rows.FactInScope.misfit.Goals as goal
 
 pub returns-in-Some-misfit_in : goal.returns-in-Some-misfit_in

@@ -4,7 +4,7 @@ use Rattle.oim_names.specs.Expansion.{refuses}
 use Rattle.serde_json.specs.View.{view, members_view}
 use Rattle.oim_report.specs.Shown.{name, seen}
 use Rattle.oim_report.specs.code.Rows.{names_at, names_in}
-use Rattle.oim_report.proofs.ShownParts.{found_before}
+use Rattle.oim_report.proofs.ShownFaults.{found_before}
 use Rattle.oim_report.proofs.findings.fact_rows.FactInScope.refused_dimension.Goals as goal
 
 pub returns-in-Some-refused_member : goal.returns-in-Some-refused_member

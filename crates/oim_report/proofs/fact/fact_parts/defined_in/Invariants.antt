@@ -1,8 +1,0 @@
-use Rattle.std.proofs.Common.{◌≡◌, ◌++◌}
-use Rattle.serde_json.specs.View.{members_view}
-use Rattle.oim_report.specs.Parts.{defined_in}
-use Rattle.oim_report.specs.code.SeenParts.{seen_defined}
-use Rattle.oim_report.proofs.fact.fact_parts.defined_in.Given as goal
-
-abbrev pub invariant-loop-key : goal.invariant-loop-key
-invariant-loop-key l = seen_defined l.defined.items ++ defined_in (members_view l.key-iterator) ≡ defined_in (members_view l.members.entries)
