@@ -10,6 +10,7 @@ mod member;
 mod moment;
 mod period;
 mod sequence;
+mod spelling;
 mod unit;
 mod unit_text;
 
@@ -19,6 +20,7 @@ pub use language::{is_language, read_language};
 pub use member::Member;
 pub use moment::Moment;
 pub use period::{Period, read_period, write_period};
+pub use spelling::{Spelling, spell, spell_unit};
 pub use unit::Unit;
 pub use unit_text::{
     can_write_unit, is_unit_text, read_unit, refused_piece, unit_refusal, write_unit,

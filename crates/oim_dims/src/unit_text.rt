@@ -7,6 +7,7 @@ ghost use Rattle.oim_dims.specs.Separators.{is_star};
 ghost use Rattle.oim_dims.specs.Unit.{DenotesUnit, IsMeasure, IsUnit, NamesEach, UnitOf, can_write, denominator_pieces, inner, is_mark, is_piece, is_unit_text, is_writable, measure_text, numerator_pieces, product_text, pure_name, side_text, some_piece, unit_refusal, unit_text};
 
 use crate::sequence::Sequence;
+use crate::spelling::spell_unit;
 use crate::unit::Unit;
 use oim_names::{Aliases, Name, Reason, Text};
 use std::alloc::{AllocError, Global};
@@ -217,7 +218,7 @@ pub fn write_unit(alloc: Global, aliases: &Aliases, unit: &Unit) -> Result<Text,
     aliases.known();
     unit.known();
     let mut text = String::new(alloc);
-    push_unit(&mut text, aliases, unit.numerators(), unit.denominators())?;
+    spell_unit(&mut text, aliases, unit)?;
     Text::from_string(alloc, text)
 }
 
@@ -242,59 +243,4 @@ fn is_writable(aliases: &Aliases, name: &Name) -> bool
         Some(prefix) => !has_mark(prefix.as_bytes()),
         None => false,
     }
-}
-
-#[tactic(auto, unfolding(crate::specs::Unit::unit_text))]
-fn push_unit(
-    text: &mut String,
-    aliases: &Aliases,
-    numerators: &[Name],
-    denominators: &[Name],
-) -> Result<(), AllocError>
-    requires numerators { list_all (is_writable aliases.now) numerators.now ≡ true }
-    requires denominators { list_all (is_writable aliases.now) denominators.now ≡ true }
-    ensures { OnOk result (string_bytes text.new ≡ string_bytes text.old ++ unit_text (measure_text aliases.now) (record { numerators = numerators.now; denominators = denominators.now })) }
-{
-    if denominators.is_empty() {
-        return push_product(text, aliases, numerators);
-    }
-    push_side(text, aliases, numerators)?;
-    text.push_str("/")?;
-    push_side(text, aliases, denominators)
-}
-
-fn push_side(text: &mut String, aliases: &Aliases, names: &[Name]) -> Result<(), AllocError>
-    requires { list_all (is_writable aliases.now) names.now ≡ true }
-    ensures { OnOk result (string_bytes text.new ≡ string_bytes text.old ++ side_text (measure_text aliases.now) names.now) }
-{
-    if names.len() == 1 {
-        return push_product(text, aliases, names);
-    }
-    text.push_str("(")?;
-    push_product(text, aliases, names)?;
-    text.push_str(")")
-}
-
-fn push_product(text: &mut String, aliases: &Aliases, names: &[Name]) -> Result<(), AllocError>
-    requires { list_all (is_writable aliases.now) names.now ≡ true }
-    ensures { OnOk result (string_bytes text.new ≡ string_bytes text.old ++ product_text (measure_text aliases.now) names.now) }
-{
-    let Some((first, others)) = names.split_first() else {
-        return Ok(());
-    };
-    push_measure(text, aliases, first)?;
-    for name in others {
-        text.push_str("*")?;
-        push_measure(text, aliases, name)?;
-    }
-    Ok(())
-}
-
-fn push_measure(text: &mut String, aliases: &Aliases, name: &Name) -> Result<(), AllocError>
-    requires { is_writable aliases.now name.now ≡ true }
-    ensures { OnOk result (string_bytes text.new ≡ string_bytes text.old ++ measure_text aliases.now name.now) }
-{
-    text.push_str(aliases.prefix_of(name.uri()).unwrap_or(""))?;
-    text.push_str(":")?;
-    text.push_str(name.local())
 }

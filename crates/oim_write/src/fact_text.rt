@@ -6,9 +6,8 @@ ghost use Rattle.oim_write.specs.Ordered.{decimals_member, defined_members, orde
 ghost use Rattle.oim_write.specs.Tokens.{AddsMembers, AddsValue};
 
 use crate::scratch::Scratch;
-use crate::spelling::{Spelling, spell, spell_unit};
 use json::Writer;
-use oim_dims::{Dimensions, Member, Unit};
+use oim_dims::{Dimensions, Member, Spelling, Unit, spell, spell_unit};
 use oim_names::{Name, Text};
 use oim_value::{Value, write_fixed};
 use std::alloc::AllocError;

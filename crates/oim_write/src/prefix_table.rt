@@ -8,9 +8,9 @@ ghost use Rattle.oim_write.specs.Tree.{prefix};
 ghost use Rattle.oim_write.specs.Uris.{uris};
 
 use crate::labels::{LABEL_CAPACITY, push_label, width_of};
-use crate::spelling::Spelling;
 use crate::uri_set::UriSet;
 use fact_base::Base;
+use oim_dims::Spelling;
 use oim_names::{Aliases, Name, PositionCache, Text};
 use std::alloc::{AllocError, Global};
 use std::marker::Model;

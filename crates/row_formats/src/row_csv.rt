@@ -19,11 +19,11 @@ use crate::row_json::{Braced, word_of};
 use csv::StringRecord;
 use fact_base::Evidence;
 use json::Writer;
-use oim_dims::{Dimensions, Member, Period, Unit, write_period};
+use oim_dims::{Dimensions, Member, Period, Unit, spell, spell_unit, write_period};
 use oim_merge::JudgedRow;
 use oim_names::{Name, Text};
 use oim_value::{Decimals, Fixed, Value, write_fixed, write_units};
-use oim_write::{spell, spell_unit, write_defined};
+use oim_write::write_defined;
 use std::alloc::{AllocError, Global};
 use std::str;
 

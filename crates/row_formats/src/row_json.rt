@@ -10,10 +10,11 @@ ghost use Rattle.row_formats.specs.SourceRows.{json_source, source_data};
 
 use fact_base::Evidence;
 use json::Writer;
+use oim_dims::Spelling;
 use oim_merge::{Identifiers, JudgedRow};
 use oim_names::Name;
 use oim_value::{Interval, Value, write_units};
-use oim_write::{Scratch, Spelling, write_decimals, write_dimensions, write_value};
+use oim_write::{Scratch, write_decimals, write_dimensions, write_value};
 use std::alloc::{AllocError, Global};
 
 /// The initial capacity of a line, in bytes. Most lines fit into this capacity.

@@ -7,7 +7,7 @@ use Rattle.oim_dims.proofs.unit_text.write_unit.Goals as goal
 
 pub returns-clause-reads_back : goal.returns-clause-reads_back
 returns-clause-reads_back c =
-    let written : string_bytes c.push_unit.new.text ≡ unit_text (measure_text c.args.aliases.now) c.args.unit.now = search rules in
+    let written : string_bytes c.spell_unit.new.text ≡ unit_text (measure_text c.args.aliases.now) c.args.unit.now = search rules in
     let unit = c.known-2.ensures in
     let spells = bindings_spell c.args.aliases.now c.args.unit.now c.known.ensures unit c.requires in
     let P : List ℕ → Type 0 = λ t. DenotesUnit c.args.aliases.now t c.args.unit.now in

@@ -2,8 +2,8 @@ ghost use Rattle.std.specs.Prelude.{◌≡◌, ◌++◌, ℕ, List, OnOk, string
 ghost use Rattle.oim_dims.specs.Unit.{product_text, side_text, unit_text};
 ghost use Rattle.oim_names.specs.QName.{QName};
 
-use oim_dims::Unit;
-use oim_names::Name;
+use crate::unit::Unit;
+use oim_names::{Aliases, Name};
 use std::alloc::AllocError;
 
 /// A way to write names, for example with a prefix or as `{URI}local`.
@@ -16,6 +16,20 @@ pub trait Spelling {
     /// Errors: out of memory.
     fn push_name(&self, text: &mut String, name: &Name) -> Result<(), AllocError>
         ensures { OnOk result (string_bytes text.new ≡ string_bytes text.old ++ spelled self.now name.now) };
+}
+
+/// A name is written with the prefix that was first bound to its URI, or with an empty prefix if
+/// there is none.
+impl Spelling for Aliases {
+    ghost use Rattle.oim_dims.specs.Unit.{measure_text};
+
+    ghost spelled = { measure_text };
+
+    fn push_name(&self, text: &mut String, name: &Name) -> Result<(), AllocError> {
+        text.push_str(self.prefix_of(name.uri()).unwrap_or(""))?;
+        text.push_str(":")?;
+        text.push_str(name.local())
+    }
 }
 
 /// Replaces the content of `text` with the text of a name.
@@ -32,7 +46,7 @@ pub fn spell<S: Spelling>(text: &mut String, spelling: &S, name: &Name) -> Resul
 /// keep their order in the unit.
 ///
 /// Errors: out of memory.
-#[tactic(auto, unfolding(oim_dims::specs::Unit::unit_text))]
+#[tactic(auto, unfolding(crate::specs::Unit::unit_text))]
 pub fn spell_unit<S: Spelling>(
     text: &mut String,
     spelling: &S,

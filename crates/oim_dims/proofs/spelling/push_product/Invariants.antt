@@ -1,7 +1,7 @@
 use Rattle.std.proofs.Common.{◌≡◌, ◌∷◌, ◌++◌, take, string_bytes}
 use Rattle.oim_names.specs.QName.{QName}
 use Rattle.oim_dims.specs.Unit.{product_text}
-use Rattle.oim_write.proofs.spelling.push_product.Given as goal
+use Rattle.oim_dims.proofs.spelling.push_product.Given as goal
 
 -- the measures so far are written
 abbrev pub invariant-loop-name : goal.invariant-loop-name

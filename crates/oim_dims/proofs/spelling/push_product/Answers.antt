@@ -1,6 +1,6 @@
 use Rattle.std.proofs.Common.{arith}
 use Rattle.oim_dims.proofs.Products.{product_next, written_on}
-use Rattle.oim_write.proofs.spelling.push_product.Goals as goal
+use Rattle.oim_dims.proofs.spelling.push_product.Goals as goal
 
 pub loop-name-preserved : goal.loop-name-preserved
 loop-name-preserved g c = λ m is.
