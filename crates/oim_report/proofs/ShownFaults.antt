@@ -363,6 +363,17 @@ module _ (sheet : Sheet) (bs : List Binding) (test : Spelled → Bool) (key : Li
 
 -- ---- If several parts of a sheet are at fault, the first of these parts is shown.
 
+is_some_map : {A B : Type 0} (f : A → B) (o : Option A) → is_some (option_map f o) ≡ is_some o
+is_some_map f None = refl
+is_some_map f (Some a) = refl
+
+pub shown_some : {A : Type 0} (o : Option Part) (f : A → Shown) (test : A → Bool) (xs : List A) → option_map seen o ≡ option_map f (find test xs) → is_some o ≡ list_any test xs
+shown_some o f test xs is = sym (is_some_map seen o) ∙ ap is_some is ∙ is_some_map f (find test xs) ∙ some_found test xs
+
+pub seen_or : (o : Option Part) → seen (unwrap_or o Nothing) ≡ option_map_or seen o nothing
+seen_or None = refl
+seen_or (Some p) = refl
+
 pub or_nothing : {A : Type 0} (o : Option Part) (f : A → Shown) (found : Option A) → option_map seen o ≡ option_map f found → seen (unwrap_or o Nothing) ≡ option_map_or f found nothing
 or_nothing None f None is = refl
 or_nothing (Some p) f (Some a) is = cc

@@ -1,4 +1,4 @@
-ghost use Rattle.std.specs.Prelude.{◌≡◌, ◌≢◌, Some, IfOk, option_map};
+ghost use Rattle.std.specs.Prelude.{◌≡◌, ◌≢◌, Some, IfOk, is_some, option_map};
 ghost use Rattle.std.specs.List.{find};
 ghost use Rattle.std.specs.Option.{option_map_or};
 ghost use Rattle.std.specs.FinMap as map;
@@ -41,13 +41,14 @@ pub fn sheet_part(alloc: Global, tree: &Value) -> Result<Option<(Reason, Part<'_
     }
 }
 
+#[tactic(auto, using(crate::proofs::ShownFaults::seen_or))]
 fn part_at_fault(alloc: Global, tree: &Value, reason: Reason) -> Result<Part<'_>, AllocError>
     requires { least (sheet_holds (view tree.now)) ≡ Some reason }
     ensures { IfOk result (λ part. seen part ≡ sheet_shown (view tree.now) reason) }
 {
     match reason {
-        Reason::MemberForm => Ok(misshapen(tree)),
-        Reason::UnknownMember => Ok(unknown(tree)),
+        Reason::MemberForm => Ok(misshapen(tree).unwrap_or(Part::Nothing)),
+        Reason::UnknownMember => Ok(unknown(tree).unwrap_or(Part::Nothing)),
         Reason::Namespace => {
             let entry = unbound(alloc, object_at(tree, "namespaces"))?;
             Ok(entry.unwrap_or(Part::Nothing))
@@ -59,31 +60,33 @@ fn part_at_fault(alloc: Global, tree: &Value, reason: Reason) -> Result<Part<'_>
     }
 }
 
-#[tactic(auto, unfolding(crate::specs::Shown::sheet_shown))]
-fn misshapen(tree: &Value) -> Part<'_>
-    ensures { seen result ≡ sheet_shown (view tree.now) Reason.MemberForm }
+#[tactic(auto, unfolding(crate::specs::Sheet::sheet_holds, crate::specs::Shown::sheet_shown))]
+pub(crate) fn misshapen(tree: &Value) -> Option<Part<'_>>
+    ensures any { is_some result ≡ sheet_holds (view tree.now) Reason.MemberForm }
+    ensures part { option_map_or seen result nothing ≡ sheet_shown (view tree.now) Reason.MemberForm }
 {
     if !tree.is_object() {
-        Part::Whole
-    } else if is_no_object(tree.get("namespaces")) {
-        Part::NoObject("namespaces")
-    } else if is_no_object(tree.get("concepts")) {
-        Part::NoObject("concepts")
-    } else if is_no_object(tree.get("dimensions")) {
-        Part::NoObject("dimensions")
-    } else {
-        Part::Nothing
+        return Some(Part::Whole);
     }
+    if is_no_object(tree.get("namespaces")) {
+        return Some(Part::NoObject("namespaces"));
+    }
+    if is_no_object(tree.get("concepts")) {
+        return Some(Part::NoObject("concepts"));
+    }
+    if is_no_object(tree.get("dimensions")) {
+        return Some(Part::NoObject("dimensions"));
+    }
+    None
 }
 
-#[tactic(auto, unfolding(crate::specs::Shown::sheet_shown))]
-fn unknown(tree: &Value) -> Part<'_>
-    ensures { seen result ≡ sheet_shown (view tree.now) Reason.UnknownMember }
+#[tactic(auto, unfolding(crate::specs::Sheet::sheet_holds, crate::specs::Shown::sheet_shown), using(crate::proofs::ShownFaults::any_found_in))]
+pub(crate) fn unknown(tree: &Value) -> Option<Part<'_>>
+    ensures any { is_some result ≡ sheet_holds (view tree.now) Reason.UnknownMember }
+    ensures part { option_map_or seen result nothing ≡ sheet_shown (view tree.now) Reason.UnknownMember }
 {
-    match unknown_in(tree.as_object(), &["namespaces", "concepts", "dimensions"]) {
-        Some(key) => Part::Key(key),
-        None => Part::Nothing,
-    }
+    let key = unknown_in(tree.as_object(), &["namespaces", "concepts", "dimensions"])?;
+    Some(Part::Key(key))
 }
 
 #[tactic(auto, unfolding(crate::specs::Shown::sheet_shown))]
@@ -119,7 +122,7 @@ fn name_at_fault<'a>(tree: &'a Value, aliases: &Aliases, reason: Reason) -> Part
     first_refused(aliases, object_at(tree, "dimensions"), reason).unwrap_or(Part::Nothing)
 }
 
-fn first_refused<'a>(
+pub(crate) fn first_refused<'a>(
     aliases: &Aliases,
     entries: Option<&'a Map<String, Value>>,
     reason: Reason,

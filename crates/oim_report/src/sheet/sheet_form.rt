@@ -5,24 +5,18 @@ ghost use Rattle.oim_report.specs.Json.{members};
 ghost use Rattle.oim_report.specs.Names.{names_refusal, refuses_some};
 ghost use Rattle.oim_report.specs.Sheet.{key_names, sheet_holds};
 
-use crate::document::json_tree::{is_no_object, unknown_in};
-use crate::findings::name_rows::is_refused;
+use crate::findings::sheet_part::{first_refused, misshapen, unknown};
 use oim_names::{Aliases, Reason};
 use serde_json::{Map, Value};
 
-#[tactic(auto, unfolding(crate::specs::Sheet::sheet_holds))]
 pub(crate) fn check_form(tree: &Value) -> Result<(), Reason>
     ensures { let form = Reason.MemberForm ∷ Reason.UnknownMember ∷ [] in
         result_err result ≡ find (sheet_holds (view tree.now)) form }
 {
-    if !tree.is_object()
-        || is_no_object(tree.get("namespaces"))
-        || is_no_object(tree.get("concepts"))
-        || is_no_object(tree.get("dimensions"))
-    {
+    if misshapen(tree).is_some() {
         return Err(Reason::MemberForm);
     }
-    if unknown_in(tree.as_object(), &["namespaces", "concepts", "dimensions"]).is_some() {
+    if unknown(tree).is_some() {
         return Err(Reason::UnknownMember);
     }
     Ok(())
@@ -59,20 +53,13 @@ fn refuses_either(
         let defined = members (option_map (λ m. members_view m.now.entries) dimensions.entry) in
         result ≡ refuses_some reason aliases.now (key_names listed ++ key_names defined) }
 {
-    refuses_keys(aliases, concepts, reason) || refuses_keys(aliases, dimensions, reason)
+    refuses_key(aliases, concepts, reason) || refuses_key(aliases, dimensions, reason)
 }
 
-fn refuses_keys(aliases: &Aliases, listed: Option<&Map<String, Value>>, reason: Reason) -> bool
+#[tactic(auto, using(crate::proofs::ShownFaults::shown_some))]
+fn refuses_key(aliases: &Aliases, listed: Option<&Map<String, Value>>, reason: Reason) -> bool
     ensures { let ms = members (option_map (λ m. members_view m.now.entries) listed.entry) in
         result ≡ refuses_some reason aliases.now (key_names ms) }
 {
-    let Some(members) = listed else {
-        return false;
-    };
-    for (key, _kind) in members.iter() {
-        if is_refused(aliases, key.as_str(), reason) {
-            return true;
-        }
-    }
-    false
+    first_refused(aliases, listed, reason).is_some()
 }

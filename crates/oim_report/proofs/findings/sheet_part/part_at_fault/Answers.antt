@@ -11,7 +11,7 @@ pub returns-in_ok-entry-in-Namespace : goal.returns-in_ok-entry-in-Namespace
 unfolding sheet_shown
 returns-in_ok-entry-in-Namespace c =
     let ms = members (option_map (λ m. members_view m.now.entries) c.object_at.result) in
-    ap seen c.unwrap_or.ensures
+    ap seen c.unwrap_or-in-Namespace.ensures
     ∙ or_nothing c.in_ok-entry-in-Namespace.entry entry (find (λ m. binds_nothing m.0 m.1) (entries ms)) c.in_ok-entry-in-Namespace.ensures
     ∙ ap unbound_entry c.object_at.ensures
     ∙ ap (sheet_shown (view c.args.tree.now)) (sym c.in-Namespace.is)
