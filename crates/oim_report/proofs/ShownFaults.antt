@@ -25,7 +25,7 @@ use Rattle.oim_report.specs.Names.{comes_again, named, refuses_some}
 use Rattle.oim_report.specs.declared.dimension_kind.DimensionKind.{DimensionKind}
 use Rattle.oim_report.specs.declared.dimension_kind.DimensionKind.TheVariants.{Explicit}
 use Rattle.oim_report.specs.Shown.{repeated, Shown, document_part, document_shown, entry, first_item, name, nothing, value, value_or_nothing, when, beside_first, first_shown, seen}
-use Rattle.oim_report.specs.code.Rows.{defined_name, misdeclared, first_defined, names_at, names_in}
+use Rattle.oim_report.specs.code.MemberTests.{defined_name, misdeclared, first_defined, names_at, names_in}
 use Rattle.oim_report.specs.FactMembers.{defined_members, is_defined}
 use Rattle.oim_report.specs.Holds.{any_item, declares_no_level, document_holds, concept, explicit_text, is_misfit, is_some_and, names, pieces, text_at, value_text}
 use Rattle.oim_report.specs.Info.{bindings_of, features_of, info, is_allowed_duplicates, namespaces_of}

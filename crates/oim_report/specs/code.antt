@@ -7,7 +7,7 @@ pub mod Groups
 pub mod JsonMember
 pub mod KindLaws
 pub mod Pieces
-pub mod Rows
+pub mod MemberTests
 pub mod Scope
 pub mod SeenMembers
 pub mod SheetCode

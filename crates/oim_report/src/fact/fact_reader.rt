@@ -24,7 +24,7 @@ use crate::fact::fact_content::{
 use crate::fact::fact_members::{DimensionMembers, FactMembers, well_formed};
 use crate::fact::json_member::JsonMember;
 use crate::fact::text_cache::TextCaches;
-use crate::findings::fact_rows::FactInScope;
+use crate::findings::fact_part::FactInScope;
 use crate::findings::fault_list::Faults;
 use crate::place::Place;
 use crate::refusal::Refusal;

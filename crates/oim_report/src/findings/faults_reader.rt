@@ -13,8 +13,8 @@ ghost use Rattle.oim_report.specs.Least.{is_shown};
 
 use crate::document::info::read_info;
 use crate::document::json_tree::{object_at, read_json};
-use crate::findings::document_rows::document_part;
-use crate::findings::fact_rows::FactInScope;
+use crate::findings::document_part::document_part;
+use crate::findings::fact_part::FactInScope;
 use crate::findings::fault_list::Faults;
 use crate::place::Place;
 use crate::refusal::{Refusal, unless_memory};
