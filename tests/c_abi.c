@@ -48,10 +48,10 @@ struct asked {
 };
 
 /* The output of a call. Its buffers are filled with marks before the call; a byte that keeps its mark counts as unwritten. */
-struct room {
+struct buffers {
     uint8_t *out;
-    xbrlmerge_refusal *rows;
-    size_t out_length, rows_length, needed, refused;
+    xbrlmerge_refusal *refusals;
+    size_t out_length, refusals_length, needed, refused;
 };
 
 static uint8_t *read_file(const char *name, size_t *length, uint8_t *before, size_t at) {
@@ -66,16 +66,16 @@ static uint8_t *read_file(const char *name, size_t *length, uint8_t *before, siz
     return bytes;
 }
 
-static struct room make_room(size_t out_length, size_t rows_length) {
-    struct room room = {malloc(out_length + 1), malloc((rows_length + 1) * sizeof(xbrlmerge_refusal)), out_length, rows_length, 77, 78};
-    memset(room.out, MARK, out_length + 1);
-    memset(room.rows, MARK, (rows_length + 1) * sizeof(xbrlmerge_refusal));
-    return room;
+static struct buffers make_buffers(size_t out_length, size_t refusals_length) {
+    struct buffers to = {malloc(out_length + 1), malloc((refusals_length + 1) * sizeof(xbrlmerge_refusal)), out_length, refusals_length, 77, 78};
+    memset(to.out, MARK, out_length + 1);
+    memset(to.refusals, MARK, (refusals_length + 1) * sizeof(xbrlmerge_refusal));
+    return to;
 }
 
-static void drop_room(struct room *room) {
-    free(room->out);
-    free(room->rows);
+static void free_buffers(struct buffers *to) {
+    free(to->out);
+    free(to->refusals);
 }
 
 static int is_marked(const void *bytes, size_t from, size_t to) {
@@ -84,30 +84,30 @@ static int is_marked(const void *bytes, size_t from, size_t to) {
     return 1;
 }
 
-/* whether the bytes and the rows from these positions on are unchanged */
-static int is_kept(const struct room *room, size_t bytes, size_t rows) {
+/* whether the bytes and the refusals from these positions on are unchanged */
+static int is_kept(const struct buffers *to, size_t bytes, size_t refusals) {
     size_t size = sizeof(xbrlmerge_refusal);
-    return is_marked(room->out, bytes, room->out_length + 1) && is_marked(room->rows, rows * size, (room->rows_length + 1) * size);
+    return is_marked(to->out, bytes, to->out_length + 1) && is_marked(to->refusals, refusals * size, (to->refusals_length + 1) * size);
 }
 
-static uint32_t call(const struct asked *asked, struct room *room) {
+static uint32_t call(const struct asked *asked, struct buffers *to) {
     uint32_t status = 99;
     inside = 1;
     if (strcmp(asked->command, "merge") == 0)
         status = xbrlmerge_merge(asked->sheet, asked->sheet_length, asked->reports, asked->reports_length, asked->ends, asked->count,
-                                 asked->allow, room->out, room->out_length, &room->needed, room->rows, room->rows_length, &room->refused);
+                                 asked->allow, to->out, to->out_length, &to->needed, to->refusals, to->refusals_length, &to->refused);
     else if (strcmp(asked->command, "verdicts") == 0)
         status = xbrlmerge_verdicts(asked->sheet, asked->sheet_length, asked->reports, asked->reports_length, asked->ends, asked->count,
-                                    room->out, room->out_length, &room->needed, room->rows, room->rows_length, &room->refused);
+                                    to->out, to->out_length, &to->needed, to->refusals, to->refusals_length, &to->refused);
     else if (strcmp(asked->command, "verdicts-json") == 0)
         status = xbrlmerge_verdicts_json(asked->sheet, asked->sheet_length, asked->reports, asked->reports_length, asked->ends,
-                                         asked->count, room->out, room->out_length, &room->needed, room->rows, room->rows_length, &room->refused);
+                                         asked->count, to->out, to->out_length, &to->needed, to->refusals, to->refusals_length, &to->refused);
     else if (strcmp(asked->command, "sources") == 0)
         status = xbrlmerge_sources(asked->sheet, asked->sheet_length, asked->reports, asked->reports_length, asked->ends, asked->count,
-                                   room->out, room->out_length, &room->needed, room->rows, room->rows_length, &room->refused);
+                                   to->out, to->out_length, &to->needed, to->refusals, to->refusals_length, &to->refused);
     else if (strcmp(asked->command, "sources-json") == 0)
         status = xbrlmerge_sources_json(asked->sheet, asked->sheet_length, asked->reports, asked->reports_length, asked->ends,
-                                        asked->count, room->out, room->out_length, &room->needed, room->rows, room->rows_length, &room->refused);
+                                        asked->count, to->out, to->out_length, &to->needed, to->refusals, to->refusals_length, &to->refused);
     inside = 0;
     return status;
 }
@@ -123,69 +123,69 @@ static void tell_refusal(const xbrlmerge_refusal *row) {
         fprintf(stderr, "fact %llu\n", (unsigned long long)row->fact);
 }
 
-/* Makes the call with empty buffers. If these are too short, makes the call again with one byte too few, with one row too few,
-   with more bytes and rows than needed, and with just enough. Returns buffers that are long enough. */
-static struct room short_rooms(const struct asked *asked) {
-    struct room none = make_room(0, 0);
+/* Makes the call with empty to. If these are too short, makes the call again with one byte too few, with one row too few,
+   with more bytes and refusals than needed, and with just enough. Returns buffers that are long enough. */
+static struct buffers short_buffers(const struct asked *asked) {
+    struct buffers none = make_buffers(0, 0);
     uint32_t status = call(asked, &none);
     size_t needed = none.needed, refused = none.refused;
     EXPECT(is_kept(&none, 0, 0));
-    drop_room(&none);
-    if (status != XBRLMERGE_TOO_SHORT) return make_room(0, 0);
+    free_buffers(&none);
+    if (status != XBRLMERGE_TOO_SHORT) return make_buffers(0, 0);
     if (needed > 0) {
-        struct room room = make_room(needed - 1, refused);
-        EXPECT(call(asked, &room) == XBRLMERGE_TOO_SHORT && room.needed == needed && room.refused == refused && is_kept(&room, 0, 0));
-        drop_room(&room);
+        struct buffers to = make_buffers(needed - 1, refused);
+        EXPECT(call(asked, &to) == XBRLMERGE_TOO_SHORT && to.needed == needed && to.refused == refused && is_kept(&to, 0, 0));
+        free_buffers(&to);
     }
     if (refused > 0) {
-        struct room room = make_room(needed, refused - 1);
-        EXPECT(call(asked, &room) == XBRLMERGE_TOO_SHORT && room.needed == needed && room.refused == refused && is_kept(&room, 0, 0));
-        drop_room(&room);
+        struct buffers to = make_buffers(needed, refused - 1);
+        EXPECT(call(asked, &to) == XBRLMERGE_TOO_SHORT && to.needed == needed && to.refused == refused && is_kept(&to, 0, 0));
+        free_buffers(&to);
     }
-    struct room ample = make_room(needed + 9, refused + 2), just = make_room(needed, refused);
+    struct buffers ample = make_buffers(needed + 9, refused + 2), just = make_buffers(needed, refused);
     EXPECT(call(asked, &ample) == call(asked, &just) && ample.needed == just.needed && ample.refused == just.refused);
     size_t bytes = needed == ample.needed ? needed : 0; /* if the duplicates of a row exceed `allow`, there is no text */
     EXPECT(is_kept(&ample, bytes, refused) && memcmp(ample.out, just.out, bytes) == 0);
-    EXPECT(memcmp(ample.rows, just.rows, refused * sizeof(xbrlmerge_refusal)) == 0);
-    drop_room(&just);
+    EXPECT(memcmp(ample.refusals, just.refusals, refused * sizeof(xbrlmerge_refusal)) == 0);
+    free_buffers(&just);
     return ample;
 }
 
 /* Refuses each request for memory in turn. The call must then change nothing or, if only a cache lacks the memory, have its
    usual result. Returns how many calls failed. */
-static long refuse_each(const struct asked *asked, const struct room *whole, uint32_t wanted) {
+static long refuse_each(const struct asked *asked, const struct buffers *whole, uint32_t wanted) {
     long number = 0, refused = 0;
     do {
-        struct room room = make_room(whole->out_length, whole->rows_length);
+        struct buffers to = make_buffers(whole->out_length, whole->refusals_length);
         chosen = ++number, made = 0;
-        uint32_t status = call(asked, &room);
+        uint32_t status = call(asked, &to);
         if (status == XBRLMERGE_NO_MEMORY) {
             refused++;
-            EXPECT(made >= chosen && room.needed == 77 && room.refused == 78 && is_kept(&room, 0, 0));
+            EXPECT(made >= chosen && to.needed == 77 && to.refused == 78 && is_kept(&to, 0, 0));
         } else {
-            EXPECT(status == wanted && room.needed == whole->needed && room.refused == whole->refused);
-            EXPECT(memcmp(room.out, whole->out, whole->out_length) == 0);
-            EXPECT(memcmp(room.rows, whole->rows, whole->rows_length * sizeof(xbrlmerge_refusal)) == 0);
+            EXPECT(status == wanted && to.needed == whole->needed && to.refused == whole->refused);
+            EXPECT(memcmp(to.out, whole->out, whole->out_length) == 0);
+            EXPECT(memcmp(to.refusals, whole->refusals, whole->refusals_length * sizeof(xbrlmerge_refusal)) == 0);
         }
-        drop_room(&room);
+        free_buffers(&to);
     } while (made >= chosen);
     chosen = 0;
     return refused;
 }
 
 static int texts(struct asked *asked) {
-    struct room whole = short_rooms(asked);
+    struct buffers whole = short_buffers(asked);
     uint32_t status = call(asked, &whole);
     if (status == XBRLMERGE_SHEET_REFUSED) {
         EXPECT(whole.refused == 0 && is_kept(&whole, 0, 0));
         fprintf(stderr, "sheet: %zu\n", whole.needed);
     }
-    for (size_t row = 0; row < whole.refused; row++) tell_refusal(&whole.rows[row]);
+    for (size_t row = 0; row < whole.refused; row++) tell_refusal(&whole.refusals[row]);
     if (status == XBRLMERGE_TOO_LOOSE) fprintf(stderr, "too loose: row %zu\n", whole.needed);
     if (status <= XBRLMERGE_REFUSED) fwrite(whole.out, 1, whole.needed, stdout);
     EXPECT(status != XBRLMERGE_DONE || whole.refused == 0);
     fprintf(stderr, "requests: %ld refused in turn\n", refuse_each(asked, &whole, status));
-    drop_room(&whole);
+    free_buffers(&whole);
     return (int)status;
 }
 
@@ -231,12 +231,12 @@ static void ends_in(struct asked asked, uint32_t wanted, size_t count, size_t fi
     static const char *const commands[] = {"merge", "verdicts", "verdicts-json", "sources", "sources-json"};
     asked.count = count, asked.ends[0] = first, asked.ends[1] = second;
     for (int place = 0; place < 5; place++) {
-        struct room room = make_room(40, 2);
+        struct buffers to = make_buffers(40, 2);
         asked.command = commands[place];
         made = 0;
-        EXPECT(call(&asked, &room) == wanted && room.needed == 77 && room.refused == 78 && is_kept(&room, 0, 0));
+        EXPECT(call(&asked, &to) == wanted && to.needed == 77 && to.refused == 78 && is_kept(&to, 0, 0));
         EXPECT(made == 0);
-        drop_room(&room);
+        free_buffers(&to);
     }
 }
 
@@ -248,14 +248,14 @@ static int edges(struct asked *asked) {
     ends_in(*asked, XBRLMERGE_BAD_ENDS, 2, 4, 2);
     ends_in(*asked, XBRLMERGE_BAD_ENDS, 2, 0, SIZE_MAX);
     ends_in(*asked, XBRLMERGE_BAD_ENDS, 1, SIZE_MAX, 0);
-    struct room room = make_room(40, 4);
+    struct buffers to = make_buffers(40, 4);
     asked->command = "merge", asked->count = 0;
     for (asked->allow = 4; asked->allow != 0; asked->allow = asked->allow == 4 ? UINT32_MAX : 0)
-        EXPECT(call(asked, &room) == XBRLMERGE_BAD_LEVEL && room.needed == 77 && room.refused == 78 && is_kept(&room, 0, 0));
+        EXPECT(call(asked, &to) == XBRLMERGE_BAD_LEVEL && to.needed == 77 && to.refused == 78 && is_kept(&to, 0, 0));
     /* three reports, the second one empty, and bytes after the last report */
     asked->command = "verdicts", asked->count = 3, asked->ends[0] = 2, asked->ends[1] = 2, asked->ends[2] = 4;
-    EXPECT(call(asked, &room) == XBRLMERGE_REFUSED && room.needed == 0 && room.refused == 3 && is_kept(&room, 0, 3));
-    EXPECT(room.rows[1].report == 2 && room.rows[1].number == 1 && room.rows[1].fact == 0 && room.rows[2].report == 3);
+    EXPECT(call(asked, &to) == XBRLMERGE_REFUSED && to.needed == 0 && to.refused == 3 && is_kept(&to, 0, 3));
+    EXPECT(to.refusals[1].report == 2 && to.refusals[1].number == 1 && to.refusals[1].fact == 0 && to.refusals[2].report == 3);
     /* lengths of 0 with valid pointers, since no pointer may be null */
     uint8_t byte = MARK;
     size_t end = 0, needed = 77, refused = 78;
@@ -276,7 +276,7 @@ static int edges(struct asked *asked) {
     EXPECT(xbrlmerge_refusal_name(13, name, 12) == 13 && is_marked(name, 0, sizeof name));
     EXPECT(xbrlmerge_refusal_name(13, &byte, 0) == 13 && byte == MARK);
     EXPECT(xbrlmerge_refusal_name(13, name, 13) == 13 && memcmp(name, "UnboundPrefix", 13) == 0 && is_marked(name, 13, sizeof name));
-    drop_room(&room);
+    free_buffers(&to);
     return 0;
 }
 

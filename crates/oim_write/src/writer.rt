@@ -39,7 +39,7 @@ pub fn text(alloc: Global, base: &Base<'_>) -> Result<Encoded, AllocError>
 /// the text. The fault contains the length of this part.
 ///
 /// The text is passed to the sink in chunks of at least 65,536 bytes, except the last. If the sink
-/// takes only part of a chunk, the rest is passed to it again.
+/// takes only part of a chunk, the rest is passed to it in further calls.
 ///
 /// Errors: `Device` if the sink failed; `OutOfMemory`.
 pub fn write_to<S: Sink>(alloc: Global, base: &Base<'_>, out: &mut S) -> Result<(), WriteFault>
