@@ -48,7 +48,8 @@ class Library:
 
     def __init__(self, crate):
         found = EXPORT.findall(content(f"crates/{crate}/src/lib.rt"))
-        self.exports = {it.strip() for names, module in found for it in (module or names).split(",")}
+        self.modules = {module for _, module in found if module}
+        self.exports = self.modules | {it.strip() for names, _ in found for it in names.split(",")}
         self.promises, self.others = {}, set()
         for path in sorted(glob.glob(os.path.join(TOP, f"crates/{crate}/src/**/*.rt"), recursive=True)):
             self.read(os.path.basename(path)[: -len(".rt")], content(path))
@@ -75,7 +76,7 @@ class Library:
         """Records and returns the promise if the function or law is public; otherwise records its name and returns None."""
         is_pub, is_for_c, name = function.groups() if function else (None, None, law[1])
         promise.has_contract = function is None
-        scope = owner or (module if module in self.exports else None)
+        scope = owner or (module if module in self.modules else None)
         full_name = f"{scope}::{name}" if scope else name
         if is_for_c or ((is_pub or owner and is_trait) and (scope or name) in self.exports):
             self.promises[full_name] = promise
