@@ -105,16 +105,16 @@ def names_agree():
     check(needed == ["libc.so.6"], f"the library needs {needed}")
 
 
-def built(room):
+def built(scratch):
     """Builds the C program with each library, and compiles the header. Only the program with the static library can refuse
     memory."""
     source = f"{TOP}/tests/c_abi.c"
-    must("gcc", *SANITIZED, *WRAPS, source, STATIC, "-o", f"{room}/static")
-    must("gcc", *SANITIZED, *WRAPS, source, f"-L{TOP}/lib", "-lxbrlmerge", f"-Wl,-rpath,{TOP}/lib", "-o", f"{room}/shared")
+    must("gcc", *SANITIZED, *WRAPS, source, STATIC, "-o", f"{scratch}/static")
+    must("gcc", *SANITIZED, *WRAPS, source, f"-L{TOP}/lib", "-lxbrlmerge", f"-Wl,-rpath,{TOP}/lib", "-o", f"{scratch}/shared")
     must("gcc", "-std=c99", *WARNINGS, "-fsyntax-only", "-x", "c", HEADER)
     if shutil.which("g++"):
         must("g++", "-std=c++11", *WARNINGS, "-fsyntax-only", "-x", "c++", HEADER)
-    return [f"{room}/static", f"{room}/shared"]
+    return [f"{scratch}/static", f"{scratch}/shared"]
 
 
 def lines(text):
@@ -152,11 +152,11 @@ def main():
     names_agree()
     rows_agree()
     examples = {it: f"{TOP}/examples/{it}.json" for it in ("sheet", "issuer", "ledgerline", "statfeed", "oldharbour", "merged")}
-    with tempfile.TemporaryDirectory(prefix="c_abi-") as room:
-        callers = built(room)
+    with tempfile.TemporaryDirectory(prefix="c_abi-") as scratch:
+        callers = built(scratch)
         if faults:
             return 1
-        bad = f"{room}/bad_sheet.json"
+        bad = f"{scratch}/bad_sheet.json"
         with open(bad, "w", encoding="utf-8") as file:
             file.write(content(examples["sheet"]).replace('"text"', '"words"', 1))
         some = [examples[it] for it in ("sheet", "issuer", "oldharbour", "ledgerline", "statfeed")]

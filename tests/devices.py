@@ -105,7 +105,7 @@ def contents():
     return {**made, "bundle": b"\n".join(made[it] for it in ("sheet", "long", "cut")), "written": b"", "empty": b""}
 
 
-class Room:
+class Scratch:
     """A folder with the program and its input files. No input file may change."""
 
     def __init__(self, program, folder):
@@ -139,34 +139,34 @@ class Room:
         self.wrong += [f"{told}: {it} was changed" for it in changed]
 
 
-def compare_wholes(room):
+def compare_wholes(scratch):
     for words, (ends, _) in WORDS.items():
-        ran = room.whole[words]
+        ran = scratch.whole[words]
         is_long = len(ran.out) >= 500_000
-        room.expect((ran.status, ran.err) == ends and is_long == (words in LONG), "good devices", words, ran)
+        scratch.expect((ran.status, ran.err) == ends and is_long == (words in LONG), "good devices", words, ran)
 
 
-def compare_outputs(room):
+def compare_outputs(scratch):
     """Makes standard output fail, then standard error, then both."""
     for words, (ends, stopped) in WORDS.items():
-        whole = room.whole[words]
+        whole = scratch.whole[words]
         for case, redirection in STOPS_OUTPUT.items():
-            ran = room.run(words, redirection)
-            room.expect(ran == (stopped[0], b"", stopped[1]), case, words, ran)
+            ran = scratch.run(words, redirection)
+            scratch.expect(ran == (stopped[0], b"", stopped[1]), case, words, ran)
         for case, redirection in STOPS_ERRORS.items():
-            ran = room.run(words, redirection)
-            room.expect(ran == (ends[0], whole.out, ""), case, words, ran)
+            ran = scratch.run(words, redirection)
+            scratch.expect(ran == (ends[0], whole.out, ""), case, words, ran)
         for case, redirection in STOPS_BOTH.items():
-            ran = room.run(words, redirection)
-            room.expect(ran == (stopped[0], b"", ""), case, words, ran)
+            ran = scratch.run(words, redirection)
+            scratch.expect(ran == (stopped[0], b"", ""), case, words, ran)
 
 
-def compare_inputs(room):
+def compare_inputs(scratch):
     """Makes standard input fail. Only the command line without arguments reads standard input."""
     for words, (ends, _) in WORDS.items():
         for case, redirection in STOPS_INPUT.items():
-            ran, expected = room.run(words, redirection), (ends[0], room.whole[words].out, ends[1])
-            room.expect(ran == (expected if words else (3, b"", "file -: cannot be read\n")), case, words, ran)
+            ran, expected = scratch.run(words, redirection), (ends[0], scratch.whole[words].out, ends[1])
+            scratch.expect(ran == (expected if words else (3, b"", "file -: cannot be read\n")), case, words, ran)
 
 
 def waiting(pipe):
@@ -197,7 +197,7 @@ def take_late(child, reader):
     return front, len(front)
 
 
-def run_with_pipe(room, words, take, waits):
+def run_with_pipe(scratch, words, take, waits):
     """Runs the program with a pipe as standard output. Without `take`, the reading end is closed first. Without `waits`, the
     pipe does not block. Returns the result with the bytes that were read, and the number of bytes that the pipe accepted.
     """
@@ -206,7 +206,7 @@ def run_with_pipe(room, words, take, waits):
     if not take:
         os.close(reader)
     with tempfile.TemporaryFile() as lines:
-        child = subprocess.Popen(room.command(words, ""), cwd=room.folder, stdin=subprocess.DEVNULL, stdout=writer, stderr=lines)
+        child = subprocess.Popen(scratch.command(words, ""), cwd=scratch.folder, stdin=subprocess.DEVNULL, stdout=writer, stderr=lines)
         os.close(writer)
         try:
             front, taken = take(child, reader) if take else (b"", 0)
@@ -218,23 +218,23 @@ def run_with_pipe(room, words, take, waits):
         return Ran(status, front, lines.read().decode(errors="replace")), taken
 
 
-def compare_pipes(room):
+def compare_pipes(scratch):
     """Tests three pipes: one is closed at the start, one is closed after 5 bytes, and one that does not block is read only after
     the program ends."""
     for words, (ends, stopped) in WORDS.items():
-        whole = room.whole[words].out
-        ran, _ = run_with_pipe(room, words, None, True)
-        room.expect((ran.status, ran.err) == stopped, "a pipe closed at the start", words, ran)
+        whole = scratch.whole[words].out
+        ran, _ = run_with_pipe(scratch, words, None, True)
+        scratch.expect((ran.status, ran.err) == stopped, "a pipe closed at the start", words, ran)
         for case, take, waits in (("a pipe closed after 5 bytes", take_five, True), ("a full pipe", take_late, False)):
-            ran, taken = run_with_pipe(room, words, take, waits)
+            ran, taken = run_with_pipe(scratch, words, take, waits)
             expected = (3, f"device: {taken} bytes written\n") if words in LONG else ends
             is_front = whole.startswith(ran.out) and (0 < taken < len(whole) if words in LONG else taken == len(whole))
-            room.expect((ran.status, ran.err) == expected and is_front, case, words, ran)
+            scratch.expect((ran.status, ran.err) == expected and is_front, case, words, ran)
 
 
-def make(room, kind, name):
+def make(scratch, kind, name):
     """Makes the file `strange`, except for the kind `missing`. Returns the process that writes to a FIFO, otherwise None."""
-    strange, content = f"{room.folder}/strange", room.contents[name]
+    strange, content = f"{scratch.folder}/strange", scratch.contents[name]
     if kind == "a folder":
         os.mkdir(strange)
     elif kind == "without permission":
@@ -247,59 +247,59 @@ def make(room, kind, name):
         return None
     os.mkfifo(strange)
     length = {"nothing": 0, "one half": len(content) // 2, "all": len(content)}[kind.removeprefix("a FIFO of ")]
-    return subprocess.Popen(["sh", "-c", f"exec head -c {length} {name} >strange"], cwd=room.folder)
+    return subprocess.Popen(["sh", "-c", f"exec head -c {length} {name} >strange"], cwd=scratch.folder)
 
 
-def remove(room, writer):
+def remove(scratch, writer):
     """Removes the file `strange`, and ends the process that writes to it, if there is one."""
     if writer:
         writer.kill()
         writer.wait()
-    strange = f"{room.folder}/strange"
+    strange = f"{scratch.folder}/strange"
     if os.path.isdir(strange) and not os.path.islink(strange):
         os.rmdir(strange)
     elif os.path.lexists(strange):
         os.remove(strange)
 
 
-def run_strange(room, kind, words):
+def run_strange(scratch, kind, words):
     """Runs the program on the file `strange`. Without arguments, the program reads an endless standard input instead."""
     given = "" if words else "</dev/zero"
     if kind == "endless, little memory":
-        return room.run(words, given, ("sh", "-c", f'ulimit -v {LITTLE}; exec "$@"', "sh"), ENDLESS_LIMIT)
+        return scratch.run(words, given, ("sh", "-c", f'ulimit -v {LITTLE}; exec "$@"', "sh"), ENDLESS_LIMIT)
     if kind == "endless":
-        return room.run(words, given, limit=ENDLESS_LIMIT)
+        return scratch.run(words, given, limit=ENDLESS_LIMIT)
     if kind == "without permission" and os.geteuid() == 0:
-        return room.run(words, user=NOBODY, group=NOBODY, extra_groups=[])
-    return room.run(words)
+        return scratch.run(words, user=NOBODY, group=NOBODY, extra_groups=[])
+    return scratch.run(words)
 
 
-def compare_file(room, kind, name, words, ends):
+def compare_file(scratch, kind, name, words, ends):
     """Runs the program on a file of this kind. If status 3 is expected, the output must be empty. Otherwise it must equal
     the output for a regular file of the same content. Half a report is compared with an empty report, since the program
     refuses both."""
-    writer = make(room, kind, name)
+    writer = make(scratch, kind, name)
     try:
-        ran = run_strange(room, kind, words)
+        ran = run_strange(scratch, kind, words)
     finally:
-        remove(room, writer)
+        remove(scratch, writer)
     plain = "empty" if kind in ("/dev/null", "a FIFO of nothing", "a FIFO of one half") else name
-    out = b"" if ends[0] == 3 else room.run(words.replace("strange", plain)).out
-    room.expect(ran == (ends[0], out, ends[1]), f"{name} is {kind}", words, ran)
+    out = b"" if ends[0] == 3 else scratch.run(words.replace("strange", plain)).out
+    scratch.expect(ran == (ends[0], out, ends[1]), f"{name} is {kind}", words, ran)
 
 
-def compare_files(room):
+def compare_files(scratch):
     """Replaces the sheet, the events or a report by each kind of file, and standard input by an endless file."""
     for kind, all_ends in FILES.items():
         if kind == "endless" and free_memory() < MUCH:
-            room.left_out.append(f"endless files without a limit on memory, since less than {MUCH:,} kB is free")
+            scratch.left_out.append(f"endless files without a limit on memory, since less than {MUCH:,} kB is free")
             continue
         for (name, all_words), ends in zip(PLACES.items(), all_ends):
             for words in all_words[:1] if kind == "endless" else all_words:
-                compare_file(room, kind, name, words, ends)
+                compare_file(scratch, kind, name, words, ends)
         if kind.startswith("endless"):
-            ran = run_strange(room, kind, "")
-            room.expect(ran == (3, b"", ends[1].replace("strange", "-")), f"standard input is {kind}", "", ran)
+            ran = run_strange(scratch, kind, "")
+            scratch.expect(ran == (3, b"", ends[1].replace("strange", "-")), f"standard input is {kind}", "", ran)
 
 
 def main():
@@ -308,15 +308,15 @@ def main():
     program = built_program(parser.parse_args().PROGRAM)
     started, counts = time.monotonic(), []
     with tempfile.TemporaryDirectory(prefix="devices-") as folder:
-        room = Room(program, folder)
+        scratch = Scratch(program, folder)
         for compare in (compare_wholes, compare_outputs, compare_pipes, compare_inputs, compare_files):
-            before = room.count
-            compare(room)
-            counts.append(f"{room.count - before} of {compare.__name__.removeprefix('compare_')}")
+            before = scratch.count
+            compare(scratch)
+            counts.append(f"{scratch.count - before} of {compare.__name__.removeprefix('compare_')}")
     seconds = time.monotonic() - started
-    told = f"{room.count} cases, {len(room.wrong)} not as expected, in {seconds:.0f} seconds: {', '.join(counts)}"
-    print(*room.wrong, f"tests/devices: {told}", *(f"skipped: {it}" for it in room.left_out), sep="\n")
-    return 1 if room.wrong else 0
+    told = f"{scratch.count} cases, {len(scratch.wrong)} not as expected, in {seconds:.0f} seconds: {', '.join(counts)}"
+    print(*scratch.wrong, f"tests/devices: {told}", *(f"skipped: {it}" for it in scratch.left_out), sep="\n")
+    return 1 if scratch.wrong else 0
 
 
 if __name__ == "__main__":

@@ -85,7 +85,7 @@ def build(crate):
     return ""
 
 
-def copied_libraries(room):
+def copied_libraries(scratch):
     """Copies the libraries and their proofs to a folder, and returns the lines of crates.txt for them."""
     lines = [it for it in content("crates.txt").splitlines() if it[:1] not in ("", "#")]
     # no crate depends on a program, on a static library or on tests
@@ -94,8 +94,8 @@ def copied_libraries(room):
         for part in ("src", "specs", "proofs", "out/rlib"):
             given = os.path.join(TOP, "crates", name, part)
             if os.path.isdir(given):
-                shutil.copytree(given, os.path.join(room, "crates", name, part))
-    shutil.copy(os.path.join(TOP, "HANDLES"), room)
+                shutil.copytree(given, os.path.join(scratch, "crates", name, part))
+    shutil.copy(os.path.join(TOP, "HANDLES"), scratch)
     return lines
 
 
@@ -107,25 +107,25 @@ def pieces():
     return {"lib.rt": f"//! The pieces of code that docs/LIBRARY.md shows.\n#![tactic(auto)]\n\n{modules}", **files}
 
 
-def build_embedded(room):
+def build_embedded(scratch):
     """Proves the code in docs/LIBRARY.md and builds the example of embedding. Returns the path of the built example, or an empty
     text if the proof or the build fails."""
-    lines, embed = copied_libraries(room), re.search("'(embed: .*)'", content("docs/LIBRARY.md"))[1]
+    lines, embed = copied_libraries(scratch), re.search("'(embed: .*)'", content("docs/LIBRARY.md"))[1]
     below = " ".join(it.partition(":")[0] for it in lines)
     crates = {EMBED: (embed, {"main.rt": content("examples/embed/main.txt")}), SHOWN: (f"{SHOWN}: {below}", pieces())}
     for name, (line, files) in crates.items():
         lines.append(line)
-        os.makedirs(os.path.join(room, "crates", name, "src"))
+        os.makedirs(os.path.join(scratch, "crates", name, "src"))
         for file, text in files.items():
-            with open(os.path.join(room, "crates", name, "src", file), "w", encoding="utf-8") as opened:
+            with open(os.path.join(scratch, "crates", name, "src", file), "w", encoding="utf-8") as opened:
                 opened.write(text)
-    with open(os.path.join(room, "crates.txt"), "w", encoding="utf-8") as opened:
+    with open(os.path.join(scratch, "crates.txt"), "w", encoding="utf-8") as opened:
         opened.write("\n".join(lines) + "\n")
-    ran = subprocess.run(["rt", "check"], cwd=os.path.join(room, "crates", SHOWN), capture_output=True, text=True)
+    ran = subprocess.run(["rt", "check"], cwd=os.path.join(scratch, "crates", SHOWN), capture_output=True, text=True)
     if ran.returncode != 0:
         print("\n".join((ran.stdout + ran.stderr).splitlines()[-20:]))
         return ""
-    return build(os.path.join(room, "crates", EMBED))
+    return build(os.path.join(scratch, "crates", EMBED))
 
 
 def whole_lines(text):
@@ -178,17 +178,17 @@ def of_help(program):
     return [it for text in (said("help"), *(said(name, "--help") for name in sorted(names))) for it in commands(text)]
 
 
-def run_lines(shell, lines, room):
+def run_lines(shell, lines, scratch):
     """Runs lines one after another in one shell. Yields the status, standard output and standard error for each line."""
     script = ["set -o pipefail"] if shell == "bash" else []
     for place, line in enumerate(lines):
-        with open(f"{room}/line{place}", "w", encoding="utf-8") as file:
+        with open(f"{scratch}/line{place}", "w", encoding="utf-8") as file:
             file.write(f"{line}\n")
-        script.append(f'. "{room}/line{place}" >"{room}/out{place}" 2>"{room}/err{place}"; echo $? >"{room}/status{place}"')
-    around = {**os.environ, "PATH": f"{room}/bin:{os.environ['PATH']}", "TMPDIR": f"{room}/tmp"}
-    subprocess.run([shell, "-c", "\n".join(script)], cwd=f"{room}/top", env=around, stdin=subprocess.DEVNULL, timeout=LIMIT)
+        script.append(f'. "{scratch}/line{place}" >"{scratch}/out{place}" 2>"{scratch}/err{place}"; echo $? >"{scratch}/status{place}"')
+    around = {**os.environ, "PATH": f"{scratch}/bin:{os.environ['PATH']}", "TMPDIR": f"{scratch}/tmp"}
+    subprocess.run([shell, "-c", "\n".join(script)], cwd=f"{scratch}/top", env=around, stdin=subprocess.DEVNULL, timeout=LIMIT)
     for place in range(len(lines)):
-        yield [content(f"{room}/{it}{place}") for it in ("status", "out", "err")]
+        yield [content(f"{scratch}/{it}{place}") for it in ("status", "out", "err")]
 
 
 def is_as_shown(shown, printed):
@@ -199,9 +199,9 @@ def is_as_shown(shown, printed):
     )
 
 
-def wrong_with(blocks, shell, room):
+def wrong_with(blocks, shell, scratch):
     """Runs the blocks of a page, and returns the differences from the expected statuses and output."""
-    ran, wrong = run_lines(shell, [line for lines, _, _ in blocks for line in lines], room), []
+    ran, wrong = run_lines(shell, [line for lines, _, _ in blocks for line in lines], scratch), []
     for lines, status, shown in blocks:
         printed, told = [], []
         for place, line in enumerate(lines):
@@ -215,7 +215,7 @@ def wrong_with(blocks, shell, room):
     return wrong
 
 
-def refusals(program, room):
+def refusals(program, scratch):
     """Returns the faults in the examples of docs/REFUSALS.md, and the number of examples."""
     text, seen, wrong = content("docs/REFUSALS.md"), [], []
     sheet, prefixes = re.findall(r"^```json\n(.*?)^```$", text, re.MULTILINE | re.DOTALL)
@@ -229,9 +229,9 @@ def refusals(program, room):
                 files = [example, ""]
             line = f"report 1: {number} {name} at {place}\n" if files[1] else f"sheet: {number} {name}\n"
             for file, bytes_ in zip(("refused_sheet", "refused_report"), files):
-                with open(f"{room}/{file}", "w", encoding="utf-8") as opened:
+                with open(f"{scratch}/{file}", "w", encoding="utf-8") as opened:
                     opened.write(bytes_)
-            words = ["check", "--sheet", f"{room}/refused_sheet", f"{room}/refused_report"]
+            words = ["check", "--sheet", f"{scratch}/refused_sheet", f"{scratch}/refused_report"]
             wrong += [f"{example}\n    {it}" for it in gives(program, 1 if files[1] else 3, "", line, words)]
             seen.append(int(number))
     wrong += [] if set(seen) == set(range(1, 33)) else ["a refusal has no example"]
@@ -307,16 +307,16 @@ def page_of_vendors(program):
     """Runs tools/contradictions on a taxonomy package and on reports of other tools. Returns the faults."""
     vendors, names = os.path.join(TOP, "tests", "normalise", "vendors"), ("envelope", "untidy_tokens", "odd_units")
     options = ["--program", program, "--normalise", *(f"{name} & Co={vendors}/{name}.json" for name in names)]
-    with tempfile.TemporaryDirectory() as room:
-        with zipfile.ZipFile(f"{room}/taxonomy.zip", "w") as package:
+    with tempfile.TemporaryDirectory() as scratch:
+        with zipfile.ZipFile(f"{scratch}/taxonomy.zip", "w") as package:
             package.writestr("taxonomy/META-INF/taxonomyPackage.xml", "<a/>")
             package.writestr("taxonomy/core.xsd", SCHEMA)
-        words = [*options, "--taxonomy", f"{room}/taxonomy.zip", "-o", f"{room}/out"]
+        words = [*options, "--taxonomy", f"{scratch}/taxonomy.zip", "-o", f"{scratch}/out"]
         ran = subprocess.run([os.path.join(TOP, "tools", "contradictions"), *words], capture_output=True, text=True)
-        told = f"3 rows: 0 contradictions, 0 consistent, 3 with one fact; 1 report refused; page: {room}/out/page.html\n"
+        told = f"3 rows: 0 contradictions, 0 consistent, 3 with one fact; 1 report refused; page: {scratch}/out/page.html\n"
         if (ran.returncode, ran.stdout) != (1, told):
             return [f"tools/contradictions ends with {ran.returncode} on the reports of vendors: {ran.stdout}{ran.stderr}"]
-        sheet, merged = content(f"{room}/out/sheet.json").replace("n1:", "v:").replace('"n1"', '"v"'), content(f"{room}/out/merged.json")
+        sheet, merged = content(f"{scratch}/out/sheet.json").replace("n1:", "v:").replace('"n1"', '"v"'), content(f"{scratch}/out/merged.json")
     wrong = [f"odd_units.json lacks the fault {it}" for it in ODD_UNITS if f"{vendors}/odd_units.json: {it}" not in ran.stderr]
     wrong += [] if json.loads(sheet) == json.loads(content(f"{vendors}/sheet.json")) else ["the sheet is not tests/normalise/vendors/sheet.json"]
     words = ["merge", "--sheet", f"{vendors}/sheet.json", *(f"{vendors}/{name}.out.json" for name in names[:2])]
@@ -325,10 +325,10 @@ def page_of_vendors(program):
 
 def by_hand(program, merged):
     """Lets two offices exchange files. Returns a line if an office then lacks the merged text, or if anything was printed."""
-    with tempfile.TemporaryDirectory() as room:
-        ran = subprocess.run([os.path.join(TOP, "examples", "offices", "by_hand"), room], capture_output=True, text=True,
+    with tempfile.TemporaryDirectory() as scratch:
+        ran = subprocess.run([os.path.join(TOP, "examples", "offices", "by_hand"), scratch], capture_output=True, text=True,
                              env={**os.environ, "XBRLMERGE": program})
-        texts = [content(os.path.join(room, office, "merged.json")) for office in "12"] if ran.returncode == 0 else []
+        texts = [content(os.path.join(scratch, office, "merged.json")) for office in "12"] if ran.returncode == 0 else []
     same = texts == [merged] * 2 and ran.stdout + ran.stderr == ""
     return [] if same else [f"examples/offices/by_hand: wrong texts, or status {ran.returncode}: {ran.stderr[-200:]}"]
 
@@ -337,37 +337,37 @@ def files_of(folder):
     return sorted(os.path.join(at, it) for at, _, names in os.walk(folder, followlinks=True) for it in names)
 
 
-def make_top(program, room):
+def make_top(program, scratch):
     """Makes a folder like the top of the repository, with the tested program."""
     for folder in ("bin", "top", "tmp"):
-        os.makedirs(f"{room}/{folder}")
+        os.makedirs(f"{scratch}/{folder}")
     for name in set(os.listdir(TOP)) - {"xbrlmerge", "examples", ".git", "crates"}:
-        os.symlink(os.path.join(TOP, name), f"{room}/top/{name}")
-    shutil.copytree(os.path.join(TOP, "examples"), f"{room}/top/examples")
+        os.symlink(os.path.join(TOP, name), f"{scratch}/top/{name}")
+    shutil.copytree(os.path.join(TOP, "examples"), f"{scratch}/top/examples")
     for folder in ("bin", "top"):
-        shutil.copy(program, f"{room}/{folder}/xbrlmerge")
+        shutil.copy(program, f"{scratch}/{folder}/xbrlmerge")
 
 
 def told(program, embed):
     """Makes all comparisons. Returns the differences, and a text that counts the commands and the examples of refusals."""
     wrong, ran = compared(program) + (embedded(embed) if embed else []) + fragments(program) + page_of_vendors(program), 0
     places = {**{it: list(of_page(it)) for it in PAGES}, "the man pages": list(of_man_pages()), "the help": of_help(program)}
-    with tempfile.TemporaryDirectory() as room:
-        make_top(program, room)
-        before = files_of(f"{room}/top")
+    with tempfile.TemporaryDirectory() as scratch:
+        make_top(program, scratch)
+        before = files_of(f"{scratch}/top")
         for place, blocks in places.items():
             for shell in SHELLS:
-                wrong += [f"{place}, by {shell}: {it}" for it in wrong_with(blocks, shell, room)]
+                wrong += [f"{place}, by {shell}: {it}" for it in wrong_with(blocks, shell, scratch)]
             ran += sum(len(lines) for lines, _, _ in blocks)
-        wrong += [f"the commands add or remove a file: {it}" for it in sorted(set(files_of(f"{room}/top")) ^ set(before))]
-        faults, count = refusals(program, room)
+        wrong += [f"the commands add or remove a file: {it}" for it in sorted(set(files_of(f"{scratch}/top")) ^ set(before))]
+        faults, count = refusals(program, scratch)
     return wrong + faults, f"{ran} commands and {count} refusals"
 
 
 def main(words):
-    with tempfile.TemporaryDirectory() as room:
+    with tempfile.TemporaryDirectory() as scratch:
         named = [os.path.abspath(it) for it in words[:2]]
-        program, embed = (named + [""])[:2] if named else (build(CRATE), build_embedded(room))
+        program, embed = (named + [""])[:2] if named else (build(CRATE), build_embedded(scratch))
         if not program or not named and not embed:
             return 2
         wrong, ran = told(program, embed)

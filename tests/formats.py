@@ -184,22 +184,22 @@ def odd_report(prefix):
     return json.dumps({"documentInfo": info, "facts": facts})
 
 
-def cases(room):
+def cases(scratch):
     """Writes the files of each case, and yields the path of its sheet and the paths of its reports."""
     yield f"{TOP}/examples/sheet.json", EXAMPLES
     sheet = {"namespaces": {"eg": "http://example.org/t"}, "concepts": {"eg:T": "text"}, "dimensions": {"eg:Sku": "typed"}}
     files = {"odd": json.dumps(sheet), "one": odd_report(""), "two": odd_report("x"), "drawn": json.dumps(fold.sheet())}
     for name, text in files.items():
-        with open(f"{room}/{name}.json", "w", encoding="utf-8") as file:
+        with open(f"{scratch}/{name}.json", "w", encoding="utf-8") as file:
             file.write(text)
-    yield f"{room}/odd.json", [f"{room}/one.json", f"{room}/two.json"]
+    yield f"{scratch}/odd.json", [f"{scratch}/one.json", f"{scratch}/two.json"]
     for number in range(SETS):
         chance, names = random.Random(f"{SEED} {number}"), []
         for place in range(chance.randint(0, 6)):
-            names.append(f"{room}/{place}.json")
+            names.append(f"{scratch}/{place}.json")
             with open(names[-1], "w", encoding="utf-8") as file:
                 file.write(fold.report(chance, chance.choice([0, 0, 0, 0, 1, 2, 3])))
-        yield f"{room}/drawn.json", names
+        yield f"{scratch}/drawn.json", names
 
 
 def main(words):
@@ -208,8 +208,8 @@ def main(words):
         return 0
     program = built_program(*words[:1])
     faults, ran = 0, 0
-    with tempfile.TemporaryDirectory(prefix="formats-") as room:
-        for ran, (sheet, reports) in enumerate(cases(room), 1):
+    with tempfile.TemporaryDirectory(prefix="formats-") as scratch:
+        for ran, (sheet, reports) in enumerate(cases(scratch), 1):
             for fault in wrong_with(program, sheet, reports):
                 faults += 1
                 print(f"case {ran}: {' '.join(fault)}")

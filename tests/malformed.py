@@ -350,8 +350,8 @@ def keep(case, content):
 def play(task):
     """Runs the cases of a batch. Returns the counts of their results, and the faults."""
     program, cases = task
-    with tempfile.TemporaryDirectory(prefix="malformed-") as room:
-        os.chdir(room)
+    with tempfile.TemporaryDirectory(prefix="malformed-") as scratch:
+        os.chdir(scratch)
         batch = Batch(program, cases[0] // BATCH)
         wrong = [told for case in cases for told in batch.play(case)]
         os.chdir(TOP)

@@ -136,9 +136,9 @@ def faults(folder, edits):
     return found
 
 
-def tried(crate, room):
+def tried(crate, scratch):
     """Tries the edits of a crate. Returns whether each is refused."""
-    folder = os.path.join(room, "crates", crate)
+    folder = os.path.join(scratch, "crates", crate)
     edits = [Edit(path) for path in sorted(glob.glob(os.path.join(TOP, "mutants", crate, "*.edit")))]
     if not edits or not os.path.isdir(folder):
         print(f"{crate}: no such crate, or no edits in mutants/{crate}")
@@ -152,12 +152,12 @@ def tried(crate, room):
 
 def main():
     crates = sys.argv[1:] or sorted(os.listdir(os.path.join(TOP, "mutants")))
-    with tempfile.TemporaryDirectory() as room:
+    with tempfile.TemporaryDirectory() as scratch:
         for name in ("crates.txt", "HANDLES"):
-            shutil.copy(os.path.join(TOP, name), room)
+            shutil.copy(os.path.join(TOP, name), scratch)
         # rt finds by itself what earlier checks in other folders proved of the same files
-        shutil.copytree(os.path.join(TOP, "crates"), os.path.join(room, "crates"), ignore=shutil.ignore_patterns("out"))
-        return 0 if all([tried(crate, room) for crate in crates]) else 1
+        shutil.copytree(os.path.join(TOP, "crates"), os.path.join(scratch, "crates"), ignore=shutil.ignore_patterns("out"))
+        return 0 if all([tried(crate, scratch) for crate in crates]) else 1
 
 
 if __name__ == "__main__":

@@ -222,8 +222,8 @@ class Schedule:
 def play(program, seed, counts):
     """Runs a schedule and returns the number of its events. If something is wrong, prints it and returns 0."""
     schedule = Schedule(program, seed, counts)
-    with tempfile.TemporaryDirectory() as room:
-        os.chdir(room)
+    with tempfile.TemporaryDirectory() as scratch:
+        os.chdir(scratch)
         try:
             schedule.play()
         except Fault as fault:

@@ -33,11 +33,11 @@ UNWRITTEN = b"file new: cannot be written\n"
 
 
 class Tests:
-    def __init__(self, program, room):
-        self.program, self.room, self.wrong, self.count = program, room, [], 0
-        self.folder, self.library, self.told = (os.path.join(room, it) for it in ("work", "calls.so", "told"))
+    def __init__(self, program, scratch):
+        self.program, self.scratch, self.wrong, self.count = program, scratch, [], 0
+        self.folder, self.library, self.told = (os.path.join(scratch, it) for it in ("work", "calls.so", "told"))
         subprocess.run(["cc", "-O2", "-shared", "-fPIC", "-o", self.library, f"{TOP}/tests/failing_calls.c", "-ldl"], check=True)
-        with open(os.path.join(room, "events"), "wb") as file:
+        with open(os.path.join(scratch, "events"), "wb") as file:
             file.write(EVENTS)
 
     def empty(self, old):
@@ -166,8 +166,8 @@ def main(words):
     if shutil.which("cc") is None:
         print("tests/output: there is no cc", file=sys.stderr)
         return 2
-    with tempfile.TemporaryDirectory() as room:
-        tests = Tests(program, room)
+    with tempfile.TemporaryDirectory() as scratch:
+        tests = Tests(program, scratch)
         for name in COMMANDS:
             for old in (True, False):
                 tests.each_call(name, old)

@@ -75,10 +75,10 @@ def run(words, seconds=120, wanted=0):
     return done.stdout
 
 
-def build(room):
+def build(scratch):
     """Makes the page of examples/. Returns its path and, by row number, the identifiers of the two facts that show each
     contradiction."""
-    page, lines, program = os.path.join(room, "example", "page.html"), os.path.join(room, "lines"), built_program()
+    page, lines, program = os.path.join(scratch, "example", "page.html"), os.path.join(scratch, "lines"), built_program()
     run([sys.executable, TOOL, "--program", program, "--sheet", SHEET, "-o", os.path.dirname(page), *REPORTS], wanted=1)
     with open(lines, "wb") as file:
         file.write(run([program, "verdicts", "--sheet", SHEET, *REPORTS]))
@@ -110,10 +110,10 @@ def colours(picture):
     return seen
 
 
-def look_at_example(words, room, kept):
+def look_at_example(words, scratch, kept):
     """Returns the faults of the page of examples/. If there are none and `kept` is a path, copies the picture of the light
     theme there."""
-    page, rows = build(room)
+    page, rows = build(scratch)
     content = run([*words, "--window-size=1100,1200", "--dump-dom", f"file://{page}"]).decode()
     sections = {part.split('"')[0]: part for part in content.split(' id="row')[1:]}
     faults = []
@@ -122,14 +122,14 @@ def look_at_example(words, room, kept):
     faults += [f"row {row} lacks {fact}" for row in rows for fact in rows[row] if f">{fact}<" not in sections.get(row, "")]
     faults += [f"the page lacks {name}" for name in OWN_NAMES if name not in content]
     for look, wanted in LOOKS.items():
-        picture = os.path.join(room, f"{look}.png")
+        picture = os.path.join(scratch, f"{look}.png")
         setting = f"--blink-settings=preferredColorScheme={0 if look == 'dark' else 1}"
         run([*words, "--window-size=1100,1350", setting, f"--screenshot={picture}", f"file://{page}"])
         with open(picture, "rb") as file:
             seen = colours(file.read())
         faults += [f"{look} shows almost nothing in #{colour}" for colour in wanted if seen[colour] < 300]
     if kept and not faults:
-        shutil.copyfile(os.path.join(room, "light.png"), kept)
+        shutil.copyfile(os.path.join(scratch, "light.png"), kept)
     return faults
 
 
@@ -138,16 +138,16 @@ def timed(words, seconds):
     return run(words, seconds), time.monotonic() - start
 
 
-def look_at_large(words, room):
+def look_at_large(words, scratch):
     """Returns the faults of the page of many contradictions, and a line with the measurements."""
-    workload.make(room, CONTRADICTIONS)
-    inputs = [os.path.join(room, name) for name in ("merged.json", "sheet.json", "verdicts.txt")]
-    page = os.path.join(room, "large", "page.html")
-    own = [f"{name}=" + os.path.join(room, f"{name}.json") for name in workload.PROVIDERS]
+    workload.make(scratch, CONTRADICTIONS)
+    inputs = [os.path.join(scratch, name) for name in ("merged.json", "sheet.json", "verdicts.txt")]
+    page = os.path.join(scratch, "large", "page.html")
+    own = [f"{name}=" + os.path.join(scratch, f"{name}.json") for name in workload.PROVIDERS]
     run([sys.executable, TOOL, "--from", *inputs, "-o", os.path.dirname(page), *own], wanted=1)
     used = resource.getrusage(resource.RUSAGE_CHILDREN)  # the peak of the only child so far
     made, peak = used.ru_utime + used.ru_stime, used.ru_maxrss / 1024
-    _, drawn = timed([*words, "--window-size=1100,1200", f"--screenshot={room}/large.png", f"file://{page}"], 30)
+    _, drawn = timed([*words, "--window-size=1100,1200", f"--screenshot={scratch}/large.png", f"file://{page}"], 30)
     painted = first_paint(words, page)
     content, held = timed([*words, "--dump-dom", f"file://{page}"], 60)
     rows = content.count(b'<section class="row ')
@@ -204,18 +204,18 @@ def main():
     if not browser:
         print("tests/page: no Chromium is installed, so nothing was checked")
         return 0
-    room = tempfile.mkdtemp()
+    scratch = tempfile.mkdtemp()
     try:
-        words = [browser, "--headless", "--hide-scrollbars", f"--user-data-dir={room}/profile"]
+        words = [browser, "--headless", "--hide-scrollbars", f"--user-data-dir={scratch}/profile"]
         words += ["--no-sandbox"] * (os.geteuid() == 0)
-        faults, told = look_at_large(words, room)
+        faults, told = look_at_large(words, scratch)
         print(f"tests/page: {told}")
-        faults += look_at_example(words, room, kept)
+        faults += look_at_example(words, scratch, kept)
     except (OSError, subprocess.SubprocessError, LookupError, struct.error, zlib.error) as fault:
         print(f"tests/page: {fault}", file=sys.stderr)
         return 2
     finally:
-        shutil.rmtree(room, ignore_errors=True)  # the browser may still be writing
+        shutil.rmtree(scratch, ignore_errors=True)  # the browser may still be writing
     print(*(f"tests/page: {fault}" for fault in faults or ["the pages are as expected"]), sep="\n")
     return 1 if faults else 0
 

@@ -40,8 +40,8 @@ THREADS, MOST = 4, 6
 
 def ran(command, sheet, reports, *words):
     """Runs a command of the program on bytes. Returns its status, its standard output, and its lines on standard error."""
-    with tempfile.TemporaryDirectory(prefix="python-") as room:
-        paths = [f"{room}/{place}.json" for place in range(len(reports) + 1)]
+    with tempfile.TemporaryDirectory(prefix="python-") as scratch:
+        paths = [f"{scratch}/{place}.json" for place in range(len(reports) + 1)]
         for path, given in zip(paths, (sheet, *reports)):
             with open(path, "wb") as file:
                 file.write(given)
@@ -230,18 +230,18 @@ class Wheel(unittest.TestCase):
     def test_a_wheel_is_whole(self):
         sys.path.insert(0, f"{TOP}/python")
         backend = importlib.import_module("wheel_of_library")
-        with tempfile.TemporaryDirectory(prefix="wheel-") as room:
-            name = backend.build_wheel(room)
+        with tempfile.TemporaryDirectory(prefix="wheel-") as scratch:
+            name = backend.build_wheel(scratch)
             self.assertRegex(name, r"^xbrlmerge-[\w.]+-py3-none-(manylinux_2_\d+|linux)_x86_64\.whl$")
-            words = ("-m", "pip", "install", "-q", "--no-index", "--no-deps", "--target", f"{room}/there", f"{room}/{name}")
+            words = ("-m", "pip", "install", "-q", "--no-index", "--no-deps", "--target", f"{scratch}/there", f"{scratch}/{name}")
             if subprocess.run([sys.executable, "-m", "pip", "--version"], capture_output=True).returncode != 0:
                 self.skipTest("pip is not installed")
             subprocess.run([sys.executable, *words], check=True, capture_output=True)
             code = f"import xbrlmerge; print(xbrlmerge.__file__); print(len(xbrlmerge.merge({SHEET!r}, {EXAMPLES!r}).text))"
             around = {key: value for key, value in os.environ.items() if key != "XBRLMERGE_LIBRARY"}
-            done = subprocess.run([sys.executable, "-c", code], cwd=room, capture_output=True, text=True, check=True,
-                                  env={**around, "PYTHONPATH": f"{room}/there"})
-            self.assertEqual(done.stdout.split(), [f"{room}/there/xbrlmerge/__init__.py", str(len(xbrlmerge.merge(SHEET, EXAMPLES).text))])
+            done = subprocess.run([sys.executable, "-c", code], cwd=scratch, capture_output=True, text=True, check=True,
+                                  env={**around, "PYTHONPATH": f"{scratch}/there"})
+            self.assertEqual(done.stdout.split(), [f"{scratch}/there/xbrlmerge/__init__.py", str(len(xbrlmerge.merge(SHEET, EXAMPLES).text))])
 
 
 if __name__ == "__main__":

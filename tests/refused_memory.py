@@ -114,8 +114,8 @@ def newest(places, crates):
     return found[0]
 
 
-def build_library(room):
-    library = f"{room}/refused_memory.so"
+def build_library(scratch):
+    library = f"{scratch}/refused_memory.so"
     source = f"{TOP}/tests/refused_memory.c"
     if shutil.which("cc") is None:
         raise NotBuilt("there is no cc to build the library with")
@@ -126,19 +126,19 @@ def build_library(room):
 def run(library, subject, number):
     """Runs a subject in a new folder, and refuses the request with this number; 0 refuses none. In the result, `requests` is
     None if the subject did not exit normally."""
-    with tempfile.TemporaryDirectory(prefix="refused-") as room:
-        os.makedirs(f"{room}/here/out")
-        around = {**os.environ, "LD_PRELOAD": library, "REFUSE": str(number), "REFUSE_TOLD": f"{room}/told"}
+    with tempfile.TemporaryDirectory(prefix="refused-") as scratch:
+        os.makedirs(f"{scratch}/here/out")
+        around = {**os.environ, "LD_PRELOAD": library, "REFUSE": str(number), "REFUSE_TOLD": f"{scratch}/told"}
         with open(subject.given, "rb") as given:
             try:
-                done = subprocess.run(subject.command, cwd=f"{room}/here", env=around, stdin=given, capture_output=True,
+                done = subprocess.run(subject.command, cwd=f"{scratch}/here", env=around, stdin=given, capture_output=True,
                                       timeout=LIMIT)
                 status, out, err = done.returncode, done.stdout, done.stderr
             except subprocess.TimeoutExpired:
                 status, out, err = None, b"", b"it was stopped after %d seconds" % LIMIT
         told = []
-        if os.path.exists(f"{room}/told"):
-            with open(f"{room}/told", encoding="ascii") as file:
+        if os.path.exists(f"{scratch}/told"):
+            with open(f"{scratch}/told", encoding="ascii") as file:
                 told = file.read().split()
     counted = told and told[-1].isdigit()
     return Ran(status, out, err, "refused" in told, int(told[-1]) if counted else None)
@@ -229,8 +229,8 @@ def numbers_of(counted):
     if requests > MANY:
         numbers = [*range(1, ALL + 1), *range(ALL + 1, requests + 1, EVERY)]
         said = f"of {requests:,} requests, only each {EVERY}th was refused from request {ALL + 1:,} on"
-    room = int(SECONDS / max(counted.seconds, 0.001))
-    return spread(requests, max(room, 100)) if len(numbers) > max(room, 100) else (numbers, said)
+    scratch = int(SECONDS / max(counted.seconds, 0.001))
+    return spread(requests, max(scratch, 100)) if len(numbers) > max(scratch, 100) else (numbers, said)
 
 
 def spread(requests, many):
@@ -274,7 +274,7 @@ def tests_of(crate):
     return [Subject(f"{crate} {name}", (built, name), os.devnull, None) for name in names]
 
 
-def long_report(room):
+def long_report(scratch):
     """Writes a sheet, and a report whose text is written to the device in several chunks."""
     uri = "https://made.example/2024"
     facts = {f"{number}": {"value": "Blue " * 600, "dimensions": {"concept": f"m:T{number % 8}", "m:Mill": f"{number}"}}
@@ -283,11 +283,11 @@ def long_report(room):
     sheet = {"namespaces": {"m": uri}, "concepts": {f"m:T{number}": "text" for number in range(8)},
              "dimensions": {"m:Mill": "typed"}}
     for name, content in (("sheet", sheet), ("report", {"documentInfo": info, "facts": facts})):
-        with open(f"{room}/long_{name}.json", "w", encoding="utf-8") as file:
+        with open(f"{scratch}/long_{name}.json", "w", encoding="utf-8") as file:
             json.dump(content, file)
 
 
-def write_inputs(room):
+def write_inputs(scratch):
     """Writes inputs in addition to the examples: a bundle, lists of names, schedules, a long report with its sheet, and inputs
     that are refused."""
     examples = [f"{TOP}/examples/{name}.json" for name in ("sheet", "issuer", "oldharbour", "statfeed")]
@@ -298,9 +298,9 @@ def write_inputs(room):
                 "events": b"take 1 1\nsend 1\ntake 2 2\nreceive 2 1\njoin 1 2\nrestart 2\n", "bad_events": b"take 1 1\ntake 1\n",
                 "bad_numbers": b"take 1 1\nreceive 1 1\n"}
     for name, content in contents.items():
-        with open(f"{room}/{name}", "wb") as file:
+        with open(f"{scratch}/{name}", "wb") as file:
             file.write(content)
-    long_report(room)
+    long_report(scratch)
 
 
 # command lines: @ marks a file in examples/, % a file that the script writes, and < the standard input; %none is a missing file
@@ -342,14 +342,14 @@ report
 """
 
 
-def lines_of_program(library, room):
+def lines_of_program(library, scratch):
     """Returns a subject for each line of LINES, with the program's result when nothing is refused."""
     program = newest([f"{TOP}/{it}" for it in BUILT], crate_names())
-    write_inputs(room)
+    write_inputs(scratch)
     subjects = []
     for line in LINES.strip("\n").splitlines():
         words, _, given = line.partition("<")
-        placed = [it.replace("@", f"{TOP}/examples/").replace("%", f"{room}/") for it in (*words.split(), given.strip())]
+        placed = [it.replace("@", f"{TOP}/examples/").replace("%", f"{scratch}/") for it in (*words.split(), given.strip())]
         label = " ".join((PROGRAM, *line.split()))
         subject = Subject(label, (program, *placed[:-1]), placed[-1] or os.devnull, None)
         subjects.append(subject._replace(whole=run(library, subject, 0)))
@@ -372,10 +372,10 @@ def main():
     if not set(asked) <= set(names):
         parser.error(f"the names are: {' '.join(names)}")
     rows, said, failed = [], [], False
-    with tempfile.TemporaryDirectory(prefix="refused-") as room, multiprocessing.get_context("fork").Pool(JOBS) as pool:
+    with tempfile.TemporaryDirectory(prefix="refused-") as scratch, multiprocessing.get_context("fork").Pool(JOBS) as pool:
         try:
-            library = build_library(room)
-            subjects = {it: lines_of_program(library, room) if it == PROGRAM else tests_of(it) for it in asked}
+            library = build_library(scratch)
+            subjects = {it: lines_of_program(library, scratch) if it == PROGRAM else tests_of(it) for it in asked}
         except NotBuilt as missing:
             print(f"tests/refused_memory: {missing} (`rt all test` makes the tests, and ./build makes the program)", file=sys.stderr)
             return 2

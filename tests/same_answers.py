@@ -46,8 +46,8 @@ def play(task):
     """Runs a batch. Returns the counts of refused and accepted reports, and a line if the programs differ or fail."""
     programs, number, count = task
     chance = random.Random(f"{malformed.SEED} of {number}")
-    room = tempfile.mkdtemp(prefix="same-answers-")
-    os.chdir(room)
+    scratch = tempfile.mkdtemp(prefix="same-answers-")
+    os.chdir(scratch)
     malformed.write("sheet", malformed.drawn_sheet(chance))
     names = [f"report{place}" for place in range(count)]
     for name in names:
@@ -57,9 +57,9 @@ def play(task):
     counts = collections.Counter(refused=refused, accepted=count - refused)
     os.chdir("/")
     if one == other and one[0] in (0, 1):
-        shutil.rmtree(room)
+        shutil.rmtree(scratch)
         return counts, []
-    return counts, [f"SEED={malformed.SEED}, batch {number}, kept as {room}: status {one[0]} and {other[0]}, {one[2][:200]!r} and {other[2][:200]!r}"]
+    return counts, [f"SEED={malformed.SEED}, batch {number}, kept as {scratch}: status {one[0]} and {other[0]}, {one[2][:200]!r} and {other[2][:200]!r}"]
 
 
 def main():

@@ -169,7 +169,7 @@ def drawn_text(chance):
     return text.encode(), lines_of_verdicts.lines(text).encode(), sources.encode()
 
 
-class Room:
+class Scratch:
     """The number of a case, and the counts of its results. The case runs in the current folder."""
 
     def __init__(self, case):
@@ -251,7 +251,7 @@ def within_bounds(run):
         signal.setitimer(signal.ITIMER_REAL, 0)
 
 
-def write_taxonomy(room, chance, kinds):
+def write_taxonomy(scratch, chance, kinds):
     """Writes a taxonomy as a folder or a package. One file whose name ends in one of `kinds` may be broken, and so may the
     package. Returns the argument that names the taxonomy."""
     files = drawn_taxonomy(chance)
@@ -259,7 +259,7 @@ def write_taxonomy(room, chance, kinds):
     files[name] = broken(chance, files[name], files["t/base.xsd"], XML_BREAKS)
     if chance.random() < 0.5:
         for path, content in files.items():
-            room.write(os.path.join("taxonomy", path), content)
+            scratch.write(os.path.join("taxonomy", path), content)
         return chance.choice(("taxonomy", "taxonomy/t/core.xsd"))
     packed = io.BytesIO()
     with zipfile.ZipFile(packed, "w", chance.choice((zipfile.ZIP_STORED, zipfile.ZIP_DEFLATED))) as package:
@@ -267,20 +267,20 @@ def write_taxonomy(room, chance, kinds):
             package.writestr(path, content)
     content = packed.getvalue()
     is_whole = chance.random() < 0.6
-    return room.write("taxonomy.zip", content if is_whole else broken(chance, content, content, malformed.BREAKS[:6]))
+    return scratch.write("taxonomy.zip", content if is_whole else broken(chance, content, content, malformed.BREAKS[:6]))
 
 
-def of_taxonomy(room, chance):
+def of_taxonomy(scratch, chance):
     """Runs make_sheet on a taxonomy. A schema or the catalog may be broken, and so may the package."""
-    status, out = room.run("make_sheet", [write_taxonomy(room, chance, (".xsd", "catalog.xml"))], [])
+    status, out = scratch.run("make_sheet", [write_taxonomy(scratch, chance, (".xsd", "catalog.xml"))], [])
     expect_sheet(status, out)
 
 
-def of_union(room, chance):
+def of_union(scratch, chance):
     """Runs make_sheet --union on two sheets. One of them may be broken."""
     sheet = json.dumps({**SHEET, "xbrlmerge:sets": ["n1:T"]}).encode()
-    words = [room.write("broken", broken(chance, sheet, sheet, JSON_BREAKS)), room.write("good", sheet)]
-    status, out = room.run("make_sheet", ["--union", *chance.sample(words, 2)], [])
+    words = [scratch.write("broken", broken(chance, sheet, sheet, JSON_BREAKS)), scratch.write("good", sheet)]
+    status, out = scratch.run("make_sheet", ["--union", *chance.sample(words, 2)], [])
     expect_sheet(status, out)
 
 
@@ -289,7 +289,7 @@ def expect_sheet(status, out):
         expect(out.endswith(b"\n") and {"namespaces", "concepts", "dimensions"} <= json.loads(out).keys(), f"it is not a sheet: {out[:200]!r}")
 
 
-def of_report(room, chance):
+def of_report(scratch, chance):
     """Runs normalise on a report with a sheet. One of the two may be broken. Unless the run ends with status 3, normalises its
     output too."""
     drawn = drawn_reports.untidy(chance).encode() if chance.random() < 0.7 else malformed.drawn_report(chance)
@@ -299,38 +299,38 @@ def of_report(room, chance):
     else:
         sheet = broken(chance, sheet, drawn, JSON_BREAKS)
     options = [word for word in drawn_reports.OPTIONS if chance.random() < 0.4]
-    words = ["--sheet", room.write("sheet", sheet), *options]
-    status, _ = room.run("normalise", [room.write("report", drawn), "out", "changes", *words], ["out", "changes"])
+    words = ["--sheet", scratch.write("sheet", sheet), *options]
+    status, _ = scratch.run("normalise", [scratch.write("report", drawn), "out", "changes", *words], ["out", "changes"])
     if status != 3:
         changes = [json.loads(line) for line in open_bytes("changes").decode().split("\n")[:-1]]
         expect(status == int(any(change["loss"] for change in changes)), f"status {status} with {changes}")
         out = open_bytes("out")
         expect(out.endswith(b"\n") and isinstance(json.loads(out), dict), f"it is not a report: {out[:200]!r}")
-        room.case += 1
-        again, _ = room.run("normalise", ["out", "again", "more", *words], ["again", "more"])
+        scratch.case += 1
+        again, _ = scratch.run("normalise", ["out", "again", "more", *words], ["again", "more"])
         expect((again, open_bytes("again"), open_bytes("more")) == (0, out, b""), "it changes its own output")
 
 
-def of_text(room, chance):
+def of_text(scratch, chance):
     """Runs contradictions on a merged text, a sheet and lines. One of these files may be broken."""
     text, verdicts, sources = drawn_text(chance)
     files = {"merged": text, "sheet": json.dumps(SHEET).encode(), "verdicts": verdicts, "sources": sources}
     name = chance.choice(sorted(files) + ["merged"])
     breaks = JSON_BREAKS if name in ("merged", "sheet") else LINE_BREAKS
     files[name] = broken(chance, files[name], text, breaks)
-    run_on_text(room, chance, files, [])
+    run_on_text(scratch, chance, files, [])
 
 
-def of_labels(room, chance):
+def of_labels(scratch, chance):
     """Runs contradictions with the labels of a taxonomy. The core schema or a .xml file may be broken, and so may the package."""
     text, verdicts, sources = drawn_text(chance)
     files = {"merged": text, "sheet": json.dumps(SHEET).encode(), "verdicts": verdicts, "sources": sources}
-    run_on_text(room, chance, files, ["--labels", write_taxonomy(room, chance, (".xml", "core.xsd"))])
+    run_on_text(scratch, chance, files, ["--labels", write_taxonomy(scratch, chance, (".xml", "core.xsd"))])
 
 
-def run_on_text(room, chance, files, words):
+def run_on_text(scratch, chance, files, words):
     for name, content in files.items():
-        room.write(name, content)
+        scratch.write(name, content)
     owned = ["A=merged", "B=merged"]
     if chance.random() < 0.7:
         words, owned = [*words, "--sources", "sources", "--names", "A,B,C"], []
@@ -338,7 +338,7 @@ def run_on_text(room, chance, files, words):
     words += ["--near", "near"] * len(near)
     tables = [os.path.join("out", name) for name in ("contradictions.csv", "rows.csv")] + near
     words = [*words, "-o", "out", "--from", "merged", "sheet", "verdicts", *owned]
-    status, _ = room.run("contradictions", words, [os.path.join("out", "page.html"), *tables])
+    status, _ = scratch.run("contradictions", words, [os.path.join("out", "page.html"), *tables])
     if status != 3:
         expect(open_bytes(os.path.join("out", "page.html")).endswith(b"</body></html>\n"), "the page is not whole")
         lines = [whole_table(name) for name in tables]
@@ -358,21 +358,21 @@ KINDS = {of_taxonomy: 3, of_union: 2, of_report: 6, of_text: 6, of_labels: 2}
 
 def play(case):
     """Runs a case. Returns the counts of its results, and any fault that it found."""
-    chance, room = random.Random(f"{SEED} {case}"), Room(case)
+    chance, scratch = random.Random(f"{SEED} {case}"), Scratch(case)
     kind = chance.choices([*KINDS], [*KINDS.values()])[0]
     with tempfile.TemporaryDirectory(prefix="tools-malformed-") as folder:
         os.chdir(folder)
         try:
-            kind(room, chance)
+            kind(scratch, chance)
         except (Fault, Exception) as fault:
             place = os.path.join(tempfile.gettempdir(), f"tools-malformed-{SEED}-{case}")
             shutil.rmtree(place, ignore_errors=True)
             shutil.copytree(folder, place)
             told = f"{type(fault).__name__}: {fault}\n    SEED={SEED} CASE={case} tests/tools_malformed; the files are kept in {place}"
-            return room.counts, [f"{kind.__name__}: {told}"]
+            return scratch.counts, [f"{kind.__name__}: {told}"]
         finally:
             os.chdir(HERE)
-    return room.counts, []
+    return scratch.counts, []
 
 
 def limit_memory():

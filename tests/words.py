@@ -98,12 +98,12 @@ def told_by_man():
 
 def told_by_completions():
     """Returns the words of the completions for bash. An argument for a file counts if file names are completed for it."""
-    with tempfile.TemporaryDirectory() as room:
-        with open(os.path.join(room, FILE), "w", encoding="utf-8"):
+    with tempfile.TemporaryDirectory() as scratch:
+        with open(os.path.join(scratch, FILE), "w", encoding="utf-8"):
             pass
 
         def completed(*words):
-            asked = said("bash", "-c", ASK, "bash", COMPLETIONS, "xbrlmerge", *words, folder=room)
+            asked = said("bash", "-c", ASK, "bash", COMPLETIONS, "xbrlmerge", *words, folder=scratch)
             return set(asked.split())
 
         options = {it for it in completed("") if it[0] == "-"}

@@ -31,7 +31,7 @@ from support import TOP, built_program, content  # noqa: E402
 TOOL = os.path.join(TOP, "tools", "normalise.py")
 
 
-class Room:
+class Scratch:
     """A folder to work in, the program, and the faults found so far."""
 
     def __init__(self, program, folder):
@@ -61,7 +61,7 @@ class Room:
         return done.returncode, out
 
 
-def look_at_cases(room):
+def look_at_cases(scratch):
     """Checks the cases in cases.jsonl. Returns the number of cases, and how many reports are accepted after normalising and
     before."""
     with open(os.path.join(HERE, "cases.jsonl"), encoding="utf-8") as file:
@@ -70,34 +70,34 @@ def look_at_cases(room):
     for case in cases:
         report = os.path.join(HERE, f"{case['report']}.json")
         sheet = os.path.join(os.path.dirname(report), "sheet.json")
-        status, out = room.normalise(report, sheet, *case["options"])
-        given, made = room.said(sheet, report), room.said(sheet, out)
+        status, out = scratch.normalise(report, sheet, *case["options"])
+        given, made = scratch.said(sheet, report), scratch.said(sheet, out)
         accepted, before = accepted + (made[0][0] == 0), before + (given[0][0] == 0)
         if (made[0][0] == 0) != case["accepted"]:
-            room.faults.append(f"{case['report']}: {made[0]}")
-        changes = content(room.place("changes.jsonl"))
+            scratch.faults.append(f"{case['report']}: {made[0]}")
+        changes = content(scratch.place("changes.jsonl"))
         respelled = any(json.loads(line)["rule"] == "set" for line in changes.splitlines())
         if (content(out), changes) != tuple(content(f"{report[:-5]}{end}") for end in (".out.json", ".changes.jsonl")):
-            room.faults.append(f"{case['report']}: the output differs from the file beside it")
+            scratch.faults.append(f"{case['report']}: the output differs from the file beside it")
         if status == 0 and given[0][0] == 0 and (given[0] != made[0] if respelled else given != made):
-            room.faults.append(f"{case['report']}: {given} became {made}")
+            scratch.faults.append(f"{case['report']}: {given} became {made}")
     return len(cases), accepted, before
 
 
-def look_at_drawn(room, count):
-    sheet = room.place("sheet.json", json.dumps(drawn_reports.SHEET))
+def look_at_drawn(scratch, count):
+    sheet = scratch.place("sheet.json", json.dumps(drawn_reports.SHEET))
     for seed in range(count):
         chance = random.Random(seed)
         tidy = drawn_reports.tidy(chance)
-        wanted = room.said(sheet, room.place("tidy.json", tidy))
-        rough = room.place("rough.json", drawn_reports.roughened(chance, tidy))
-        for report in (room.place("tidy.json"), rough):
-            if wanted[0][0] or room.said(sheet, room.normalise(report, sheet)[1]) != wanted:
-                room.faults.append(f"seed {seed}: {wanted} is not the result for {os.path.basename(report)}")
-        untidy = room.place("untidy.json", drawn_reports.untidy(chance))
-        _, out = room.normalise(untidy, sheet, *drawn_reports.OPTIONS, "--drop-unreadable")
-        if room.run("check", sheet, out)[0]:
-            room.faults.append(f"seed {seed}: with all options it is refused: {room.run('check', sheet, out)}")
+        wanted = scratch.said(sheet, scratch.place("tidy.json", tidy))
+        rough = scratch.place("rough.json", drawn_reports.roughened(chance, tidy))
+        for report in (scratch.place("tidy.json"), rough):
+            if wanted[0][0] or scratch.said(sheet, scratch.normalise(report, sheet)[1]) != wanted:
+                scratch.faults.append(f"seed {seed}: {wanted} is not the result for {os.path.basename(report)}")
+        untidy = scratch.place("untidy.json", drawn_reports.untidy(chance))
+        _, out = scratch.normalise(untidy, sheet, *drawn_reports.OPTIONS, "--drop-unreadable")
+        if scratch.run("check", sheet, out)[0]:
+            scratch.faults.append(f"seed {seed}: with all options it is refused: {scratch.run('check', sheet, out)}")
 
 
 def main():
@@ -107,16 +107,16 @@ def main():
     options = parser.parse_args()
     program = built_program(options.PROGRAM)
     with tempfile.TemporaryDirectory() as folder:
-        room = Room(program, folder)
+        scratch = Scratch(program, folder)
         try:
-            total, accepted, before = look_at_cases(room)
-            look_at_drawn(room, options.DRAWN)
+            total, accepted, before = look_at_cases(scratch)
+            look_at_drawn(scratch, options.DRAWN)
         except (OSError, ValueError, subprocess.SubprocessError) as fault:
             print(f"tests/normalise/run: {fault}", file=sys.stderr)
             return 2
     print(f"tests/normalise/run: of {total} reports, {before} are accepted before normalising, and {accepted} afterwards")
-    print(*(f"tests/normalise/run: {fault}" for fault in room.faults), sep="\n", end="\n" if room.faults else "")
-    return 1 if room.faults else 0
+    print(*(f"tests/normalise/run: {fault}" for fault in scratch.faults), sep="\n", end="\n" if scratch.faults else "")
+    return 1 if scratch.faults else 0
 
 
 if __name__ == "__main__":

@@ -18,15 +18,15 @@ from support import content  # noqa: E402
 
 
 class RoomTest(unittest.TestCase):
-    """The base class of tests that write files. Each test has a new folder, `room`."""
+    """The base class of tests that write files. Each test has a new folder, `scratch`."""
 
     def setUp(self):
-        room = tempfile.TemporaryDirectory()
-        self.addCleanup(room.cleanup)
-        self.room = room.name
+        scratch = tempfile.TemporaryDirectory()
+        self.addCleanup(scratch.cleanup)
+        self.scratch = scratch.name
 
     def place(self, name):
-        return os.path.join(self.room, name)
+        return os.path.join(self.scratch, name)
 
     def write(self, name, text):
         """Writes a text, or bytes, and returns the path of the file."""

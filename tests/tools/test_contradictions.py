@@ -63,12 +63,12 @@ class ToolTest(in_process.RoomTest):
 
     def check_refused(self, told, *inputs):
         """Runs the tool, which must end with status 3, print only a line with the reason, and leave no new file."""
-        before = set(os.listdir(self.room))
+        before = set(os.listdir(self.scratch))
         done = self.run_tool(*inputs)
         self.assertEqual((done.returncode, done.stdout), (3, b""), done.stderr)
         self.assertEqual(len(done.stderr.splitlines()), 1, done.stderr)
         self.assertIn(told, done.stderr.decode())
-        self.assertEqual(set(os.listdir(self.room)), before)
+        self.assertEqual(set(os.listdir(self.scratch)), before)
 
 
 class Pages(ToolTest):
@@ -279,7 +279,7 @@ class BadInputs(Texts):
         self.check_refused("other.json", self.write("other.json", "[" * 100_000), self.inputs[1], lines)
 
     def test_a_folder_that_cannot_be_made(self):
-        self.set_output(os.path.join(self.room, "no", "out"))
+        self.set_output(os.path.join(self.scratch, "no", "out"))
         done = self.run_tool(MERGED, SHEET, VERDICTS)
         self.assertEqual((done.returncode, len(done.stderr.splitlines())), (3, 1))
         self.assertFalse(os.path.exists(self.page))

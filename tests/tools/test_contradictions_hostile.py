@@ -158,7 +158,7 @@ class Hostile(ToolTest):
 
     def test_an_output_that_is_an_input_is_refused(self):
         words = self.words([number(1), number(2)])
-        before = {name: content(self.place(name)) for name in os.listdir(self.room)}
+        before = {name: content(self.place(name)) for name in os.listdir(self.scratch)}
         os.mkdir(self.output)
         os.symlink(self.sheet, self.listed)
         inside = [*words[:-1], self.write(os.path.join("out", "contradictions.csv"), "")]

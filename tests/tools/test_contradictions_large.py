@@ -150,9 +150,9 @@ class Large(test_contradictions.ToolTest):
     COUNT = 2_000
 
     def test_a_large_text(self):
-        workload.make(self.room, self.COUNT)
+        workload.make(self.scratch, self.COUNT)
         inputs = [self.place(name) for name in ("merged.json", "sheet.json", "verdicts.txt")]
-        own = [f"{name}=" + os.path.join(self.room, f"{name}.json") for name in workload.PROVIDERS]
+        own = [f"{name}=" + os.path.join(self.scratch, f"{name}.json") for name in workload.PROVIDERS]
         page, cells = self.written(*inputs, *own)
         self.assertEqual(len({cell["row"] for cell in cells}), self.COUNT)
         self.assertTrue(all(cell["providers"] for cell in cells))

@@ -64,13 +64,13 @@ class Stubbed(ToolTest):
 
     def refused_run(self, told, *words, status=3, **options):
         """Runs the tool, which must end with this status, print the reason in its last line, and make or remove no file."""
-        before = sorted(os.walk(self.room))
+        before = sorted(os.walk(self.scratch))
         done = self.run_on(*words, **options)
         self.assertEqual((done.returncode, done.stdout), (status, ""), done.stderr)
         self.assertIn(told, done.stderr.splitlines()[-1])
         self.assertEqual(len(done.stderr.splitlines()), 1 if status == 3 else 2, done.stderr)
         self.forget_log()
-        self.assertEqual(sorted(os.walk(self.room)), before)
+        self.assertEqual(sorted(os.walk(self.scratch)), before)
 
     def log(self):
         """Returns the commands that were run, each with its reports."""
@@ -143,14 +143,14 @@ class Files(Stubbed):
         self.assertEqual(self.log()[0][1], [odd, REPORTS[0]])
 
     def test_the_program_beside_the_tool_or_on_the_path(self):
-        tools = os.path.join(self.room, "checkout", "tools")
+        tools = os.path.join(self.scratch, "checkout", "tools")
         shutil.copytree(os.path.dirname(TOOL), tools)
         words = [sys.executable, os.path.join(tools, "contradictions.py"), "--sheet", SHEET, "-o", self.output, *REPORTS]
-        for path, status in ((self.room, 3), (self.bin, 1)):
+        for path, status in ((self.scratch, 3), (self.bin, 1)):
             done = subprocess.run(words, capture_output=True, text=True, env={**os.environ, "PATH": path})
             self.assertEqual(done.returncode, status, done.stderr)
         shutil.copytree(self.bin, self.place("checkout"), dirs_exist_ok=True)
-        done = subprocess.run(words, capture_output=True, text=True, env={**os.environ, "PATH": self.room})
+        done = subprocess.run(words, capture_output=True, text=True, env={**os.environ, "PATH": self.scratch})
         self.assertEqual(done.returncode, 1, done.stderr)
 
     def test_progress_is_shown_on_a_terminal(self):
@@ -318,7 +318,7 @@ class BadInputs(Stubbed):
 
     def test_a_signal_leaves_nothing(self):
         self.write(os.path.join("bin", "verdicts.waits"), "")
-        before = sorted(os.walk(self.room))
+        before = sorted(os.walk(self.scratch))
         run = [sys.executable, TOOL, "--program", self.program, "--sheet", SHEET, "-o", self.output, *REPORTS]
         with subprocess.Popen(run, stdout=subprocess.PIPE, stderr=subprocess.PIPE) as child:
             while not os.path.exists(os.path.join(self.bin, "log")) or "verdicts" not in content(os.path.join(self.bin, "log")):
@@ -326,7 +326,7 @@ class BadInputs(Stubbed):
             child.terminate()
             self.assertEqual((child.wait(30), child.communicate()), (-signal.SIGTERM, (b"", b"")))
         self.forget_log()
-        self.assertEqual(sorted(os.walk(self.room)), before)
+        self.assertEqual(sorted(os.walk(self.scratch)), before)
 
 
 if __name__ == "__main__":

@@ -149,7 +149,7 @@ class BadInputs(ToolTest):
             with zipfile.ZipFile(package, "w") as made:
                 made.writestr(name, SCHEMA % "")
             self.assertEqual(len(self.check_refused(3, "outside", package)), 1)
-        self.assertEqual(sorted(os.listdir(self.room)), ["a.zip", "outside.xsd"])  # nothing is unpacked
+        self.assertEqual(sorted(os.listdir(self.scratch)), ["a.zip", "outside.xsd"])  # nothing is unpacked
         with zipfile.ZipFile(package, "w") as made:
             made.writestr("b.xsd", SCHEMA % '<xs:include schemaLocation="../outside.xsd"/>')
         self.check_refused(3, "../outside.xsd is not in the named files", package)

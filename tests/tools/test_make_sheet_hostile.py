@@ -275,7 +275,7 @@ class Folders(HostileTest):
         self.folder(a_xsd=SCHEMA % INCLUDE.format("../other/b.xsd"))
         os.mkdir(self.place("other"))
         self.write("other/b.xsd", SCHEMA % ITEM % ("B", "string"))
-        done = run(os.path.join(self.room, "folder", "a.xsd"), self.place("other"))
+        done = run(os.path.join(self.scratch, "folder", "a.xsd"), self.place("other"))
         self.assertEqual((done.returncode, list(json.loads(done.stdout)["concepts"])), (0, ["n1:B"]))
 
     def test_a_long_file(self):
@@ -300,7 +300,7 @@ class Statuses(HostileTest):
         limit = lambda: resource.setrlimit(resource.RLIMIT_FSIZE, (65_536, 65_536))  # noqa: E731
         for unbuffered in ("", "1"):
             options = {"env": {**os.environ, "PYTHONUNBUFFERED": unbuffered}, "preexec_fn": limit}
-            done = self.shell(f">{self.room}/sheet", self.large(), **options)
+            done = self.shell(f">{self.scratch}/sheet", self.large(), **options)
             self.assertEqual((done.returncode, done.stderr.splitlines()[-1]), (3, b"make_sheet: standard output: File too large"))
 
     def test_standard_error_full_or_closed(self):

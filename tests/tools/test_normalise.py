@@ -305,11 +305,11 @@ class Unreadable(ToolTest):
 class BadInputs(ToolTest):
     def check_refused(self, told, *words):
         """Runs the tool, which must end with status 3, print one line with the reason, and leave no new file."""
-        before = set(os.listdir(self.room))
+        before = set(os.listdir(self.scratch))
         status, lines = self.run_tool(*words)
         self.assertEqual((status, len(lines.splitlines())), (3, 1), lines)
         self.assertIn(told, lines)
-        self.assertEqual(set(os.listdir(self.room)), before)
+        self.assertEqual(set(os.listdir(self.scratch)), before)
 
     def check_report(self, told, text):
         self.check_refused(told, self.write("bad.json", text), self.out, self.changes)
@@ -329,8 +329,8 @@ class BadInputs(ToolTest):
         report = self.write("good.json", "{}")
         self.check_refused("nowhere", self.place("nowhere"), self.out, self.changes)
         self.check_refused("nowhere", report, self.out, self.changes, "--sheet", self.place("nowhere"))
-        self.check_refused("/no", report, self.out, os.path.join(self.room, "no", "x"))
-        self.check_refused("not a file", report, self.out, self.room)
+        self.check_refused("/no", report, self.out, os.path.join(self.scratch, "no", "x"))
+        self.check_refused("not a file", report, self.out, self.scratch)
 
     def test_files_that_were_there_stay_where_it_fails(self):
         self.write("out.json", "of a run before")

@@ -107,7 +107,7 @@ class Long(ToolTest):
     def test_sets_that_would_be_far_longer_are_refused(self):
         text = report({f"f{number}": fact("long:a eg:b", "eg:S") for number in range(400)})
         status, told = self.run_tool(*self.words(text))
-        self.assertEqual((status, os.listdir(self.room).count("out.json")), (3, 0))
+        self.assertEqual((status, os.listdir(self.scratch).count("out.json")), (3, 0))
         self.assertIn("the names of its sets, with their URIs, add more than 16 times its length", told)
 
 
@@ -170,7 +170,7 @@ class Exact(ToolTest):
             (1, [good, self.out, self.changes, "--dates=xbrl21"]),
             (2, [good, self.out]),
             (3, [deep, self.out, self.changes]),
-            (3, [good, self.room, self.changes]),
+            (3, [good, self.scratch, self.changes]),
         ):
             done = subprocess.run([*run, *words], capture_output=True)
             self.assertEqual((done.returncode, b"Traceback" in done.stderr), (status, False), words)

@@ -33,7 +33,7 @@ class WholeFiles(RoomTest):
     def texts(self):
         """Returns the text of each file in the folder."""
         texts = {}
-        for name in os.listdir(self.room):
+        for name in os.listdir(self.scratch):
             with open(self.place(name)) as file:
                 texts[name] = file.read()
         return texts
@@ -92,9 +92,9 @@ class WholeFiles(RoomTest):
         with self.assertRaises(UnicodeEncodeError):
             whole_files.write_files([(self.first, ["new"]), (self.second, ["\ud800"])])
         with self.assertRaises(OSError):
-            whole_files.write_files([(self.first, ["new"]), (self.room, ["new"])])
+            whole_files.write_files([(self.first, ["new"]), (self.scratch, ["new"])])
         with self.assertRaises(OSError):
-            whole_files.write_files([(self.first, ["new"]), (os.path.join(self.room, ".", "first"), ["newer"])])
+            whole_files.write_files([(self.first, ["new"]), (os.path.join(self.scratch, ".", "first"), ["newer"])])
         self.assertEqual(self.texts(), {"first": "old"})
 
     def test_files_of_other_runs_stay(self):
@@ -105,7 +105,7 @@ class WholeFiles(RoomTest):
         self.assertEqual(self.texts(), {"first": "new", **dict.fromkeys(map(os.path.basename, others), "old")})
 
     def test_a_name_of_255_bytes(self):
-        path = os.path.join(self.room, "ö" * 127 + "x")
+        path = os.path.join(self.scratch, "ö" * 127 + "x")
         whole_files.write_files([(path, ["new"])])
         self.assertEqual(self.texts(), {os.path.basename(path): "new"})
 

@@ -76,10 +76,10 @@ def drop_unknown_members(part: Part, kind: str) -> None:
 
 
 class FactReader:
-    """The rules for the facts of one report. `room` is the number of characters that the names of sets may still add."""
+    """The rules for the facts of one report. `left` is the number of characters that the names of sets may still add."""
 
-    def __init__(self, sheet: Sheet, options: argparse.Namespace, uris: Uris, room: int) -> None:
-        self.sheet, self.options, self.uris, self.room = sheet, options, uris, room
+    def __init__(self, sheet: Sheet, options: argparse.Namespace, uris: Uris, left: int) -> None:
+        self.sheet, self.options, self.uris, self.left = sheet, options, uris, left
 
     def read(self, name: str, fact: Tree, log: Log, kept: dict[str, Tree]) -> None:
         """Adds the changed fact to `kept`, or drops it. The log of a dropped fact contains only the drop."""
@@ -172,8 +172,8 @@ class FactReader:
         if len(names) < len(found):
             fact.leave("value", "the set repeats a name, or has an item that cannot be written as URI#LOCAL")
             return
-        self.room -= sum(len(uri) + len(local) + 2 for uri, local in names) - len(given)
-        if self.room < 0:
+        self.left -= sum(len(uri) + len(local) + 2 for uri, local in names) - len(given)
+        if self.left < 0:
             raise NotDone(f"the names of its sets, with their URIs, add more than {GROWTH} times its length plus {SMALL} characters")
         fact.change("value", " ".join(sorted(map("#".join, names))), "set")
 
