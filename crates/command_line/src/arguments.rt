@@ -1,6 +1,10 @@
 use clap::{Arg, ArgAction, Command};
 use std::alloc::{AllocError, Global};
 
+/// A command that is being built, or the first error. The functions below take and return it, because
+/// a function with a `?` for each argument would be slow to prove.
+pub(crate) type Building<'w> = Result<Command<'w>, AllocError>;
+
 // Arguments that several commands have.
 
 pub(crate) const SHEET: &str = "sheet";
@@ -52,7 +56,7 @@ pub(crate) fn command<'w>(
     name: &'w str,
     about: &'w str,
     more: &'w str,
-) -> Result<Command<'w>, AllocError> {
+) -> Building<'w> {
     let help = "The sheet: a file that lists the concepts and dimensions that reports may use";
     Command::new(alloc, name)
         .about(about)
@@ -60,20 +64,31 @@ pub(crate) fn command<'w>(
         .arg(option(alloc, SHEET, "SHEET", help).required(true))
 }
 
+/// Adds an argument.
+pub(crate) fn with<'w>(command: Building<'w>, argument: Arg<'w>) -> Building<'w> {
+    command?.arg(argument)
+}
+
+/// Adds an option without a value, which is valid only beside another option.
+pub(crate) fn with_flag_of<'w>(
+    command: Building<'w>,
+    flag: Arg<'w>,
+    option: &'w str,
+) -> Building<'w> {
+    let flag = flag.requires_arg(option)?;
+    with(command, flag)
+}
+
 /// Adds the arguments for any number of reports, for the output file and for the progress line.
-pub(crate) fn with_reports<'w>(
-    alloc: Global,
-    command: Command<'w>,
-) -> Result<Command<'w>, AllocError> {
+pub(crate) fn with_reports<'w>(alloc: Global, command: Building<'w>) -> Building<'w> {
     let list_help = "Also read the reports named in FILE, one per line; - is standard input";
     let null_help = "Names in the file of --reports-from end with NUL, not with a line end";
+    let command = with(command, option(alloc, LIST, "FILE", list_help));
+    let command = with_flag_of(command, flag(alloc, NULL, null_help).short('0'), LIST);
+    let command = with(command, output_argument(alloc));
+    let quiet = flag(alloc, QUIET, "Do not show progress on a terminal");
     let reports = Arg::new(alloc, REPORT)
         .num_args(0..)
         .help("The report files, counted from 1 in this order");
-    command
-        .arg(option(alloc, LIST, "FILE", list_help))?
-        .arg(flag(alloc, NULL, null_help).short('0').requires_arg(LIST)?)?
-        .arg(output_argument(alloc))?
-        .arg(flag(alloc, QUIET, "Do not show progress on a terminal"))?
-        .arg(reports)
+    with(with(command, quiet), reports)
 }

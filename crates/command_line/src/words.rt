@@ -1,4 +1,4 @@
-use crate::arguments::{LIST, NULL, OUTPUT, QUIET, REPORT, SHEET};
+use crate::arguments::{Building, LIST, NULL, OUTPUT, QUIET, REPORT, SHEET};
 use crate::commands::rows::{self, print_format_of};
 use crate::commands::{check, explain, merge, replay};
 use crate::error::Error;
@@ -126,17 +126,21 @@ fn request_of<'w>(name: &str, matches: &ArgMatches<'w>) -> Option<Request<'w>> {
 }
 
 // The help lists the commands in this order.
-fn program<'w>(alloc: Global) -> Result<Command<'w>, AllocError> {
-    Command::new(alloc, PROGRAM)
+fn program<'w>(alloc: Global) -> Building<'w> {
+    let program = Command::new(alloc, PROGRAM)
         .no_binary_name(true)
         .version(VERSION)
         .about(ABOUT)
         .after_help(MORE)
-        .bin_name(PROGRAM)?
-        .subcommand(merge::words(alloc)?)?
-        .subcommand(rows::verdicts_words(alloc)?)?
-        .subcommand(rows::sources_words(alloc)?)?
-        .subcommand(check::words(alloc)?)?
-        .subcommand(explain::words(alloc)?)?
-        .subcommand(replay::words(alloc)?)
+        .bin_name(PROGRAM);
+    let program = with_command(program, merge::words(alloc));
+    let program = with_command(program, rows::verdicts_words(alloc));
+    let program = with_command(program, rows::sources_words(alloc));
+    let program = with_command(program, check::words(alloc));
+    let program = with_command(program, explain::words(alloc));
+    with_command(program, replay::words(alloc))
+}
+
+fn with_command<'w>(program: Building<'w>, command: Building<'w>) -> Building<'w> {
+    program?.subcommand(command?)
 }

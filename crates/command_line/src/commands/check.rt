@@ -1,15 +1,15 @@
 ghost use Rattle.std.specs.Prelude.{◌-◌, ◌^◌, ◌<◌};
 
-use crate::arguments::{REPORT, command, output_argument};
+use crate::arguments::{Building, REPORT, command, output_argument, with};
 use crate::commands::put_text;
 use crate::error::Error;
 use crate::inputs::Inputs;
-use clap::{Arg, Command};
+use clap::Arg;
 use oim_merge::{Checked, Refusals, check_report};
 use oim_names::Reason;
 use oim_report::Sheet;
 use oim_write::Sink;
-use std::alloc::{AllocError, Global};
+use std::alloc::Global;
 use std::io::Write;
 use std::rt::Files;
 
@@ -43,13 +43,12 @@ Status:
      memory";
 
 /// Returns the arguments of this command, with its help.
-pub(crate) fn words<'w>(alloc: Global) -> Result<Command<'w>, AllocError> {
+pub(crate) fn words<'w>(alloc: Global) -> Building<'w> {
     let report = Arg::new(alloc, REPORT)
         .required(true)
         .help("The report file");
-    command(alloc, NAME, ABOUT, MORE)?
-        .arg(output_argument(alloc))?
-        .arg(report)
+    let command = with(command(alloc, NAME, ABOUT, MORE), output_argument(alloc));
+    with(command, report)
 }
 
 /// Reads the report with this name and writes a line to `out` if the report is accepted. A refusal

@@ -1,11 +1,11 @@
 ghost use Rattle.std.specs.Prelude.{◌≡◌, ◌-◌, ◌^◌, ◌<◌, OnOk};
 
-use crate::arguments::{FORMAT, command, option, with_reports};
+use crate::arguments::{Building, FORMAT, command, option, with, with_reports};
 use crate::commands::put_text;
 use crate::error::{Error, Success};
 use crate::inputs::{Inputs, sheet_of};
+use clap::ArgMatches;
 use clap::builder::ValueParser;
-use clap::{ArgMatches, Command};
 use oim_explain::{Explained, Format, Input, explain, explain_repeated, explain_sheet};
 use oim_report::Sheet;
 use oim_write::Sink;
@@ -64,11 +64,11 @@ Status:
      or out of memory";
 
 /// Returns the arguments of this command, with its help.
-pub(crate) fn words<'w>(alloc: Global) -> Result<Command<'w>, AllocError> {
+pub(crate) fn words<'w>(alloc: Global) -> Building<'w> {
     let format = option(alloc, FORMAT, "FORMAT", "The output format")
         .value_parser(ValueParser::Names(FORMATS.as_slice()))
         .default_value(TEXT);
-    with_reports(alloc, command(alloc, NAME, ABOUT, MORE)?.arg(format)?)
+    with_reports(alloc, with(command(alloc, NAME, ABOUT, MORE), format))
 }
 
 pub(crate) fn format_of(found: &ArgMatches<'_>) -> Format {

@@ -1,7 +1,6 @@
-use crate::arguments::{command, option, with_reports};
-use clap::Command;
+use crate::arguments::{Building, command, option, with, with_reports};
 use clap::builder::ValueParser;
-use std::alloc::{AllocError, Global};
+use std::alloc::Global;
 
 pub(crate) const NAME: &str = "merge";
 
@@ -35,7 +34,7 @@ Status:
      failed, or out of memory";
 
 /// Returns the arguments of this command, with its help.
-pub(crate) fn words<'w>(alloc: Global) -> Result<Command<'w>, AllocError> {
+pub(crate) fn words<'w>(alloc: Global) -> Building<'w> {
     let allow = option(
         alloc,
         ALLOW,
@@ -44,5 +43,5 @@ pub(crate) fn words<'w>(alloc: Global) -> Result<Command<'w>, AllocError> {
     )
     .value_parser(ValueParser::Names(LEVELS.as_slice()))
     .default_value("all");
-    with_reports(alloc, command(alloc, NAME, ABOUT, MORE)?.arg(allow)?)
+    with_reports(alloc, with(command(alloc, NAME, ABOUT, MORE), allow))
 }

@@ -1,16 +1,15 @@
 ghost use Rattle.std.specs.Prelude.{◌-◌, ◌^◌, ◌<◌};
 
-use crate::arguments::{command, option, with_reports};
+use crate::arguments::{Building, command, option, with, with_reports};
 use crate::commands::put_text;
 use crate::error::Error;
 use crate::inputs::Inputs;
-use clap::Command;
 use clap::builder::ValueParser;
 use fact_base::Base;
 use oim_merge::{Events, Refusals, Replayed, read_events, replay};
 use oim_report::Sheet;
 use oim_write::{Sink, WriteFault, write_to};
-use std::alloc::{AllocError, Global};
+use std::alloc::Global;
 use std::io::Write;
 use std::rt::Files;
 
@@ -53,14 +52,14 @@ Status:
      memory";
 
 /// Returns the arguments of this command, with its help.
-pub(crate) fn words<'w>(alloc: Global) -> Result<Command<'w>, AllocError> {
+pub(crate) fn words<'w>(alloc: Global) -> Building<'w> {
     let replicas = option(alloc, REPLICAS, "N", "The number of replicas, from 1 to 64")
         .required(true)
         .value_parser(ValueParser::Signed(1, MOST_REPLICAS));
-    let command = command(alloc, NAME, ABOUT, MORE)?.arg(replicas)?;
     let help = "The file of the schedule, with one event per line";
     let events = option(alloc, EVENTS, "EVENTS", help).required(true);
-    with_reports(alloc, command.arg(events)?)
+    let command = with(command(alloc, NAME, ABOUT, MORE), replicas);
+    with_reports(alloc, with(command, events))
 }
 
 /// Reads the schedule and the reports, runs the schedule on the replicas and writes the text of

@@ -1,8 +1,8 @@
-use crate::arguments::{FORMAT, command, flag, option, with_reports};
+use crate::arguments::{Building, FORMAT, command, flag, option, with, with_flag_of, with_reports};
+use clap::ArgMatches;
 use clap::builder::ValueParser;
-use clap::{ArgMatches, Command};
 use row_formats::RowFormat;
-use std::alloc::{AllocError, Global};
+use std::alloc::Global;
 
 // The commands that print rows.
 
@@ -86,25 +86,26 @@ Status:
   3  not done, or not completed: invalid arguments, a refused sheet, a file or device that
      failed, or out of memory";
 
-pub(crate) fn verdicts_words<'w>(alloc: Global) -> Result<Command<'w>, AllocError> {
+pub(crate) fn verdicts_words<'w>(alloc: Global) -> Building<'w> {
     with_format(
         alloc,
-        command(alloc, VERDICTS, VERDICTS_ABOUT, VERDICTS_MORE)?,
+        command(alloc, VERDICTS, VERDICTS_ABOUT, VERDICTS_MORE),
     )
 }
 
-pub(crate) fn sources_words<'w>(alloc: Global) -> Result<Command<'w>, AllocError> {
-    with_format(alloc, command(alloc, SOURCES, SOURCES_ABOUT, SOURCES_MORE)?)
+pub(crate) fn sources_words<'w>(alloc: Global) -> Building<'w> {
+    with_format(alloc, command(alloc, SOURCES, SOURCES_ABOUT, SOURCES_MORE))
 }
 
 /// Adds the options for the format, and the arguments for reports.
-fn with_format<'w>(alloc: Global, command: Command<'w>) -> Result<Command<'w>, AllocError> {
+fn with_format<'w>(alloc: Global, command: Building<'w>) -> Building<'w> {
     let format = option(alloc, FORMAT, "FORMAT", "The output format")
         .value_parser(ValueParser::Names(FORMATS.as_slice()))
         .default_value("lines");
     let help = "In CSV, put a ' before each text that a spreadsheet may read as a formula";
-    let spreadsheet = flag(alloc, SPREADSHEET, help).requires_arg(FORMAT)?;
-    with_reports(alloc, command.arg(format)?.arg(spreadsheet)?)
+    let spreadsheet = flag(alloc, SPREADSHEET, help);
+    let command = with_flag_of(with(command, format), spreadsheet, FORMAT);
+    with_reports(alloc, command)
 }
 
 pub(crate) fn print_format_of(found: &ArgMatches<'_>) -> Option<PrintFormat> {
