@@ -83,12 +83,15 @@ fn alone(alloc: Global, request: Request<'_>) -> Args<'_> {
 }
 
 fn parse<W: AsStr>(alloc: Global, words: &[W]) -> Result<Args<'_>, clap::Error> {
-    let mut program = program(alloc)?;
-    let matches = program.try_get_matches_from_mut(words)?;
+    let matches = program(alloc)?.try_get_matches_from(words)?;
     match args_of(alloc, &matches)? {
         Some(args) => Ok(args),
-        None => Err(program.error(ErrorKind::MissingSubcommand, "a command is missing")?),
+        None => Err(missing_command(alloc)?),
     }
+}
+
+fn missing_command(alloc: Global) -> Result<clap::Error, AllocError> {
+    program(alloc)?.error(ErrorKind::MissingSubcommand, "a command is missing")
 }
 
 fn args_of<'w>(alloc: Global, matches: &ArgMatches<'w>) -> Result<Option<Args<'w>>, AllocError> {
