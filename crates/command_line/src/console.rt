@@ -1,8 +1,9 @@
 use crate::error::{Error, Success};
 use oim_explain::Escaped;
 use oim_merge::Refusals;
+use oim_names::Reason;
 use oim_report::{Place, Refusal};
-use std::io::Write;
+use std::io::{self, Write};
 
 // The exit statuses.
 const DONE: u8 = 0;
@@ -123,22 +124,21 @@ fn print_error<E: Write>(err: &mut E, is_terminal: bool, error: &Error<'_>) {
     let _ = match error {
         Error::Usage(error) => write!(err, "{error}"),
         Error::Unread(file, why) => {
-            let _ = writeln!(err, "file {}: cannot be read", Escaped(file));
+            let _ = print_file(err, file, "cannot be read");
             match why {
                 Some(why) if is_terminal => writeln!(err, "{why}"),
-                _ => return,
+                _ => Ok(()),
             }
         }
-        Error::TooLong(file) => writeln!(err, "file {}: too long", Escaped(file)),
-        Error::NoNames(file) => writeln!(err, "file {}: names no report", Escaped(file)),
-        Error::Unwritten(file) => writeln!(err, "file {}: cannot be written", Escaped(file)),
+        Error::TooLong(file) => print_file(err, file, "too long"),
+        Error::NoNames(file) => print_file(err, file, "names no report"),
+        Error::Unwritten(file) => print_file(err, file, "cannot be written"),
         Error::Event(line) => writeln!(err, "event {line}: refused"),
         Error::Sheet(reason, explained) => {
-            let (number, name) = (reason.number(), reason.name());
-            let _ = writeln!(err, "sheet: {number} {name}");
+            let _ = print_sheet(err, *reason);
             match explained {
                 Some(lines) => write!(err, "{lines}"),
-                None => return,
+                None => Ok(()),
             }
         }
         Error::TooLoose(row, refused) => {
@@ -148,4 +148,13 @@ fn print_error<E: Write>(err: &mut E, is_terminal: bool, error: &Error<'_>) {
         Error::Device(written) => writeln!(err, "device: {written} bytes written"),
         Error::OutOfMemory => writeln!(err, "out of memory"),
     };
+}
+
+fn print_file<E: Write>(err: &mut E, file: &str, fault: &str) -> io::Result<()> {
+    writeln!(err, "file {}: {fault}", Escaped(file))
+}
+
+fn print_sheet<E: Write>(err: &mut E, reason: Reason) -> io::Result<()> {
+    let (number, name) = (reason.number(), reason.name());
+    writeln!(err, "sheet: {number} {name}")
 }
