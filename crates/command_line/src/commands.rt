@@ -8,11 +8,10 @@ pub(crate) mod merge;
 pub(crate) mod replay;
 pub(crate) mod rows;
 
-use crate::commands::rows::PrintFormat;
 use crate::error::{Error, Success};
 use crate::inputs::Inputs;
 use crate::request::{Request, Subcommand};
-use oim_merge::{Refusals, SourceLines, consolidate_bundle};
+use oim_merge::{Refusals, consolidate_bundle};
 use oim_report::Sheet;
 use oim_write::{Sink, WriteFault, put_all};
 use std::io::Write;
@@ -38,7 +37,7 @@ pub(crate) fn execute<'n, F: Files, E: Write, S: Sink>(
         Request::Explain(sheet, format) => explain::run(sheet, *format, inputs, out),
         Request::Under(sheet, subcommand) => {
             let sheet = inputs.read_sheet(sheet)?;
-            execute_under(&sheet, *subcommand, inputs, out)
+            Ok(Success::Refusals(execute_under(&sheet, *subcommand, inputs, out)?))
         }
     }
 }
@@ -50,28 +49,18 @@ fn execute_under<'n, F: Files, E: Write, S: Sink>(
     subcommand: Subcommand<'n>,
     inputs: &mut Inputs<'n, F, E>,
     out: &mut S,
-) -> Result<Success, Error<'n>>
+) -> Result<Refusals, Error<'n>>
     requires { S.failures out.old < 2 ^ 64 - 1 }
 {
-    Ok(Success::Refusals(match subcommand {
-        Subcommand::Merge(allow) => inputs.consolidate(sheet)?.finish_last(allow, out)?,
-        Subcommand::Verdicts(PrintFormat::Lines) => {
-            inputs.consolidate(sheet)?.finish_lines_last(out)?
+    match subcommand {
+        Subcommand::Merge(allow) => Ok(inputs.consolidate(sheet)?.finish_last(allow, out)?),
+        Subcommand::Verdicts(format) => {
+            Ok(rows::put_verdicts(inputs.consolidate(sheet)?, format, out)?)
         }
-        Subcommand::Verdicts(PrintFormat::Rows(format)) => {
-            inputs
-                .consolidate(sheet)?
-                .finish_verdicts_last(&format, out)?
-        }
-        Subcommand::Sources(PrintFormat::Lines) => {
-            inputs.trace(sheet)?.finish(&SourceLines, out)?
-        }
-        Subcommand::Sources(PrintFormat::Rows(format)) => {
-            inputs.trace(sheet)?.finish(&format, out)?
-        }
-        Subcommand::Check(report) => check::run(report, sheet, inputs, out)?,
-        Subcommand::Replay(replicas, events) => replay::run(replicas, events, sheet, inputs, out)?,
-    }))
+        Subcommand::Sources(format) => Ok(rows::put_sources(inputs.trace(sheet)?, format, out)?),
+        Subcommand::Check(report) => check::run(report, sheet, inputs, out),
+        Subcommand::Replay(replicas, events) => replay::run(replicas, events, sheet, inputs, out),
+    }
 }
 
 fn put_text<S: Sink>(out: &mut S, text: &str) -> Result<(), WriteFault>

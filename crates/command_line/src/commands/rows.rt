@@ -1,6 +1,10 @@
+ghost use Rattle.std.specs.Prelude.{◌-◌, ◌^◌, ◌<◌};
+
 use crate::arguments::{Building, FORMAT, command, flag, option, with, with_flag_of, with_reports};
 use clap::ArgMatches;
 use clap::builder::ValueParser;
+use oim_merge::{Consolidation, Fault, Refusals, SourceLines, TracedMerge};
+use oim_write::Sink;
 use row_formats::RowFormat;
 use std::alloc::Global;
 
@@ -115,5 +119,33 @@ pub(crate) fn print_format_of(found: &ArgMatches<'_>) -> Option<PrintFormat> {
         ("csv", false) => Some(PrintFormat::Rows(RowFormat::Csv)),
         ("csv", true) => Some(PrintFormat::Rows(RowFormat::SpreadsheetCsv)),
         _ => None,
+    }
+}
+
+/// Writes the verdicts to `out`, and returns the refusals.
+pub(crate) fn put_verdicts<S: Sink>(
+    consolidation: Consolidation<'_>,
+    format: PrintFormat,
+    out: &mut S,
+) -> Result<Refusals, Fault>
+    requires { S.failures out.old < 2 ^ 64 - 1 }
+{
+    match format {
+        PrintFormat::Lines => consolidation.finish_lines_last(out),
+        PrintFormat::Rows(format) => consolidation.finish_verdicts_last(&format, out),
+    }
+}
+
+/// Writes where each fact was reported to `out`, and returns the refusals.
+pub(crate) fn put_sources<S: Sink>(
+    merge: TracedMerge<'_>,
+    format: PrintFormat,
+    out: &mut S,
+) -> Result<Refusals, Fault>
+    requires { S.failures out.old < 2 ^ 64 - 1 }
+{
+    match format {
+        PrintFormat::Lines => merge.finish(&SourceLines, out),
+        PrintFormat::Rows(format) => merge.finish(&format, out),
     }
 }
