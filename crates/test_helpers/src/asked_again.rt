@@ -72,6 +72,16 @@ pub fn holds<F: Fn(Global) -> Result<bool, AllocError>>(rt: &HostRuntime, call: 
     answer == Ok(true)
 }
 
+/// Returns whether the call returns true under `SHEET`.
+pub fn holds_under_sheet<F: Fn(&HostRuntime, &Sheet) -> bool>(rt: &HostRuntime, call: F) -> bool
+    requires { F.IsAlwaysCallable call }
+{
+    match read_sheet(rt, SHEET) {
+        Ok(sheet) => call(rt, &sheet),
+        Err(_) => false,
+    }
+}
+
 pub fn joined(rt: &HostRuntime, parts: &[&str]) -> Result<Vec<u8>, AllocError> {
     let mut all = room_for(rt, parts)?;
     for part in parts {
