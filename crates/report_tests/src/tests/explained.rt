@@ -2,7 +2,7 @@ use oim_explain::{Format, Input, explain, explain_sheet};
 use oim_report::Sheet;
 use std::alloc::AllocError;
 use std::test::Fail;
-use test_helpers::asked_again::{joined, read_sheet, tell_refused};
+use test_helpers::asked_again::{OPEN_INFO, joined, read_sheet, tell_refused};
 
 // Tests the sentences about faults. If memory is refused, a call is repeated once.
 
@@ -12,9 +12,6 @@ const SHEET: &str =
 // The beginning of a report, up to its facts. The report allows consistent duplicates.
 const START: &str =
     r#"{"documentInfo":{"documentType":"https://xbrl.org/2021/xbrl-json","namespaces":{"eg":"http://example.org/t","x":"http://example.org/u","zz":"http://example.org/t","xbrl":"https://xbrl.org/2021"},"features":{"xbrl:allowedDuplicates":"consistent"}},"facts":{"#;
-
-// The beginning of a report, up to and including its document type.
-const TYPED: &str = r#"{"documentInfo":{"documentType":"https://xbrl.org/2021/xbrl-json""#;
 
 struct Table<'t> {
     start: &'t str,
@@ -109,7 +106,7 @@ const TABLES: [Table<'static>; 3] = [
         end: "",
     },
     Table {
-        start: TYPED,
+        start: OPEN_INFO,
         rows: &[
             (
                 r#"},"facts":[]}"#,
@@ -345,6 +342,12 @@ fn faults_of_reports_are_said(rt: HostRuntime) -> Result<(), Fail> {
     for table in &TABLES {
         assert!(rt; is_table_said(&rt, &sheet, table)?);
     }
+    Ok(())
+}
+
+#[test]
+fn faults_of_reports_in_other_formats_are_said(rt: HostRuntime) -> Result<(), Fail> {
+    let sheet = read_sheet(&rt, SHEET)?;
     for (bytes, line) in &BYTES {
         assert!(rt; is_said(&rt, &sheet, bytes, line)?);
     }

@@ -18,23 +18,21 @@ use oim_dims::Fact;
 use oim_names::Text;
 use oim_report::{Place, Refusal, Report, Sheet};
 use oim_value::Level;
-use std::alloc::AllocError;
 use test_helpers::asked_again::{
-    SHEET, joined, read, read_sheet, repeated, tell_refused, tell_refused_here,
+    INFO, OPEN_INFO, SHEET, holds_under_sheet, joined, read, read_sheet, repeated, tell_refused,
+    tell_refused_here,
 };
+use test_helpers::canonical_parts::END;
 
 // `read` and `read_sheet` repeat a call once if a request for memory is refused.
 
 /// Returns `holds`, and prints the text if `holds` is false.
-fn told(rt: &HostRuntime, holds: bool, text: &str) -> bool {
+pub(super) fn told(rt: &HostRuntime, holds: bool, text: &str) -> bool {
     if !holds {
         let _ = eprintln!(rt; "otherwise: {text}");
     }
     holds
 }
-
-// The start of a report, up to and including its document type.
-const TYPED: &str = r#"{"documentInfo":{"documentType":"https://xbrl.org/2021/xbrl-json""#;
 
 // The start of a report with the prefixes `eg`, `x`, `xbrli` and `xbrl`.
 const BOUND: &str =
@@ -42,16 +40,9 @@ const BOUND: &str =
 
 const NO_FACTS: &str = r#"},"facts":{}}"#;
 
-// The start of a report up to its facts.
-const FACTS: &str =
-    r#"{"documentInfo":{"documentType":"https://xbrl.org/2021/xbrl-json","namespaces":{"eg":"http://example.org/t","x":"http://example.org/u","xbrli":"http://www.xbrl.org/2003/instance","xbrl":"https://xbrl.org/2021"}},"facts":{"#;
-
 // The start of a report up to its first fact object. Two prefixes have one URI.
 const FACT: &str =
     r#"{"documentInfo":{"documentType":"https://xbrl.org/2021/xbrl-json","namespaces":{"eg":"http://example.org/t","zz":"http://example.org/t","x":"http://example.org/u","xbrli":"http://www.xbrl.org/2003/instance","xbrl":"https://xbrl.org/2021"}},"facts":{"f":"#;
-
-// The end of a report after its facts.
-const END: &str = "}}";
 
 // Constants contain no enum with data beside texts: the proof of a function that names such a
 // constant takes time that grows with the square of the number of its rows.
@@ -85,18 +76,15 @@ struct Table<'t, A> {
     end: &'t str,
 }
 
-fn is_so_refused(refusal: Refusal, answer: &Answer) -> bool {
-    let Comes((number, fact)) = answer else {
-        return false;
-    };
+fn is_outcome(refusal: Refusal, (number, fact): Outcome) -> bool {
     let place = match fact {
         0 => Place::Document,
-        _ => Place::Fact(*fact),
+        _ => Place::Fact(fact),
     };
-    refusal.reason.number() == *number && refusal.place == place
+    refusal.reason.number() == number && refusal.place == place
 }
 
-fn are_spelled(found: &[Text], texts: &[&str]) -> bool {
+pub(super) fn are_spelled(found: &[Text], texts: &[&str]) -> bool {
     for (text, spelled) in found.iter().zip(texts) {
         if text.as_str() != *spelled {
             return false;
@@ -130,10 +118,10 @@ fn is_so_read(report: &Report, answer: &Answer) -> bool {
 
 // Returns whether a report gives up its facts and their order, if these are wanted.
 fn gives_up(report: Report, answer: &Answer) -> bool {
-    let (facts, places) = report.into_facts();
+    let (facts, indices) = report.into_facts();
     match answer {
         Sorts(concepts, order) => {
-            are_of(facts.as_slice(), concepts) && places.as_slice() == *order
+            are_of(facts.as_slice(), concepts) && indices.as_slice() == *order
         }
         _ => true,
     }
@@ -142,7 +130,7 @@ fn gives_up(report: Report, answer: &Answer) -> bool {
 fn is_answer(rt: &HostRuntime, sheet: &Sheet, bytes: &[u8], answer: &Answer) -> bool {
     match read(rt, sheet, bytes) {
         Ok(report) => is_so_read(&report, answer) && gives_up(report, answer),
-        Err(refusal) => is_so_refused(refusal, answer),
+        Err(refusal) => matches!(answer, Comes(outcome) if is_outcome(refusal, *outcome)),
     }
 }
 
@@ -153,35 +141,44 @@ fn row_holds(
     parts: (&str, &str),
     answer: &Answer,
     texts: &[&str],
-) -> Result<bool, AllocError> {
+) -> bool {
     for text in texts {
-        let report = joined(rt, &[parts.0, text, parts.1])?;
-        let holds = is_answer(rt, sheet, &report, answer);
-        if !told(rt, holds, text) {
-            return Ok(false);
+        let Ok(report) = joined(rt, &[parts.0, text, parts.1]) else {
+            return false;
+        };
+        if !told(rt, is_answer(rt, sheet, &report, answer), text) {
+            return false;
         }
     }
-    Ok(true)
+    true
 }
 
-fn table_holds(
-    rt: &HostRuntime,
-    sheet: &Sheet,
-    table: &Table<Outcome>,
-) -> Result<bool, AllocError> {
+fn table_holds(rt: &HostRuntime, sheet: &Sheet, table: &Table<Outcome>) -> bool {
     for (outcome, texts) in table.rows {
-        if !row_holds(rt, sheet, (table.start, table.end), &Comes(*outcome), texts)? {
-            return Ok(false);
+        if !row_holds(rt, sheet, (table.start, table.end), &Comes(*outcome), texts) {
+            return false;
         }
     }
-    Ok(true)
+    true
 }
 
-fn hold(rt: &HostRuntime, sheet: &Sheet, tables: &[Table<Outcome>]) -> Result<bool, AllocError> {
+fn all_hold(rt: &HostRuntime, sheet: &Sheet, tables: &[Table<Outcome>]) -> bool {
     for table in tables {
-        if !table_holds(rt, sheet, table)? {
-            return Ok(false);
+        if !table_holds(rt, sheet, table) {
+            return false;
         }
     }
-    Ok(true)
+    true
+}
+
+// Returns whether the tables hold under a sheet with this text.
+fn hold_under(rt: &HostRuntime, sheet: &str, tables: &[Table<Outcome>]) -> bool {
+    match read_sheet(rt, sheet) {
+        Ok(sheet) => all_hold(rt, &sheet, tables),
+        Err(_) => false,
+    }
+}
+
+fn hold(rt: &HostRuntime, tables: &[Table<Outcome>]) -> bool {
+    hold_under(rt, SHEET, tables)
 }

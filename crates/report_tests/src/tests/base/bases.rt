@@ -1,9 +1,9 @@
 use super::{FACT, OF_A, base_between, base_of};
+use crate::tests::reports::are_spelled;
 use fact_base::Base;
 use oim_report::Sheet;
 use oim_value::Level;
-use std::test::Fail;
-use test_helpers::asked_again::{SHEET, joined, read, read_sheet, tell_refused};
+use test_helpers::asked_again::{holds_under_sheet, joined, read, tell_refused};
 
 const ONE: &str = r#""value":"1","decimals":0"#;
 
@@ -116,11 +116,9 @@ fn all_reach_under(rt: &HostRuntime, sheet: &Sheet) -> bool {
 }
 
 #[test]
-fn a_base_gets_what_it_lacks(rt: HostRuntime) -> Result<(), Fail> {
-    let sheet = read_sheet(&rt, SHEET)?;
-    assert!(rt; is_new_base_empty(&rt, &sheet));
-    assert!(rt; all_reach_under(&rt, &sheet));
-    Ok(())
+fn a_base_gets_what_it_lacks(rt: HostRuntime) {
+    assert!(rt; holds_under_sheet(&rt, is_new_base_empty));
+    assert!(rt; holds_under_sheet(&rt, all_reach_under));
 }
 
 // The text of a report with one reference and no facts, up to the reference.
@@ -136,15 +134,6 @@ const SPELLED: [&str; 4] = [
     "a.xsd",
 ];
 
-fn are_spelled(base: &Base<'_>, references: &[&str]) -> bool {
-    for (text, reference) in base.taxonomy().iter().zip(references) {
-        if text.as_str() != *reference {
-            return false;
-        }
-    }
-    base.taxonomy().len() == references.len()
-}
-
 fn joins_references(rt: &HostRuntime, base: &mut Base<'_>) -> bool {
     match base_between(rt, base.sheet(), TAXONOMY, &["c.xsd", "a.xsd"], NO_FACTS) {
         Some(other) => !base.same_as(&other) && join(rt, base, &other),
@@ -155,17 +144,18 @@ fn joins_references(rt: &HostRuntime, base: &mut Base<'_>) -> bool {
 fn are_references_joined(rt: &HostRuntime, sheet: &Sheet) -> bool {
     match base_between(rt, sheet, TAXONOMY, &SPELLED, NO_FACTS) {
         Some(mut base) => {
-            are_spelled(&base, &["a.xsd", "http://x.org/b.xsd", "urn:x:Y"])
+            are_spelled(base.taxonomy(), &["a.xsd", "http://x.org/b.xsd", "urn:x:Y"])
                 && joins_references(rt, &mut base)
-                && are_spelled(&base, &["a.xsd", "c.xsd", "http://x.org/b.xsd", "urn:x:Y"])
+                && are_spelled(
+                    base.taxonomy(),
+                    &["a.xsd", "c.xsd", "http://x.org/b.xsd", "urn:x:Y"],
+                )
         }
         None => false,
     }
 }
 
 #[test]
-fn references_are_kept_once(rt: HostRuntime) -> Result<(), Fail> {
-    let sheet = read_sheet(&rt, SHEET)?;
-    assert!(rt; are_references_joined(&rt, &sheet));
-    Ok(())
+fn references_are_kept_once(rt: HostRuntime) {
+    assert!(rt; holds_under_sheet(&rt, are_references_joined));
 }

@@ -4,8 +4,7 @@ use super::verdicts::judged;
 use fact_base::{Base, Evidence, Verdict};
 use oim_report::{Report, Sheet};
 use std::alloc::AllocError;
-use std::test::Fail;
-use test_helpers::asked_again::{INFO, SHEET, read, read_sheet, tell_refused, tell_refused_here};
+use test_helpers::asked_again::{INFO, holds_under_sheet, read, tell_refused, tell_refused_here};
 
 // The facts have the numbers from 1 to `COUNT`, and one dimension set.
 const COUNT: usize = 400;
@@ -67,15 +66,6 @@ fn base_of<'s>(rt: &HostRuntime, sheet: &'s Sheet, first: usize, count: usize) -
     take_report(rt, &mut base, first, count).then_some(base)
 }
 
-fn take_each(rt: &HostRuntime, base: &mut Base<'_>) -> bool {
-    for taken in 0..COUNT {
-        if !take_report(rt, base, COUNT - taken, 1) {
-            return false;
-        }
-    }
-    true
-}
-
 // Joins bases with one fact each: in pairs, then pairs of pairs, and so on.
 fn joined_in_pairs<'s>(
     rt: &HostRuntime,
@@ -98,100 +88,85 @@ fn are_all_apart(base: &Base<'_>) -> bool {
         && judged(base) == Some((Verdict::Inconsistent, Evidence::Apart(0, 399)))
 }
 
-fn is_joined(rt: &HostRuntime, all: &Base<'_>, each: &Base<'_>) -> bool {
+fn is_taken_singly(rt: &HostRuntime, all: &Base<'_>) -> bool {
+    let mut each = Base::new(rt.alloc(), all.sheet());
+    for taken in 0..COUNT {
+        if !take_report(rt, &mut each, COUNT - taken, 1) {
+            return false;
+        }
+    }
+    each.same_as(all)
+}
+
+fn is_joined(rt: &HostRuntime, all: &Base<'_>) -> bool {
     match joined_in_pairs(rt, all.sheet(), 1, COUNT) {
-        Some(joined) => all.same_as(each) && each.same_as(&joined) && joined.same_as(all),
+        Some(joined) => joined.same_as(all),
         None => false,
     }
 }
 
-fn is_taken_and_joined(rt: &HostRuntime, all: &Base<'_>) -> bool {
-    let mut each = Base::new(rt.alloc(), all.sheet());
-    take_each(rt, &mut each) && is_joined(rt, all, &each)
-}
-
 fn are_many_one_base(rt: &HostRuntime, sheet: &Sheet) -> bool {
     match base_of(rt, sheet, 1, COUNT) {
-        Some(all) => are_all_apart(&all) && is_taken_and_joined(rt, &all),
+        Some(all) => are_all_apart(&all) && is_taken_singly(rt, &all) && is_joined(rt, &all),
         None => false,
     }
 }
 
 #[test]
-fn many_facts_of_one_dimension_set_are_one_base(rt: HostRuntime) -> Result<(), Fail> {
-    let sheet = read_sheet(&rt, SHEET)?;
-    assert!(rt; are_many_one_base(&rt, &sheet));
-    Ok(())
+fn many_facts_of_one_dimension_set_are_one_base(rt: HostRuntime) {
+    assert!(rt; holds_under_sheet(&rt, are_many_one_base));
 }
 
-// Takes a report. If memory is refused, the base must be unchanged, and the call is repeated.
-fn take_many(rt: &HostRuntime, base: &mut Base<'_>, two: &Base<'_>, many: &Report<'_>) -> bool {
-    if !base.same_sheet(many.sheet()) {
+// Many facts that a base gets at once.
+#[derive(Clone, Copy)]
+enum Many<'a, 's> {
+    Report(&'a Report<'s>),
+    Base(&'a Base<'s>),
+}
+
+fn gets_once(base: &mut Base<'_>, many: Many<'_, '_>) -> bool {
+    match many {
+        Many::Report(report) => base.same_sheet(report.sheet()) && base.take(report).is_ok(),
+        Many::Base(other) => base.same_sheet(other.sheet()) && base.join(other).is_ok(),
+    }
+}
+
+// Gives a base with two facts many. If memory is refused, the base must be unchanged, and the call
+// is repeated.
+fn gets(rt: &HostRuntime, two: &Base<'_>, many: Many<'_, '_>) -> bool {
+    let Some(mut base) = base_of(rt, two.sheet(), 100, 2) else {
         return false;
+    };
+    if !gets_once(&mut base, many) {
+        tell_refused(rt);
+        if !base.same_as(two) || !gets_once(&mut base, many) {
+            return false;
+        }
     }
-    if base.take(many).is_ok() {
-        return true;
-    }
-    tell_refused(rt);
-    base.same_as(two) && base.take(many).is_ok()
+    base.fact_count() == 400
 }
 
-fn join_many(rt: &HostRuntime, base: &mut Base<'_>, two: &Base<'_>, many: &Base<'_>) -> bool {
-    if !base.same_sheet(many.sheet()) {
-        return false;
-    }
-    if base.join(many).is_ok() {
-        return true;
-    }
-    tell_refused(rt);
-    base.same_as(two) && base.join(many).is_ok()
-}
-
-fn takes(rt: &HostRuntime, two: &Base<'_>, many: &Report<'_>) -> bool {
-    match base_of(rt, two.sheet(), 100, 2) {
-        Some(mut base) => take_many(rt, &mut base, two, many) && base.fact_count() == 400,
-        None => false,
-    }
-}
-
-fn joins(rt: &HostRuntime, two: &Base<'_>, many: &Base<'_>) -> bool {
-    match base_of(rt, two.sheet(), 100, 2) {
-        Some(mut base) => join_many(rt, &mut base, two, many) && base.fact_count() == 400,
-        None => false,
-    }
-}
-
-fn takes_text(rt: &HostRuntime, two: &Base<'_>, text: &[u8]) -> bool {
-    match read(rt, two.sheet(), text) {
-        Ok(many) => takes(rt, two, &many),
-        Err(_) => false,
-    }
-}
-
-fn takes_report(rt: &HostRuntime, two: &Base<'_>) -> bool {
-    match report_of(rt, 1, COUNT) {
-        Ok(text) => takes_text(rt, two, &text),
-        Err(_) => false,
-    }
+fn takes_report(rt: &HostRuntime, two: &Base<'_>) -> Option<bool> {
+    let text = report_of(rt, 1, COUNT).ok()?;
+    let many = read(rt, two.sheet(), &text).ok()?;
+    Some(gets(rt, two, Many::Report(&many)))
 }
 
 fn joins_base(rt: &HostRuntime, two: &Base<'_>) -> bool {
     match base_of(rt, two.sheet(), 1, COUNT) {
-        Some(many) => joins(rt, two, &many),
+        Some(many) => gets(rt, two, Many::Base(&many)),
         None => false,
     }
 }
 
 fn gets_many(rt: &HostRuntime, sheet: &Sheet) -> bool {
     match base_of(rt, sheet, 100, 2) {
-        Some(two) => takes_report(rt, &two) && joins_base(rt, &two),
+        Some(two) => takes_report(rt, &two) == Some(true) && joins_base(rt, &two),
         None => false,
     }
 }
 
 #[test]
-fn two_facts_are_left_if_many_are_refused(rt: HostRuntime) -> Result<(), Fail> {
-    let sheet = read_sheet(&rt, SHEET)?;
-    assert!(rt; gets_many(&rt, &sheet));
-    Ok(())
+fn two_facts_are_left_if_many_are_refused(rt: HostRuntime) {
+    assert!(rt; holds_under_sheet(&rt, gets_many));
 }

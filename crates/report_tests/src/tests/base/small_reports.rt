@@ -6,8 +6,7 @@ use super::{OF_A, base_between};
 use fact_base::{Base, BaseBuilder};
 use oim_report::Sheet;
 use std::alloc::AllocError;
-use std::test::Fail;
-use test_helpers::asked_again::{SHEET, joined, read, read_sheet, tell_refused};
+use test_helpers::asked_again::{holds_under_sheet, joined, read, tell_refused};
 
 // The text of a report, up to its reference.
 const START: &str =
@@ -93,9 +92,11 @@ fn are_gathered(rt: &HostRuntime, sheet: &Sheet, end: &str) -> bool {
     }
 }
 
+fn are_all_gathered(rt: &HostRuntime, sheet: &Sheet) -> bool {
+    are_gathered(rt, sheet, OF_A) && are_gathered(rt, sheet, TWO_FACTS)
+}
+
 #[test]
-fn small_reports_are_put_in_order_twice(rt: HostRuntime) -> Result<(), Fail> {
-    let sheet = read_sheet(&rt, SHEET)?;
-    assert!(rt; are_gathered(&rt, &sheet, OF_A) && are_gathered(&rt, &sheet, TWO_FACTS));
-    Ok(())
+fn small_reports_are_put_in_order_twice(rt: HostRuntime) {
+    assert!(rt; holds_under_sheet(&rt, are_all_gathered));
 }

@@ -1,9 +1,9 @@
 use super::{FACT, OF_A, OF_Q, OF_T, base_between};
+use crate::tests::reports::told;
 use fact_base::{Base, Evidence, Verdict};
 use oim_report::Sheet;
 use oim_value::{Interval, Level};
-use std::test::Fail;
-use test_helpers::asked_again::{SHEET, read_sheet};
+use test_helpers::asked_again::holds_under_sheet;
 
 pub(super) type Said = (Verdict, Evidence);
 
@@ -187,44 +187,46 @@ pub(super) fn judged(base: &Base<'_>) -> Option<Said> {
 
 fn is_said(rt: &HostRuntime, sheet: &Sheet, end: &str, values: &[&str], said: Said) -> bool {
     match base_between(rt, sheet, FACT, values, end) {
-        Some(base) => judged(&base) == Some(said),
+        Some(base) => told(
+            rt,
+            judged(&base) == Some(said),
+            values.last().unwrap_or(&""),
+        ),
         None => false,
     }
 }
 
-// Returns the index of the first row with an unexpected verdict or evidence, or None if there is no
-// such row.
-fn first_not_common(rt: &HostRuntime, sheet: &Sheet) -> Option<usize> {
-    for (index, (values, low, high)) in COMMON.iter().enumerate() {
+fn are_common(rt: &HostRuntime, sheet: &Sheet) -> bool {
+    for (values, low, high) in &COMMON {
         let common = Interval {
             low: *low,
             high: *high,
         };
         let said = (Verdict::Consistent, Evidence::Common(common));
         if !is_said(rt, sheet, OF_A, values, said) {
-            return Some(index);
+            return false;
         }
     }
-    None
+    true
 }
 
-fn first_not_apart(rt: &HostRuntime, sheet: &Sheet) -> Option<usize> {
-    for (index, (end, values, first, second)) in APART.iter().enumerate() {
+fn are_apart(rt: &HostRuntime, sheet: &Sheet) -> bool {
+    for (end, values, first, second) in &APART {
         let said = (Verdict::Inconsistent, Evidence::Apart(*first, *second));
         if !is_said(rt, sheet, end, values, said) {
-            return Some(index);
+            return false;
         }
     }
-    None
+    true
 }
 
-fn first_not_alike(rt: &HostRuntime, sheet: &Sheet) -> Option<usize> {
-    for (index, (end, values)) in ALIKE.iter().enumerate() {
+fn are_alike(rt: &HostRuntime, sheet: &Sheet) -> bool {
+    for (end, values) in &ALIKE {
         if !is_said(rt, sheet, end, values, (Verdict::Complete, Evidence::Alike)) {
-            return Some(index);
+            return false;
         }
     }
-    None
+    true
 }
 
 // Returns whether a base has neither a verdict nor evidence on the dimensions of the other base.
@@ -249,12 +251,14 @@ fn is_only_own_row_judged(rt: &HostRuntime, sheet: &Sheet) -> bool {
     }
 }
 
+fn are_rows_judged(rt: &HostRuntime, sheet: &Sheet) -> bool {
+    are_common(rt, sheet)
+        && are_apart(rt, sheet)
+        && are_alike(rt, sheet)
+        && is_only_own_row_judged(rt, sheet)
+}
+
 #[test]
-fn rows_have_verdicts_and_evidence(rt: HostRuntime) -> Result<(), Fail> {
-    let sheet = read_sheet(&rt, SHEET)?;
-    assert_eq!(rt; first_not_common(&rt, &sheet), None);
-    assert_eq!(rt; first_not_apart(&rt, &sheet), None);
-    assert_eq!(rt; first_not_alike(&rt, &sheet), None);
-    assert!(rt; is_only_own_row_judged(&rt, &sheet));
-    Ok(())
+fn rows_have_verdicts_and_evidence(rt: HostRuntime) {
+    assert!(rt; holds_under_sheet(&rt, are_rows_judged));
 }

@@ -1,5 +1,5 @@
 use super::{
-    BOUND, Comes, NO_FACTS, Outcome, READ, SHEET, TYPED, Table, hold, is_answer, read_sheet,
+    BOUND, Comes, NO_FACTS, OPEN_INFO, Outcome, READ, SHEET, Table, hold, is_answer, read_sheet,
 };
 use oim_report::Sheet;
 use std::test::Fail;
@@ -44,7 +44,7 @@ const TABLES: &[Table<Outcome>] = &[
         end: "",
     },
     Table {
-        start: TYPED,
+        start: OPEN_INFO,
         rows: &[
             (
                 (2, 0),
@@ -71,7 +71,7 @@ const TABLES: &[Table<Outcome>] = &[
     },
     // unknown members belong to extensions if their keys have a colon
     Table {
-        start: TYPED,
+        start: OPEN_INFO,
         rows: &[
             (
                 (3, 0),
@@ -139,6 +139,9 @@ const TABLES: &[Table<Outcome>] = &[
         ],
         end: "}}}",
     },
+];
+
+const URLS: &[Table<Outcome>] = &[
     // the base URL is an http or https URL
     Table {
         start: BOUND,
@@ -182,6 +185,9 @@ const TABLES: &[Table<Outcome>] = &[
         ],
         end: NO_FACTS,
     },
+];
+
+const ORDER: &[Table<Outcome>] = &[
     // each document has the expected fault. Each document without the reference `a.xsd` also has the
     // fault with the next number
     Table {
@@ -207,7 +213,7 @@ const TABLES: &[Table<Outcome>] = &[
         end: "",
     },
     Table {
-        start: TYPED,
+        start: OPEN_INFO,
         rows: &[
             ((5, 0), &[r#","namespaces":{"":"u:t"},"baseURL":1"#]),
             (
@@ -259,9 +265,23 @@ const HUNDRED: &str =
     r#"{"documentInfo":{"documentType":"https://xbrl.org/2021/xbrl-json","namespaces":{"eg":"http://example.org/t","x":"http://example.org/u","xbrli":"http://www.xbrl.org/2003/instance","xbrl":"https://xbrl.org/2021"}},"facts":{"a":{"value":"100","decimals":0,"dimensions":{"concept":"eg:A"}}}}"#;
 
 #[test]
-fn documents_are_answered_as_wanted(rt: HostRuntime) -> Result<(), Fail> {
+fn documents_are_answered_as_wanted(rt: HostRuntime) {
+    assert!(rt; hold(&rt, TABLES));
+}
+
+#[test]
+fn urls_of_a_document_are_answered(rt: HostRuntime) {
+    assert!(rt; hold(&rt, URLS));
+}
+
+#[test]
+fn the_first_fault_of_a_document_is_answered(rt: HostRuntime) {
+    assert!(rt; hold(&rt, ORDER));
+}
+
+#[test]
+fn bytes_that_are_no_json_text_are_refused(rt: HostRuntime) -> Result<(), Fail> {
     let sheet = read_sheet(&rt, SHEET)?;
-    assert!(rt; hold(&rt, &sheet, TABLES)?);
     // a document is UTF-8
     assert!(rt; is_answer(&rt, &sheet, b"{\"eg:x\":\"\xff\"}", &Comes((1, 0))));
     assert!(rt; no_prefix_is_read(&rt, &sheet, HUNDRED.as_bytes()));

@@ -1,10 +1,9 @@
-use super::{FACTS, Outcome, READ, SHEET, Table, conditions, hold, read_sheet, table_holds};
-use std::test::Fail;
+use super::{END, INFO, Outcome, READ, Table, conditions, hold, hold_under};
 
 const TABLES: &[Table<Outcome>] = &[
     // the first refused fact is reported with its place
     Table {
-        start: FACTS,
+        start: INFO,
         rows: &[
             (
                 (13, 2),
@@ -22,11 +21,11 @@ const TABLES: &[Table<Outcome>] = &[
                 &[r#""b":7,"a":{"value":"1","dimensions":{"concept":"q:A"}}"#],
             ),
         ],
-        end: "}}",
+        end: END,
     },
     // facts are numbered in byte order of their identifiers
     Table {
-        start: FACTS,
+        start: INFO,
         rows: &[
             (
                 (2, 1),
@@ -39,11 +38,11 @@ const TABLES: &[Table<Outcome>] = &[
             ),
             ((11, 1), &[r#""f":7,"eg:f":{"value":"1"}"#]),
         ],
-        end: "}}",
+        end: END,
     },
     // a text that was accepted in one fact can be refused in a later fact
     Table {
-        start: FACTS,
+        start: INFO,
         rows: &[
             (
                 (22, 2),
@@ -77,7 +76,7 @@ const TABLES: &[Table<Outcome>] = &[
                 ],
             ),
         ],
-        end: "}}",
+        end: END,
     },
     // notes are refused, and so are links that are not empty
     Table {
@@ -96,7 +95,7 @@ const TABLES: &[Table<Outcome>] = &[
                 &[r#"{"value":"1","dimensions":{"concept":"eg:A"},"links":{}}"#],
             ),
         ],
-        end: "}}",
+        end: END,
     },
     // the last of repeated members counts, and the value of an extension may be any JSON value
     Table {
@@ -128,8 +127,11 @@ const TABLES: &[Table<Outcome>] = &[
                 ],
             ),
         ],
-        end: "}}",
+        end: END,
     },
+];
+
+const FORMS: &[Table<Outcome>] = &[
     // a number has at most 18 digits, not counting leading zeros before the point and trailing
     // zeros after it
     Table {
@@ -214,21 +216,27 @@ const TABLES: &[Table<Outcome>] = &[
 ];
 
 #[test]
-fn facts_are_answered_by_their_places(rt: HostRuntime) -> Result<(), Fail> {
-    let sheet = read_sheet(&rt, SHEET)?;
-    assert!(rt; hold(&rt, &sheet, TABLES)?);
-    Ok(())
+fn facts_are_answered_by_their_places(rt: HostRuntime) {
+    assert!(rt; hold(&rt, TABLES));
 }
 
 // Each large table has its own test: a function that names two takes far longer to prove.
 #[test]
-fn the_first_condition_that_holds_is_answered(rt: HostRuntime) -> Result<(), Fail> {
-    let sheet = read_sheet(&rt, SHEET)?;
-    assert!(rt; hold(&rt, &sheet, conditions::TABLES)?);
-    Ok(())
+fn values_and_dimensions_have_their_forms(rt: HostRuntime) {
+    assert!(rt; hold(&rt, FORMS));
 }
 
-const NAMES: Table<Outcome> = Table {
+#[test]
+fn each_condition_on_a_fact_is_answered(rt: HostRuntime) {
+    assert!(rt; hold(&rt, conditions::TABLES));
+}
+
+#[test]
+fn the_first_condition_that_holds_is_answered(rt: HostRuntime) {
+    assert!(rt; hold(&rt, conditions::ORDER));
+}
+
+const NAMES: &[Table<Outcome>] = &[Table {
     start: r#"{"documentInfo":{"documentType":"https://xbrl.org/2021/xbrl-json","namespaces":{"eg":"http://example.org/t","x":"http://example.org/u","xbrli":"http://www.xbrl.org/2003/instance","xbrl":"https://xbrl.org/2021"}},"facts":{"a":{"value":"1","dimensions":{"concept":""#,
     rows: &[
         (READ, &["eg:A"]),
@@ -238,32 +246,24 @@ const NAMES: Table<Outcome> = Table {
         ((16, 1), &["eg:T"]),
     ],
     end: r#""}}}}"#,
-};
+}];
 
 // Outcomes under an empty sheet.
-const UNKNOWN: Table<Outcome> = Table {
-    start: FACTS,
+const UNKNOWN: &[Table<Outcome>] = &[Table {
+    start: INFO,
     rows: &[(
         (16, 1),
         &[r#""a":{"value":"1","dimensions":{"concept":"eg:A"}}"#],
     )],
-    end: "}}",
-};
+    end: END,
+}];
 
-// A sheet that binds another prefix, and one that lists no concept.
-const SHEETS: [(&str, Table<Outcome>); 2] = [
-    (
-        r#"{"namespaces":{"zz":"http://example.org/t"},"concepts":{"zz:A":"numeric"}}"#,
-        NAMES,
-    ),
-    ("{}", UNKNOWN),
-];
+// A sheet that binds another prefix.
+const OTHER_PREFIX: &str =
+    r#"{"namespaces":{"zz":"http://example.org/t"},"concepts":{"zz:A":"numeric"}}"#;
 
 #[test]
-fn names_are_those_of_the_sheet(rt: HostRuntime) -> Result<(), Fail> {
-    for (text, table) in &SHEETS {
-        let sheet = read_sheet(&rt, text)?;
-        assert!(rt; table_holds(&rt, &sheet, table)?);
-    }
-    Ok(())
+fn names_are_those_of_the_sheet(rt: HostRuntime) {
+    assert!(rt; hold_under(&rt, OTHER_PREFIX, NAMES));
+    assert!(rt; hold_under(&rt, "{}", UNKNOWN));
 }

@@ -1,11 +1,10 @@
-use super::{SHEET, joined, read_sheet, tell_refused, told};
-use oim_report::{Faults, Place, Refusal, Sheet, faults};
+use super::{END, Outcome, SHEET, is_outcome, joined, read_sheet, tell_refused, told};
+use oim_report::{Faults, Refusal, Sheet, faults};
 use std::alloc::AllocError;
 use std::test::Fail;
 
-// Texts with their faults: the number of each fault, and the number of its fact or 0 for the
-// document.
-type Rows<'t> = &'t [(&'t str, &'t [(u8, u64)])];
+// Texts with their faults.
+type Rows<'t> = &'t [(&'t str, &'t [Outcome])];
 
 const DOCUMENTS: Rows<'static> = &[
     ("", &[(1, 0)]),
@@ -116,18 +115,9 @@ fn faults_of(rt: &HostRuntime, sheet: &Sheet, bytes: &[u8]) -> Result<Faults, Al
     }
 }
 
-fn is_so(refusal: &Refusal, number: u8, fact: u64) -> bool {
-    let place = if fact == 0 {
-        Place::Document
-    } else {
-        Place::Fact(fact)
-    };
-    refusal.reason.number() == number && refusal.place == place
-}
-
-fn are_so(found: &[Refusal], wanted: &[(u8, u64)]) -> bool {
-    for (refusal, (number, fact)) in found.iter().zip(wanted) {
-        if !is_so(refusal, *number, *fact) {
+fn are_so(found: &[Refusal], wanted: &[Outcome]) -> bool {
+    for (refusal, outcome) in found.iter().zip(wanted) {
+        if !is_outcome(*refusal, *outcome) {
             return false;
         }
     }
@@ -138,7 +128,7 @@ fn is_told(
     rt: &HostRuntime,
     sheet: &Sheet,
     parts: &[&str],
-    wanted: &[(u8, u64)],
+    wanted: &[Outcome],
 ) -> Result<bool, AllocError> {
     let report = joined(rt, parts)?;
     let found = faults_of(rt, sheet, &report)?;
@@ -161,9 +151,15 @@ fn hold(
 }
 
 #[test]
-fn each_fault_is_told(rt: HostRuntime) -> Result<(), Fail> {
+fn each_fault_of_a_document_is_told(rt: HostRuntime) -> Result<(), Fail> {
     let sheet = read_sheet(&rt, SHEET)?;
     assert!(rt; hold(&rt, &sheet, "", DOCUMENTS, "")?);
-    assert!(rt; hold(&rt, &sheet, START, FACTS, "}}")?);
+    Ok(())
+}
+
+#[test]
+fn each_fault_of_a_fact_is_told(rt: HostRuntime) -> Result<(), Fail> {
+    let sheet = read_sheet(&rt, SHEET)?;
+    assert!(rt; hold(&rt, &sheet, START, FACTS, END)?);
     Ok(())
 }

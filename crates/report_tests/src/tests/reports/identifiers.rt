@@ -1,8 +1,8 @@
-use super::{SHEET, are_spelled, read_sheet, tell_refused};
+use super::{are_spelled, tell_refused};
 use oim_names::{Reason, Text};
 use oim_report::{Refusal, Report, ReportReader, Sheet, fact_identifiers};
 use oim_value::Value;
-use std::test::Fail;
+use test_helpers::asked_again::{holds_under_sheet, is_want_of_memory};
 
 fn identifiers(rt: &HostRuntime, text: &str) -> Result<Vec<Text>, Reason> {
     match fact_identifiers(rt.alloc(), text.as_bytes()) {
@@ -43,23 +43,31 @@ fn identifiers_stand_in_byte_order(rt: HostRuntime) {
 const TWO: &str =
     r#"{"documentInfo":{"documentType":"https://xbrl.org/2021/xbrl-json","namespaces":{"eg":"http://example.org/t"}},"facts":{"b":{"value":"last","dimensions":{"concept":"eg:T"}},"a":{"value":"first","dimensions":{"concept":"eg:T"}}}}"#;
 
+type Identified<'s> = (Report<'s>, Vec<Text>);
+
+fn identified_once<'s>(
+    reader: &mut ReportReader<'s>,
+    text: &str,
+) -> Result<Identified<'s>, Refusal> {
+    reader.read_identified(text.as_bytes())
+}
+
 /// If memory is refused, the call is repeated once.
 fn identified<'s>(
     rt: &HostRuntime,
-    sheet: &'s Sheet,
+    reader: &mut ReportReader<'s>,
     text: &str,
-) -> Result<(Report<'s>, Vec<Text>), Refusal> {
-    let mut reader = ReportReader::new(rt.alloc(), sheet);
-    match reader.read_identified(text.as_bytes()) {
-        Err(refusal) if refusal == Refusal::from(Reason::OutOfMemory) => {
+) -> Result<Identified<'s>, Refusal> {
+    match identified_once(reader, text) {
+        Err(refusal) if is_want_of_memory(refusal) => {
             tell_refused(rt);
-            reader.read_identified(text.as_bytes())
+            identified_once(reader, text)
         }
         answer => answer,
     }
 }
 
-fn says(read: &(Report<'_>, Vec<Text>), index: usize, identifier: &str, text: &str) -> bool {
+fn says(read: &Identified<'_>, index: usize, identifier: &str, text: &str) -> bool {
     let (report, identifiers) = read;
     match (report.facts().get(index), identifiers.get(index)) {
         (Some(fact), Some(found)) => {
@@ -71,22 +79,22 @@ fn says(read: &(Report<'_>, Vec<Text>), index: usize, identifier: &str, text: &s
 }
 
 fn are_identified(rt: &HostRuntime, sheet: &Sheet) -> bool {
-    match identified(rt, sheet, TWO) {
+    let mut reader = ReportReader::new(rt.alloc(), sheet);
+    match identified(rt, &mut reader, TWO) {
         Ok(read) => says(&read, 0, "a", "first") && says(&read, 1, "b", "last"),
         Err(_) => false,
     }
 }
 
 fn is_refused(rt: &HostRuntime, sheet: &Sheet) -> bool {
-    match identified(rt, sheet, "{}") {
+    let mut reader = ReportReader::new(rt.alloc(), sheet);
+    match identified(rt, &mut reader, "{}") {
         Ok(_) => false,
         Err(refusal) => refusal == Refusal::from(Reason::MemberForm),
     }
 }
 
 #[test]
-fn a_report_is_read_with_its_identifiers(rt: HostRuntime) -> Result<(), Fail> {
-    let sheet = read_sheet(&rt, SHEET)?;
-    assert!(rt; are_identified(&rt, &sheet) && is_refused(&rt, &sheet));
-    Ok(())
+fn a_report_is_read_with_its_identifiers(rt: HostRuntime) {
+    assert!(rt; holds_under_sheet(&rt, are_identified) && holds_under_sheet(&rt, is_refused));
 }

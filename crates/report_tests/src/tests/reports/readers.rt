@@ -1,10 +1,8 @@
 //! Reads several reports with one reader.
 
-use super::SHEET;
 use oim_names::Name;
-use oim_report::{Refusal, Report, ReportReader};
-use std::test::Fail;
-use test_helpers::asked_again::{is_want_of_memory, joined, read_sheet, tell_refused};
+use oim_report::{Refusal, Report, ReportReader, Sheet};
+use test_helpers::asked_again::{holds_under_sheet, is_want_of_memory, joined, tell_refused};
 
 // The parts of a report with one fact, before and after the URI that `x` is bound to.
 const START: &str =
@@ -47,17 +45,15 @@ fn has_own_entity(rt: &HostRuntime, reader: &mut ReportReader<'_>, uri: &str) ->
     }
 }
 
-fn have_own_entities(rt: &HostRuntime, reader: &mut ReportReader<'_>) -> bool {
-    has_own_entity(rt, reader, "http://example.org/u")
-        && has_own_entity(rt, reader, "http://example.org/u")
-        && has_own_entity(rt, reader, "http://example.org/v")
-        && has_own_entity(rt, reader, "http://example.org/u")
+fn have_own_entities(rt: &HostRuntime, sheet: &Sheet) -> bool {
+    let mut reader = ReportReader::new(rt.alloc(), sheet);
+    has_own_entity(rt, &mut reader, "http://example.org/u")
+        && has_own_entity(rt, &mut reader, "http://example.org/u")
+        && has_own_entity(rt, &mut reader, "http://example.org/v")
+        && has_own_entity(rt, &mut reader, "http://example.org/u")
 }
 
 #[test]
-fn a_prefix_has_the_uri_that_its_report_binds(rt: HostRuntime) -> Result<(), Fail> {
-    let sheet = read_sheet(&rt, SHEET)?;
-    let mut reader = ReportReader::new(rt.alloc(), &sheet);
-    assert!(rt; have_own_entities(&rt, &mut reader));
-    Ok(())
+fn a_prefix_has_the_uri_that_its_report_binds(rt: HostRuntime) {
+    assert!(rt; holds_under_sheet(&rt, have_own_entities));
 }
