@@ -54,11 +54,17 @@ fn joined_text(alloc: Global, sheet: &Sheet, one: &[u8]) -> Result<Encoded, Allo
     text(alloc, &base)
 }
 
-fn was_sent(replayed: &Replayed<'_>, number: usize, bytes: &[u8]) -> bool {
-    match replayed.sent(number) {
-        Some(sent) => sent.as_bytes() == bytes,
-        None => false,
-    }
+/// True if calls write this text of a replica that takes a report with these facts, and then
+/// receives these texts.
+fn is_text_of(
+    alloc: Global,
+    sheet: &Sheet,
+    facts: &str,
+    texts: &[&[u8]],
+    bytes: &[u8],
+) -> Result<bool, AllocError> {
+    let text = text_of(alloc, sheet, facts, texts)?;
+    Ok(text.as_bytes() == bytes)
 }
 
 fn replica_writes(
@@ -80,12 +86,7 @@ fn first_is_alike(
     one: &[u8],
 ) -> Result<bool, AllocError> {
     let text = joined_text(alloc, sheet, one)?;
-    Ok(was_sent(replayed, 1, one) && replica_writes(alloc, replayed, 1, text.as_bytes())?)
-}
-
-/// The second replica has the same facts when it sends its text and at the end.
-fn second_is_alike(alloc: Global, replayed: &Replayed<'_>, two: &[u8]) -> Result<bool, AllocError> {
-    Ok(was_sent(replayed, 2, two) && replica_writes(alloc, replayed, 2, two)?)
+    replica_writes(alloc, replayed, 1, text.as_bytes())
 }
 
 fn third_is_alike(
@@ -98,13 +99,18 @@ fn third_is_alike(
     replica_writes(alloc, replayed, 3, text.as_bytes())
 }
 
+/// The second replica has the same facts when it sends its text and at the end.
 fn are_alike(alloc: Global, sheet: &Sheet, replayed: &Replayed<'_>) -> Result<bool, AllocError> {
-    let one = text_of(alloc, sheet, HUNDRED, &[])?;
-    let two = text_of(alloc, sheet, HUNDRED_ONE, &[one.as_bytes()])?;
+    let (Some(one), Some(two)) = (replayed.sent(1), replayed.sent(2)) else {
+        return Ok(false);
+    };
+    let (one, two) = (one.as_bytes(), two.as_bytes());
     Ok(
-        first_is_alike(alloc, sheet, replayed, one.as_bytes())?
-            && second_is_alike(alloc, replayed, two.as_bytes())?
-            && third_is_alike(alloc, sheet, replayed, &[two.as_bytes(), one.as_bytes()])?,
+        is_text_of(alloc, sheet, HUNDRED, &[], one)?
+            && is_text_of(alloc, sheet, HUNDRED_ONE, &[one], two)?
+            && first_is_alike(alloc, sheet, replayed, one)?
+            && replica_writes(alloc, replayed, 2, two)?
+            && third_is_alike(alloc, sheet, replayed, &[two, one])?,
     )
 }
 
@@ -127,11 +133,15 @@ fn are_taken(alloc: Global, sheet: &Sheet, texts: &[Encoded; 2]) -> Result<bool,
     }
 }
 
+fn second_is_taken_first(alloc: Global, sheet: &Sheet, one: Encoded) -> Result<bool, AllocError> {
+    let two = text_of(alloc, sheet, HUNDRED_ONE, &[one.as_bytes()])?;
+    are_taken(alloc, sheet, &[one, two])
+}
+
 fn sent_texts_are_reports(alloc: Global) -> Result<bool, AllocError> {
     let sheet = sheet(alloc)?;
     let one = text_of(alloc, &sheet, HUNDRED, &[])?;
-    let two = text_of(alloc, &sheet, HUNDRED_ONE, &[one.as_bytes()])?;
-    are_taken(alloc, &sheet, &[one, two])
+    second_is_taken_first(alloc, &sheet, one)
 }
 
 #[test]
