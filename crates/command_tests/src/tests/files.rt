@@ -117,30 +117,50 @@ fn show(rt: &HostRuntime, rows: &[(&str, &str)]) -> Result<bool, Fail> {
     Ok(all)
 }
 
+// One function with all of these steps would be slow to prove.
+
+fn files_are_read(rt: &HostRuntime) -> Result<bool, Fail> {
+    Ok(
+        are_met(rt, MERGED.as_slice())?
+            && are_met(rt, JUDGED.as_slice())?
+            && are_met(rt, CHECKED.as_slice())?
+            && are_met(rt, EXPLAINED.as_slice())?
+            && are_met(rt, REPLAYED.as_slice())?
+            && are_met(rt, LISTED.as_slice())?
+            && show(rt, SHOWN.as_slice())?,
+    )
+}
+
+fn files_are_written(rt: &HostRuntime) -> Result<bool, Fail> {
+    Ok(
+        holds(rt, "said", SAID)?
+            && are_met(rt, WRITTEN.as_slice())?
+            && holds(rt, "out", ONE)?
+            && are_met(rt, STOPPED.as_slice())?
+            && are_met(rt, replayed::STOPPED.as_slice())?,
+    )
+}
+
+fn failing_streams_are_told(rt: &HostRuntime) -> Result<bool, Fail> {
+    Ok(
+        stop_when_full(rt, explained::FULL.as_slice())?
+            && stop_when_full(rt, FULL.as_slice())?
+            && stop_when_full(rt, replayed::FULL.as_slice())?
+            && stop_unflushed(rt, UNFLUSHED.as_slice())?
+            && stop_unflushed(rt, replayed::UNFLUSHED.as_slice())?
+            && are_unheard(rt, UNHEARD.as_slice())?
+            && are_unheard(rt, replayed::UNHEARD.as_slice())?,
+    )
+}
+
 // One test makes and uses the files, because tests may run in parallel and share the current
 // folder.
 #[test]
 fn files_are_read_and_answered(rt: HostRuntime) -> Result<(), Fail> {
     made(&rt)?;
-    assert!(rt; are_met(&rt, MERGED.as_slice())?);
-    assert!(rt; are_met(&rt, JUDGED.as_slice())?);
-    assert!(rt; are_met(&rt, CHECKED.as_slice())?);
-    assert!(rt; are_met(&rt, EXPLAINED.as_slice())?);
-    assert!(rt; holds(&rt, "said", SAID)?);
-    assert!(rt; stop_when_full(&rt, explained::FULL.as_slice())?);
-    assert!(rt; are_met(&rt, REPLAYED.as_slice())?);
-    assert!(rt; are_met(&rt, LISTED.as_slice())?);
-    assert!(rt; show(&rt, SHOWN.as_slice())?);
-    assert!(rt; are_met(&rt, WRITTEN.as_slice())?);
-    assert!(rt; holds(&rt, "out", ONE)?);
-    assert!(rt; are_met(&rt, STOPPED.as_slice())?);
-    assert!(rt; are_met(&rt, replayed::STOPPED.as_slice())?);
-    assert!(rt; stop_when_full(&rt, FULL.as_slice())?);
-    assert!(rt; stop_when_full(&rt, replayed::FULL.as_slice())?);
-    assert!(rt; stop_unflushed(&rt, UNFLUSHED.as_slice())?);
-    assert!(rt; stop_unflushed(&rt, replayed::UNFLUSHED.as_slice())?);
-    assert!(rt; are_unheard(&rt, UNHEARD.as_slice())?);
-    assert!(rt; are_unheard(&rt, replayed::UNHEARD.as_slice())?);
+    assert!(rt; files_are_read(&rt)?);
+    assert!(rt; files_are_written(&rt)?);
+    assert!(rt; failing_streams_are_told(&rt)?);
     env::set_current_dir(&rt, "../..")?;
     let _ = fs::remove_dir_all(&rt, FOLDER);
     Ok(())

@@ -1,6 +1,7 @@
 use crate::tests::ran::{NO_WORDS, piped};
 use command_line::run;
 use std::alloc::AllocError;
+use std::io::Write;
 use std::test::Fail;
 use test_helpers::asked_again::{INFO, SHEET, joined, tell_refused};
 use test_helpers::canonical_parts::{END, HEAD, MIDDLE, MIDDLE_ALONE, ONE_URI, WRITTEN_HUNDRED};
@@ -207,27 +208,21 @@ fn an_input_that_stops_at_any_place_ends_the_run(rt: HostRuntime) -> Result<(), 
     Ok(())
 }
 
+fn status_of<O: Write + Drop>(rt: &HostRuntime, bundle: &[u8], out: O, err: &mut TestWriter) -> u8 {
+    let input = TestReader::new(bundle, Step::All, Then::Ends);
+    run(rt.alloc(), rt, NO_WORDS, piped(input, out, err))
+}
+
 #[test]
 fn a_text_that_is_not_flushed_is_a_fault(rt: HostRuntime) -> Result<(), Fail> {
     let refused = [SHEET, "\n{}\n", INFO, HUNDRED, END];
     let bundle = joined(&rt, &refused)?;
     let mut err = writer(&rt, ROOM)?;
-    let input = TestReader::new(&bundle, Step::All, Then::Ends);
-    let mut status = run(
-        rt.alloc(),
-        &rt,
-        NO_WORDS,
-        piped(input, NeverFlushed, &mut err),
-    );
+    let mut status = status_of(&rt, &bundle, NeverFlushed, &mut err);
     if err.held() == b"out of memory\n".as_slice() {
         tell_refused(&rt);
         err = writer(&rt, ROOM)?;
-        status = run(
-            rt.alloc(),
-            &rt,
-            NO_WORDS,
-            piped(input, NeverFlushed, &mut err),
-        );
+        status = status_of(&rt, &bundle, NeverFlushed, &mut err);
     }
     assert_eq!(rt; status, 3);
     assert_eq!(rt; err.held(), b"device: 276 bytes written\n".as_slice());
@@ -259,11 +254,6 @@ fn an_output_that_failed_is_not_flushed(rt: HostRuntime) -> Result<(), Fail> {
         assert!(rt; answer == Some(expected), "room for {room} bytes");
     }
     Ok(())
-}
-
-fn status_of(rt: &HostRuntime, bundle: &[u8], out: &mut TestWriter, err: &mut TestWriter) -> u8 {
-    let input = TestReader::new(bundle, Step::All, Then::Ends);
-    run(rt.alloc(), rt, NO_WORDS, piped(input, out, err))
 }
 
 #[test]
