@@ -124,7 +124,7 @@ def made_again(width, told, branches):
 
 def late_reports(width):
     made_again(width, "no new report", 0)
-    lists = run("grep", "-h", "-r", "--include=*.list", "in/", f"out{width}.json.scratch").stdout
+    lists = run("grep", "-h", "-r", "--include=*.list", "in/", f"out{width}.json.room").stdout
     names = [line.split("/")[1].split(".")[0] for line in lists.splitlines()]
     changes = sum(one != other for one, other in zip(names, names[1:]))
     check(len(names) == COUNT and changes == len(set(names)) - 1, "reports with similar names are in several branches")
@@ -147,7 +147,7 @@ def nodes():
         before = set(os.listdir("."))
         check(run(node, *words).returncode == 3 and set(os.listdir(".")) <= before, f"a node with a wrong {told}")
     check(not os.path.exists(out), "a node leaves the text of an earlier run")
-    text = f"out{WIDTHS[0]}.json.scratch/branch0.json"
+    text = f"out{WIDTHS[0]}.json.room/branch0.json"
     write(text, bytes_of(text).decode()[:-9])
     check(make(WIDTHS[0]).returncode == 2 and not os.path.exists(f"out{WIDTHS[0]}.json"), "a broken text of a branch is folded")
 
