@@ -104,9 +104,10 @@ class Near:
         return axes[0] if shared else None
 
     def notes(self) -> list[str]:
-        told = f"--near: {self.cut} pairs of rows were not compared. A group is similar in one dimension and equal in all others;"
-        most = f"in each group, at most {MOST_PAIRS} pairs are compared, or fewer if those found have over {MOST_FACTS} facts"
-        return [f"{told} {most}"] if self.cut else []
+        told = f"--near: {self.cut} pairs of rows were not compared."
+        group = "Rows that are similar in one dimension and equal in all others form a group."
+        most = f"In each group, at most {MOST_PAIRS} pairs are compared, or fewer if those found have over {MOST_FACTS} facts."
+        return [f"{told} {group} {most}"] if self.cut else []
 
     def table(self, pairs: list[tuple[int, int, Axis]], labels: Mapping[Name, str]) -> Iterator[Sequence[str]]:
         """Yields the lines of the table: the headings, then, for each pair, one line for each fact of its two rows."""
