@@ -1,7 +1,7 @@
 -- How the members of `facts` are cut into pieces, and how a document is split around `facts` (own).
 use Rattle.std.specs.Prelude.{◌≡◌, ℕ, codes, List, [], ◌∷◌, ◌++◌, true, Option, Some, None, ⊤}
 use Rattle.json.specs.Word.{is_space}
-use Rattle.serde_json.specs.Data.{Data, object, Members, member, put}
+use Rattle.serde_json.specs.Data.{Data, object, Members, put}
 use Rattle.serde_json.specs.Read.{read}
 use Rattle.oim_report.specs.Pieces.{IsPiece}
 

@@ -23,6 +23,14 @@ use serde_json::{Map, Value};
 use std::alloc::{AllocError, Global};
 use std::cmp::Ordering;
 
+// The members that the format defines for a fact object, and for its dimensions
+// (xBRL-JSON 1.0, section 3.1).
+pub(crate) const FACT_KEYS: [&str; 4] = ["value", "decimals", "dimensions", "links"];
+
+pub(crate) const CORE_KEYS: [&str; 6] = [
+    "concept", "entity", "period", "unit", "language", "noteId",
+];
+
 /// The members of a fact's `dimensions`.
 #[derive(Drop)]
 pub(crate) struct DimensionMembers<'a> {
@@ -47,7 +55,6 @@ impl<'a> DimensionMembers<'a> {
         let Some(members) = object.as_object() else {
             return Ok(None);
         };
-        let core = ["concept", "entity", "period", "unit", "language", "noteId"];
         Ok(Some(DimensionMembers {
             concept: JsonMember::of(object.get("concept")),
             entity: JsonMember::of(object.get("entity")),
@@ -56,7 +63,7 @@ impl<'a> DimensionMembers<'a> {
             language: JsonMember::of(object.get("language")),
             note: JsonMember::of(object.get("noteId")),
             defined: defined_in(alloc, members)?,
-            unknown: unknown_in(Some(members), &core).is_some(),
+            unknown: unknown_in(Some(members), &CORE_KEYS).is_some(),
         }))
     }
 }
@@ -106,14 +113,13 @@ impl<'a> FactMembers<'a> {
         let Some(members) = object.as_object() else {
             return Ok(None);
         };
-        let known = ["value", "decimals", "dimensions", "links"];
         Ok(Some(FactMembers {
             value: JsonMember::of(object.get("value")),
             decimals: JsonMember::of(object.get("decimals")),
             dimensions: dimensions_of(alloc, dimensions)?,
             linked: has_member(links.and_then(Value::as_object)),
             misshapen: is_misshapen(dimensions, links),
-            unknown: unknown_in(Some(members), &known).is_some(),
+            unknown: unknown_in(Some(members), &FACT_KEYS).is_some(),
         }))
     }
 }

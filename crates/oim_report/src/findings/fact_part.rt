@@ -7,6 +7,7 @@ ghost use Rattle.oim_report.specs.Shown.{fact_part, seen, textless, when};
 ghost use Rattle.oim_report.specs.code.MemberTests.{lacks_text};
 
 use crate::document::json_tree::{is_no_object, object_at, unknown_in};
+use crate::fact::fact_members::{CORE_KEYS, FACT_KEYS};
 use crate::fact::fact_values::{dimension, is_no_text};
 use crate::findings::part::Part;
 use crate::sheet::Sheet;
@@ -86,12 +87,10 @@ impl<'a> FactInScope<'_, 'a> {
     fn unknown(&self) -> Option<Part<'a>>
         ensures { option_map seen result ≡ fact_part self.now.sheet.now self.now.aliases.now (view self.now.object.now) Reason.UnknownMember }
     {
-        let known = &["value", "decimals", "dimensions", "links"];
-        if let Some(key) = unknown_in(self.object.as_object(), known) {
+        if let Some(key) = unknown_in(self.object.as_object(), &FACT_KEYS) {
             return Some(Part::Key(key));
         }
-        let core = &["concept", "entity", "period", "unit", "language", "noteId"];
-        let key = unknown_in(object_at(self.object, "dimensions"), core)?;
+        let key = unknown_in(object_at(self.object, "dimensions"), &CORE_KEYS)?;
         Some(Part::KeyIn(key, "dimensions"))
     }
 }

@@ -1,4 +1,4 @@
-ghost use Rattle.std.specs.Prelude.{◌≡◌, ◌≢◌, Some, IfOk, is_some, option_map};
+ghost use Rattle.std.specs.Prelude.{◌≡◌, ◌≢◌, Some, IfOk, option_map};
 ghost use Rattle.std.specs.List.{find};
 ghost use Rattle.std.specs.Option.{option_map_or};
 ghost use Rattle.std.specs.FinMap as map;
@@ -6,19 +6,19 @@ ghost use Rattle.oim_names.specs.Expansion.{refuses};
 ghost use Rattle.serde_json.specs.View.{view, members_view};
 ghost use Rattle.oim_report.specs.Json.{members};
 ghost use Rattle.oim_report.specs.Least.{least};
-ghost use Rattle.oim_report.specs.Sheet.{key_names, sheet_bindings, sheet_holds, sheet_names};
+ghost use Rattle.oim_report.specs.Sheet.{sheet_bindings, sheet_holds, sheet_names};
 ghost use Rattle.oim_report.specs.Shown.{entry, kindless, name, named_kind, nothing, seen, sheet_part, sheet_shown, two_kinds};
 
 use crate::concept_kind::ConceptKind;
 use crate::dimension_kind::DimensionKind;
-use crate::document::json_tree::{is_no_object, object_at, unknown_in};
+use crate::document::json_tree::object_at;
 use crate::document::namespaces::{bound_aliases, unbound};
 use crate::findings::dimension_part::{beside_first, name_of};
-use crate::findings::name_part::is_refused;
 use crate::findings::part::Part;
 use crate::sheet::Sheet;
 use crate::sheet::kind::Kind;
 use crate::sheet::name_table::{NameTableBuilder, kind_in};
+use crate::sheet::sheet_form::{misshapen, refused_key, unknown};
 use oim_names::{Aliases, Name, Reason};
 use serde_json::{Map, Value};
 use std::alloc::{AllocError, Global};
@@ -60,35 +60,6 @@ fn part_at_fault(alloc: Global, tree: &Value, reason: Reason) -> Result<Part<'_>
     }
 }
 
-#[tactic(auto, unfolding(crate::specs::Sheet::sheet_holds, crate::specs::Shown::sheet_shown))]
-pub(crate) fn misshapen(tree: &Value) -> Option<Part<'_>>
-    ensures any { is_some result ≡ sheet_holds (view tree.now) Reason.MemberForm }
-    ensures part { option_map_or seen result nothing ≡ sheet_shown (view tree.now) Reason.MemberForm }
-{
-    if !tree.is_object() {
-        return Some(Part::Whole);
-    }
-    if is_no_object(tree.get("namespaces")) {
-        return Some(Part::NoObject("namespaces"));
-    }
-    if is_no_object(tree.get("concepts")) {
-        return Some(Part::NoObject("concepts"));
-    }
-    if is_no_object(tree.get("dimensions")) {
-        return Some(Part::NoObject("dimensions"));
-    }
-    None
-}
-
-#[tactic(auto, unfolding(crate::specs::Sheet::sheet_holds, crate::specs::Shown::sheet_shown), using(crate::proofs::ShownFaults::any_found_in))]
-pub(crate) fn unknown(tree: &Value) -> Option<Part<'_>>
-    ensures any { is_some result ≡ sheet_holds (view tree.now) Reason.UnknownMember }
-    ensures part { option_map_or seen result nothing ≡ sheet_shown (view tree.now) Reason.UnknownMember }
-{
-    let key = unknown_in(tree.as_object(), &["namespaces", "concepts", "dimensions"])?;
-    Some(Part::Key(key))
-}
-
 #[tactic(auto, unfolding(crate::specs::Shown::sheet_shown))]
 fn entry_at_fault<'a>(
     alloc: Global,
@@ -116,26 +87,10 @@ fn name_at_fault<'a>(tree: &'a Value, aliases: &Aliases, reason: Reason) -> Part
     ensures { let all = sheet_names (view tree.now) in
         seen result ≡ option_map_or name (find (refuses reason aliases.now) all) nothing }
 {
-    if let Some(part) = first_refused(aliases, object_at(tree, "concepts"), reason) {
+    if let Some(part) = refused_key(aliases, object_at(tree, "concepts"), reason) {
         return part;
     }
-    first_refused(aliases, object_at(tree, "dimensions"), reason).unwrap_or(Part::Nothing)
-}
-
-pub(crate) fn first_refused<'a>(
-    aliases: &Aliases,
-    entries: Option<&'a Map<String, Value>>,
-    reason: Reason,
-) -> Option<Part<'a>>
-    ensures { let all = key_names (members (option_map (λ m. members_view m.now.entries) entries.entry)) in
-        option_map seen result ≡ option_map name (find (refuses reason aliases.now) all) }
-{
-    for (key, _kind) in entries?.iter() {
-        if is_refused(aliases, key.as_str(), reason) {
-            return Some(Part::Name(key.as_str()));
-        }
-    }
-    None
+    refused_key(aliases, object_at(tree, "dimensions"), reason).unwrap_or(Part::Nothing)
 }
 
 #[tactic(auto, unfolding(crate::specs::Shown::sheet_shown))]

@@ -4,7 +4,7 @@ use Rattle.serde_json.specs.View.{members_view}
 use Rattle.oim_names.specs.Expansion.{refuses}
 use Rattle.oim_report.specs.Json.{members}
 use Rattle.oim_report.specs.Sheet.{key_names}
-use Rattle.oim_report.proofs.findings.sheet_part.first_refused.Given as goal
+use Rattle.oim_report.proofs.sheet.sheet_form.refused_key.Given as goal
 
 abbrev pub invariant-loop-key : goal.invariant-loop-key
 invariant-loop-key l =
