@@ -5,8 +5,8 @@
 
 Edits of different functions are made together in a copy of the crates, and `rt check` then proves the crate once. Each edited
 function must lose its own proof: it is not enough that it calls a function that is not proved. An edit is made alone if it
-changes a definition or a type, replaces several texts in turn, does not compile with others, or is not judged because its
-function calls another edited one.
+changes a definition or a type, or replaces several texts in turn. If edits do not compile together, each half of them is tried
+in turn. Edits that are not judged, because their functions call other edited ones, are tried again without those.
 
 A line for each edit that is not refused shows why. Status 0: each edit is refused. 1: an edit is not refused, cannot be made or
 does not compile, or a CRATE has no edits.
@@ -122,18 +122,19 @@ def faults(folder, edits):
     said = checked(folder, edits)
     if said is None or UNCOMPILED.search(said):
         if len(edits) > 1:
-            return [line for edit in edits for line in faults(folder, [edit])]
+            half = len(edits) // 2
+            return faults(folder, edits[:half]) + faults(folder, edits[half:])
         return [f"{edits[0].name}: {'cannot be made' if said is None else 'does not compile'}"]
     refused = set(REFUSED.findall(said))
     if functions == [None]:
         return [] if refused else [f"{edits[0].name}: no function loses its proof"]
-    found, unproved = [], set(UNPROVED.findall(said))
-    for edit, (_, name) in zip(edits, functions):
-        if name in unproved - refused and len(edits) > 1:
-            found += faults(folder, [edit])
-        elif name not in refused:
-            found.append(f"{edit.name}: `{name}` does not lose its own proof")
-    return found
+    unproved = set(UNPROVED.findall(said)) - refused
+    names = dict(zip(edits, (name for _, name in functions)))
+    again = [edit for edit in edits if len(edits) > 1 and names[edit] in unproved]
+    found = [f"{it.name}: `{names[it]}` does not lose its own proof" for it in edits if it not in again and names[it] not in refused]
+    # if none was judged, a further try together would end in the same way
+    groups = [again] if len(again) < len(edits) else [[edit] for edit in again]
+    return found + [line for group in groups if group for line in faults(folder, group)]
 
 
 def tried(crate, scratch):
@@ -143,9 +144,11 @@ def tried(crate, scratch):
     if not edits or not os.path.isdir(folder):
         print(f"{crate}: no such crate, or no edits in mutants/{crate}")
         return False
-    found = [line for group in groups_of(edits, folder) for line in faults(folder, group)]
-    for line in found:
-        print(f"{crate}/{line}")
+    found = []
+    for group in groups_of(edits, folder):
+        lines = faults(folder, group)
+        print("".join(f"{crate}/{line}\n" for line in lines), end="", flush=True)
+        found += lines
     print(f"{crate}: {len(edits) - len(found)} of {len(edits)} refused", flush=True)
     return not found
 
