@@ -142,7 +142,7 @@ class Drawn(ToolTest):
         self.sheet = self.write("sheet.json", json.dumps(drawn_reports.SHEET))
 
     def test_untidy_reports_with_drawn_options(self):
-        for seed in range(300):
+        for seed in range(100):
             chance = random.Random(seed)
             report = self.write("report.json", drawn_reports.untidy(chance))
             with self.subTest(seed=seed):
