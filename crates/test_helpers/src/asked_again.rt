@@ -83,7 +83,7 @@ pub fn holds_under_sheet<F: Fn(&HostRuntime, &Sheet) -> bool>(rt: &HostRuntime, 
 }
 
 pub fn joined(rt: &HostRuntime, parts: &[&str]) -> Result<Vec<u8>, AllocError> {
-    let mut all = room_for(rt, parts)?;
+    let mut all = space_for(rt, length_of(parts))?;
     for part in parts {
         all.extend_from_slice(part.as_bytes())?;
     }
@@ -102,15 +102,21 @@ pub fn repeated(rt: &HostRuntime, piece: &str, count: usize) -> Result<String, A
     }
 }
 
-fn room_for(rt: &HostRuntime, parts: &[&str]) -> Result<Vec<u8>, AllocError> {
-    let mut room = 0usize;
+fn length_of(parts: &[&str]) -> usize {
+    let mut length = 0usize;
     for part in parts {
-        room = room.saturating_add(part.len());
+        length = length.saturating_add(part.len());
     }
-    match Vec::with_capacity(rt.alloc(), room) {
+    length
+}
+
+/// Returns an empty list with space for this many bytes. If memory is refused, prints `refused here`
+/// and tries once more.
+pub fn space_for(rt: &HostRuntime, bytes: usize) -> Result<Vec<u8>, AllocError> {
+    match Vec::with_capacity(rt.alloc(), bytes) {
         Err(_) => {
             tell_refused_here(rt);
-            Vec::with_capacity(rt.alloc(), room)
+            Vec::with_capacity(rt.alloc(), bytes)
         }
         made => made,
     }

@@ -39,13 +39,11 @@ pub(crate) fn reports(alloc: Global, each: &[&str]) -> Result<Vec<Encoded>, Allo
 }
 
 /// True if only the second report is refused, for the unbound prefix of its first fact.
-fn tells_second(refused: &Refusals) -> bool {
-    let mut refused = refused.as_slice().iter();
-    let told = match refused.next() {
-        Some((report, refusal)) => *report == 2 && *refusal == AT_FIRST_FACT,
-        None => false,
-    };
-    told && refused.next().is_none()
+pub(crate) fn is_only_second(refused: &Refusals) -> bool {
+    match refused.as_slice() {
+        [(report, refusal)] => *report == 2 && *refusal == AT_FIRST_FACT,
+        _ => false,
+    }
 }
 
 /// True if row 1 is too loose, nothing is written, and only the second report is refused.
@@ -54,7 +52,7 @@ fn are_too_loose(alloc: Global, sheet: &Sheet, reports: &[Encoded]) -> Result<bo
     match consolidate(alloc, sheet, reports, Level::Consistent, &mut sink) {
         Err(Fault::OutOfMemory(_)) => Err(AllocError),
         Err(Fault::TooLoose { row, refused }) => Ok(
-            row == 1 && tells_second(&refused) && sink.taken() == 0,
+            row == 1 && is_only_second(&refused) && sink.taken() == 0,
         ),
         _ => Ok(false),
     }

@@ -142,11 +142,16 @@ const SPELLED: [&[&str]; 9] = [
 const MORE: &str =
     r#"{"namespaces":{"q":"http://example.org/t","z":"http://example.org/z"},"concepts":{"q:A":"numeric","q:B":"numeric","z:C":"text","q:Q":"name"}}"#;
 
+// A separate function, because the long contract of the call makes each call slow to prove.
+fn check_once(rt: &HostRuntime, sheet: &Sheet, report: &[u8]) -> Result<Checked, Refusal> {
+    check_report(rt.alloc(), sheet, report)
+}
+
 fn check(rt: &HostRuntime, sheet: &Sheet, report: &[u8]) -> Result<Checked, Refusal> {
-    match check_report(rt.alloc(), sheet, report) {
+    match check_once(rt, sheet, report) {
         Err(refusal) if is_want_of_memory(refusal) => {
             tell_refused(rt);
-            check_report(rt.alloc(), sheet, report)
+            check_once(rt, sheet, report)
         }
         answer => answer,
     }

@@ -1,4 +1,4 @@
-use crate::tests::calls::{AT_FIRST_FACT, HUNDRED, UNBOUND, reports};
+use crate::tests::calls::{HUNDRED, UNBOUND, is_only_second, reports};
 use crate::tests::sinks::sheet;
 use oim_merge::{Fault, source_lines};
 use oim_report::Sheet;
@@ -22,9 +22,7 @@ fn are_told(alloc: Global, sheet: &Sheet, reports: &[Encoded]) -> Result<bool, A
     let mut sink = StdSink::new(Expecting::just(LINES));
     match source_lines(alloc, sheet, reports, &mut sink) {
         Err(Fault::OutOfMemory(_)) => Err(AllocError),
-        Ok(refused) => Ok(
-            refused.as_slice() == [(2, AT_FIRST_FACT)].as_slice() && sink.into_inner().is_met(),
-        ),
+        Ok(refused) => Ok(is_only_second(&refused) && sink.into_inner().is_met()),
         Err(_) => Ok(false),
     }
 }

@@ -19,18 +19,20 @@ const OF_T: &str = r#","dimensions":{"concept":"eg:T"}}}}"#;
 
 const OF_Q: &str = r#","dimensions":{"concept":"eg:Q"}}}}"#;
 
+// Long contracts make calls slow to prove: each such call stands alone in a function.
+fn take_once(base: &mut Base<'_>, report: &Report<'_>) -> bool {
+    base.same_sheet(report.sheet()) && base.take(report).is_ok()
+}
+
 // Takes a report. If memory is refused, the base must keep its number of facts, and the call is
 // repeated.
 fn take(rt: &HostRuntime, base: &mut Base<'_>, report: &Report<'_>) -> bool {
-    if !base.same_sheet(report.sheet()) {
-        return false;
-    }
     let count = base.fact_count();
-    if base.take(report).is_ok() {
+    if take_once(base, report) {
         return true;
     }
     tell_refused(rt);
-    base.fact_count() == count && base.take(report).is_ok()
+    base.fact_count() == count && take_once(base, report)
 }
 
 // Takes a report with this text, or returns false if the report is refused.

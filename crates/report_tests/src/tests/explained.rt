@@ -281,12 +281,16 @@ fn is_said_once(
         format: Format::Text,
     };
     let said = explain(rt.alloc(), sheet, input, bytes)?;
-    if said.text.as_str() != lines {
-        let found = said.text.as_str();
+    let faults = lines.split('\n').count() - 1;
+    Ok(are_lines(rt, said.text.as_str(), lines) && said.faults == faults as u64)
+}
+
+/// Returns whether the text is as expected, and prints it if it is not.
+fn are_lines(rt: &HostRuntime, found: &str, lines: &str) -> bool {
+    if found != lines {
         let _ = eprintln!(rt; "{found}");
     }
-    let faults = lines.split('\n').count() - 1;
-    Ok(said.text.as_str() == lines && said.faults == faults as u64)
+    found == lines
 }
 
 fn is_said(rt: &HostRuntime, sheet: &Sheet, bytes: &[u8], lines: &str) -> Result<bool, AllocError> {

@@ -85,21 +85,27 @@ fn is_outcome(refusal: Refusal, (number, fact): Outcome) -> bool {
 }
 
 pub(super) fn are_spelled(found: &[Text], texts: &[&str]) -> bool {
-    for (text, spelled) in found.iter().zip(texts) {
-        if text.as_str() != *spelled {
+    if found.len() != texts.len() {
+        return false;
+    }
+    for index in 0..found.len() {
+        if found[index].as_str() != texts[index] {
             return false;
         }
     }
-    found.len() == texts.len()
+    true
 }
 
 fn are_of(facts: &[Fact], concepts: &[&str]) -> bool {
-    for (fact, local) in facts.iter().zip(concepts) {
-        if fact.dimensions.concept().local() != *local {
+    if facts.len() != concepts.len() {
+        return false;
+    }
+    for index in 0..facts.len() {
+        if facts[index].dimensions.concept().local() != concepts[index] {
             return false;
         }
     }
-    facts.len() == concepts.len()
+    true
 }
 
 fn is_so_read(report: &Report, answer: &Answer) -> bool {

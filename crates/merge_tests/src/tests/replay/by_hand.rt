@@ -47,11 +47,15 @@ fn text_of(
 fn joined_text(alloc: Global, sheet: &Sheet, one: &[u8]) -> Result<Encoded, AllocError> {
     let mut base = base_of(alloc, sheet, HUNDRED, &[])?;
     let other = base_of(alloc, sheet, HUNDRED_ONE, &[one])?;
+    join(&mut base, &other)?;
+    text(alloc, &base)
+}
+
+fn join(base: &mut Base<'_>, other: &Base<'_>) -> Result<(), AllocError> {
     if !base.same_sheet(other.sheet()) {
         return Err(AllocError);
     }
-    base.join(&other)?;
-    text(alloc, &base)
+    base.join(other)
 }
 
 /// True if calls write this text of a replica that takes a report with these facts, and then

@@ -223,11 +223,21 @@ const MISSING: &[(usize, &str, u64)] = &[
     (0, "send 1", 1),
 ];
 
+fn is_refused_at(
+    alloc: Global,
+    sheet: &Sheet,
+    n: usize,
+    lines: &str,
+    line: u64,
+) -> Result<bool, AllocError> {
+    let answer = with_memory(played(alloc, sheet, n, &[HUNDRED, UNBOUND], lines))?;
+    Ok(matches!(answer, Err(ReplayFault::BadEvent(at)) if at == line))
+}
+
 fn missing_are_refused(alloc: Global) -> Result<bool, AllocError> {
     let sheet = sheet(alloc)?;
     for (n, lines, line) in MISSING {
-        let answer = with_memory(played(alloc, &sheet, *n, &[HUNDRED, UNBOUND], lines))?;
-        if !matches!(answer, Err(ReplayFault::BadEvent(at)) if at == *line) {
+        if !is_refused_at(alloc, &sheet, *n, lines, *line)? {
             return Ok(false);
         }
     }

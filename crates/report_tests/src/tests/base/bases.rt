@@ -20,18 +20,19 @@ fn is_new_base_empty(rt: &HostRuntime, sheet: &Sheet) -> bool {
         && base.rows().next().is_none()
 }
 
+pub(super) fn join_once(base: &mut Base<'_>, other: &Base<'_>) -> bool {
+    base.same_sheet(other.sheet()) && base.join(other).is_ok()
+}
+
 // Joins a base. If memory is refused, the first base must keep its number of facts, and the call
 // is repeated.
 pub(super) fn join(rt: &HostRuntime, base: &mut Base<'_>, other: &Base<'_>) -> bool {
-    if !base.same_sheet(other.sheet()) {
-        return false;
-    }
     let count = base.fact_count();
-    if base.join(other).is_ok() {
+    if join_once(base, other) {
         return true;
     }
     tell_refused(rt);
-    base.fact_count() == count && base.join(other).is_ok()
+    base.fact_count() == count && join_once(base, other)
 }
 
 fn joins_two(rt: &HostRuntime, base: &mut Base<'_>) -> bool {
@@ -41,13 +42,17 @@ fn joins_two(rt: &HostRuntime, base: &mut Base<'_>) -> bool {
     }
 }
 
-// Returns `Some(false)` if memory for `absorb` is refused; the other base is then lost.
-fn absorb_two(rt: &HostRuntime, base: &mut Base<'_>) -> Option<bool> {
-    let other = base_of(rt, base.sheet(), &[TWO, ONE])?;
+fn absorb_once<'s>(base: &mut Base<'s>, other: Base<'s>) -> Option<bool> {
     if !base.same_sheet(other.sheet()) {
         return None;
     }
     Some(base.absorb(other).is_ok())
+}
+
+// Returns `Some(false)` if memory for `absorb` is refused; the other base is then lost.
+fn absorb_two(rt: &HostRuntime, base: &mut Base<'_>) -> Option<bool> {
+    let other = base_of(rt, base.sheet(), &[TWO, ONE])?;
+    absorb_once(base, other)
 }
 
 // Returns `Some(false)` if memory for `absorb_report` is refused; the report is then lost.

@@ -1,32 +1,22 @@
-use super::bases::join;
-use super::take_text;
+use super::bases::{join, join_once};
 use super::verdicts::judged;
+use super::{take_once, take_text};
 use fact_base::{Base, Evidence, Verdict};
 use oim_report::{Report, Sheet};
 use std::alloc::AllocError;
-use test_helpers::asked_again::{INFO, holds_under_sheet, read, tell_refused, tell_refused_here};
+use test_helpers::asked_again::{INFO, holds_under_sheet, read, space_for, tell_refused};
 
 // The facts have the numbers from 1 to `COUNT`, and one dimension set.
 const COUNT: usize = 400;
 
 // More bytes than a report with all facts has.
-const ROOM: usize = 40_000;
+const LENGTH: usize = 40_000;
 
 const DIGITS: [&str; 10] = ["0", "1", "2", "3", "4", "5", "6", "7", "8", "9"];
 
 const VALUE: &str = r#"":{"value":""#;
 
 const OF_FACT: &str = r#"","decimals":0,"dimensions":{"concept":"eg:A"}}"#;
-
-fn room(rt: &HostRuntime) -> Result<Vec<u8>, AllocError> {
-    match Vec::with_capacity(rt.alloc(), ROOM) {
-        Err(_) => {
-            tell_refused_here(rt);
-            Vec::with_capacity(rt.alloc(), ROOM)
-        }
-        room => room,
-    }
-}
 
 // Appends the fact with this number, which has at most three digits, after a mark.
 fn push_fact(text: &mut Vec<u8>, mark: &str, number: usize) -> Result<(), AllocError> {
@@ -43,7 +33,7 @@ fn push_fact(text: &mut Vec<u8>, mark: &str, number: usize) -> Result<(), AllocE
 
 // Returns the text of a report with `count` facts, which have the numbers from `first` on.
 fn report_of(rt: &HostRuntime, first: usize, count: usize) -> Result<Vec<u8>, AllocError> {
-    let mut text = room(rt)?;
+    let mut text = space_for(rt, LENGTH)?;
     text.extend_from_slice(INFO.as_bytes())?;
     for number in 0..count {
         let mark = if number == 0 { "\"" } else { ",\"" };
@@ -66,6 +56,10 @@ fn base_of<'s>(rt: &HostRuntime, sheet: &'s Sheet, first: usize, count: usize) -
     take_report(rt, &mut base, first, count).then_some(base)
 }
 
+fn joined<'s>(rt: &HostRuntime, mut base: Base<'s>, other: &Base<'_>) -> Option<Base<'s>> {
+    join(rt, &mut base, other).then_some(base)
+}
+
 // Joins bases with one fact each: in pairs, then pairs of pairs, and so on.
 fn joined_in_pairs<'s>(
     rt: &HostRuntime,
@@ -77,9 +71,9 @@ fn joined_in_pairs<'s>(
         return base_of(rt, sheet, first, 1);
     }
     let half = count / 2;
-    let mut base = joined_in_pairs(rt, sheet, first, half)?;
+    let base = joined_in_pairs(rt, sheet, first, half)?;
     let other = joined_in_pairs(rt, sheet, first.saturating_add(half), count - half)?;
-    join(rt, &mut base, &other).then_some(base)
+    joined(rt, base, &other)
 }
 
 fn are_all_apart(base: &Base<'_>) -> bool {
@@ -126,8 +120,8 @@ enum Many<'a, 's> {
 
 fn gets_once(base: &mut Base<'_>, many: Many<'_, '_>) -> bool {
     match many {
-        Many::Report(report) => base.same_sheet(report.sheet()) && base.take(report).is_ok(),
-        Many::Base(other) => base.same_sheet(other.sheet()) && base.join(other).is_ok(),
+        Many::Report(report) => take_once(base, report),
+        Many::Base(other) => join_once(base, other),
     }
 }
 

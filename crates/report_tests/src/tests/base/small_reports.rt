@@ -4,7 +4,7 @@
 
 use super::{OF_A, base_between};
 use fact_base::{Base, BaseBuilder};
-use oim_report::Sheet;
+use oim_report::{Report, Sheet};
 use std::alloc::AllocError;
 use test_helpers::asked_again::{holds_under_sheet, joined, read, tell_refused};
 
@@ -32,21 +32,25 @@ const PARTS: [&str; 9] = [
     r#"10.xsd"]},"facts":{"a":{"value":"10","decimals":0"#,
 ];
 
-// Returns `Some(false)` if memory for `add` is refused; the report is then lost.
-fn add(rt: &HostRuntime, gathered: &mut BaseBuilder<'_>, part: &str, end: &str) -> Option<bool> {
-    let text = joined(rt, &[START, part, end]).ok()?;
-    let report = read(rt, gathered.sheet(), &text).ok()?;
-    if !gathered.sheet().same_as(report.sheet()) {
+fn add_once<'s>(builder: &mut BaseBuilder<'s>, report: Report<'s>) -> Option<bool> {
+    if !builder.sheet().same_as(report.sheet()) {
         return None;
     }
-    Some(gathered.add(report).is_ok())
+    Some(builder.add(report).is_ok())
 }
 
-fn adds(rt: &HostRuntime, gathered: &mut BaseBuilder<'_>, part: &str, end: &str) -> bool {
-    match add(rt, gathered, part, end) {
+// Returns `Some(false)` if memory for `add` is refused; the report is then lost.
+fn add(rt: &HostRuntime, builder: &mut BaseBuilder<'_>, part: &str, end: &str) -> Option<bool> {
+    let text = joined(rt, &[START, part, end]).ok()?;
+    let report = read(rt, builder.sheet(), &text).ok()?;
+    add_once(builder, report)
+}
+
+fn adds(rt: &HostRuntime, builder: &mut BaseBuilder<'_>, part: &str, end: &str) -> bool {
+    match add(rt, builder, part, end) {
         Some(false) => {
             tell_refused(rt);
-            add(rt, gathered, part, end) == Some(true)
+            add(rt, builder, part, end) == Some(true)
         }
         added => added == Some(true),
     }
@@ -57,13 +61,13 @@ fn gather<'s>(
     sheet: &'s Sheet,
     end: &str,
 ) -> Option<Result<Base<'s>, AllocError>> {
-    let mut gathered = BaseBuilder::new(rt.alloc(), sheet);
+    let mut builder = BaseBuilder::new(rt.alloc(), sheet);
     for part in &PARTS {
-        if !adds(rt, &mut gathered, part, end) {
+        if !adds(rt, &mut builder, part, end) {
             return None;
         }
     }
-    Some(gathered.into_base())
+    Some(builder.into_base())
 }
 
 // If memory for the base is refused, all reports are added again.

@@ -39,7 +39,7 @@ pub(super) const TABLES: &[Table<Outcome>] = &[Table {
             ],
         ),
         ((11, 1), &[r#"{"value":"1"}"#]),
-        // the form of each name of a fact
+        // each name in a fact must have the form of a name
         (
             (12, 1), // NameForm
             &[
