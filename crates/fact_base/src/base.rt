@@ -1,4 +1,4 @@
-ghost use Rattle.std.specs.Prelude.{◌≡◌, ◌≢◌, ◌↔◌, [], ◌∷◌, length, is_some, IsTrue, IfOk, IfSome, MatchOption, OnOk, OnErr};
+ghost use Rattle.std.specs.Prelude.{◌≡◌, ◌≢◌, ◌↔◌, [], ◌∷◌, ◌++◌, length, is_some, IsTrue, IfOk, IfSome, MatchOption, OnOk, OnErr};
 ghost use Rattle.fact_base.specs.Body.{body, gathered, union};
 ghost use Rattle.fact_base.specs.Fits.{Fits};
 ghost use Rattle.fact_base.specs.Rows.{rows_of, values_at};
@@ -163,6 +163,19 @@ impl<'s> Base<'s> {
         Ok(())
     }
 
+    // Appends copies of the facts and the references to the lists.
+    pub(crate) fn append_to(
+        &self,
+        facts: &mut Vec<Fact>,
+        references: &mut Vec<Text>,
+    ) -> Result<(), AllocError>
+        ensures facts { OnOk result (facts.new.items ≡ facts.old.items ++ self.now.body.facts) }
+        ensures references { OnOk result (references.new.items ≡ references.old.items ++ self.now.body.references) }
+    {
+        facts.append(&mut copied_facts(self.alloc, &self.entries)?)?;
+        references.append(&mut copies_of(self.alloc, self.taxonomy(), 0)?)
+    }
+
     /// Returns one row for each dimension set, in order.
     pub fn rows(&self) -> Rows<'_>
         ensures { rows_left result ≡ rows_of self.now.body.facts }
@@ -215,13 +228,6 @@ impl<'s> Base<'s> {
         ensures evidence { IfSome result (IsEvidence (values_at dimensions.now self.now.body.facts)) }
     {
         Some(self.row(dimensions)?.evidence())
-    }
-
-    // Returns copies of the facts, in order.
-    pub(crate) fn copied_facts(&self) -> Result<Vec<Fact>, AllocError>
-        ensures { IfOk result (λ facts. facts.items ≡ self.now.body.facts) }
-    {
-        copied_facts(self.alloc, &self.entries)
     }
 
     fn row<'b>(&'b self, dimensions: &'b Dimensions) -> Option<Row<'b>>

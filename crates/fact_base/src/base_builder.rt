@@ -148,8 +148,7 @@ impl<'s> BaseBuilder<'s> {
         if base.fact_count() < facts.len() as u128 {
             // Copying the base's facts to the longer list needs less memory than absorbing its
             // entries.
-            facts.append(&mut base.copied_facts()?)?;
-            references.append(&mut copies_of(alloc, base.taxonomy(), 0)?)?;
+            base.append_to(&mut facts, &mut references)?;
             return Base::of(alloc, sheet, facts, references);
         }
         base.absorb(Base::of(alloc, sheet, facts, references)?)?;

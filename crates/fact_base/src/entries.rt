@@ -100,12 +100,18 @@ fn push_facts(
     ensures { OnOk result (facts.new.items ≡ facts.old.items ++ facts_with dimensions.now values.now) }
 {
     for value in values {
-        facts.push(Fact {
-            dimensions: dimensions.copied(alloc)?,
-            value: value.copied(alloc)?,
-        })?;
+        facts.push(fact_of(alloc, dimensions, value)?)?;
     }
     Ok(())
+}
+
+fn fact_of(alloc: Global, dimensions: &Dimensions, value: &Value) -> Result<Fact, AllocError>
+    ensures { IfOk result (λ fact. fact ≡ record { dimensions = dimensions.now; value = value.now }) }
+{
+    Ok(Fact {
+        dimensions: dimensions.copied(alloc)?,
+        value: value.copied(alloc)?,
+    })
 }
 
 pub(crate) fn count_of(entries: &Entries) -> u128

@@ -67,6 +67,19 @@ impl Dimensions {
         }
     }
 
+    // Copies all but the concept. Each copy is stored at once, so that an error has one value to
+    // drop.
+    fn copy_rest(&mut self, other: &Dimensions, alloc: Global) -> Result<(), AllocError>
+        ensures { OnOk result (self.new ≡ record other.now { concept = self.old.concept }) }
+    {
+        self.entity = Copied::copied(&other.entity, alloc)?;
+        self.period = other.period;
+        self.unit = Copied::copied(&other.unit, alloc)?;
+        self.language = Copied::copied(&other.language, alloc)?;
+        self.members = other.members.copied(alloc)?;
+        Ok(())
+    }
+
     /// Returns the concept that the fact reports.
     pub fn concept(&self) -> &Name
         ensures { result.now ≡ self.now.concept }
@@ -212,14 +225,9 @@ fn index_of(members: &[(Name, Member)], name: &Name) -> Option<usize>
 
 impl Copied for Dimensions {
     fn copied(&self, alloc: Global) -> Result<Self, AllocError> {
-        Ok(Dimensions {
-            concept: self.concept.copied(alloc)?,
-            entity: Copied::copied(&self.entity, alloc)?,
-            period: self.period,
-            unit: Copied::copied(&self.unit, alloc)?,
-            language: Copied::copied(&self.language, alloc)?,
-            members: self.members.copied(alloc)?,
-        })
+        let mut copy = Dimensions::new(alloc, self.concept.copied(alloc)?);
+        copy.copy_rest(self, alloc)?;
+        Ok(copy)
     }
 }
 

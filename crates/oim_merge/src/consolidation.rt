@@ -1,4 +1,4 @@
-ghost use Rattle.std.specs.Prelude.{◌≡◌, ℕ, List, [], ◌++◌, ◌+◌, ◌-◌, ◌^◌, ◌<◌, IfOk, IfErr, OnOk, OnErr, MatchResult, Ok, Err};
+ghost use Rattle.std.specs.Prelude.{◌≡◌, ℕ, List, [], ◌+◌, ◌-◌, ◌^◌, ◌<◌, IfOk, IfErr, OnOk, OnErr, MatchResult, Ok, Err};
 ghost use Rattle.oim_report.specs.Identifiers.{identifiers};
 ghost use Rattle.oim_report.specs.Outcome.{outcome};
 ghost use Rattle.oim_merge.specs.Added.{added, begun, with_report};
@@ -48,13 +48,26 @@ pub fn consolidate<S: Sink>(
 /// reports, the refusals, and the number of all reports. The reader of a consolidation caches the
 /// prefixes of one report and a limited number of short texts. A consolidation borrows the sheet
 /// under which it reads reports.
-#[derive(Drop)]
 pub struct Consolidation<'s> {
     alloc: Global,
     reader: ReportReader<'s>,
     gathered: BaseBuilder<'s>,
     refusals: Refusals,
     reports: u64,
+}
+
+// By hand, so that dropping a consolidation is one call: each place where a derived `drop` runs is
+// proved with all its parts.
+impl Drop for Consolidation<'_> {
+    fn drop(self) {
+        let Consolidation {
+            alloc: _,
+            reader: _,
+            gathered: _,
+            refusals: _,
+            reports: _,
+        } = self;
+    }
 }
 
 impl<'s> Model for Consolidation<'s> {
@@ -277,9 +290,11 @@ impl<'s> Consolidation<'s> {
         ensures refusals { IfOk result (λ merged. merged.refusals ≡ self.entry.refusals) }
     {
         let Consolidation {
+            alloc: _,
+            reader: _,
             gathered,
             refusals,
-            ..
+            reports: _,
         } = self;
         let base = gathered.into_base()?;
         Ok(Merged { base, refusals })

@@ -1,13 +1,14 @@
-ghost use Rattle.std.specs.Prelude.{◌≡◌, ◌<◌, None, [], length, replicate, IfOk, OnOk};
+ghost use Rattle.std.specs.Prelude.{◌≡◌, ◌<◌, None, [], ◌∷◌, length, replicate, IfOk, OnOk};
 ghost use Rattle.std.specs.List.{slice_index_or};
 ghost use Rattle.std.specs.Result.{result_err};
 ghost use Rattle.oim_report.specs.Outcome.{outcome};
+ghost use Rattle.oim_merge.specs.Bases.{base_of};
 ghost use Rattle.oim_merge.specs.code.Readings.{AreReadings, read_as, with_read};
 ghost use Rattle.oim_merge.specs.Replicas.{joined_with, with_outcome};
 
 use crate::consolidation::read;
-use fact_base::{Base, BaseBuilder};
-use oim_report::{Refusal, ReportReader, Sheet};
+use fact_base::Base;
+use oim_report::{Refusal, Report, ReportReader, Sheet};
 use oim_write::Encoded;
 use std::alloc::{AllocError, Global};
 
@@ -64,15 +65,19 @@ fn read_base<'s>(
 ) -> Result<Result<Base<'s>, Refusal>, AllocError>
     ensures { IfOk result (λ read. read ≡ read_as sheet.now (outcome sheet.now bytes.now)) }
 {
-    let mut reader = ReportReader::new(alloc, sheet);
-    match read(&mut reader, bytes)? {
-        Ok(report) => {
-            let mut gathered = BaseBuilder::new(alloc, sheet);
-            gathered.add(report)?;
-            Ok(Ok(gathered.into_base()?))
-        }
+    match read(&mut ReportReader::new(alloc, sheet), bytes)? {
+        Ok(report) => Ok(Ok(base_of(alloc, sheet, report)?)),
         Err(refusal) => Ok(Err(refusal)),
     }
+}
+
+fn base_of<'s>(alloc: Global, sheet: &'s Sheet, report: Report<'_>) -> Result<Base<'s>, AllocError>
+    requires { report.sheet ≡ sheet.now }
+    ensures { IfOk result (λ base. base ≡ base_of sheet.now (report.entry.document ∷ [])) }
+{
+    let mut base = Base::new(alloc, sheet);
+    base.absorb_report(report)?;
+    Ok(base)
 }
 
 fn take_read(

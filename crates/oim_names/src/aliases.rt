@@ -4,6 +4,7 @@ ghost use Rattle.std.specs.Result.{result_err};
 ghost use Rattle.std.specs.List.{list_all};
 ghost use Rattle.oim_names.specs.QName.{is_name_byte, is_part, prefix_part, local_part};
 ghost use Rattle.oim_names.specs.Bindings.{AreBindings, uri_at, uri_of, prefix_of, bound, is_refused_binding};
+ghost use Rattle.oim_names.specs.code.Indexed.{IsBound};
 ghost use Rattle.oim_names.specs.Expansion.{Expands, ExpandsEntity, entity_refusal, name_refusal, prefix_refusal, reserved_uri};
 
 use crate::copied::Copied;
@@ -89,12 +90,8 @@ impl Aliases {
     {
         let alloc = *self.bindings.allocator();
         let binding = Binding::new(alloc, prefix, uri)?;
-        let key = String::from_str(alloc, prefix)?;
-        let known = binding.uri_text().copied(alloc)?;
         self.bindings.reserve(1)?;
-        let Ok(_) = self.uris.insert(key, known) else {
-            return Err(Reason::OutOfMemory);
-        };
+        insert_uri(alloc, &mut self.uris, prefix, binding.uri_text())?;
         let index = self.bindings.len();
         self.bindings.push_reserved(binding);
         self.cache.set(prefix, index);
@@ -270,6 +267,24 @@ impl Aliases {
             IfOk result (λ text. ExpandsEntity self.now text name.now) }
     {
         joined(*self.bindings.allocator(), prefix, name.local())
+    }
+}
+
+// On an error, the map is as it was.
+fn insert_uri(
+    alloc: Global,
+    uris: &mut BTreeMap<String, Text>,
+    prefix: &str,
+    uri: &Text,
+) -> Result<(), AllocError>
+    ensures ok { OnOk result (IsBound uris.old prefix.now uri.now uris.new) }
+    ensures err { OnErr result (uris.new.entries ≡ uris.old.entries) }
+{
+    let key = String::from_str(alloc, prefix)?;
+    let known = uri.copied(alloc)?;
+    match uris.insert(key, known) {
+        Ok(_) => Ok(()),
+        Err(_) => Err(AllocError),
     }
 }
 

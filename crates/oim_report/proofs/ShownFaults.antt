@@ -25,7 +25,7 @@ use Rattle.oim_report.specs.Names.{comes_again, named, refuses_some}
 use Rattle.oim_report.specs.declared.dimension_kind.DimensionKind.{DimensionKind}
 use Rattle.oim_report.specs.declared.dimension_kind.DimensionKind.TheVariants.{Explicit}
 use Rattle.oim_report.specs.Shown.{repeated, Shown, document_part, document_shown, entry, first_item, name, nothing, value, value_or_nothing, when, beside_first, first_shown, seen}
-use Rattle.oim_report.specs.code.MemberTests.{defined_name, misdeclared, first_defined, names_at, names_in}
+use Rattle.oim_report.specs.code.MemberTests.{defined_name, misdeclared, first_defined, names_at, names_in, names_with}
 use Rattle.oim_report.specs.FactMembers.{defined_members, is_defined}
 use Rattle.oim_report.specs.Holds.{any_item, declares_no_level, document_holds, concept, explicit_text, is_misfit, is_some_and, names, pieces, text_at, value_text}
 use Rattle.oim_report.specs.Info.{bindings_of, features_of, info, is_allowed_duplicates, namespaces_of}
@@ -160,20 +160,18 @@ module _ (bs : List Binding) (m : Names) (k : List ℕ) (d : Data) (es : List En
   abbrev at_name : Option QName → Option Entry
   at_name o = option_map_or (λ n. if map.contains_key m n then Some (k, d) else repeated_in bs (map.insert m n Explicit) es) o (repeated_in bs m es)
 
-  passes_by : (b : Bool) → name_if b ≡ None → rest b ≡ repeated_in bs m es
-  passes_by true h = ap at_name h
-  passes_by false h = refl
+  rest_is : (b : Bool) → rest b ≡ at_name (name_if b)
+  rest_is true = refl
+  rest_is false = refl
 
-  at_some : (b : Bool) (n : QName) → name_if b ≡ Some n → rest b ≡ at_name (Some n)
-  at_some true n is = ap at_name is
-  at_some false n is = absurd (cc)
+  at_each : (o : Option QName) → at_name o ≡ (if is_some_and (map.contains_key m) o then Some (k, d) else repeated_in bs (names_with m o) es)
+  at_each None = refl
+  at_each (Some n) =
+      elim (map.contains_key m n) as (λ b. (if b then Some (k, d) else repeated_in bs (map.insert m n Explicit) es) ≡ (if b then Some (k, d) else repeated_in bs (if b then m else map.insert m n Explicit) es)) [ true ↦ refl | false ↦ refl ]
 
-  pub passes : defined_name bs k ≡ None → rest (is_defined k) ≡ repeated_in bs m es
-  passes h = passes_by (is_defined k) h
-
-  pub goes_on : (n : QName) (after : Names) → defined_name bs k ≡ Some n → map.contains_key m n ≡ false → after ≡ (if map.contains_key m n then m else map.insert m n Explicit) → rest (is_defined k) ≡ repeated_in bs after es
-  goes_on n after is new put =
-      at_some (is_defined k) n is ∙ ap (λ b. if b then Some (k, d) else repeated_in bs (map.insert m n Explicit) es) new ∙ ap (λ m. repeated_in bs m es) (sym (put ∙ put_as m n Explicit new))
+  pub after_key : (after : Names) (again : Bool) → again ≡ is_some_and (map.contains_key m) (defined_name bs k) → after ≡ names_with m (defined_name bs k) → rest (is_defined k) ≡ (if again then Some (k, d) else repeated_in bs after es)
+  after_key after again is names =
+      rest_is (is_defined k) ∙ at_each (defined_name bs k) ∙ (λ i. if sym is i then Some (k, d) else repeated_in bs (sym names i) es)
 
 -- ---- The first part to which a condition applies, and whether there is such a part.
 

@@ -1,5 +1,5 @@
 -- Members and facts that are read from a tape.
-use Rattle.std.proofs.Common.{◌≡◌, ℕ, ◌≤◌, List, Some, None, option_and_then, refl, ap, ◌∙◌, arith, [], ◌++◌, Option, ◌∷◌, Ok, String, Global, string_bytes, sym, subst}
+use Rattle.std.proofs.Common.{◌≡◌, ℕ, ◌≤◌, List, Some, None, option_and_then, refl, ap, ◌∙◌, arith, [], ◌++◌, Option, ◌∷◌, String, Global, sym, subst}
 use Rattle.json.specs.Token.{Token}
 use Rattle.json.specs.Json.{Json, value, if_last, document}
 use Rattle.json.specs.Tree.{depth, members_depth, json_tokens}
@@ -13,8 +13,7 @@ use Rattle.serde_json.specs.Read.{of_json, of_members, max_depth}
 use Rattle.oim_dims.specs.declared.fact.Fact.{Fact}
 use Rattle.oim_report.specs.code.TapeValues.{Ascends, AreData, one}
 use Rattle.oim_report.specs.Pieces.{alone, HasMember, EndsWithBrace, IsPiece, put_all}
-use Rattle.oim_report.specs.Outcome.{fact_outcome}
-use Rattle.oim_report.specs.code.FoundFacts.{AreFound}
+use Rattle.oim_report.specs.code.FoundFacts.{AreFound, HaveOneMore}
 use Rattle.oim_report.proofs.PieceTexts.{append}
 use Rattle.oim_report.specs.code.Scope.{Scope}
 use Rattle.oim_report.proofs.PutMembers.{ascends_put}
@@ -122,12 +121,6 @@ pub none_reading : (s : Scope) (vs : j.Members) (tape : List Token) (ids : List 
 none_reading s vs tape [] [] i f here = record { left = vs; ms = no_members; here = here; are = λ more h. h; found = tt }
 none_reading s vs tape ids facts i f here = absurd (Prim.cc)
 
-pub record IsData (s : Scope) (v : Json) (fact : Fact) : Type 0 where
-  pub found : Data
-  pub reads : of_json v ≡ Some found
-  pub flat : depth v ≤ 2
-  pub says : fact_outcome s.sheet s.aliases found ≡ Ok fact
-
 append_more : (ms : Members) (k : List ℕ) (d : Data) (more : Members) → append (append ms (member k d no_members)) more ≡ append ms (member k d more)
 append_more no_members k d more = refl
 append_more (member l e ms) k d more = ap (member l e) (append_more ms k d more)
@@ -136,19 +129,19 @@ append_none : (ms : Members) → append ms no_members ≡ ms
 append_none no_members = refl
 append_none (member k d ms) = ap (member k d) (append_none ms)
 
-pub one_read : (s : Scope) (vs : j.Members) (tape rest : List Token) (ids more_ids : List (String Global)) (facts more_facts : List Fact) (id : String Global) (fact : Fact) (m : List ℕ × List Token) → NextMember tape (Some m) rest
-    → string_bytes id ≡ m.0 → more_ids ≡ ids ++ id ∷ [] → more_facts ≡ facts ++ fact ∷ [] → ((v : Json) → BeginsWith m.1 v → IsData s v fact) → AreReading s vs tape ids facts → AreReading s vs rest more_ids more_facts
-one_read s vs tape rest ids more_ids facts more_facts id fact m next key i f is r =
+pub one_read : (s : Scope) (vs : j.Members) (tape rest : List Token) (ids more_ids : List (String Global)) (facts more_facts : List Fact) (m : List ℕ × List Token) → NextMember tape (Some m) rest
+    → HaveOneMore s.sheet s.aliases m.0 m.1 ids more_ids facts more_facts → AreReading s vs tape ids facts → AreReading s vs rest more_ids more_facts
+one_read s vs tape rest ids more_ids facts more_facts m next more r =
     let step = next r.left r.here in
     let v = step.0 in
-    let one = is v step.3 in
-    let all = found_one s.sheet s.aliases r.ms ids facts m.0 one.found id fact r.found key one.says in
+    let one = more.says v step.3 in
+    let all = found_one s.sheet s.aliases r.ms ids facts m.0 one.found more.id more.fact r.found more.is_key one.says in
     record {
       left = step.1;
       ms = append r.ms (member m.0 one.found no_members);
       here = step.4;
-      are = λ more h. subst (AreData vs) (sym (append_more r.ms m.0 one.found more)) (r.are (member m.0 one.found more) (subst (λ l. AreData l (member m.0 one.found more)) (sym step.2) (refl, one.reads, one.flat, h)));
-      found = found_by s.sheet s.aliases (append r.ms (member m.0 one.found no_members)) (ids ++ id ∷ []) more_ids (facts ++ fact ∷ []) more_facts i f all;
+      are = λ l h. subst (AreData vs) (sym (append_more r.ms m.0 one.found l)) (r.are (member m.0 one.found l) (subst (λ k. AreData k (member m.0 one.found l)) (sym step.2) (refl, one.reads, one.flat, h)));
+      found = found_by s.sheet s.aliases (append r.ms (member m.0 one.found no_members)) (ids ++ more.id ∷ []) more_ids (facts ++ more.fact ∷ []) more_facts more.pushed more.added all;
     }
 
 pub all_found : (s : Scope) (vs : j.Members) (tape rest : List Token) (ids : List (String Global)) (facts : List Fact) → NextMember tape None rest → AreReading s vs tape ids facts

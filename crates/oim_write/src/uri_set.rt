@@ -71,17 +71,30 @@ impl UriSet {
         ensures gains { OnOk result (Gains self.old (row_names (shown row.entry)) self.new) }
         ensures known { IfOk result (λ known. HoldForUris (Contains self.new) known (rows_left rows.now)) }
     {
-        let dimensions = row.dimensions;
-        self.add_entity(alloc, dimensions)?;
-        self.add_unit(alloc, dimensions)?;
-        self.add_members(alloc, dimensions.members())?;
-        self.add_values(alloc, row.values)?;
+        self.add_others(alloc, row.dimensions, row.values)?;
         if known > 0 {
             return Ok(known - 1);
         }
-        let concept = dimensions.concept();
+        let concept = row.dimensions.concept();
         self.add(alloc, concept)?;
         Ok(rows.uri_run(concept.uri()))
+    }
+
+    // Adds the URIs of all names except the concept.
+    fn add_others(
+        &mut self,
+        alloc: Global,
+        dimensions: &Dimensions,
+        values: &[Value],
+    ) -> Result<(), AllocError>
+        ensures { let d = dimensions.now in
+            let others = entity_names d.entity ++ (unit_names d.unit ++ flat_map defined_names d.members) in
+            OnOk result (Gains self.old (others ++ flat_map value_names values.now) self.new) }
+    {
+        self.add_entity(alloc, dimensions)?;
+        self.add_unit(alloc, dimensions)?;
+        self.add_members(alloc, dimensions.members())?;
+        self.add_values(alloc, values)
     }
 
     fn add_entity(&mut self, alloc: Global, dimensions: &Dimensions) -> Result<(), AllocError>
@@ -165,12 +178,23 @@ impl UriSet {
         ensures { OnOk result (Gains self.old (name.now ∷ []) self.new) }
     {
         let uri = name.uri();
-        let index = self.uris[..self.ordered].partition_point(|known| known.as_str() < uri);
+        let index = self.search(uri);
         if self.is_at(index, uri) {
             return Ok(index);
         }
+        self.append(alloc, name)
+    }
+
+    // Returns where the URI is in the sorted part, or where it could be inserted.
+    fn search(&self, uri: &str) -> usize {
+        self.uris[..self.ordered].partition_point(|known| known.as_str() < uri)
+    }
+
+    fn append(&mut self, alloc: Global, name: &Name) -> Result<usize, AllocError>
+        ensures { OnOk result (Gains self.old (name.now ∷ []) self.new) }
+    {
         let index = self.uris.len();
-        self.uris.push(Text::new(alloc, uri)?)?;
+        self.uris.push(Text::new(alloc, name.uri())?)?;
         if index / 2 > self.ordered {
             put_in_order(&mut self.uris);
             self.ordered = self.uris.len();

@@ -1,4 +1,4 @@
-ghost use Rattle.std.specs.Prelude.{◌-◌, ◌^◌, ◌<◌};
+ghost use Rattle.std.specs.Prelude.{◌≡◌, ◌+◌, ◌-◌, ◌^◌, ◌<◌, OnOk};
 
 use oim_merge::{Consolidation, Fault, Refusals, TracedMerge};
 use oim_report::Sheet;
@@ -56,11 +56,24 @@ fn reports(alloc: Global) -> Result<Vec<Encoded>, AllocError> {
     Ok(reports)
 }
 
+fn add_once(consolidation: &mut Consolidation<'_>, report: &[u8]) -> Result<(), AllocError>
+    requires { consolidation.old.reports + 1 < 2 ^ 64 }
+    ensures { OnOk result (consolidation.new.reports ≡ consolidation.old.reports + 1) }
+{
+    consolidation.add(report)
+}
+
+fn add_three(consolidation: &mut Consolidation<'_>) -> Result<(), AllocError>
+    requires { consolidation.old.reports + 3 < 2 ^ 64 }
+{
+    add_once(consolidation, FIRST)?;
+    add_once(consolidation, REFUSED)?;
+    add_once(consolidation, SECOND)
+}
+
 fn added<'s>(alloc: Global, sheet: &'s Sheet) -> Result<Consolidation<'s>, AllocError> {
     let mut consolidation = Consolidation::new(alloc, sheet);
-    consolidation.add(FIRST)?;
-    consolidation.add(REFUSED)?;
-    consolidation.add(SECOND)?;
+    add_three(&mut consolidation)?;
     Ok(consolidation)
 }
 

@@ -1,12 +1,17 @@
 -- Facts that were read in pieces, with their identifiers (own).
-use Rattle.std.specs.Prelude.{◌≡◌, ℕ, List, [], ◌∷◌, Bool, true, false, if◌then◌else◌, Option, Some, None, Ok, String, ⊤}
+use Rattle.std.specs.Prelude.{◌≡◌, ◌≤◌, ℕ, List, [], ◌∷◌, ◌++◌, Bool, true, false, if◌then◌else◌, Option, Some, None, Ok, String, ⊤}
 use Rattle.std.specs.declared.alloc.Global.{Global}
 use Rattle.std.specs.Ordering.{nat_cmp, is_lt}
 use Rattle.std.specs.Cmp.Lexicographic.{slice_cmp}
 use Rattle.std.specs.String.{string_bytes}
 use Rattle.oim_names.specs.Bindings.{Binding}
 use Rattle.oim_dims.specs.declared.fact.Fact.{Fact}
-use Rattle.serde_json.specs.Data.{Members, no_members, member}
+use Rattle.json.specs.Find.{BeginsWith}
+use Rattle.json.specs.Json.{Json}
+use Rattle.json.specs.Token.{Token}
+use Rattle.json.specs.Tree.{depth}
+use Rattle.serde_json.specs.Data.{Data, Members, no_members, member}
+use Rattle.serde_json.specs.Read.{of_json}
 use Rattle.oim_report.specs.Outcome.{fact_outcome}
 use Rattle.oim_report.specs.Sheet.{Sheet}
 
@@ -18,6 +23,22 @@ AreFound sheet bs no_members (s ∷ ss) fs = ⊥
 AreFound sheet bs (member k d ms) [] fs = ⊥
 AreFound sheet bs (member k d ms) (s ∷ ss) [] = ⊥
 AreFound sheet bs (member k d ms) (s ∷ ss) (f ∷ fs) = (string_bytes s ≡ k) × (fact_outcome sheet bs d ≡ Ok f) × AreFound sheet bs ms ss fs
+
+-- the value is read as data that denotes the fact
+pub record IsData (sheet : Sheet) (bs : List Binding) (v : Json) (fact : Fact) : Type 0 where
+  pub found : Data
+  pub reads : of_json v ≡ Some found
+  pub flat : depth v ≤ 2
+  pub says : fact_outcome sheet bs found ≡ Ok fact
+
+-- the lists have one more fact, whose identifier is the key and whose value is at this place of a tape
+pub record HaveOneMore (sheet : Sheet) (bs : List Binding) (key : List ℕ) (place : List Token) (ids more_ids : List (String Global)) (facts more_facts : List Fact) : Type 0 where
+  pub id : String Global
+  pub fact : Fact
+  pub is_key : string_bytes id ≡ key
+  pub pushed : more_ids ≡ ids ++ id ∷ []
+  pub added : more_facts ≡ facts ++ fact ∷ []
+  pub says : (v : Json) → BeginsWith place v → IsData sheet bs v fact
 
 abbrev pub is_above : Option (List ℕ) → List ℕ → Bool
 is_above None key = true

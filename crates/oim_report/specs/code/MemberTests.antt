@@ -2,6 +2,8 @@
 use Rattle.std.specs.Prelude.{ℕ, List, [], ◌∷◌, map, Bool, ◌&&◌, Option, None, if◌then◌else◌, codes, is_none}
 use Rattle.std.specs.Option.{option_map_or, option_to_list}
 use Rattle.std.specs.List.{find, flat_map}
+use Rattle.std.specs.FinMap as map
+use Rattle.std.specs.FinMap.{FinMap}
 use Rattle.oim_names.specs.QName.{QName}
 use Rattle.oim_names.specs.Bindings.{Binding}
 use Rattle.serde_json.specs.Data.{Data, Members}
@@ -13,6 +15,9 @@ use Rattle.oim_report.specs.Names.{named}
 use Rattle.oim_report.specs.FactMembers.{is_defined}
 use Rattle.oim_names.specs.Expansion.{Spelled, a_name}
 use Rattle.oim_report.specs.Sheet.{Sheet}
+use Rattle.oim_report.specs.declared.dimension_kind.DimensionKind.{DimensionKind}
+use Rattle.oim_report.specs.declared.dimension_kind.DimensionKind.TheVariants.{Explicit}
+use Rattle.oim_value.specs.ValueOrder.{name_cmp}
 use Rattle.oim_report.specs.Shown.{Shown, entry, value_or_nothing, when}
 
 abbrev pub lacks_text : List ℕ → Members → Bool
@@ -31,6 +36,10 @@ names_in sheet bs ms = flat_map (names_at sheet bs) (entries ms)
 
 abbrev pub defined_name : List Binding → List ℕ → Option QName
 defined_name bs key = if is_defined key then named bs key else None
+
+-- the names, with one more unless it is one of them
+abbrev pub names_with : FinMap name_cmp DimensionKind → Option QName → FinMap name_cmp DimensionKind
+names_with names name = option_map_or (λ n. if map.contains_key names n then names else map.insert names n Explicit) name names
 
 -- ---- features
 

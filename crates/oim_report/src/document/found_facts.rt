@@ -1,4 +1,4 @@
-ghost use Rattle.std.specs.Prelude.{◌≡◌, List, None, true, map, IfSome};
+ghost use Rattle.std.specs.Prelude.{◌≡◌, ◌++◌, ◌∷◌, [], List, None, true, map, IfSome, OnSome};
 ghost use Rattle.std.specs.BTreeMap.{insert_entry};
 ghost use Rattle.std.specs.String.{string_cmp};
 ghost use Rattle.oim_names.specs.Bindings.{Binding};
@@ -25,6 +25,60 @@ pub(crate) struct FoundFacts {
 type IndexedFact = (Fact, Option<usize>);
 
 impl FoundFacts {
+    pub(crate) fn new(alloc: Global) -> FoundFacts
+        ensures identifiers { result.identifiers.items ≡ [] }
+        ensures facts { result.facts.items ≡ [] }
+        ensures indices { result.indices.items ≡ [] }
+    {
+        FoundFacts {
+            identifiers: Vec::new(alloc),
+            facts: Vec::new(alloc),
+            indices: Vec::new(alloc),
+        }
+    }
+
+    fn reserve(&mut self, count: usize) -> Option<()>
+        ensures identifiers { OnSome result (self.new.identifiers.items ≡ self.old.identifiers.items) }
+        ensures facts { OnSome result (self.new.facts.items ≡ self.old.facts.items) }
+        ensures indices { OnSome result (self.new.indices.items ≡ self.old.indices.items) }
+    {
+        self.identifiers.reserve(count).ok()?;
+        self.facts.reserve(count).ok()?;
+        self.indices.reserve(count).ok()
+    }
+
+    /// Adds a fact at the end. The result is `None` if a request for memory is refused.
+    pub(crate) fn push(
+        &mut self,
+        identifier: String,
+        fact: Fact,
+        index: Option<usize>,
+    ) -> Option<()>
+        ensures identifiers { OnSome result (self.new.identifiers.items ≡ self.old.identifiers.items ++ identifier ∷ []) }
+        ensures facts { OnSome result (self.new.facts.items ≡ self.old.facts.items ++ fact ∷ []) }
+        ensures indices { OnSome result (self.new.indices.items ≡ self.old.indices.items ++ index ∷ []) }
+    {
+        self.facts.push(fact).ok()?;
+        self.identifiers.push(identifier).ok()?;
+        self.indices.push(index).ok()
+    }
+
+    /// Adds the facts at the end. The result is `None` if a request for memory is refused.
+    pub(crate) fn append(&mut self, more: FoundFacts) -> Option<()>
+        ensures identifiers { OnSome result (self.new.identifiers.items ≡ self.old.identifiers.items ++ more.identifiers.items) }
+        ensures facts { OnSome result (self.new.facts.items ≡ self.old.facts.items ++ more.facts.items) }
+        ensures indices { OnSome result (self.new.indices.items ≡ self.old.indices.items ++ more.indices.items) }
+    {
+        let FoundFacts {
+            mut identifiers,
+            mut facts,
+            mut indices,
+        } = more;
+        self.identifiers.append(&mut identifiers).ok()?;
+        self.facts.append(&mut facts).ok()?;
+        self.indices.append(&mut indices).ok()
+    }
+
     /// Sorts the facts by their identifiers in byte order. If an identifier is repeated, only its
     /// last fact is kept. The result is `None` if a request for memory is refused.
     pub(crate) fn in_order(self, alloc: Global) -> Option<FoundFacts>
@@ -78,10 +132,11 @@ fn by_identifier(alloc: Global, read: FoundFacts) -> Option<BTreeMap<String, Ind
     Some(found)
 }
 
-fn put(found: &mut BTreeMap<String, IndexedFact>, identifier: String, fact: IndexedFact) -> bool
-    ensures { result ≡ true → found.new.entries ≡ insert_entry string_cmp found.old.entries identifier fact }
+// The function is generic because its proof takes long for a fact, which has many parts to drop.
+fn put<T: Drop>(found: &mut BTreeMap<String, T>, identifier: String, item: T) -> bool
+    ensures { result ≡ true → found.new.entries ≡ insert_entry string_cmp found.old.entries identifier item }
 {
-    found.insert(identifier, fact).is_ok()
+    found.insert(identifier, item).is_ok()
 }
 
 fn found_in(alloc: Global, found: BTreeMap<String, IndexedFact>) -> Option<FoundFacts>
@@ -89,17 +144,10 @@ fn found_in(alloc: Global, found: BTreeMap<String, IndexedFact>) -> Option<Found
         × (f.facts.items ≡ map (λ e. e.1.0) found.entries)
         × (f.indices.items ≡ map (λ e. e.1.1) found.entries)) }
 {
-    let mut identifiers = Vec::with_capacity(alloc, found.len()).ok()?;
-    let mut facts = Vec::with_capacity(alloc, found.len()).ok()?;
-    let mut indices = Vec::with_capacity(alloc, found.len()).ok()?;
+    let mut all = FoundFacts::new(alloc);
+    all.reserve(found.len())?;
     for (identifier, (fact, index)) in found {
-        identifiers.push(identifier).ok()?;
-        facts.push(fact).ok()?;
-        indices.push(index).ok()?;
+        all.push(identifier, fact, index)?;
     }
-    Some(FoundFacts {
-        identifiers,
-        facts,
-        indices,
-    })
+    Some(all)
 }

@@ -1,6 +1,6 @@
-ghost use Rattle.std.specs.Prelude.{◌≡◌, ◌⊎◌, [], Ok, Err, Some, None, IfOk, IfErr, IfSome, OnOk, option_map};
+ghost use Rattle.std.specs.Prelude.{◌≡◌, ◌+◌, ◌≤◌, ◌⊎◌, [], length, vec_len, vec_capacity, Ok, Err, Some, None, IfOk, IfErr, IfSome, OnOk, option_map};
 ghost use Rattle.serde_json.specs.Data.{Data};
-ghost use Rattle.serde_json.specs.View.{view};
+ghost use Rattle.serde_json.specs.View.{view, members_view};
 ghost use Rattle.oim_names.specs.Bindings.{uri_at};
 ghost use Rattle.oim_names.specs.QName.{QName};
 ghost use Rattle.oim_report.specs.code.JsonMember.{seen};
@@ -31,7 +31,7 @@ use crate::refusal::Refusal;
 use crate::sheet::Sheet;
 use oim_dims::{Dimensions, Fact, Member};
 use oim_names::{Aliases, Copied, Name, Reason, Text};
-use serde_json::Value;
+use serde_json::{Map, Value};
 use std::alloc::Global;
 use std::marker::Model;
 
@@ -170,13 +170,26 @@ impl<'s> FactReader<'s> {
         let Some((name, kind)) = self.find_concept(dimensions.concept) else {
             return Err(Reason::UnknownConcept);
         };
-        let mut read = Dimensions::new(self.alloc, name.copied(self.alloc)?);
-        self.read_dimensions(kind, dimensions, &mut read)?;
+        let dimensions = self.read_dimension_set(name, kind, dimensions)?;
         let value = read_value(self.alloc, &self.aliases, kind, parts.value, parts.decimals)?;
-        Ok(Fact {
-            dimensions: read,
-            value,
-        })
+        Ok(Fact { dimensions, value })
+    }
+
+    // Owns the unfinished dimensions, so `read_content` owns only finished ones.
+    fn read_dimension_set(
+        &mut self,
+        concept: &Name,
+        kind: ConceptKind,
+        parts: &DimensionMembers<'_>,
+    ) -> Result<Dimensions, Reason>
+        requires { said_concept self.old.aliases (seen parts.now.concept) ≡ Some concept.now }
+        ensures same { self.new ≡ self.old }
+        ensures said { let ds = seen_dimensions parts.now in
+            IfOk result (λ d. said_dimensions self.old.sheet self.old.aliases kind ds ≡ Some d) }
+    {
+        let mut read = Dimensions::new(self.alloc, concept.copied(self.alloc)?);
+        self.read_dimensions(kind, parts, &mut read)?;
+        Ok(read)
     }
 
     fn find_concept(&mut self, concept: JsonMember<'_>) -> Option<(&'s Name, ConceptKind)>
@@ -301,13 +314,31 @@ pub(crate) fn read_facts(
         return Ok(Vec::new(alloc));
     };
     let mut facts = Vec::with_capacity(alloc, objects.len())?;
+    read_each(reader, objects, &mut facts)?;
+    Ok(facts)
+}
+
+// `facts` is lent and has room for each fact, so an error has nothing to drop here.
+fn read_each(
+    reader: &mut FactReader<'_>,
+    objects: &Map<String, Value>,
+    facts: &mut Vec<Fact>,
+) -> Result<(), Refusal>
+    requires empty { facts.old.items ≡ [] }
+    requires room { vec_len facts.old + length objects.now.entries ≤ vec_capacity facts.old }
+    ensures same { reader.new ≡ reader.old }
+    ensures ok { let said = facts_said reader.old.sheet reader.old.aliases (members_view objects.now.entries) in
+        OnOk result (said ≡ Ok facts.new.items) }
+    ensures errors { let said = facts_said reader.old.sheet reader.old.aliases (members_view objects.now.entries) in
+        IfErr result (λ r. (r ≡ at Place.Document Reason.OutOfMemory) ⊎ (said ≡ Err r)) }
+{
     let mut number: u64 = 1;
     for (_identifier, object) in objects.iter() {
         match reader.read(object) {
-            Ok(fact) => facts.push(fact)?,
+            Ok(fact) => facts.push_reserved(fact),
             Err(reason) => return Err(Refusal::of_fact(reason, number)),
         }
         number += 1;
     }
-    Ok(facts)
+    Ok(())
 }

@@ -1,14 +1,15 @@
 //! Finds the first taxonomy-defined dimension in a fact object to which a condition applies.
 
-ghost use Rattle.std.specs.Prelude.{◌≡◌, ◌&&◌, [], codes, option_map, IfOk};
+ghost use Rattle.std.specs.Prelude.{◌≡◌, ◌&&◌, [], codes, option_map, IfOk, OnOk};
 ghost use Rattle.oim_names.specs.Expansion.{a_name};
 ghost use Rattle.serde_json.specs.View.{view, members_view};
 ghost use Rattle.oim_report.specs.Json.{entries, members, object_at};
 ghost use Rattle.oim_report.specs.Names.{named};
 ghost use Rattle.oim_report.specs.Shown.{beside_first, entry, fact_part, name, repeated, seen, spell_same};
-ghost use Rattle.oim_report.specs.Holds.{is_misfit, is_unlisted};
+ghost use Rattle.std.specs.FinMap as map;
+ghost use Rattle.oim_report.specs.Holds.{is_misfit, is_some_and, is_unlisted};
 ghost use Rattle.oim_report.specs.FactMembers.{defined_members, is_defined};
-ghost use Rattle.oim_report.specs.code.MemberTests.{defined_name, first_defined};
+ghost use Rattle.oim_report.specs.code.MemberTests.{defined_name, first_defined, names_with};
 
 use crate::dimension_kind::DimensionKind;
 use crate::document::json_tree::{has_colon, object_at};
@@ -103,16 +104,32 @@ fn two_keys<'a>(
 {
     let mut before: NameTableBuilder<DimensionKind> = NameTableBuilder::new(alloc);
     for (key, _value) in dimensions.iter() {
-        if let Some(name) = dimension_name(aliases, key.as_str())? {
-            before.turn_to(name.uri())?;
-            if before.has(&name) {
-                return Ok(Some(beside_first(aliases, dimensions, key.as_str())));
-            }
-            // only the names in `before` are looked up, so any kind will do
-            before.put(name, DimensionKind::Explicit)?;
+        if repeats_name(aliases, &mut before, key.as_str())? {
+            return Ok(Some(beside_first(aliases, dimensions, key.as_str())));
         }
     }
     Ok(None)
+}
+
+// Returns whether the key spells a name in `before`. If it spells another name, adds this name.
+fn repeats_name(
+    aliases: &Aliases,
+    before: &mut NameTableBuilder<DimensionKind>,
+    key: &str,
+) -> Result<bool, AllocError>
+    ensures again { let name = defined_name aliases.now key.now in
+        IfOk result (λ again. again ≡ is_some_and (map.contains_key before.old.names) name) }
+    ensures names { let name = defined_name aliases.now key.now in
+        OnOk result (before.new.names ≡ names_with before.old.names name) }
+{
+    let Some(name) = dimension_name(aliases, key)? else {
+        return Ok(false);
+    };
+    before.turn_to(name.uri())?;
+    let is_known = before.has(&name);
+    // only the names in `before` are looked up, so any kind will do
+    before.put(name, DimensionKind::Explicit)?;
+    Ok(is_known)
 }
 
 pub(crate) fn beside_first<'a>(

@@ -142,8 +142,7 @@ fn two_kinds<'a, K: Kind>(
     let mut gathered = NameTableBuilder::new(alloc);
     for (key, value) in entries.iter() {
         if let Some((name, kind)) = named_kind::<K>(aliases, key.as_str(), value)? {
-            gathered.turn_to(name.uri())?;
-            let known = gathered.put(name, kind)?;
+            let known = gathered.add(name, kind)?;
             if !kind.is(known) {
                 return Ok(Some(beside_first(aliases, entries, key.as_str())));
             }

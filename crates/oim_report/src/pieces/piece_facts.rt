@@ -1,11 +1,11 @@
-ghost use Rattle.std.specs.Prelude.{◌≡◌, IfSome};
+ghost use Rattle.std.specs.Prelude.{◌≡◌, IfSome, OnSome};
 ghost use Rattle.json.specs.Find.{BeginsWith, InMembers};
 ghost use Rattle.json.specs.Json.{Json};
 ghost use Rattle.json.specs.Json as spec;
 ghost use Rattle.serde_json.specs.Data as tree;
 ghost use Rattle.serde_json.specs.Data.{no_members};
 ghost use Rattle.oim_report.specs.Pieces.{put_all, HasMember, IsPiece};
-ghost use Rattle.oim_report.specs.code.FoundFacts.{AreFound};
+ghost use Rattle.oim_report.specs.code.FoundFacts.{AreFound, HaveOneMore};
 ghost use Rattle.oim_report.specs.code.TapeValues.{AreData, one};
 ghost use Rattle.oim_report.specs.code.UriIndices.{AreUriIndices};
 
@@ -56,26 +56,14 @@ pub(crate) fn read_facts_in_pieces(
         × AreFound reader.old.sheet reader.old.aliases objects f.identifiers.items f.facts.items) }
     ensures indices { IfSome result (λ f. AreUriIndices reader.old.aliases f.facts.items f.indices.items) }
 {
-    let mut identifiers = Vec::new(alloc);
-    let mut facts = Vec::new(alloc);
-    let mut indices = Vec::new(alloc);
+    let mut found = FoundFacts::new(alloc);
     let mut left = text;
     for _ in 0..text.len() {
         let (piece, rest) = split_piece(left, size);
-        let mut more = read_piece_facts(alloc, reader, buffers, piece)?;
-        identifiers.append(&mut more.identifiers).ok()?;
-        facts.append(&mut more.facts).ok()?;
-        indices.append(&mut more.indices).ok()?;
+        found.append(read_piece_facts(alloc, reader, buffers, piece)?)?;
         match rest {
             Some(rest) => left = rest,
-            None => {
-                let found = FoundFacts {
-                    identifiers,
-                    facts,
-                    indices,
-                };
-                return found.in_order(alloc);
-            }
+            None => return found.in_order(alloc),
         }
     }
     None
@@ -126,21 +114,31 @@ fn read_members(
         × AreFound reader.old.sheet reader.old.aliases ms f.identifiers.items f.facts.items) }
     ensures indices { IfSome result (λ f. AreUriIndices reader.old.aliases f.facts.items f.indices.items) }
 {
-    let mut identifiers = Vec::new(alloc);
-    let mut facts = Vec::new(alloc);
-    let mut indices = Vec::new(alloc);
+    let mut found = FoundFacts::new(alloc);
     while let Some((key, object)) = members.next() {
-        let parts = FactMembers::of_element(alloc, &object)?;
-        indices.push(reader.uri_index(&parts)).ok()?;
-        facts.push(reader.read_parts(&parts).ok()?).ok()?;
-        identifiers.push(String::from_str(alloc, key).ok()?).ok()?;
+        read_member(alloc, reader, &mut found, key, &object)?;
     }
-    if facts.is_empty() {
+    if found.facts.is_empty() {
         return None;
     }
-    Some(FoundFacts {
-        identifiers,
-        facts,
-        indices,
-    })
+    Some(found)
+}
+
+fn read_member(
+    alloc: Global,
+    reader: &mut FactReader<'_>,
+    found: &mut FoundFacts,
+    key: &str,
+    object: &Element<'_, '_>,
+) -> Option<()>
+    ensures same { reader.new ≡ reader.old }
+    ensures found { OnSome result (HaveOneMore reader.old.sheet reader.old.aliases key.now object.now
+        found.old.identifiers.items found.new.identifiers.items found.old.facts.items found.new.facts.items) }
+    ensures indices { OnSome result (AreUriIndices reader.old.aliases found.old.facts.items found.old.indices.items
+        → AreUriIndices reader.old.aliases found.new.facts.items found.new.indices.items) }
+{
+    let parts = FactMembers::of_element(alloc, object)?;
+    let index = reader.uri_index(&parts);
+    let fact = reader.read_parts(&parts).ok()?;
+    found.push(String::from_str(alloc, key).ok()?, fact, index)
 }

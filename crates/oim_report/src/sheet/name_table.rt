@@ -215,6 +215,17 @@ impl<K: Kind> NameTableBuilder<K> {
         }
     }
 
+    /// Adds the name with its kind, unless the name is known. Returns the kind that the table then
+    /// has for the name.
+    pub(crate) fn add(&mut self, name: Name, kind: K) -> Result<K, AllocError>
+        ensures ok { OnOk result (self.new.names
+            ≡ (if map.contains_key self.old.names name then self.old.names else map.insert self.old.names name kind)) }
+        ensures kind { IfOk result (λ k. map.get self.new.names name ≡ Some k) }
+    {
+        self.turn_to(name.uri())?;
+        self.put(name, kind)
+    }
+
     pub(crate) fn into_table(self) -> Result<NameTable<K>, AllocError>
         ensures { IfOk result (λ table. table ≡ self.names) }
     {

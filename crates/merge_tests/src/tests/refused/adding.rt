@@ -40,22 +40,35 @@ fn add(
     }
 }
 
+fn add_three(
+    rt: &HostRuntime,
+    consolidation: &mut Consolidation<'_>,
+    one: &str,
+    other: &str,
+) -> Result<(), AllocError>
+    requires { consolidation.old.reports + 3 < 2 ^ 64 }
+{
+    add(rt, consolidation, "")?;
+    add(rt, consolidation, one)?;
+    add(rt, consolidation, other)
+}
+
 fn three<'s>(
     rt: &HostRuntime,
     sheet: &'s Sheet,
     one: &str,
     other: &str,
-) -> Result<Consolidation<'s>, AllocError> {
+) -> Option<Consolidation<'s>> {
     let mut consolidation = Consolidation::new(rt.alloc(), sheet);
-    add(rt, &mut consolidation, "")?;
-    add(rt, &mut consolidation, one)?;
-    add(rt, &mut consolidation, other)?;
-    Ok(consolidation)
+    if add_three(rt, &mut consolidation, one, other).is_err() {
+        return None;
+    }
+    Some(consolidation)
 }
 
 /// Writes the merged text. If `last` is set, the call also consumes the reports.
 fn finishes_once(rt: &HostRuntime, sheet: &Sheet, last: bool, text: &[u8]) -> Option<bool> {
-    let Ok(consolidation) = three(rt, sheet, TOUCHING, TOUCHING) else {
+    let Some(consolidation) = three(rt, sheet, TOUCHING, TOUCHING) else {
         return Some(false);
     };
     let mut sink = StdSink::new(Expecting::just(text));
@@ -69,7 +82,7 @@ fn finishes_once(rt: &HostRuntime, sheet: &Sheet, last: bool, text: &[u8]) -> Op
 
 /// Writes the verdict lines. If `last` is set, the call also consumes the reports.
 fn lists_once(rt: &HostRuntime, sheet: &Sheet, last: bool) -> Option<bool> {
-    let Ok(consolidation) = three(rt, sheet, THREE_SETS, ONE_OF_THREE) else {
+    let Some(consolidation) = three(rt, sheet, THREE_SETS, ONE_OF_THREE) else {
         return Some(false);
     };
     let mut sink = StdSink::new(Expecting::just(THREE_LINES));
@@ -94,16 +107,24 @@ fn trace(rt: &HostRuntime, merge: &mut TracedMerge<'_>, report: &str) -> Result<
     }
 }
 
-fn three_traced<'s>(rt: &HostRuntime, sheet: &'s Sheet) -> Result<TracedMerge<'s>, AllocError> {
+fn trace_three(rt: &HostRuntime, merge: &mut TracedMerge<'_>) -> Result<(), AllocError>
+    requires { merge.old.added.reports + 3 < 2 ^ 64 }
+{
+    trace(rt, merge, "")?;
+    trace(rt, merge, THREE_SETS)?;
+    trace(rt, merge, ONE_OF_THREE)
+}
+
+fn three_traced<'s>(rt: &HostRuntime, sheet: &'s Sheet) -> Option<TracedMerge<'s>> {
     let mut merge = TracedMerge::new(rt.alloc(), sheet);
-    trace(rt, &mut merge, "")?;
-    trace(rt, &mut merge, THREE_SETS)?;
-    trace(rt, &mut merge, ONE_OF_THREE)?;
-    Ok(merge)
+    if trace_three(rt, &mut merge).is_err() {
+        return None;
+    }
+    Some(merge)
 }
 
 fn traces_once(rt: &HostRuntime, sheet: &Sheet) -> Option<bool> {
-    let Ok(merge) = three_traced(rt, sheet) else {
+    let Some(merge) = three_traced(rt, sheet) else {
         return Some(false);
     };
     let mut sink = StdSink::new(Expecting::just(SIX_SOURCES));

@@ -1,4 +1,4 @@
-use Rattle.std.proofs.Common.{◌≡◌, ◌++◌, length, sym, ap, subst, ◌∙◌, arith}
+use Rattle.std.proofs.Common.{◌≡◌, length, sym, ap, subst, ◌∙◌, arith}
 use Rattle.std.proofs.lemmas.Bool.Decides.{nat_tests}
 use Rattle.std.proofs.lemmas.List.{nil_from_length}
 use Rattle.std.proofs.lemmas.Result.{IfOk-weaker}
@@ -25,18 +25,16 @@ returns-then-is_empty-2 c =
 pub of-requires : goal.of-requires
 of-requires c =
     let inside = c.self.inside in
-    let listed = gathered_with_body inside.base.body inside.facts.items c.append.new.self.items inside.references.items c.append-then-fact_count-len.new.self.items c.sheet-sheet.ensures.fits.rises
-    (c.in_ok-append.ensures.items ∙ ap (λ fs. inside.facts.items ++ fs) c.in_ok-copied_facts.ensures)
-    (c.in_ok-append-2.ensures.items ∙ ap (λ rs. inside.references.items ++ rs) (c.in_ok-copies_of.ensures ∙ c.taxonomy.ensures)) in
-    subst (λ s. Fits s (gathered c.append.new.self.items c.append-then-fact_count-len.new.self.items)) (sym c.sheet-sheet.ensures.sheet)
+    let listed = gathered_with_body inside.base.body inside.facts.items c.append_to.new.facts.items inside.references.items c.append_to.new.references.items c.sheet-sheet.ensures.fits.rises
+    c.in_ok-append_to.ensures.facts c.in_ok-append_to.ensures.references in
+    subst (λ s. Fits s (gathered c.append_to.new.facts.items c.append_to.new.references.items)) (sym c.sheet-sheet.ensures.sheet)
     (subst (Fits inside.base.sheet) (sym listed) (union_fits inside.base.sheet (gathered inside.facts.items inside.references.items) inside.base.body c.self.invariant c.sheet-sheet.ensures.fits))
 
 pub returns-then-fact_count-len : goal.returns-then-fact_count-len
 returns-then-fact_count-len c =
     let inside = c.self.inside in
-    let listed = gathered_with_body inside.base.body inside.facts.items c.append.new.self.items inside.references.items c.append-then-fact_count-len.new.self.items c.sheet-sheet.ensures.fits.rises
-    (c.in_ok-append.ensures.items ∙ ap (λ fs. inside.facts.items ++ fs) c.in_ok-copied_facts.ensures)
-    (c.in_ok-append-2.ensures.items ∙ ap (λ rs. inside.references.items ++ rs) (c.in_ok-copies_of.ensures ∙ c.taxonomy.ensures)) in
-    let same : ◌≡◌ {A = Contents} (record { sheet = c.sheet-sheet.result.now; body = gathered c.append.new.self.items c.append-then-fact_count-len.new.self.items }) (record { sheet = inside.base.sheet; body = _ }) =
+    let listed = gathered_with_body inside.base.body inside.facts.items c.append_to.new.facts.items inside.references.items c.append_to.new.references.items c.sheet-sheet.ensures.fits.rises
+    c.in_ok-append_to.ensures.facts c.in_ok-append_to.ensures.references in
+    let same : ◌≡◌ {A = Contents} (record { sheet = c.sheet-sheet.result.now; body = gathered c.append_to.new.facts.items c.append_to.new.references.items }) (record { sheet = inside.base.sheet; body = _ }) =
     λ i. record { sheet = c.sheet-sheet.ensures.sheet i; body = (listed ∙ union_commutes (gathered inside.facts.items inside.references.items) inside.base.body) i } in
     IfOk-weaker c.of.result _ _ (λ base is. is ∙ same ∙ c.self.view_is) c.of.ensures

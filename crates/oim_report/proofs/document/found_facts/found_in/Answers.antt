@@ -1,4 +1,4 @@
-use Rattle.std.proofs.Common.{rules, ◌≡◌, ◌++◌, ◌∷◌, ℕ, List, [], Option, String, Global, map, sym, ap, ◌∙◌, append-nil, append_assoc}
+use Rattle.std.proofs.Common.{◌≡◌, ◌++◌, ◌∷◌, ℕ, List, [], Option, String, Global, map, sym, ap, ◌∙◌, append-nil, append_assoc}
 use Rattle.oim_dims.specs.declared.fact.Fact.{Fact}
 use Rattle.oim_report.proofs.document.found_facts.found_in.Goals as goal
 
@@ -10,22 +10,19 @@ all_on f xs ys es e h = sym (append-nil xs) ∙ ap (λ l. xs ++ map f l) (sym e)
 
 pub loop-identifier-init : goal.loop-identifier-init
 loop-identifier-init c =
-    let identifiers : c.in_ok-identifiers.identifiers.items ≡ [] = search rules in
-    let facts : c.in_ok-facts.facts.items ≡ [] = search rules in
     let es = c.into_iter-identifier-iterator.result in
-    let indices : c.in_ok-indices.indices.items ≡ [] = search rules in
-    (ap (λ l. l ++ map (λ e. e.0) es) identifiers, ap (λ l. l ++ map (λ e. e.1.0) es) facts, ap (λ l. l ++ map (λ e. e.1.1) es) indices)
+    let kept = c.in_ok-reserve.ensures in
+    let none = c.new-all.ensures in
+    (ap (λ l. l ++ map (λ e. e.0) es) (kept.identifiers ∙ none.identifiers), ap (λ l. l ++ map (λ e. e.1.0) es) (kept.facts ∙ none.facts), ap (λ l. l ++ map (λ e. e.1.1) es) (kept.indices ∙ none.indices))
 
 pub loop-identifier-preserved : goal.loop-identifier-preserved
 loop-identifier-preserved c =
     let l = c.loop-identifier in
-    let pushed : c.push.new.self.items ≡ l.identifiers.items ++ c.in-Some.identifier ∷ [] = search rules in
-    let added : c.push-in-loop-identifier.new.self.items ≡ l.facts.items ++ c.in-Some.fact ∷ [] = search rules in
-    let indexed : c.push-in-loop-identifier-2.new.self.items ≡ l.indices.items ++ c.in-Some.index ∷ [] = search rules in
+    let pushed = c.in_ok-push.ensures in
     let e : String Global × (Fact × Option ℕ) = (c.in-Some.identifier, (c.in-Some.fact, c.in-Some.index)) in (
-      one_on (λ e. e.0) _ _ _ e _ c.next.new.self pushed c.in-Some.ensures.steps l.invariant.0,
-      one_on (λ e. e.1.0) _ _ _ e _ c.next.new.self added c.in-Some.ensures.steps l.invariant.1,
-      one_on (λ e. e.1.1) _ _ _ e _ c.next.new.self indexed c.in-Some.ensures.steps l.invariant.2,
+      one_on (λ e. e.0) _ _ _ e _ c.next.new.self pushed.identifiers c.in-Some.ensures.steps l.invariant.0,
+      one_on (λ e. e.1.0) _ _ _ e _ c.next.new.self pushed.facts c.in-Some.ensures.steps l.invariant.1,
+      one_on (λ e. e.1.1) _ _ _ e _ c.next.new.self pushed.indices c.in-Some.ensures.steps l.invariant.2,
     )
 
 pub returns : goal.returns

@@ -4,6 +4,6 @@ use Rattle.oim_report.proofs.document.found_facts.found_in.Given as goal
 -- the lists and the remaining entries are all entries, in order
 abbrev pub invariant-loop-identifier : goal.invariant-loop-identifier
 invariant-loop-identifier l =
-    (l.identifiers.items ++ map (λ e. e.0) l.identifier-iterator ≡ map (λ e. e.0) l.initial.identifier-iterator)
-    × (l.facts.items ++ map (λ e. e.1.0) l.identifier-iterator ≡ map (λ e. e.1.0) l.initial.identifier-iterator)
-    × (l.indices.items ++ map (λ e. e.1.1) l.identifier-iterator ≡ map (λ e. e.1.1) l.initial.identifier-iterator)
+    (l.all.identifiers.items ++ map (λ e. e.0) l.identifier-iterator ≡ map (λ e. e.0) l.initial.identifier-iterator)
+    × (l.all.facts.items ++ map (λ e. e.1.0) l.identifier-iterator ≡ map (λ e. e.1.0) l.initial.identifier-iterator)
+    × (l.all.indices.items ++ map (λ e. e.1.1) l.identifier-iterator ≡ map (λ e. e.1.1) l.initial.identifier-iterator)

@@ -1,4 +1,4 @@
-use Rattle.std.proofs.Common.{rules, ◌≡◌, ◌++◌, List, option_map, subst, refl, ap, ◌∙◌}
+use Rattle.std.proofs.Common.{rules, ◌≡◌, List, option_map, subst, refl, ap, ◌∙◌}
 use Rattle.oim_names.specs.Bindings.{Binding}
 use Rattle.serde_json.specs.Data.{Members, no_members}
 use Rattle.oim_report.specs.code.FoundFacts.{AreFound}
@@ -16,25 +16,25 @@ pub loop-init : goal.loop-init
 loop-init c =
     let sheet = c.args.reader.now.sheet in
     let bs = c.args.reader.now.aliases in
-    (search rules, no_members, refl, none_found sheet bs _ _ c.new-identifiers.ensures.items c.new-facts.ensures.items, refl, none_indexed bs _ _ c.new-facts.ensures.items c.new-indices.ensures.items)
+    (search rules, no_members, refl, none_found sheet bs _ _ c.new-found.ensures.identifiers c.new-found.ensures.facts, refl, none_indexed bs _ _ c.new-found.ensures.facts c.new-found.ensures.indices)
 
 pub returns-in-None-clause-found : goal.returns-in-None-clause-found
 returns-in-None-clause-found c =
     let sheet = c.args.reader.now.sheet in
     let bs = c.args.reader.now.aliases in
-    let read = c.in_ok-more.ensures.found in
+    let read = c.in_ok-read_piece_facts.ensures.found in
     let new = read.0 in
-    let more = c.in_ok-more.more in
+    let more = c.in_ok-read_piece_facts.field-0 in
     let objects = c.loop.invariant.1 in
     let piece = c.split_piece.result.0.now in
     let splits : c.loop.left.now ≡ with_rest piece (option_map (λ r. r.now) c.split_piece.result.1) = c.split_piece.ensures in
     let next = splits ∙ ap (λ r. with_rest piece (option_map (λ r. r.now) r)) c.in-None.is in
-    let pushed : c.append.new.self.items ≡ c.loop.identifiers.items ++ more.identifiers.items = search rules in
-    let added : c.append-in-loop.new.self.items ≡ c.loop.facts.items ++ more.facts.items = search rules in
+    let pushed = c.in_ok-append.ensures.identifiers in
+    let added = c.in_ok-append.ensures.facts in
     let more_found = subst (λ r. AreFound r.sheet r.aliases new more.identifiers.items more.facts.items) c.loop.invariant.4 read.2 in
-    let found = found_by sheet bs _ _ _ _ _ pushed added (found_append sheet bs objects new c.loop.identifiers.items more.identifiers.items c.loop.facts.items more.facts.items c.loop.invariant.3 more_found) in
+    let found = found_by sheet bs _ _ _ _ _ pushed added (found_append sheet bs objects new c.loop.found.identifiers.items more.identifiers.items c.loop.found.facts.items more.facts.items c.loop.invariant.3 more_found) in
     weaker c.in_order.result
-    (λ f. (s : Sheet) (b : List Binding) (ms : Members) → AreFound s b ms c.append.new.self.items c.append-in-loop.new.self.items → AreFound s b (put_all ms no_members) f.identifiers.items f.facts.items)
+    (λ f. (s : Sheet) (b : List Binding) (ms : Members) → AreFound s b ms c.append.new.self.identifiers.items c.append.new.self.facts.items → AreFound s b (put_all ms no_members) f.identifiers.items f.facts.items)
     (λ f. (ms : Members) × IsPiece c.args.text.now ms × AreFound sheet bs ms f.identifiers.items f.facts.items)
     c.in_order.ensures.found
     (λ f h. (put_all (append objects new) no_members, last_one c.args.text.now c.loop.left.now piece objects new c.loop.invariant.2 next read.1, h sheet bs (append objects new) found))
@@ -42,13 +42,13 @@ returns-in-None-clause-found c =
 pub returns-in-None-clause-indices : goal.returns-in-None-clause-indices
 returns-in-None-clause-indices c =
     let bs = c.args.reader.now.aliases in
-    let more = c.in_ok-more.more in
-    let added : c.append-in-loop.new.self.items ≡ c.loop.facts.items ++ more.facts.items = search rules in
-    let indexed : c.append-in-loop-2.new.self.items ≡ c.loop.indices.items ++ more.indices.items = search rules in
-    let new = subst (λ (r : Scope). AreUriIndices r.aliases more.facts.items more.indices.items) c.loop.invariant.4 c.in_ok-more.ensures.indices in
-    let all = indexed_by bs _ _ _ _ added indexed (indices_append bs c.loop.facts.items more.facts.items c.loop.indices.items more.indices.items c.loop.invariant.5 new) in
+    let more = c.in_ok-read_piece_facts.field-0 in
+    let added = c.in_ok-append.ensures.facts in
+    let indexed = c.in_ok-append.ensures.indices in
+    let new = subst (λ (r : Scope). AreUriIndices r.aliases more.facts.items more.indices.items) c.loop.invariant.4 c.in_ok-read_piece_facts.ensures.indices in
+    let all = indexed_by bs _ _ _ _ added indexed (indices_append bs c.loop.found.facts.items more.facts.items c.loop.found.indices.items more.indices.items c.loop.invariant.5 new) in
     weaker c.in_order.result
-    (λ f. (b : List Binding) → AreUriIndices b c.append-in-loop.new.self.items c.append-in-loop-2.new.self.items → AreUriIndices b f.facts.items f.indices.items)
+    (λ f. (b : List Binding) → AreUriIndices b c.append.new.self.facts.items c.append.new.self.indices.items → AreUriIndices b f.facts.items f.indices.items)
     (λ f. AreUriIndices bs f.facts.items f.indices.items)
     c.in_order.ensures.indices
     (λ f h. h bs all)
@@ -57,18 +57,18 @@ pub loop-preserved : goal.loop-preserved
 loop-preserved c =
     let sheet = c.args.reader.now.sheet in
     let bs = c.args.reader.now.aliases in
-    let read = c.in_ok-more.ensures.found in
+    let read = c.in_ok-read_piece_facts.ensures.found in
     let new = read.0 in
-    let more = c.in_ok-more.more in
+    let more = c.in_ok-read_piece_facts.field-0 in
     let objects = c.loop.invariant.1 in
     let piece = c.split_piece.result.0.now in
     let splits : c.loop.left.now ≡ with_rest piece (option_map (λ r. r.now) c.split_piece.result.1) = c.split_piece.ensures in
     let next = splits ∙ ap (λ r. with_rest piece (option_map (λ r. r.now) r)) c.in-Some.is in
-    let pushed : c.append.new.self.items ≡ c.loop.identifiers.items ++ more.identifiers.items = search rules in
-    let added : c.append-in-loop.new.self.items ≡ c.loop.facts.items ++ more.facts.items = search rules in
+    let pushed = c.in_ok-append.ensures.identifiers in
+    let added = c.in_ok-append.ensures.facts in
     let more_found = subst (λ r. AreFound r.sheet r.aliases new more.identifiers.items more.facts.items) c.loop.invariant.4 read.2 in
-    let found = found_by sheet bs _ _ _ _ _ pushed added (found_append sheet bs objects new c.loop.identifiers.items more.identifiers.items c.loop.facts.items more.facts.items c.loop.invariant.3 more_found) in
-    let indexed : c.append-in-loop-2.new.self.items ≡ c.loop.indices.items ++ more.indices.items = search rules in
-    let more_indexed = subst (λ (r : Scope). AreUriIndices r.aliases more.facts.items more.indices.items) c.loop.invariant.4 c.in_ok-more.ensures.indices in
-    let indices = indexed_by bs _ _ _ _ added indexed (indices_append bs c.loop.facts.items more.facts.items c.loop.indices.items more.indices.items c.loop.invariant.5 more_indexed) in
+    let found = found_by sheet bs _ _ _ _ _ pushed added (found_append sheet bs objects new c.loop.found.identifiers.items more.identifiers.items c.loop.found.facts.items more.facts.items c.loop.invariant.3 more_found) in
+    let indexed = c.in_ok-append.ensures.indices in
+    let more_indexed = subst (λ (r : Scope). AreUriIndices r.aliases more.facts.items more.indices.items) c.loop.invariant.4 c.in_ok-read_piece_facts.ensures.indices in
+    let indices = indexed_by bs _ _ _ _ added indexed (indices_append bs c.loop.found.facts.items more.facts.items c.loop.found.indices.items more.indices.items c.loop.invariant.5 more_indexed) in
     (search rules, append objects new, one_more c.args.text.now c.loop.left.now piece c.in-Some.rest.now objects new c.loop.invariant.2 next read.1, found, c.read_piece_facts.ensures.same ∙ c.loop.invariant.4, indices)

@@ -6,7 +6,7 @@ use Rattle.oim_report.proofs.TapedFacts.{AreReading}
 use Rattle.oim_report.proofs.pieces.piece_facts.read_members.Given as goal
 
 abbrev pub invariant-loop-key : goal.invariant-loop-key
-invariant-loop-key l = ((vs : j.Members) → InMembers l.initial.members vs → AreReading l.initial.reader vs l.members l.identifiers.items l.facts.items) × (l.reader ≡ l.initial.reader) × AreUriIndices l.initial.reader.aliases l.facts.items l.indices.items
+invariant-loop-key l = ((vs : j.Members) → InMembers l.initial.members vs → AreReading l.initial.reader vs l.members l.found.identifiers.items l.found.facts.items) × (l.reader ≡ l.initial.reader) × AreUriIndices l.initial.reader.aliases l.found.facts.items l.found.indices.items
 
 abbrev pub decreases-loop-key : goal.decreases-loop-key
 decreases-loop-key l = length l.members

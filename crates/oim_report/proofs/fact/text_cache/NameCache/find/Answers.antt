@@ -1,4 +1,4 @@
-use Rattle.std.proofs.Common.{◌≡◌, Some, IfSome, option_and_then, option_copied, option_map, sym, ap, subst, ◌∙◌}
+use Rattle.std.proofs.Common.{◌≡◌, Some, IfSome, option_and_then, option_copied, option_map, refl, sym, ap, subst, ◌∙◌}
 use Rattle.std.specs.FinMap as map
 use Rattle.oim_names.specs.QName.{QName, is_name}
 use Rattle.oim_names.specs.Bindings.{uri_of}
@@ -7,6 +7,7 @@ use Rattle.oim_report.specs.code.Groups.{in_group}
 use Rattle.oim_report.specs.code.TextCache.{NamesListed}
 use Rattle.oim_report.proofs.Grouped.{found_kind, found_name, found_named}
 use Rattle.oim_report.proofs.Naming.{expanded}
+use Rattle.oim_report.proofs.ShownFaults.{refused_none}
 use Rattle.oim_report.proofs.TextCacheAdds.{still}
 use Rattle.oim_report.proofs.fact.text_cache.NameCache.find.Goals as goal
 
@@ -36,3 +37,6 @@ returns-clause-known g c = record {
   texts = still (NamesListed c.args.table.now c.args.aliases.now) c.group.new.self.texts c.add.new.self c.args.text.now (c.in_ok-name.name, c.in_ok-name.kind) c.group.ensures.known.texts (returns-clause-name g c, sym (returns-clause-kind g c)) c.add.ensures;
   groups = c.group.ensures.known.groups;
 }
+
+pub returns-in_default-resolve-clause-kind : goal.returns-in_default-resolve-clause-kind
+returns-in_default-resolve-clause-kind g c = rw (refused_none c.args.aliases.now c.args.text.now _ (sym c.in_default-resolve.ensures.refused)) refl
