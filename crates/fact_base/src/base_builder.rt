@@ -21,7 +21,6 @@ use std::marker::Model;
 ///
 /// References count like facts in this comparison of sizes. Otherwise the base would absorb every
 /// report that repeats its facts with new references, and would copy all its references each time.
-#[derive(Drop)]
 pub struct BaseBuilder<'s> {
     alloc: Global,
     // the base of the absorbed reports
@@ -33,6 +32,21 @@ pub struct BaseBuilder<'s> {
     settled_facts: usize,
     references: Vec<Text>,
     settled_references: usize,
+}
+
+// By hand, so that a drop is one call, which is faster to prove than a derived one.
+impl Drop for BaseBuilder<'_> {
+    fn drop(self) {
+        let BaseBuilder {
+            alloc: _,
+            base: _,
+            size: _,
+            facts: _,
+            settled_facts: _,
+            references: _,
+            settled_references: _,
+        } = self;
+    }
 }
 
 impl<'s> Model for BaseBuilder<'s> {
@@ -137,9 +151,11 @@ impl<'s> BaseBuilder<'s> {
         let BaseBuilder {
             alloc,
             mut base,
+            size: _,
             mut facts,
+            settled_facts: _,
             mut references,
-            ..
+            settled_references: _,
         } = self;
         let sheet = base.sheet();
         if facts.is_empty() && references.is_empty() {

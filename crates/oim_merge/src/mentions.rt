@@ -22,6 +22,24 @@ pub struct Mention {
     pub fact: Fact,
 }
 
+impl Mention {
+    // Replaces the fact by its index.
+    fn with_index(self, index: usize) -> IndexedMention
+        ensures { result ≡ record { index = index; report = self.report; identifier = self.identifier } }
+    {
+        let Mention {
+            report,
+            identifier,
+            fact: _,
+        } = self;
+        IndexedMention {
+            index,
+            report,
+            identifier,
+        }
+    }
+}
+
 /// A mention: a fact object in a report, with the index of its fact in a base.
 #[derive(Debug, Drop)]
 pub struct IndexedMention {
@@ -88,11 +106,8 @@ fn indexed(
     let mut indexed = Vec::with_capacity(alloc, mentions.len())?;
     let mut run = Run::new();
     for mention in mentions {
-        indexed.push(IndexedMention {
-            index: index_of(facts, &mut run, &mention.fact),
-            report: mention.report,
-            identifier: mention.identifier,
-        })?;
+        let index = index_of(facts, &mut run, &mention.fact);
+        indexed.push(mention.with_index(index))?;
     }
     Ok(indexed)
 }

@@ -8,7 +8,7 @@ ghost use Rattle.oim_names.specs.code.Indexed.{IsBound};
 ghost use Rattle.oim_names.specs.Expansion.{Expands, ExpandsEntity, entity_refusal, name_refusal, prefix_refusal, reserved_uri};
 
 use crate::copied::Copied;
-use crate::name::Name;
+use crate::name::{Name, RESERVED_URI, split_name};
 use crate::position_cache::PositionCache;
 use crate::reason::Reason;
 use crate::text::Text;
@@ -16,16 +16,25 @@ use std::alloc::{AllocError, Global};
 use std::collections::BTreeMap;
 use std::marker::Model;
 
-const RESERVED: &str = "https://xbrl.org/2021";
-
 /// Prefixes and the URIs that they are bound to. Contracts see the bindings in the order in which
 /// they were added. Adding n bindings takes about n log n steps. Finding the URI of a prefix among
 /// n bindings takes about log n steps, or fewer if the cache has the prefix's index.
-#[derive(Debug, Drop)]
+#[derive(Debug)]
 pub struct Aliases {
     bindings: Vec<Binding>,
     uris: BTreeMap<String, Text>,
     cache: PositionCache,
+}
+
+// By hand, so that a drop is one call, which is faster to prove than a derived one.
+impl Drop for Aliases {
+    fn drop(self) {
+        let Aliases {
+            bindings: _,
+            uris: _,
+            cache: _,
+        } = self;
+    }
 }
 
 impl Model for Aliases {
@@ -192,7 +201,7 @@ impl Aliases {
         ensures uri { IfOk result (λ parts. parts.0.now ≢ []) }
         ensures refused { result_err result ≡ name_refusal self.now text.now }
     {
-        let (prefix, local) = split(text);
+        let (prefix, local) = split_name(text);
         if !is_part(prefix.as_bytes()) || !is_part(local.as_bytes()) {
             return Err(Reason::NameForm);
         }
@@ -230,7 +239,7 @@ impl Aliases {
         ensures uri { IfOk result (λ parts. parts.0.now ≢ []) }
         ensures refused { result_err result ≡ entity_refusal self.now text.now }
     {
-        let (prefix, identifier) = split(text);
+        let (prefix, identifier) = split_name(text);
         if !is_part(prefix.as_bytes()) || identifier.is_empty() {
             return Err(Reason::NameForm);
         }
@@ -245,7 +254,7 @@ impl Aliases {
     {
         match self.uri_text(prefix) {
             None => Err(Reason::UnboundPrefix),
-            Some(uri) if uri.as_str() == RESERVED => Err(Reason::ReservedNamespace),
+            Some(uri) if uri.as_str() == RESERVED_URI => Err(Reason::ReservedNamespace),
             Some(uri) => Ok(uri),
         }
     }
@@ -359,11 +368,4 @@ fn is_part(text: &[u8]) -> bool
     ensures { result ≡ is_part text.now }
 {
     are_name_bytes(text) && !text.is_empty()
-}
-
-fn split(text: &str) -> (&str, &str)
-    ensures prefix { result.0.now ≡ prefix_part text.now }
-    ensures local { result.1.now ≡ local_part text.now }
-{
-    text.split_once(':').unwrap_or((text, ""))
 }

@@ -1,17 +1,14 @@
 ghost use Rattle.std.specs.Prelude.{◌≡◌, ◌∷◌, [], None, IfErr, IsSome};
 ghost use Rattle.std.specs.Result.{result_ok};
-ghost use Rattle.oim_names.specs.QName.{prefix_part, local_part};
 ghost use Rattle.serde_json.specs.View.{view};
 ghost use Rattle.oim_report.specs.code.JsonMember.{seen};
 ghost use Rattle.oim_report.specs.Info.{declarations, features_of, is_allowed_duplicates, said_level};
 
 use crate::document::json_tree::within;
 use crate::fact::json_member::JsonMember;
-use oim_names::{Aliases, Reason};
+use oim_names::{Aliases, RESERVED_URI, Reason, split_name};
 use oim_value::Level;
 use serde_json::Value;
-
-const RESERVED: &str = "https://xbrl.org/2021";
 
 /// Reads the level that the feature `xbrl:allowedDuplicates` declares (OIM Common 1.0). Without the
 /// feature, all duplicates are allowed. The feature is refused if it is repeated or its value is
@@ -48,13 +45,6 @@ fn only_level(before: Option<Level>, value: JsonMember<'_>) -> Option<Level>
 pub(crate) fn is_allowed_duplicates(aliases: &Aliases, key: &str) -> bool
     ensures { result ≡ is_allowed_duplicates aliases.now key.now }
 {
-    let (prefix, local) = split(key);
-    aliases.uri(prefix) == Some(RESERVED) && local == "allowedDuplicates"
-}
-
-pub(crate) fn split(key: &str) -> (&str, &str)
-    ensures prefix { result.0.now ≡ prefix_part key.now }
-    ensures local { result.1.now ≡ local_part key.now }
-{
-    key.split_once(':').unwrap_or((key, ""))
+    let (prefix, local) = split_name(key);
+    aliases.uri(prefix) == Some(RESERVED_URI) && local == "allowedDuplicates"
 }

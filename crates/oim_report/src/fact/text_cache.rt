@@ -8,12 +8,11 @@ ghost use Rattle.oim_report.specs.code.TextCache.{Adds, AreTextCaches, IsNameCac
 
 use crate::concept_kind::ConceptKind;
 use crate::dimension_kind::DimensionKind;
-use crate::document::features::split;
 use crate::limits::{MOST_MEANING_BYTES, MOST_MEANINGS};
 use crate::sheet::kind::Kind;
 use crate::sheet::name_table::{Group, NameTable, find_in};
 use oim_dims::{Period, Unit};
-use oim_names::{Aliases, Name, Text};
+use oim_names::{Aliases, Name, Text, split_name};
 use std::alloc::Global;
 use std::collections::{BTreeMap, HashMap};
 
@@ -100,7 +99,7 @@ impl<'s, K: Kind> NameCache<'s, K> {
         let Ok((_uri, local)) = aliases.resolve(text) else {
             return None;
         };
-        let (prefix, _local) = split(text);
+        let (prefix, _local) = split_name(text);
         let (name, kind) = find_in(self.group(table, aliases, prefix), local)?;
         self.texts.add(text, (name, kind));
         Some((name, kind))
@@ -128,7 +127,6 @@ impl<'s, K: Kind> NameCache<'s, K> {
 }
 
 /// Caches of the meanings of texts, under one sheet and one set of prefixes.
-#[derive(Drop)]
 pub(crate) struct TextCaches<'s> {
     pub(crate) concepts: NameCache<'s, ConceptKind>,
     pub(crate) dimensions: NameCache<'s, DimensionKind>,
@@ -138,6 +136,21 @@ pub(crate) struct TextCaches<'s> {
     pub(crate) languages: TextCache<Text>,
     /// The members of explicit dimensions.
     pub(crate) members: TextCache<Name>,
+}
+
+// By hand, so that a drop is one call, which is faster to prove than a derived one.
+impl Drop for TextCaches<'_> {
+    fn drop(self) {
+        let TextCaches {
+            concepts: _,
+            dimensions: _,
+            entities: _,
+            periods: _,
+            units: _,
+            languages: _,
+            members: _,
+        } = self;
+    }
 }
 
 impl<'s> TextCaches<'s> {

@@ -9,10 +9,9 @@ ghost use Rattle.oim_report.specs.Sheet.{has_bad_kind, key_names, kind_in, liste
 ghost use Rattle.oim_report.specs.code.Groups.{HasEach, IsGroup, IsGroupOf, in_group};
 ghost use Rattle.oim_report.specs.code.SheetCode.{Unfinished};
 
-use crate::document::features::split;
 use crate::fact::json_member::JsonMember;
 use crate::sheet::kind::Kind;
-use oim_names::{Aliases, Name, Reason};
+use oim_names::{Aliases, Name, Reason, split_name};
 use serde_json::{Map, Value};
 use std::alloc::{AllocError, Global};
 use std::collections::BTreeMap;
@@ -143,12 +142,23 @@ fn has_kind<K: Kind>(group: Option<&Group<K>>, local: &str, kind: K) -> bool
 /// Collects names and their kinds while the keys of an object are read. The group of the current
 /// namespace is kept apart from the other groups, so names are added to this group without
 /// comparing URIs.
-#[derive(Drop)]
 pub(crate) struct NameTableBuilder<K: Kind> {
     alloc: Global,
     uri: String,
     group: Group<K>,
     others: NameTable<K>,
+}
+
+// By hand, so that a drop is one call, which is faster to prove than a derived one.
+impl<K: Kind> Drop for NameTableBuilder<K> {
+    fn drop(self) {
+        let NameTableBuilder {
+            alloc: _,
+            uri: _,
+            group: _,
+            others: _,
+        } = self;
+    }
 }
 
 impl<K: Kind> Model for NameTableBuilder<K> {
@@ -230,10 +240,10 @@ impl<K: Kind> NameTableBuilder<K> {
         ensures { IfOk result (λ table. table ≡ self.names) }
     {
         let NameTableBuilder {
+            alloc: _,
             uri,
             group,
             mut others,
-            ..
         } = self;
         others.set(uri, group)?;
         Ok(others)
@@ -265,7 +275,7 @@ pub(crate) fn read_table<K: Kind>(
             return Err(Reason::SheetKind);
         };
         let name = aliases.expand(key.as_str())?;
-        let (prefix, _local) = split(key.as_str());
+        let (prefix, _local) = split_name(key.as_str());
         turn(&mut gathered, last, prefix, name.uri())?;
         last = Some(prefix);
         let known = gathered.put(name, kind)?;

@@ -62,13 +62,13 @@ loop-key-preserved g c =
     let l = at_next g.K.Kind.kind_named g.K.Kind.same_kind bs all c.loop-key.gathered.names c.loop-key.key-iterator (c.in-Some-2.key.now, c.in-Some-2.value.now) rest c.loop-key.invariant.names c.in-Some-2.ensures.steps in
     record {
       names = goes_on g.K.Kind.kind_named g.K.Kind.same_kind bs all (members_view rest) c.loop-key.gathered.names c.put.new.self.names key value c.in_ok-name.name c.in-Some-kind_in.kind c.in_ok-known.known l name (sym c.in-Some-kind_in.ensures) step c.in_ok-known.ensures.kind agrees;
-      last = ap (uri_of bs) (c.split.ensures.prefix ∙ ap prefix_part (c.as_str-in-loop-key.ensures.value ∙ sym c.as_str.ensures.value)) ∙ c.in_ok-name.ensures.ok.uri ∙ ap Some (sym (ap (λ f. f.uri) c.in_ok-known.ensures.ok ∙ ap (λ f. f.uri) c.in_ok-turn.ensures ∙ c.uri.ensures));
+      last = ap (uri_of bs) (c.split_name.ensures.prefix ∙ ap prefix_part (c.as_str-in-loop-key.ensures.value ∙ sym c.as_str.ensures.value)) ∙ c.in_ok-name.ensures.ok.uri ∙ ap Some (sym (ap (λ f. f.uri) c.in_ok-known.ensures.ok ∙ ap (λ f. f.uri) c.in_ok-turn.ensures ∙ c.uri.ensures));
     }
 
 pub turn-requires : goal.turn-requires
 turn-requires g c =
     let l = c.loop-key in
-    same_prefix l.last c.args.aliases.now c.split.result.0.now l.gathered.uri c.uri.result.now l.invariant.last (ap (uri_of c.args.aliases.now) (c.split.ensures.prefix ∙ ap prefix_part (c.as_str-in-loop-key.ensures.value ∙ sym c.as_str.ensures.value)) ∙ c.in_ok-name.ensures.ok.uri ∙ ap Some (sym c.uri.ensures))
+    same_prefix l.last c.args.aliases.now c.split_name.result.0.now l.gathered.uri c.uri.result.now l.invariant.last (ap (uri_of c.args.aliases.now) (c.split_name.ensures.prefix ∙ ap prefix_part (c.as_str-in-loop-key.ensures.value ∙ sym c.as_str.ensures.value)) ∙ c.in_ok-name.ensures.ok.uri ∙ ap Some (sym c.uri.ensures))
 
 pub put-requires : goal.put-requires
 put-requires g c = sym c.uri.ensures ∙ sym (ap (λ f. f.uri) c.in_ok-turn.ensures)

@@ -18,7 +18,7 @@ returns-clause-name g c =
     let u = c.in-Ok._uri.now in
     let l = c.in-Ok.local.now in
     let n : QName = record { uri = u; local_part = l } in
-    let reached = c.group.ensures.reached u (ap (uri_of bs) c.split.ensures.prefix ∙ c.in-Ok.ensures.ok.uri) l in
+    let reached = c.group.ensures.reached u (ap (uri_of bs) c.split_name.ensures.prefix ∙ c.in-Ok.ensures.ok.uri) l in
     let found = found_named c.find_in.result (named bs t) n (found_name c.find_in.result (in_group (option_copied c.group.result) l) n c.find_in.ensures reached.1) (expanded is_name bs t n c.in-Ok.ensures.ok) in
     subst (λ r. IfSome r (λ e. named bs t ≡ Some e.0.now)) c.in_ok-name.was found
 
@@ -28,7 +28,7 @@ returns-clause-kind g c =
     let u = c.in-Ok._uri.now in
     let l = c.in-Ok.local.now in
     let n : QName = record { uri = u; local_part = l } in
-    let reached = c.group.ensures.reached u (ap (uri_of bs) c.split.ensures.prefix ∙ c.in-Ok.ensures.ok.uri) l in
+    let reached = c.group.ensures.reached u (ap (uri_of bs) c.split_name.ensures.prefix ∙ c.in-Ok.ensures.ok.uri) l in
     sym (ap (option_map (λ e. e.1)) c.in_ok-name.was) ∙ found_kind c.find_in.result (in_group (option_copied c.group.result) l) c.find_in.ensures ∙ reached.0
     ∙ sym (ap (option_and_then (map.get c.args.table.now)) (expanded is_name bs c.args.text.now n c.in-Ok.ensures.ok))
 
