@@ -3,10 +3,12 @@
 
     tests/words [PROGRAM]
 
-The man page must also show the same line formats as the help, such as "take I R". By default, PROGRAM is $XBRLMERGE or the
-built program. Status 0: all have the same words. 1: some words differ; each is printed with the place where it is missing or
-should not be. 2: there is no program.
+The man page must also show the same line formats as the help, such as "take I R". The help of `explain` and the man page must
+name the members of the objects that `explain --format json` prints. By default, PROGRAM is $XBRLMERGE or the built program.
+Status 0: all have the same words. 1: some words differ; each is printed with the place where it is missing or should not be.
+2: there is no program.
 """
+import json
 import os
 import re
 import shlex
@@ -25,6 +27,8 @@ NO_OPTIONS = "help"
 FILE = "file"
 # the options with a fixed list of values, and the name of each option's argument in the help
 CHOSEN = {"--allow": "LEVEL", "--format": "FORMAT"}
+# this command prints an object for each fault of the report
+EXPLAINED = "explain", "--format", "json", "--sheet", "examples/sheet.json", "examples/oldharbour.json"
 # prints the completions of the last word of a command line
 ASK = 'source "$1"; shift; COMP_WORDS=("$@"); COMP_CWORD=$(($# - 1)); _xbrlmerge; printf "%s\\n" "${COMPREPLY[@]}"'
 
@@ -64,6 +68,22 @@ def forms(text):
     found = re.findall(begins, re.sub(r'\\f.|"', "", text), re.MULTILINE)
     # the meaning of a format may follow it after at least three spaces
     return {" ".join(it.partition("   ")[0].split()) for it in found}
+
+
+def printed_members(program):
+    """Returns the members of the objects that `explain` prints."""
+    lines = subprocess.run([program, *EXPLAINED], capture_output=True, text=True, cwd=TOP).stdout.splitlines()
+    return {member for line in lines for member in json.loads(line)}
+
+
+def members_in_help(program):
+    text = said(program, "explain", "--help").partition("The members of an object:\n")[2]
+    return set(re.findall(r"^  (\w+)  ", text.partition("\nFor ")[0], re.MULTILINE))
+
+
+def members_in_man():
+    text = section("LINES").partition("The members of an object are\n")[2].partition(".PP\n")[0]
+    return set(re.findall(r"\w+", re.sub(r"\\ ", " ", " ".join(re.findall(r"^\.TP\n\.IR? (.*)", text, re.MULTILINE)))))
 
 
 def section(title):
@@ -180,6 +200,9 @@ def main(words):
     lines = differences("the man page", told, told_by_man())
     printed = forms("".join(said(program, command, "--help") for command in ("verdicts", "sources", "check", "replay")))
     lines += differences("the man page", {"": {"lines": printed}}, {"": {"lines": forms(section("LINES"))}})
+    members = {"explain": {"members": printed_members(program)}}
+    lines += differences("the help", members, {"explain": {"members": members_in_help(program)}})
+    lines += differences("the man page", members, {"explain": {"members": members_in_man()}})
     lines += told_by_synopsis(told)
     lines += differences("the completions for bash", told, told_by_completions())
     lines += differences("the completions for zsh", told, told_by_zsh())

@@ -30,7 +30,7 @@ identifier or a text are shown.
 
 The other commands name only the first fault of a report. `explain` lists all faults of the
 document. If the document has none, it lists the faults of every fact. If the facts have none, it
-lists the fault of the duplicates. If several names or members in one index share a fault, only the
+lists the fault of the duplicates. If several names or members in one place share a fault, only the
 first is shown. Some faults appear only after others are corrected.
 
 It also lists repeated members of a report or of the sheet, such as two facts with the same
@@ -45,14 +45,14 @@ With --format json each fault is a JSON object on one line, and the line with th
 printed. The members of an object:
   report      the number of the report, from 1; null for the sheet
   file        the name of the file
-  index       the location of the fault: \"document\" or \"fact N\"
+  place       the location of the fault: \"document\" or \"fact N\"
   number      the number of the refusal
   name        its name
   identifier  the whole identifier of the fact; null for the document
   part        the whole part at fault: a text, another value, an object of one member, or an array
               of two texts; null if the sentence shows none
   sentence    what is wrong, as in the text
-For a repeated member, index, number, name and identifier are null.
+For a repeated member, place, number, name and identifier are null.
 
 Example:
   xbrlmerge explain --sheet examples/sheet.json examples/issuer.json examples/statfeed.json
