@@ -30,18 +30,22 @@ pub fn explain(
     bytes: &[u8],
 ) -> Result<Explained, AllocError> {
     let mut lines = Lines::new(alloc, input);
+    push_all(&mut lines, sheet, bytes)?;
+    Ok(lines.explained)
+}
+
+fn push_all(lines: &mut Lines<'_>, sheet: &Sheet, bytes: &[u8]) -> Result<(), AllocError> {
+    let alloc = lines.alloc;
     if !is_accepted(alloc, sheet, bytes)? {
         match Value::from_slice(alloc, after_mark(bytes)) {
-            Ok(tree) => push_faults(&mut lines, sheet, &tree)?,
+            Ok(tree) => push_faults(lines, sheet, &tree)?,
             Err(error) => {
                 let message = message_of(alloc, &error)?;
-                lines.push(&unread(Subject::Report, message.as_str(), bytes))?;
-                return Ok(lines.explained);
+                return lines.push(&unread(Subject::Report, message.as_str(), bytes));
             }
         }
     }
-    push_repeated(&mut lines, Subject::Report, bytes)?;
-    Ok(lines.explained)
+    push_repeated(lines, Subject::Report, bytes)
 }
 
 // Returns whether a report is accepted, and so has no faults. Reading a report is faster than the
@@ -156,17 +160,21 @@ fn facts_of(alloc: Global, tree: &Value) -> Result<Vec<(&str, &Value)>, AllocErr
 ///
 /// Errors: out of memory.
 pub fn explain_sheet(alloc: Global, name: &str, bytes: &[u8]) -> Result<String, AllocError> {
-    let sentence = match Value::from_slice(alloc, after_mark(bytes)) {
-        Ok(tree) => sentence_of_sheet(alloc, &tree)?,
-        Err(error) => {
-            let message = message_of(alloc, &error)?;
-            unread(Subject::Sheet, message.as_str(), bytes).sentence(alloc)?
-        }
-    };
+    let sentence = sentence_of_sheet(alloc, bytes)?;
     format!(in alloc; "{}: {sentence}\n", Escaped(name))
 }
 
-fn sentence_of_sheet(alloc: Global, tree: &Value) -> Result<String, AllocError> {
+fn sentence_of_sheet(alloc: Global, bytes: &[u8]) -> Result<String, AllocError> {
+    match Value::from_slice(alloc, after_mark(bytes)) {
+        Ok(tree) => sentence_of_tree(alloc, &tree),
+        Err(error) => {
+            let message = message_of(alloc, &error)?;
+            unread(Subject::Sheet, message.as_str(), bytes).sentence(alloc)
+        }
+    }
+}
+
+fn sentence_of_tree(alloc: Global, tree: &Value) -> Result<String, AllocError> {
     let Some((reason, part)) = sheet_part(alloc, tree)? else {
         return String::from_str(alloc, "the sheet has no fault");
     };

@@ -126,26 +126,41 @@ impl Fault<'_, '_> {
         input: &Input<'_>,
     ) -> Result<(), AllocError> {
         let mut writer = Writer::new(Vec::new(alloc));
-        writer.begin_object()?;
-        put_number(&mut writer, "report", input.report)?;
-        put_text(&mut writer, "file", Some(input.name))?;
-        if let Some(Place::Fact(number)) = self.place {
-            let place = format!(in alloc; "fact {number}")?;
-            put_text(&mut writer, "place", Some(place.as_str()))?;
-        } else {
-            put_text(&mut writer, "place", self.place.map(|_| "document"))?;
-        }
-        let number = self.reason.map(|reason| u64::from(reason.number()));
-        put_number(&mut writer, "number", number)?;
-        put_text(&mut writer, "name", self.reason.map(|reason| reason.name()))?;
-        put_text(&mut writer, "identifier", self.identifier)?;
-        writer.key("part")?;
-        put_part(alloc, &mut writer, self.part)?;
-        put_text(&mut writer, "sentence", Some(self.sentence))?;
-        writer.end_object()?;
+        self.put_object(alloc, &mut writer, input)?;
         let object = writer.into_inner();
         let line = str::from_utf8(object.as_slice()).unwrap_or_default();
         write!(text, "{}\n", Escaped(line))
+    }
+
+    fn put_object(
+        &self,
+        alloc: Global,
+        writer: &mut Writer,
+        input: &Input<'_>,
+    ) -> Result<(), AllocError> {
+        writer.begin_object()?;
+        put_number(writer, "report", input.report)?;
+        put_text(writer, "file", Some(input.name))?;
+        self.put_place(alloc, writer)?;
+        let number = self.reason.map(|reason| u64::from(reason.number()));
+        put_number(writer, "number", number)?;
+        put_text(writer, "name", self.reason.map(|reason| reason.name()))?;
+        put_text(writer, "identifier", self.identifier)?;
+        writer.key("part")?;
+        put_part(alloc, writer, self.part)?;
+        put_text(writer, "sentence", Some(self.sentence))?;
+        writer.end_object()
+    }
+
+    fn put_place(&self, alloc: Global, writer: &mut Writer) -> Result<(), AllocError> {
+        match self.place {
+            Some(Place::Fact(number)) => {
+                let place = format!(in alloc; "fact {number}")?;
+                put_text(writer, "place", Some(place.as_str()))
+            }
+            Some(Place::Document) => put_text(writer, "place", Some("document")),
+            None => put_text(writer, "place", None),
+        }
     }
 }
 

@@ -44,14 +44,18 @@ fn push_report(lines: &mut Lines<'_>, tree: &Value<'_>) -> Result<(), AllocError
         return Ok(());
     };
     for (identifier, fact) in facts {
-        let mut before = String::from_str(lines.alloc, "fact ")?;
-        push_text(lines.alloc, &mut before, identifier)?;
-        before.push_str(": ")?;
-        push_of(lines, before.as_str(), Some(fact), "")?;
-        let dimensions = fact.get("dimensions");
-        push_of(lines, before.as_str(), dimensions, " in \"dimensions\"")?;
+        push_fact(lines, identifier, fact)?;
     }
     Ok(())
+}
+
+fn push_fact(lines: &mut Lines<'_>, identifier: &str, fact: &Value<'_>) -> Result<(), AllocError> {
+    let mut before = String::from_str(lines.alloc, "fact ")?;
+    push_text(lines.alloc, &mut before, identifier)?;
+    before.push_str(": ")?;
+    push_of(lines, before.as_str(), Some(fact), "")?;
+    let dimensions = fact.get("dimensions");
+    push_of(lines, before.as_str(), dimensions, " in \"dimensions\"")
 }
 
 fn push_sheet(lines: &mut Lines<'_>, tree: &Value<'_>) -> Result<(), AllocError> {
