@@ -22,8 +22,8 @@ named, examples/embed/main.txt is skipped. The script compares
 - the commands in the man pages and in the program's help, like those of a page that shows no output;
 - each example in docs/REFUSALS.md with the line that the program prints for it.
 
-If no program is named, the Rattle code in docs/LIBRARY.md is proved too. The proof takes minutes, and much longer if ./build
-was not run before.
+If no program is named, the Rattle code in docs/LIBRARY.md is proved too. The proof takes minutes, and much longer if `rt run`
+was not run before in crates/xbrlmerge.
 
 Status 0: all is as shown. 1: something is not. 2: the code cannot be proved, or a program cannot be built.
 """
