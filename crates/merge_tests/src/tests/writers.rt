@@ -26,7 +26,7 @@ enum Call<'a, 's> {
 }
 
 #[derive(Clone, Copy, PartialEq, Eq)]
-enum Ended {
+enum Outcome {
     /// The whole text was written, and no report was refused.
     Whole,
     /// The writer failed after this many bytes.
@@ -34,20 +34,20 @@ enum Ended {
     Otherwise,
 }
 
-fn end_of(answer: Result<Refusals, Fault>) -> Result<Ended, AllocError> {
+fn outcome_of(answer: Result<Refusals, Fault>) -> Result<Outcome, AllocError> {
     match answer {
         Err(Fault::OutOfMemory(_)) => Err(AllocError),
-        Err(Fault::Device(written)) => Ok(Ended::Device(written)),
+        Err(Fault::Device(written)) => Ok(Outcome::Device(written)),
         Ok(refusals) => Ok(whole(&refusals)),
-        Err(_) => Ok(Ended::Otherwise),
+        Err(_) => Ok(Outcome::Otherwise),
     }
 }
 
-fn whole(refusals: &Refusals) -> Ended {
+fn whole(refusals: &Refusals) -> Outcome {
     if refusals.as_slice().is_empty() {
-        Ended::Whole
+        Outcome::Whole
     } else {
-        Ended::Otherwise
+        Outcome::Otherwise
     }
 }
 
@@ -57,7 +57,7 @@ fn called(
     alloc: Global,
     call: Call<'_, '_>,
     writer: ComparingWriter<'_>,
-) -> Result<(Ended, u64, bool), AllocError> {
+) -> Result<(Outcome, u64, bool), AllocError> {
     let mut sink = StdSink::new(writer);
     let answer = match call {
         Call::Base(base) => match write_to(alloc, base, &mut sink) {
@@ -70,9 +70,9 @@ fn called(
         Call::Bundle(bundle) => consolidate_bundle(alloc, bundle, &mut sink),
         Call::Verdicts(sheet, reports) => verdict_lines(alloc, sheet, reports, &mut sink),
     };
-    let ended = end_of(answer)?;
+    let outcome = outcome_of(answer)?;
     let failures = sink.failures();
-    Ok((ended, failures, sink.into_inner().is_met()))
+    Ok((outcome, failures, sink.into_inner().is_met()))
 }
 
 /// True if a writer with room for this many bytes takes the first bytes of the text. If the room is
@@ -88,9 +88,9 @@ fn holds_the_front(
     let front = text.get(..room).unwrap_or(text);
     let left = called(alloc, call, ComparingWriter::new(front, step, room, then))?;
     if room < text.len() {
-        return Ok(left == (Ended::Device(room as u64), 1, true));
+        return Ok(left == (Outcome::Device(room as u64), 1, true));
     }
-    Ok(left == (Ended::Whole, 0, true))
+    Ok(left == (Outcome::Whole, 0, true))
 }
 
 fn holds_each_front(alloc: Global, call: Call<'_, '_>, text: &[u8]) -> Result<bool, AllocError> {
