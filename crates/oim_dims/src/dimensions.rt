@@ -176,10 +176,7 @@ impl Dimensions {
         ensures err { OnErr result (self.new ≡ self.old) }
     {
         match index_of(self.members.as_slice(), &name) {
-            Some(index) => match self.members.insert(index, (name, member)) {
-                Ok(()) => Ok(()),
-                Err(_) => Err(Reason::OutOfMemory),
-            },
+            Some(index) => Ok(self.members.insert(index, (name, member))?),
             None => Err(Reason::DimensionValue),
         }
     }

@@ -80,9 +80,7 @@ fn names_of(alloc: Global, aliases: &Aliases, side: &str) -> Result<Vec<Name>, R
     let mut names = Vec::new(alloc);
     for piece in side.split('*') {
         let name = aliases.expand(piece)?;
-        if names.push(name).is_err() {
-            return Err(Reason::OutOfMemory);
-        }
+        names.push(name)?;
     }
     Ok(names)
 }

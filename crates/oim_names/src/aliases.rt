@@ -291,10 +291,8 @@ fn insert_uri(
 {
     let key = String::from_str(alloc, prefix)?;
     let known = uri.copied(alloc)?;
-    match uris.insert(key, known) {
-        Ok(_) => Ok(()),
-        Err(_) => Err(AllocError),
-    }
+    uris.insert(key, known)?;
+    Ok(())
 }
 
 fn joined(alloc: Global, prefix: &str, local: &str) -> Result<Text, AllocError>

@@ -1,5 +1,4 @@
-use Rattle.std.proofs.Common.{◌≡◌, sym, lit<, [], ◌∷◌, None, subst, true, List, ℕ}
-use Rattle.std.specs.Prelude.{is_ok}
+use Rattle.std.proofs.Common.{◌≡◌, sym, lit<, [], ◌∷◌, None, subst, List, ℕ}
 use Rattle.std.proofs.lemmas.Result.{err_from_is_err_and}
 use Rattle.std.proofs.lemmas.List.{map-append}
 use Rattle.std.proofs.lemmas.List.Elements.{All-get_or}
@@ -23,8 +22,7 @@ returns-in_err-name-clause-errors c free =
 
 pub loop-piece-preserved : goal.loop-piece-preserved
 loop-piece-preserved c =
-    let ok : is_ok c.push.result ≡ true = rw c.if-is_err.false at c.is_err.ensures.negation in
-    rw (map-append (λ x. x.now) c.loop-piece.yielded (c.in-Some.piece ∷ []), c.push.ensures.items, ok)
+    rw (map-append (λ x. x.now) c.loop-piece.yielded (c.in-Some.piece ∷ []), c.in_ok-push.ensures.items)
     (all_zipped_more (Expands c.args.aliases.now) _ _ c.in-Some.piece.now c.in_ok-name.name c.loop-piece.invariant c.in_ok-name.ensures.ok)
 
 pub returns-clause-names : goal.returns-clause-names

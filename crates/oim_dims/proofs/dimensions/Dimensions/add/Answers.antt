@@ -1,8 +1,8 @@
 use Rattle.oim_dims.proofs.Indices.{still_rises}
 use Rattle.oim_dims.proofs.dimensions.Dimensions.add.Goals as goal
 
-pub invariant_of-self : goal.invariant_of-self
-invariant_of-self c =
+pub invariant_of-self-in-Some : goal.invariant_of-self-in-Some
+invariant_of-self-in-Some c =
     let members = c.as_slice.ensures in
     let there = rw members at c.in-Some.ensures.there in
     let indexed = rw members at (c.in-Some.ensures.index c.args.member) in
