@@ -1,9 +1,9 @@
 #!/usr/bin/env python3
 """Writes a page and tables of the contradictions between reports.
 
-    tools/contradictions --sheet SHEET -o DIR [options] [NAME=]REPORT ..
-    tools/contradictions --taxonomy PACKAGE -o DIR [options] [NAME=]REPORT ..
-    tools/contradictions --from MERGED SHEET VERDICTS -o DIR [options] [PROVIDER=MERGED ..]
+    tools/contradictions --sheet SHEET -o DIR [options] [[NAME=]REPORT ..] [-- REPORT ..]
+    tools/contradictions --taxonomy PACKAGE -o DIR [options] [[NAME=]REPORT ..] [-- REPORT ..]
+    tools/contradictions --from MERGED SHEET VERDICTS -o DIR [options] [[PROVIDER=]MERGED ..]
 
 The first two forms run `xbrlmerge` on the reports. Each form writes these files into the folder DIR, except that --from writes
 no merged.json:
@@ -14,7 +14,8 @@ no merged.json:
     merged.json         the merged report
 
 Providers are named after their files: the provider of issuer.json is "issuer". NAME=REPORT sets another name. If a provider
-made several reports, repeat its NAME. A refused report is listed with the first 20 faults that `xbrlmerge explain` finds, and
+made several reports, repeat its NAME. After --, each argument is the whole name of a file. Write -- before a glob, as in
+-- *.json, because files from others may be named like an option or like NAME=REPORT. A refused report is listed with the first 20 faults that `xbrlmerge explain` finds, and
 the other reports are used. --taxonomy makes the sheet first and writes it as sheet.json; the option may be repeated.
 
 --normalise applies the rules of tools/normalise to each report first, and lists the changes in changes.csv. It permits the
@@ -46,12 +47,13 @@ import sys
 import tempfile
 
 sys.dont_write_bytecode = True
+from arguments import Parser  # noqa: E402
 from contradicting.inputs import Inputs, Run, counted, inputs_named, output_folder  # noqa: E402
 from contradicting.labels import read_labels  # noqa: E402
 from contradicting.near import Near  # noqa: E402
 from contradicting.page import page  # noqa: E402
 from contradicting.progress import Progress  # noqa: E402
-from contradicting.reports import reports_of  # noqa: E402
+from contradicting.reports import reports_named  # noqa: E402
 from contradicting.rows import Reader  # noqa: E402
 from contradicting.tables import lines_of, listed_table, table  # noqa: E402
 from normalising.options import add_losses, loses  # noqa: E402
@@ -61,10 +63,8 @@ from whole_files import files_written  # noqa: E402
 
 
 def read_options() -> argparse.Namespace:
-    parser = argparse.ArgumentParser(prog="contradictions", description=__doc__,
-                                     formatter_class=argparse.RawDescriptionHelpFormatter,
-                                     usage="%(prog)s (--sheet SHEET | --taxonomy PACKAGE | --from MERGED SHEET VERDICTS)"
-                                     " -o DIR [options] [[NAME=]REPORT ..]")
+    parser = Parser("contradictions", __doc__, "%(prog)s (--sheet SHEET | --taxonomy PACKAGE | --from MERGED SHEET VERDICTS)"
+                    " -o DIR [options] [[NAME=]REPORT ..] [-- REPORT ..]")
     kind = parser.add_mutually_exclusive_group(required=True)
     kind.add_argument("--sheet", help="the sheet of the reports")
     kind.add_argument("--taxonomy", action="append", metavar="PACKAGE", help="make the sheet from this package, schema or folder")
@@ -82,21 +82,21 @@ def read_options() -> argparse.Namespace:
     parser.add_argument("words", nargs="*", metavar="[NAME=]REPORT",
                         help="the reports; with --from, PROVIDER=MERGED for each provider")
     add_losses(parser, "options of --normalise that lose something")
-    options = parser.parse_intermixed_args()
+    options = parser.read()
     check(parser, options)
     return options
 
 
-def check(parser: argparse.ArgumentParser, options: argparse.Namespace) -> None:
+def check(parser: Parser, options: argparse.Namespace) -> None:
     """Exits with a usage error if an option or a report's name is invalid, an output is an input, or two outputs are one file."""
     if options.texts:
         if options.normalise or options.program:
             parser.error("--from takes neither --normalise nor --program")
-        if bool(options.sources) != bool(options.names) or options.sources and options.words:
+        if bool(options.sources) != bool(options.names) or options.sources and (options.words or options.files):
             parser.error("use --sources and --names together, and without PROVIDER=MERGED")
         if options.names and not all(options.names.split(",")):
             parser.error("a name in --names is empty")
-    elif not options.words or options.sources or options.names:
+    elif not (options.words or options.files) or options.sources or options.names:
         parser.error("name the reports; --sources and --names need --from")
     if loses(options) and not options.normalise:
         parser.error("options that lose something need --normalise")
@@ -116,11 +116,11 @@ def outputs_of(options: argparse.Namespace) -> list[str]:
 
 
 def inputs_of(options: argparse.Namespace) -> list[str]:
-    """Returns the paths of the input files and folders. Errors: ValueError, as in `reports_of`."""
+    """Returns the paths of the input files and folders. Errors: ValueError, as in `reports_named`."""
     inputs = [*options.labels, *(options.taxonomy or []), *[options.sheet] * bool(options.sheet)]
     if options.texts:
-        return [*inputs, *options.texts, *[options.sources] * bool(options.sources), *(word.partition("=")[2] for word in options.words)]
-    return [*inputs, *(report.path for report in reports_of(options.words))]
+        inputs += [*options.texts, *[options.sources] * bool(options.sources)]
+    return [*inputs, *(report.path for report in reports_named(options))]
 
 
 def main() -> Status:
@@ -134,7 +134,7 @@ def main() -> Status:
 
 
 def run_program(options: argparse.Namespace, progress: Progress) -> Status:
-    program, reports = program_at(options.program), reports_of(options.words)
+    program, reports = program_at(options.program), reports_named(options)
     with tempfile.TemporaryDirectory(prefix=".new-", dir=os.path.abspath(options.output)) as folder:
         return write(Run(program, options, reports, folder, progress).inputs(), options, progress)
 

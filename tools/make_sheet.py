@@ -1,8 +1,8 @@
 #!/usr/bin/env python3
 """Makes a sheet from XBRL taxonomies.
 
-    tools/make_sheet FILE.xsd | PACKAGE.zip | FOLDER .. > sheet.json
-    tools/make_sheet --union SHEET .. > sheet.json
+    tools/make_sheet [options] [--] FILE.xsd | PACKAGE.zip | FOLDER .. > sheet.json
+    tools/make_sheet --union [--] SHEET .. > sheet.json
 
 A schema is read together with the schemas that it imports, includes or redefines. In a folder or package, every .xsd file
 is read. Nothing is downloaded: a schema that is imported by URL must be in a named folder or package whose
@@ -32,6 +32,7 @@ import argparse
 import sys
 
 sys.dont_write_bytecode = True
+from arguments import Parser  # noqa: E402
 from process import Status, print_lines, run  # noqa: E402
 from sheet_making.limits import Limits, reading  # noqa: E402
 from sheet_making.making import kinds_in  # noqa: E402
@@ -39,13 +40,16 @@ from sheet_making.sheets import sheet_text, union  # noqa: E402
 
 
 def read_options() -> argparse.Namespace:
-    parser = argparse.ArgumentParser(prog="make_sheet", description=__doc__, formatter_class=argparse.RawDescriptionHelpFormatter)
+    parser = Parser("make_sheet", __doc__, "%(prog)s [options] [--] INPUT ..")
     parser.add_argument("--union", action="store_true", help="make one sheet from several")
     parser.add_argument("--megabytes", type=int, default=64, metavar="N",
                         help="the most megabytes of a file that is not a package, by default 64")
     parser.add_argument("--outside", action="store_true", help="follow references to files outside the named folders")
-    parser.add_argument("inputs", nargs="+", metavar="INPUT", help="a schema, a package or a folder; with --union, a sheet")
-    options = parser.parse_args()
+    parser.add_argument("words", nargs="*", metavar="INPUT", help="a schema, a package or a folder; with --union, a sheet")
+    options = parser.read()
+    options.inputs = [*options.words, *options.files]
+    if not options.inputs:
+        parser.error("name the taxonomies; with --union, the sheets")
     if options.megabytes < 1:
         parser.error("--megabytes takes a number from 1")
     return options

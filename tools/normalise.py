@@ -26,6 +26,7 @@ import tempfile
 from typing import Iterator, Optional
 
 sys.dont_write_bytecode = True
+from arguments import Parser  # noqa: E402
 from normalising.json_text import pieces_of, read_json_of_length  # noqa: E402
 from normalising.names import sheet_at  # noqa: E402
 from normalising.options import add_losses  # noqa: E402
@@ -36,13 +37,16 @@ from whole_files import write_files  # noqa: E402
 
 
 def read_options() -> argparse.Namespace:
-    parser = argparse.ArgumentParser(prog="normalise", description=__doc__, formatter_class=argparse.RawDescriptionHelpFormatter)
-    for word in ("REPORT", "OUT", "CHANGES"):
-        parser.add_argument(word)
+    parser = Parser("normalise", __doc__, "%(prog)s [options] [--] REPORT OUT CHANGES")
+    parser.add_argument("words", nargs="*", metavar="REPORT OUT CHANGES", help="the report, and the two files to write")
     parser.add_argument("--sheet", help="the sheet with the kinds of concepts and dimensions")
     add_program(parser)
     add_losses(parser, "options that lose something")
-    options = parser.parse_args()
+    options = parser.read()
+    names = [*options.words, *options.files]
+    if len(names) != 3:
+        parser.error("name REPORT, OUT and CHANGES")
+    options.REPORT, options.OUT, options.CHANGES = names
     if (options.drop_unknown or options.drop_unreadable) and not options.sheet:
         parser.error("--drop-unknown and --drop-unreadable need --sheet")
     files = [options.REPORT, options.OUT, options.CHANGES, *([options.sheet] if options.sheet else [])]

@@ -144,14 +144,15 @@ def are_flushed() -> bool:
 
 
 def print_lines(lines: Iterable[str]) -> None:
-    """Prints lines on standard error, each after the name of the tool.
+    """Prints lines on standard error, each after the name of the tool. Characters that are not printable are escaped; a tool
+    prints nothing else there, except the usage and, on a terminal, the progress.
 
     Call this function before the output is written: if standard error fails, the tool then stops before it changes any file.
     Errors: OSError.
     """
     name = os.path.basename(sys.argv[0]).removesuffix(".py")
     for line in lines:
-        print(f"{name}: {printable(line)}", file=sys.stderr)
+        print(printable(f"{name}: {line}"), file=sys.stderr)
     sys.stderr.flush()
 
 

@@ -10,11 +10,11 @@ from typing import Iterator, Optional
 from contradicting.normalised import Normalised, pieces_of_file
 from contradicting.progress import Progress
 from contradicting.refusals import Refusals
-from contradicting.reports import Report, check_files
+from contradicting.reports import Report, check_files, reports_named
 from contradicting.rows import FactSources
 from contradicting.sources import OwnTexts, Sources
 from contradicting.texts import Provider, Text, sheet_at
-from process import NotDone, printable
+from process import NotDone
 from program import Program
 from sheet_making.limits import Limits
 from sheet_making.making import kinds_in
@@ -45,8 +45,8 @@ def inputs_named(options: argparse.Namespace) -> Inputs:
     sheet, text = sheet_at(listed), Text(merged)
     if options.sources:
         sources = Sources(options.sources, options.names.split(","))
-    owned = (word.partition("=")[::2] for word in options.words)
-    return Inputs(text, sheet, verdicts, sources or OwnTexts([Provider(name, path, text, sheet) for name, path in owned]))
+    owned = [Provider(*report, text, sheet) for report in reports_named(options)]
+    return Inputs(text, sheet, verdicts, sources or OwnTexts(owned))
 
 
 class Run:
@@ -89,7 +89,7 @@ class Run:
     def normalised(self) -> list[str]:
         made = Normalised(self.program, self.options, self.folder)
         for number, report in enumerate(self.reports, 1):
-            self.progress.show(f"normalising {printable(report.path)} ({number} of {len(self.reports)})")
+            self.progress.show(f"normalising {report.path} ({number} of {len(self.reports)})")
             made.add(report)
         self.files.append(("changes.csv", made.pieces()))
         self.notes += made.notes
@@ -105,7 +105,7 @@ class Run:
         refusals = Refusals("" if self.options.taxonomy else ADVICE)
         for number, refusal in sorted(found.items()):
             path = self.reports[number - 1].path
-            self.progress.show(f"explaining why {printable(path)} is refused")
+            self.progress.show(f"explaining why {path} is refused")
             refusals.add(path, refusal, self.program.faults(os.path.abspath(paths[number - 1])))
         return refusals
 

@@ -3,6 +3,8 @@ from __future__ import annotations
 
 import sys
 
+from process import printable
+
 CLEAR = "\r\x1b[K"
 
 
@@ -13,7 +15,7 @@ class Progress:
         self.is_shown = sys.stderr.isatty()
 
     def show(self, text: str) -> None:
-        self.write(f"{CLEAR}{text} ..")
+        self.write(f"{CLEAR}{printable(text)} ..")
 
     def clear(self) -> None:
         self.write(CLEAR)

@@ -1,6 +1,7 @@
 """The reports on the command line, with their providers."""
 from __future__ import annotations
 
+import argparse
 import os
 import stat
 from typing import Iterable, NamedTuple
@@ -15,16 +16,22 @@ class Report(NamedTuple):
     path: str
 
 
-def reports_of(words: Iterable[str]) -> list[Report]:
-    """Returns the reports that are named as FILE or NAME=FILE. A file that is repeated under one name is returned once.
+def reports_named(options: argparse.Namespace) -> list[Report]:
+    """Returns the reports that the arguments name: FILE or NAME=FILE before `--`, and only FILE after it.
 
-    Without NAME, the provider is named after the file. Errors: ValueError if a part of NAME=FILE is empty, if a file gets two
-    names, or if two files get the same name and NAME= does not precede both.
+    Without NAME, the provider is named after the file. Errors: ValueError if a part of NAME=FILE is empty; except with --from,
+    also as in `checked`.
     """
+    reports = [*map(report_of, options.words), *((False, Report(provider_of(path), path)) for path in options.files)]
+    return [report for _, report in reports] if options.texts else checked(reports)
+
+
+def checked(named: Iterable[tuple[bool, Report]]) -> list[Report]:
+    """Returns the reports, and a file that is repeated under one name once. Errors: ValueError if a file gets two names, or if
+    two files get the same name and NAME= does not precede both."""
     reports: dict[str, Report] = {}
     first: dict[str, tuple[bool, str]] = {}
-    for word in words:
-        is_named, report = report_of(word)
+    for is_named, report in named:
         before = reports.setdefault(os.path.realpath(report.path), report)
         if before.provider != report.provider:
             raise ValueError(f"{report.path} is named twice, for {before.provider} and for {report.provider}")
@@ -41,8 +48,12 @@ def report_of(word: str) -> tuple[bool, Report]:
     is_named = bool(sign) and "/" not in name
     if is_named and not (name and path):
         raise ValueError(f"{word} has an empty name or file")
-    provider = name if is_named else os.path.splitext(os.path.basename(word))[0]
-    return is_named, Report(written(provider), path if is_named else word)
+    return is_named, Report(written(name), path) if is_named else Report(provider_of(word), word)
+
+
+def provider_of(path: str) -> str:
+    """Returns the name of a file without its folder and its ending."""
+    return written(os.path.splitext(os.path.basename(path))[0])
 
 
 def written(name: str) -> str:

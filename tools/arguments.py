@@ -1,0 +1,33 @@
+"""Reads the arguments of a tool."""
+from __future__ import annotations
+
+import argparse
+import sys
+from typing import NoReturn, Optional
+
+from process import Status, print_lines
+
+
+class Parser(argparse.ArgumentParser):
+    """A parser with the rules that all tools share.
+
+    After `--`, each argument is the whole name of a file, so that a file such as `--output=x.json` is no option. Names of files
+    come from untrusted sources, so messages are escaped.
+    """
+
+    def __init__(self, prog: str, description: Optional[str], usage: str) -> None:
+        super().__init__(prog=prog, description=description, usage=usage, formatter_class=argparse.RawDescriptionHelpFormatter)
+
+    def read(self) -> argparse.Namespace:
+        """Returns the options. `words` contains the arguments before `--` that are not options, and `files` the arguments after
+        `--`. Ends the tool with status USAGE if an argument is invalid."""
+        given = sys.argv[1:]
+        end = given.index("--") if "--" in given else len(given)
+        options = self.parse_intermixed_args(given[:end])
+        options.files = given[end + 1 :]
+        return options
+
+    def error(self, message: str) -> NoReturn:
+        self.print_usage(sys.stderr)
+        print_lines([f"error: {message}"])
+        sys.exit(Status.USAGE)
