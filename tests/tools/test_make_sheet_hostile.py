@@ -53,8 +53,8 @@ def rewrites_and_imports(size):
 def rewrites_of_each_length(size):
     lengths = range(1, min(size, 900))
     return {
-        "META-INF/catalog.xml": CATALOG % "".join(REWRITE.format("b" * length, "../") for length in lengths),
-        "a.xsd": SCHEMA % each(INCLUDE, size // 3, "c" * 30 + "/{0}/../../a.xsd"),
+        "META-INF/catalog.xml": CATALOG % "".join(REWRITE.format("b:" + "b" * length, "../") for length in lengths),
+        "a.xsd": SCHEMA % each(INCLUDE, size // 3, "c:" + "c" * 900 + "/{0}/../../a.xsd"),
     }
 
 
@@ -202,6 +202,31 @@ class Packages(HostileTest):
         for rule in ('<rewriteURI rewritePrefix="../"/>', REWRITE.format("", "../"), '<rewriteURI uriStartString="a"/>'):
             package = self.pack({"META-INF/catalog.xml": CATALOG % rule, "a.xsd": SCHEMA % INCLUDE.format("a.xsd")})
             self.refused("catalog.xml: a rewriteURI lacks uriStartString or rewritePrefix", package)
+
+    def test_a_catalog_rewrites_no_relative_reference(self):
+        package = self.pack(self.typed("A", "types", "types", "decimal"))
+        other = {"META-INF/catalog.xml": CATALOG % REWRITE.format("types", "../evil"), **self.typed("B", "evil", "evil", "string")}
+        self.check_kinds(package, self.pack(other, "b.zip"))
+
+    def test_a_rule_of_the_own_package_comes_first(self):
+        url = "http://types.example/types"
+        own = CATALOG % (REWRITE.format(url, "../types") + REWRITE.format(url[:10], "../nowhere/"))
+        package = self.pack({"META-INF/catalog.xml": own, **self.typed("A", url, "types", "decimal")})
+        evil = CATALOG % (REWRITE.format(url, "../types") + REWRITE.format("http://types.example/type", "../type"))
+        self.check_kinds(package, self.pack({"META-INF/catalog.xml": evil, **self.typed("B", url, "types", "string")}, "b.zip"))
+
+    def check_kinds(self, *packages):
+        for words in (packages, reversed(packages)):
+            done = run(*words)
+            self.assertEqual((done.returncode, done.stderr), (0, b""))
+            self.assertEqual(json.loads(done.stdout)["concepts"], {"n1:A": "numeric", "n2:B": "text"})
+
+    @staticmethod
+    def typed(name, location, place, base):
+        """Returns two schemas: one with a concept, and at `place` one with its type. The first refers to the second by
+        `location`. The second has no namespace, and no ending of a schema, so that only references lead to it."""
+        concept = (SCHEMA % (INCLUDE.format(location) + TYPED.format(name, "this:t"))).replace("http://made", f"http://{name}")
+        return {f"{name}.xsd": concept, place: WITHOUT_NAMESPACE % TYPE.format("t", f"xbrli:{base}ItemType")}
 
     def test_methods_that_unpack_without_a_limit(self):
         for method in (zipfile.ZIP_BZIP2, zipfile.ZIP_LZMA):

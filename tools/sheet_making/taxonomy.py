@@ -29,8 +29,7 @@ class Taxonomy:
         self.missing: list[str] = []
         for catalog in files.catalogs():
             with reading(catalog):
-                self.rewrites.catalog = catalog
-                read_xml(files.read(catalog), self.rewrites)
+                read_xml(files.read(catalog), self.rewrites.open(catalog))
         self.waiting: list[tuple[str, Optional[str]]] = [(place, None) for place in files.schemas()]
         for place, wanted in self.waiting:
             with reading(place):
