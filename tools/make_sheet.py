@@ -20,10 +20,11 @@ Files may come from untrusted sources. Only regular files are read. Without --ou
 folder of a named file, or in a named package. The limits are:
     64 MB for a file that is not a package
     100,000 files in a package, paths of 1,024 characters, and 100 times its size plus 64 MB when unpacked
-    1,000 levels in a document, which must not have a document type
+    100,000 tags in a package and one for each 4 bytes of its size, where 4 attributes count as a tag
+    1,000 levels in a document, which must not have a document type, and 8,000,000 bytes in a tag or a comment
     1,000 different lengths of uriStartString in the catalogs
     4 MB for schemas without a namespace that are read again, once for each further namespace whose schemas include them
---megabytes N replaces 64 with N, and 4 with N / 16.
+--megabytes N replaces 64 with N, and 4 with N / 16. --tags N replaces 100,000 with N.
 
 Status 0: done. 1: done, but something is left out. 2: invalid arguments. 3: not done, and standard error shows why. After
 status 3, standard output contains at most a part of a sheet.
@@ -44,20 +45,22 @@ def read_options() -> argparse.Namespace:
     parser.add_argument("--union", action="store_true", help="make one sheet from several")
     parser.add_argument("--megabytes", type=int, default=64, metavar="N",
                         help="the most megabytes of a file that is not a package, by default 64")
+    parser.add_argument("--tags", type=int, default=100_000, metavar="N",
+                        help="the most tags in a package, besides those that its size permits, by default 100,000")
     parser.add_argument("--outside", action="store_true", help="follow references to files outside the named folders")
     parser.add_argument("words", nargs="*", metavar="INPUT", help="a schema, a package or a folder; with --union, a sheet")
     options = parser.read()
     options.inputs = [*options.words, *options.files]
     if not options.inputs:
         parser.error("name the taxonomies; with --union, the sheets")
-    if options.megabytes < 1:
-        parser.error("--megabytes takes a number from 1")
+    if options.megabytes < 1 or options.tags < 1:
+        parser.error("--megabytes and --tags take a number from 1")
     return options
 
 
 def main() -> Status:
     options = read_options()
-    limits = Limits(options.megabytes, options.outside)
+    limits = Limits(options.megabytes, options.outside, options.tags)
     kinds, lines = (union(options.inputs, limits), []) if options.union else kinds_in(options.inputs, limits)
     print_lines(lines)
     with reading("standard output"):

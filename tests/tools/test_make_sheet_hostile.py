@@ -13,6 +13,7 @@ from unittest import mock
 
 import in_process
 import make_sheet
+import process
 from test_make_sheet import ITEM, SCHEMA, TOOL, ToolTest, run
 
 from contradicting.labels import read_labels
@@ -162,6 +163,30 @@ class Long(HostileTest):
         self.refused("with it, the package unpacks to more than 100 times its size plus 1 MB", many, "--megabytes", "1")
         self.assertEqual(in_process.run(make_sheet, many), (0, ""))
 
+    def test_zips_of_tags(self):
+        tags, attributes = "<a/>" * 110_000, f"<a{each(' {}=%s' % repr(''), 300, 'a{0}')}/>" * 1_500
+        for text in (tags, attributes):
+            package = self.pack({"a.xsd": SCHEMA % text})
+            self.assertLess(os.path.getsize(package), 40_000)
+            self.refused("with it, the package has more than 100000 tags and one for each 4 bytes of its size, counting 4 attributes as"
+                         " a tag (make_sheet --tags)", package)
+            self.assertEqual(in_process.run(make_sheet, package, "--tags", "120000"), (0, ""))
+        several = self.pack({f"{number}.xsd": SCHEMA % tags[:200_000] for number in range(3)})
+        self.refused("2.xsd: with it, the package has more than", several)
+        with self.assertRaisesRegex(process.NotDone, "more than 100000 tags"):
+            read_labels([self.pack({"a.xsd": SCHEMA % "", "a.xml": LINKBASE % tags})], "en")
+
+    def test_a_long_tag_or_comment(self):
+        for text in (f"<!--{'x' * 9_000_000}-->", f'<a b="{"x" * 9_000_000}"/>'):
+            package = self.pack({"a.xsd": SCHEMA % text})
+            tracemalloc.start()
+            self.refused("a.xsd: it has a tag or a comment of more than 8000000 bytes", package)
+            _, peak = tracemalloc.get_traced_memory()
+            tracemalloc.stop()
+            self.assertLess(peak, 40_000_000)  # expat keeps the tag
+            self.refused("a tag or a comment", self.write("a.xsd", SCHEMA % text))
+        self.assertEqual(in_process.run(make_sheet, self.pack({"a.xsd": SCHEMA % f"<!--{'x' * 7_000_000}-->"})), (0, ""))
+
     def test_levels(self):
         for levels, fits in ((999, True), (1_000, False), (300_000, False)):
             package = self.pack({"a.xsd": SCHEMA % ("<a>" * levels + "</a>" * levels)})
@@ -169,7 +194,7 @@ class Long(HostileTest):
             if fits:
                 self.assertEqual(in_process.run(make_sheet, package), (0, ""))
             else:
-                self.refused("it has more than 1000 levels", package)
+                self.refused("it has more than 1000 levels", package, "--tags", "1000000")
             _, peak = tracemalloc.get_traced_memory()
             tracemalloc.stop()
             self.assertLess(peak, 80_000_000)  # expat reads its input to the end; the longest is 2 MB

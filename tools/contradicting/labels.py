@@ -35,7 +35,7 @@ class Labelled(Taxonomy):
         super().__init__(files)
         for place in files.linkbases():
             with reading(place):
-                read_xml(files.read(place), Linkbase(self, place))
+                read_xml(files.pieces(place), Linkbase(self, place))
 
     def declare(self, part: Part, place: str) -> None:
         super().declare(part, place)

@@ -7,7 +7,7 @@ import stat
 import zipfile
 from typing import Iterable, Optional
 
-from sheet_making.limits import Limits, reading, too_long
+from sheet_making.limits import PIECE, Limits, reading, too_long
 from sheet_making.packages import Package
 
 CATALOG = os.path.join(os.sep, "META-INF", "catalog.xml")
@@ -61,18 +61,19 @@ class Files:
             return place
         return place if origin not in self.packed and os.path.isfile(place) else None
 
-    def read(self, place: str) -> bytes:
-        """Returns the bytes of a file.
+    def pieces(self, place: str) -> Iterable[bytes]:
+        """Returns the bytes of a file in pieces.
 
-        Errors: OSError; exceptions of zipfile and zlib; ValueError if the file is not regular, is too long or grew while it was
-        read, if it is outside the named folders and --outside is not given, or if its package cannot be unpacked.
+        Errors, some of them raised by the iterator: OSError; those of `Package.pieces`; ValueError if the file is not regular, is
+        too long or grew while it was read, or if it is outside the named folders and --outside is not given.
         """
         if place in self.packed:
-            return self.packed[place].read(place)
+            return self.packed[place].pieces(place)
         really = os.path.realpath(place)
         if not self.limits.outside and self.folders.isdisjoint(map(str, pathlib.PurePath(really).parents)):
             raise ValueError("it is outside the named folders (make_sheet --outside)")
-        return read_regular(really, self.limits)
+        data = read_regular(really, self.limits)
+        return (data[start : start + PIECE] for start in range(0, len(data), PIECE))
 
 
 def read_regular(place: str, limits: Limits) -> bytes:

@@ -7,6 +7,8 @@ from typing import Iterator
 
 from process import NotDone, sentence
 
+PIECE = 1 << 20  # bytes to read at a time
+
 
 @dataclass(frozen=True)
 class Limits:
@@ -14,6 +16,7 @@ class Limits:
 
     megabytes: int = 64
     outside: bool = False
+    tags: int = 100_000  # in a package, besides those that its size permits
 
     @property
     def file(self) -> int:

@@ -1,15 +1,18 @@
 """A taxonomy package, which is a zip file."""
 from __future__ import annotations
 
+import functools
 import os
 import zipfile
+from typing import Iterator
 
 from process import shortened
-from sheet_making.limits import Limits, too_long
+from sheet_making.limits import PIECE, Limits, too_long
 
 MOST_ENTRIES = 100_000
 LONGEST_PATH = 1_024  # characters
 MOST_UNPACKED = 100  # times the size of the package
+TAG, ATTRIBUTES = 4, 4  # the bytes of a package that permit one more tag, and the attributes that count as one tag
 METHODS = (zipfile.ZIP_STORED, zipfile.ZIP_DEFLATED)  # for other methods, `zipfile` does not limit how much it unpacks at once
 
 
@@ -18,7 +21,9 @@ class Package:
 
     def __init__(self, path: str, limits: Limits) -> None:
         self.path, self.limits, self.file = path, limits, zipfile.ZipFile(path)
-        self.left = limits.file + MOST_UNPACKED * os.path.getsize(path)  # bytes that may still be unpacked
+        size = os.path.getsize(path)
+        self.left = limits.file + MOST_UNPACKED * size  # bytes that may still be unpacked
+        self.tags_left: float = limits.tags + size // TAG
         self.entries: dict[str, zipfile.ZipInfo] = {}
         for entry in self.file.infolist():
             self.add(entry)
@@ -37,16 +42,26 @@ class Package:
         if not entry.is_dir():
             self.entries[place] = entry
 
-    def read(self, place: str) -> bytes:
-        entry = self.entries[place]
+    def pieces(self, place: str) -> Iterator[bytes]:
+        """Yields the bytes of a file. Errors: ValueError if the file is too long or compressed by another method than deflate, or
+        if with it the package is unpacked to too many bytes, or has too many tags and attributes; exceptions of zipfile and zlib.
+
+        The signs < and = are counted, because they are found far faster than the tags and the attributes.
+        """
+        entry, length = self.entries[place], 0
         if entry.compress_type not in METHODS:
             raise ValueError("it is compressed by a method other than deflate")
         with self.file.open(entry) as file:
-            data = file.read(self.limits.file + 1)
-        if len(data) > self.limits.file:
-            raise too_long(self.limits)
-        self.left -= len(data)
-        if self.left < 0:
-            raise ValueError(f"with it, the package unpacks to more than {MOST_UNPACKED} times its size plus"
-                             f" {self.limits.megabytes} MB (make_sheet --megabytes)")
-        return data
+            for piece in iter(functools.partial(file.read, PIECE), b""):
+                length += len(piece)
+                self.left -= len(piece)
+                self.tags_left -= piece.count(b"<") + piece.count(b"=") / ATTRIBUTES
+                if length > self.limits.file:
+                    raise too_long(self.limits)
+                if self.left < 0:
+                    raise ValueError(f"with it, the package unpacks to more than {MOST_UNPACKED} times its size plus"
+                                     f" {self.limits.megabytes} MB (make_sheet --megabytes)")
+                if self.tags_left < 0:
+                    raise ValueError(f"with it, the package has more than {self.limits.tags} tags and one for each {TAG} bytes of"
+                                     f" its size, counting {ATTRIBUTES} attributes as a tag (make_sheet --tags)")
+                yield piece

@@ -29,7 +29,7 @@ class Taxonomy:
         self.missing: list[str] = []
         for catalog in files.catalogs():
             with reading(catalog):
-                read_xml(files.read(catalog), self.rewrites.open(catalog))
+                read_xml(files.pieces(catalog), self.rewrites.open(catalog))
         self.waiting: list[tuple[str, Optional[str]]] = [(place, None) for place in files.schemas()]
         for place, wanted in self.waiting:
             with reading(place):
@@ -46,13 +46,12 @@ class Taxonomy:
             raise ValueError(f"it is not a schema of the namespace {shortened(wanted or '')}")
         if target is not None or wanted in namespaces or wanted is None and namespaces:
             return
-        data = self.files.read(place)
-        self.read_again += len(data) if namespaces else 0
+        visitor = Declaring(self, place, wanted)
+        length = read_xml(self.files.pieces(place), visitor)
+        self.read_again += length if namespaces else 0
         if self.read_again > self.files.limits.again:
             raise ValueError(f"more than {self.files.limits.again} bytes of schemas without a namespace are read again for"
                              f" further namespaces (make_sheet --megabytes)")
-        visitor = Declaring(self, place, wanted)
-        read_xml(data, visitor)
         self.targets[place] = visitor.target
         namespaces.add(visitor.namespace)
 
@@ -71,7 +70,8 @@ class Taxonomy:
         if part.is_type:
             is_same = self.types.setdefault(part.name, part.type) == part.type
         else:
-            is_same = self.elements.setdefault(part.name, part.declaration()) == part.declaration()
+            declaration = part.declaration()
+            is_same = self.elements.setdefault(part.name, declaration) == declaration
         if not is_same:
             raise ValueError(f"{part.name.shown()} is declared in two ways")
 

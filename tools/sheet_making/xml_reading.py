@@ -6,7 +6,7 @@ memory.
 from __future__ import annotations
 
 import sys
-from typing import Optional, Sequence
+from typing import Iterable, Optional, Sequence
 
 # read_xml rejects document types, so a document cannot declare entities
 from xml.parsers import expat  # nosec
@@ -15,6 +15,7 @@ from names import Name
 from process import shortened
 
 MOST_LEVELS = 1_000
+LONGEST_TAG = 8_000_000  # bytes
 XML = "http://www.w3.org/XML/1998/namespace"
 
 
@@ -76,12 +77,13 @@ class Visitor:
         """Receives a piece of text, if `takes_text` is set. A text may arrive in several pieces."""
 
 
-def read_xml(data: bytes, visitor: Visitor) -> None:
-    """Passes the tags of a document to a visitor, and the texts if the visitor's `takes_text` is true.
+def read_xml(pieces: Iterable[bytes], visitor: Visitor) -> int:
+    """Passes the tags of a document to a visitor, and the texts if the visitor's `takes_text` is true. Returns how many bytes the
+    document has.
 
     Errors: LookupError or ValueError if the encoding is not supported; ValueError if the document is not well-formed, has a
-    document type or more than MOST_LEVELS levels, has an element with an unbound prefix, or binds a prefix to an empty namespace;
-    MemoryError; exceptions of the visitor.
+    document type, more than MOST_LEVELS levels or a longer tag or comment than LONGEST_TAG, has an element with an unbound prefix,
+    or binds a prefix to an empty namespace; MemoryError; exceptions of the pieces and of the visitor.
     """
     bindings, opened = Bindings(), []
 
@@ -103,9 +105,22 @@ def read_xml(data: bytes, visitor: Visitor) -> None:
     parser.StartDoctypeDeclHandler = doctype
     if visitor.takes_text:
         parser.CharacterDataHandler = visitor.text
+    return parsed(parser, pieces)
+
+
+def parsed(parser: expat.XMLParserType, pieces: Iterable[bytes]) -> int:
+    """Lets expat parse a document, and returns how many bytes the document has. expat keeps a tag or comment until it ends.
+    Errors: as in `read_xml`."""
+    length = 0
     try:
-        parser.Parse(data, True)
+        for piece in pieces:
+            length += len(piece)
+            parser.Parse(piece, False)
+            if length - parser.CurrentByteIndex > LONGEST_TAG:
+                raise ValueError(f"it has a tag or a comment of more than {LONGEST_TAG} bytes")
+        parser.Parse(b"", True)
     except expat.ExpatError as fault:
         if expat.ErrorString(fault.code) == expat.errors.XML_ERROR_NO_MEMORY:
             raise MemoryError from None
         raise ValueError(f"it is not XML: {fault}") from None
+    return length
