@@ -195,6 +195,11 @@ class Texts(ToolTest):
         cells = self.table_of(self.number("100", 0), self.number("101", 0), self.number("102", 0))[1]
         self.assertEqual([cell["evidence"] for cell in cells], ["pair", "", "pair"])
 
+    def test_a_nil_behind_a_number(self):
+        page, cells = self.table_of(self.number("7", 0), self.number(None))
+        self.assertEqual([cell["value"] for cell in cells], ["7", "nil"])
+        self.assertIn("A nil value contradicts every number.", page)
+
     def test_numbers_of_eighteen_digits_are_exact(self):
         cells = self.table_of(self.number("0.000000000000000001", 18), self.number("999999999999999999", -18))[1]
         self.assertEqual(cells[0]["low"], "0.0000000000000000005")

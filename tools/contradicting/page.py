@@ -197,11 +197,11 @@ def start_of_cut(values: Iterable[Value]) -> int:
 def details(row: Row) -> Iterator[tuple[str, str]]:
     """Yields a heading and a text for each dimension of a row except the concept. An absent period, and the absent
     unit of a number, have a text too."""
-    of, last = dimensions_of(row), [*row.facts.values()][-1]  # nil is sorted first, so the last fact is not nil
+    of, is_number = dimensions_of(row), any(isinstance(fact.value, Decimal) for fact in row.facts.values())
     start, _, end = of.period.rpartition("/")
     since = f"{day(start, False)} to " if start else "at the end of " * end.endswith("T00:00:00")
     yield "Period", since + day(end, True) if end else "for ever"
-    if of.unit or isinstance(last.value, Decimal):
+    if of.unit or is_number:
         yield "Unit", " / ".join("\u00b7".join(map(shown, side)) for side in of.unit) or "a pure number"
     core: list[tuple[str, Value]] = [("Entity", of.entity)] * bool(of.entity) + [("Language", of.language)] * bool(of.language)
     yield from ((shown(axis), shown(member)) for axis, member in core)
