@@ -341,9 +341,10 @@ def write(path, content):
 
 
 def keep(case, content):
-    """Writes the broken bytes to a file and returns its path."""
-    place = os.path.join(tempfile.gettempdir(), f"malformed-{SEED}-{case}")
-    write(place, content)
+    """Writes the broken bytes to a new file, whose name cannot be guessed, and returns its path."""
+    descriptor, place = tempfile.mkstemp(prefix=f"malformed-{SEED}-{case}-")
+    with os.fdopen(descriptor, "wb") as file:
+        file.write(content)
     return place
 
 

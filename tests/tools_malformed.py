@@ -365,9 +365,8 @@ def play(case):
         try:
             kind(scratch, chance)
         except (Fault, Exception) as fault:
-            place = os.path.join(tempfile.gettempdir(), f"tools-malformed-{SEED}-{case}")
-            shutil.rmtree(place, ignore_errors=True)
-            shutil.copytree(folder, place)
+            place = tempfile.mkdtemp(prefix=f"tools-malformed-{SEED}-{case}-")
+            shutil.copytree(folder, place, dirs_exist_ok=True)
             told = f"{type(fault).__name__}: {fault}\n    SEED={SEED} CASE={case} tests/tools_malformed; the files are kept in {place}"
             return scratch.counts, [f"{kind.__name__}: {told}"]
         finally:
