@@ -58,6 +58,17 @@ class WholeFiles(RoomTest):
         whole_files.write_files([(self.second, ["new"])])
         self.assertEqual(stat.S_IMODE(os.stat(self.second).st_mode), 0o644)
 
+    def test_no_other_user_can_open_a_new_file_before_it_has_its_mode(self):
+        def pieces():
+            yield "new"
+            (folder,) = (name for name in os.listdir(self.scratch) if name.startswith(".new-"))
+            seen.append(stat.S_IMODE(os.stat(self.place(folder)).st_mode))
+
+        seen = []
+        self.put(self.first, mode=0o600)
+        whole_files.write_files([(self.first, pieces())])
+        self.assertEqual((seen, stat.S_IMODE(os.stat(self.first).st_mode)), ([0o700], 0o600))
+
     @unittest.skipIf(os.geteuid(), "only root may give a file to another user")
     def test_owner_and_group_are_kept(self):
         self.put(self.first, mode=0o4755)
