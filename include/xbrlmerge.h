@@ -12,6 +12,11 @@
    `refusal`) must not overlap any other argument. During the call, nothing else may access the output, or write to the
    input. Output need not be initialised. Each pointer must be aligned for its type, as C requires.
 
+   Lengths. A length is the number of items at the pointer before it, and a call uses that many, so it must be right.
+   `sheet_length`, `reports_length`, `report_length` and `out_length` count bytes. `ends_length` counts ends, one for each
+   report, and `refusals_length` counts records: for an array `ends`, pass `sizeof ends / sizeof ends[0]`, as `sizeof ends`
+   counts bytes.
+
    Reports. All reports are concatenated in `reports`, and `ends` contains the position where each report ends, counted from
    the start: reports of 3 and 4 bytes have the ends 3 and 7. Bytes after the last end are ignored. If an end is less than
    the end before it, or beyond `reports_length`, the call returns XBRLMERGE_BAD_ENDS and reads neither sheet nor reports. If

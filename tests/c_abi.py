@@ -4,7 +4,8 @@
     [XBRLMERGE=PROGRAM] tests/c_abi
 
 The script checks libxbrlmerge.so and libxbrlmerge.a, which ./build --library writes to lib/. Both must export the calls of
-include/xbrlmerge.h and no other names. The types in the header must agree with crates/xbrlmerge_c. Then the script builds
+include/xbrlmerge.h and no other names. The types in the header must agree with crates/xbrlmerge_c, and the header must say what
+each length counts. The first program in docs/LIBRARY.md must merge two examples as xbrlmerge does. Then the script builds
 tests/c_abi.c with each library and makes each call on the examples. The texts, lines and statuses must equal xbrlmerge's.
 For a refused sheet, only the number of the refusal is compared. With the static library, each request for memory in these
 calls is also refused in turn. Other calls pass buffers that are too short, ends of reports that are out of range or out
@@ -95,6 +96,13 @@ def rows_agree():
     check([int(levels[it]) for it in LEVELS] == [0, 1, 2, 3], "the levels in the header differ")
 
 
+def lengths_are_described():
+    """Checks that the header's paragraph on lengths names each length that a call takes."""
+    taken = {it for words in re.findall(r"xbrlmerge_\w+\(([^)]*)\);", header()) for it in re.findall(r"\bsize_t (\w+)", words)}
+    described = set(re.findall(r"`(\w+)`", content(HEADER).partition("   Lengths. ")[2].partition("\n\n")[0]))
+    check(taken and taken <= described, f"the header does not say what these count: {sorted(taken - described)}")
+
+
 def names_agree():
     calls = calls_of_header()
     check(calls == calls_of_crate(), f"header and exports differ: {calls} and {calls_of_crate()}")
@@ -115,6 +123,17 @@ def built(scratch):
     if shutil.which("g++"):
         must("g++", "-std=c++11", *WARNINGS, "-fsyntax-only", "-x", "c++", HEADER)
     return [f"{scratch}/static", f"{scratch}/shared"]
+
+
+def first_program(program, scratch, files):
+    """Builds the first program that docs/LIBRARY.md shows, and compares its results on a sheet and two reports with xbrlmerge's."""
+    shown = re.search(r"^```c\n(.*?)^```$", content("docs/LIBRARY.md"), re.MULTILINE | re.DOTALL)[1]
+    with open(f"{scratch}/first.c", "w", encoding="utf-8") as file:
+        file.write(shown)
+    must("gcc", *SANITIZED, f"{scratch}/first.c", STATIC, "-o", f"{scratch}/first")
+    done, wanted = run(f"{scratch}/first", *files), run(program, "merge", "--sheet", *files)
+    same = wanted.stdout and (done.returncode, done.stdout) == (wanted.returncode, wanted.stdout)
+    check(same, f"the program in docs/LIBRARY.md on {' '.join(map(os.path.basename, files))}: {done.returncode} {done.stdout[-200:]} {done.stderr.decode()[-400:]}")
 
 
 def lines(text):
@@ -151,6 +170,7 @@ def main():
         return 2
     names_agree()
     rows_agree()
+    lengths_are_described()
     examples = {it: f"{TOP}/examples/{it}.json" for it in ("sheet", "issuer", "ledgerline", "statfeed", "oldharbour", "merged")}
     with tempfile.TemporaryDirectory(prefix="c_abi-") as scratch:
         callers = built(scratch)
@@ -163,6 +183,8 @@ def main():
         for caller in callers:
             done = run(caller, "edges", examples["sheet"])
             check(done.returncode == 0, f"{os.path.basename(caller)}: edges: {done.stderr.decode()[-400:]}")
+        for names in (("sheet", "issuer", "ledgerline"), ("sheet", "oldharbour", "issuer")):
+            first_program(program, scratch, [examples[it] for it in names])
         for words in (("merge", "0"), ("merge", "2"), ("merge", "3"), ("verdicts",), ("verdicts-json",), ("sources",), ("sources-json",)):
             compare(program, callers, words, some)
             compare(program, callers, words, [bad, examples["issuer"]])

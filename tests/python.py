@@ -11,8 +11,10 @@ columns. If mypy is installed, it checks the module's types. Run ./build and ./b
 
 Status 0: all is as expected. 1: something is not. 2: the program or the library is not built.
 """
+import array
 import concurrent.futures
 import csv
+import ctypes
 import importlib
 import io
 import json
@@ -176,6 +178,33 @@ class Examples(unittest.TestCase):
         self.assertEqual(list(xbrlmerge.verdicts(sheet, [])), [])
         self.assertRaises(xbrlmerge.SheetRefused, xbrlmerge.merge, b"", [])
         self.assertRaises(ValueError, xbrlmerge.merge, sheet, [], "some")
+
+    def test_lengths_are_measured(self):
+        class Short(bytes):
+            def __len__(self):
+                return 1
+
+            def __bytes__(self):
+                return Short(b"{}")
+
+        class ShortArray(bytearray):
+            __len__, __bytes__ = Short.__len__, Short.__bytes__
+
+        sheet, reports = bytes_of(SHEET), list(map(bytes_of, EXAMPLES))
+        for kind in (Short, ShortArray):
+            self.assertEqual(xbrlmerge.merge(kind(sheet), map(kind, reports)), xbrlmerge.merge(sheet, reports))
+            self.assertEqual(xbrlmerge.check(kind(sheet), kind(reports[0])), xbrlmerge.check(sheet, reports[0]))
+
+    def test_no_end_lies_in_memory_that_was_freed(self):
+        def reads_an_end(*given):
+            # these arrays get memory of the same size that was freed before the call
+            marks = [array.array("Q", (7,)) for _ in range(1000)]
+            seen.append((len(marks), given[5], ctypes.c_uint64.from_address(given[4]).value))
+            return library.NO_MEMORY
+
+        seen = []
+        self.assertRaises(MemoryError, library._answered, reads_an_end, b"{}", [])
+        self.assertEqual(seen, [(1000, 0, 0)])
 
     def test_long_texts_are_asked_for_again(self):
         # with this MORE, the module's first buffer for the text has a length of 0, so the module must repeat the call

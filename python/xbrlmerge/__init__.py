@@ -217,10 +217,11 @@ def check(sheet: Given, report: Given) -> Union[Checked, Refusal]:
 
 
 def _bytes(given: Given) -> bytes:
-    if isinstance(given, bytes):
+    """Returns bytes whose `len` is their length in memory: a subclass may define another `__len__` or `__bytes__`."""
+    if type(given) is bytes:
         return given
-    if isinstance(given, (bytearray, memoryview)):
-        return bytes(given)
+    if isinstance(given, (bytes, bytearray, memoryview)):
+        return bytes(memoryview(given))
     # os.fspath rejects a file descriptor, which `open` would accept
     with open(os.fspath(given), "rb") as file:
         return file.read()

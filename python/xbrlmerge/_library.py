@@ -1,6 +1,7 @@
 """Loads the shared library, and calls it with bytes."""
 import array
 import ctypes
+import itertools
 import os
 import struct
 import sys
@@ -83,14 +84,11 @@ def _answered(call: Callable[..., int], sheet: bytes, reports: Sequence[bytes], 
 
     Raises MemoryError, and ValueError if the library rejects the arguments.
     """
-    together, ends, end = b"".join(reports), array.array("Q"), 0
-    for report in reports:
-        end += len(report)
-        ends.append(end)
-    # an empty array has no address
-    places = (ends if ends else array.array("Q", (0,))).buffer_info()[0]
-    given = (sheet, len(sheet), together, len(together), places, len(ends), *more)
-    room, rows_room = len(together) + MORE, len(ends)
+    together, count = b"".join(reports), len(reports)
+    # one end more, because an empty array has no address; `ends` lives until the last call has returned
+    ends = array.array("Q", (*itertools.accumulate(map(len, reports)), 0))
+    given = (sheet, len(sheet), together, len(together), ends.buffer_info()[0], count, *more)
+    room, rows_room = len(together) + MORE, count
     needed, refused = _SIZE(), _SIZE()
     while True:
         out, first = _room(room)
