@@ -119,7 +119,8 @@ fn print_refusal<E: Write>(err: &mut E, report: u64, refusal: &Refusal) {
 }
 
 /// Prints why the program stopped. If a row is above the allowed level, the refused reports are
-/// printed first. The cause of `Unread` is printed only on a terminal, and only if it is known.
+/// printed first. The cause of `Unread` and the kind of a refused sheet are printed only on a
+/// terminal, and only if they are known.
 fn print_error<E: Write>(err: &mut E, is_terminal: bool, error: &Error<'_>) {
     let _ = match error {
         Error::Usage(error) => write!(err, "{error}"),
@@ -134,11 +135,16 @@ fn print_error<E: Write>(err: &mut E, is_terminal: bool, error: &Error<'_>) {
         Error::NoNames(file) => print_file(err, file, "names no report"),
         Error::Unwritten(file) => print_file(err, file, "cannot be written"),
         Error::Event(line) => writeln!(err, "event {line}: refused"),
-        Error::Sheet(reason, explained) => {
+        Error::Sheet {
+            reason,
+            explained,
+            kind,
+        } => {
             let _ = print_sheet(err, *reason);
-            match explained {
-                Some(lines) => write!(err, "{lines}"),
-                None => Ok(()),
+            match (explained, kind) {
+                (Some(lines), _) => write!(err, "{lines}"),
+                (None, Some(kind)) if is_terminal => writeln!(err, "The file looks like {kind}."),
+                _ => Ok(()),
             }
         }
         Error::TooLoose(row, refused) => {

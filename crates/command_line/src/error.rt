@@ -32,9 +32,14 @@ pub(crate) enum Error<'n> {
     /// The line with this number, from 1, of the schedule is not an event, or names a report,
     /// replica or message that does not exist.
     Event(u64),
-    /// The sheet is refused. The text, which only `explain` adds, is a line that describes the
-    /// fault.
-    Sheet(Reason, Option<String>),
+    /// The sheet is refused.
+    Sheet {
+        reason: Reason,
+        /// A line that describes the fault, which only `explain` adds.
+        explained: Option<String>,
+        /// The guessed kind of the file and the command to run, if the file is part of a taxonomy.
+        kind: Option<&'static str>,
+    },
     /// The row with this number is the first above the allowed level. The list contains the refused
     /// reports, if any.
     TooLoose(u64, Refusals),
@@ -58,7 +63,11 @@ impl From<Fault> for Error<'_> {
             Fault::OutOfMemory(_) => Error::OutOfMemory,
             Fault::Device(written) => Error::Device(written),
             Fault::TooLoose { row, refused } => Error::TooLoose(row, refused),
-            Fault::Sheet(reason) => Error::Sheet(reason, None),
+            Fault::Sheet(reason) => Error::Sheet {
+                reason,
+                explained: None,
+                kind: None,
+            },
         }
     }
 }

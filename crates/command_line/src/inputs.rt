@@ -1,5 +1,6 @@
 use crate::console::Console;
 use crate::error::Error;
+use oim_explain::kind_of_taxonomy;
 use oim_merge::{Consolidation, ReadFault, StdSource, TracedMerge, read_all};
 use oim_names::Reason;
 use oim_report::Sheet;
@@ -88,7 +89,11 @@ pub(crate) fn sheet_of<'n>(alloc: Global, bytes: &[u8]) -> Result<Sheet, Error<'
     match Sheet::read(alloc, bytes) {
         Ok(sheet) => Ok(sheet),
         Err(Reason::OutOfMemory) => Err(Error::OutOfMemory),
-        Err(reason) => Err(Error::Sheet(reason, None)),
+        Err(reason) => Err(Error::Sheet {
+            reason,
+            explained: None,
+            kind: kind_of_taxonomy(bytes),
+        }),
     }
 }
 

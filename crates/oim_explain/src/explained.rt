@@ -1,12 +1,14 @@
 use super::escaped::Escaped;
-use super::file_kind::{kind_of_bytes, kind_of_sheet, kind_of_tree};
-use super::finding::{Finding, Subject};
+use super::file_kind::{kind_of_sheet, kind_of_tree, kind_of_unread};
+use super::finding::{Finding, Meaning, Subject};
 use super::lines::{Explained, Input, Lines};
+use super::nesting::is_too_deep;
 use super::repeated::push_repeated;
-use oim_names::Reason;
+use super::sheet_names::SheetNames;
+use oim_names::{Aliases, Reason};
 use oim_report::{
-    Part, Place, Refusal, Sheet, after_mark, document_part, fact_part, facts_apart, read_report,
-    report_aliases, sheet_part, tree_faults,
+    MOST_LEVELS, Part, Place, Refusal, Sheet, after_mark, document_part, fact_part, facts_apart,
+    read_report, report_aliases, sheet_part, tree_faults,
 };
 use serde_json::{Error, Value};
 use std::alloc::{AllocError, Global};
@@ -25,22 +27,22 @@ use std::alloc::{AllocError, Global};
 /// Errors: out of memory.
 pub fn explain(
     alloc: Global,
-    sheet: &Sheet,
+    names: &SheetNames<'_>,
     input: Input<'_>,
     bytes: &[u8],
 ) -> Result<Explained, AllocError> {
     let mut lines = Lines::new(alloc, input);
-    push_all(&mut lines, sheet, bytes)?;
+    push_all(&mut lines, names, bytes)?;
     Ok(lines.explained)
 }
 
-fn push_all(lines: &mut Lines<'_>, sheet: &Sheet, bytes: &[u8]) -> Result<(), AllocError> {
+fn push_all(lines: &mut Lines<'_>, names: &SheetNames<'_>, bytes: &[u8]) -> Result<(), AllocError> {
     let alloc = lines.alloc;
-    if !is_accepted(alloc, sheet, bytes)? {
+    if !is_accepted(alloc, names.sheet, bytes)? {
         match Value::from_slice(alloc, after_mark(bytes)) {
-            Ok(tree) => push_faults(lines, sheet, &tree)?,
+            Ok(tree) => push_faults(lines, names, &tree)?,
             Err(error) => {
-                let message = message_of(alloc, &error)?;
+                let message = message_of(alloc, bytes, &error)?;
                 return lines.push(&unread(Subject::Report, message.as_str(), bytes));
             }
         }
@@ -58,9 +60,15 @@ fn is_accepted(alloc: Global, sheet: &Sheet, bytes: &[u8]) -> Result<bool, Alloc
     }
 }
 
-fn message_of(alloc: Global, error: &Error) -> Result<String, AllocError> {
+fn message_of(alloc: Global, bytes: &[u8], error: &Error) -> Result<String, AllocError> {
     if error.is_memory() {
         return Err(AllocError);
+    }
+    if is_too_deep(after_mark(bytes), error) {
+        let (line, column) = (error.line(), error.column());
+        return format!(in alloc;
+            "more than {MOST_LEVELS} levels of objects and arrays at line {line} column {column}"
+        );
     }
     let message = format!(in alloc; "{error}")?;
     format!(in alloc; "{}", Escaped(message.as_str()))
@@ -69,18 +77,22 @@ fn message_of(alloc: Global, error: &Error) -> Result<String, AllocError> {
 fn unread<'m>(subject: Subject<'m>, message: &'m str, bytes: &[u8]) -> Finding<'m> {
     Finding {
         message: Some(message),
-        kind: kind_of_bytes(bytes),
+        kind: kind_of_unread(subject, bytes),
         ..Finding::new(subject, Reason::NotJson, None)
     }
 }
 
-fn push_faults(lines: &mut Lines<'_>, sheet: &Sheet, tree: &Value) -> Result<(), AllocError> {
-    let faults = tree_faults(lines.alloc, sheet, tree)?;
+fn push_faults(
+    lines: &mut Lines<'_>,
+    names: &SheetNames<'_>,
+    tree: &Value,
+) -> Result<(), AllocError> {
+    let faults = tree_faults(lines.alloc, names.sheet, tree)?;
     let found = faults.as_slice();
     match found.first().map(|first| first.place) {
         None => Ok(()),
-        Some(Place::Document) => push_of_document(lines, sheet, tree, found),
-        Some(Place::Fact(_)) => push_of_facts(lines, sheet, tree, found),
+        Some(Place::Document) => push_of_document(lines, names.sheet, tree, found),
+        Some(Place::Fact(_)) => push_of_facts(lines, names, tree, found),
     }
 }
 
@@ -107,7 +119,7 @@ fn push_of_document(
 
 fn push_of_facts(
     lines: &mut Lines<'_>,
-    sheet: &Sheet,
+    names: &SheetNames<'_>,
     tree: &Value,
     found: &[Refusal],
 ) -> Result<(), AllocError> {
@@ -120,12 +132,46 @@ fn push_of_facts(
             continue;
         };
         if let Some((identifier, object)) = facts.get(number.saturating_sub(1) as usize) {
-            let part = fact_part(lines.alloc, sheet, &aliases, object, refusal.reason)?;
+            let part = fact_part(lines.alloc, names.sheet, &aliases, object, refusal.reason)?;
             let subject = Subject::Fact(number, identifier);
-            lines.push(&Finding::new(subject, refusal.reason, part))?;
+            lines.push(&Finding {
+                meaning: meaning_of(lines.alloc, names, &aliases, refusal.reason, part)?,
+                ..Finding::new(subject, refusal.reason, part)
+            })?;
         }
     }
     Ok(())
+}
+
+/// Returns what a name means that is not in the sheet, if the sheet has a similar name.
+fn meaning_of<'a>(
+    alloc: Global,
+    names: &'a SheetNames<'_>,
+    aliases: &'a Aliases,
+    reason: Reason,
+    part: Option<Part<'a>>,
+) -> Result<Option<Meaning<'a>>, AllocError> {
+    let Some(text) = unlisted(reason, part) else {
+        return Ok(None);
+    };
+    let Ok((uri, local)) = aliases.resolve(text) else {
+        return Ok(None);
+    };
+    let found = names.similar(alloc, reason, text)?;
+    Ok(found.map(|listed_uri| Meaning {
+        local,
+        uri,
+        listed_uri,
+    }))
+}
+
+/// Returns the name at fault if it is not in the sheet.
+fn unlisted(reason: Reason, part: Option<Part<'_>>) -> Option<&str> {
+    match (reason, part?) {
+        (Reason::UnknownConcept, Part::Value(value)) => value.as_str(),
+        (Reason::UnknownDimension, Part::Key(text) | Part::Name(text)) => Some(text),
+        _ => None,
+    }
 }
 
 fn two_facts<'t>(
@@ -168,7 +214,7 @@ fn sentence_of_sheet(alloc: Global, bytes: &[u8]) -> Result<String, AllocError> 
     match Value::from_slice(alloc, after_mark(bytes)) {
         Ok(tree) => sentence_of_tree(alloc, &tree),
         Err(error) => {
-            let message = message_of(alloc, &error)?;
+            let message = message_of(alloc, bytes, &error)?;
             unread(Subject::Sheet, message.as_str(), bytes).sentence(alloc)
         }
     }

@@ -1,6 +1,30 @@
+use super::finding::Subject;
 use serde_json::Value;
 
-pub(crate) fn kind_of_bytes(bytes: &[u8]) -> Option<&'static str> {
+/// Guesses the kind of a file that is not JSON.
+pub(crate) fn kind_of_unread(subject: Subject<'_>, bytes: &[u8]) -> Option<&'static str> {
+    match subject {
+        Subject::Sheet => kind_of_taxonomy(bytes).or(kind_of_bytes(bytes)),
+        _ => kind_of_bytes(bytes),
+    }
+}
+
+/// Guesses whether a file that was passed as a sheet is part of a taxonomy, from which
+/// `tools/make_sheet` makes a sheet. Returns its kind with the command to run, or `None` (own).
+pub fn kind_of_taxonomy(bytes: &[u8]) -> Option<&'static str> {
+    if let [b'P', b'K', 3, 4, ..] = bytes {
+        return Some(
+            "a ZIP file, as a taxonomy package is: run `tools/make_sheet FILE >sheet.json`",
+        );
+    }
+    let text = text_of(bytes);
+    if text.starts_with('<') && text.contains("http://www.w3.org/2001/XMLSchema") {
+        return Some("a schema of a taxonomy: run `tools/make_sheet FILE >sheet.json`");
+    }
+    None
+}
+
+fn kind_of_bytes(bytes: &[u8]) -> Option<&'static str> {
     match bytes {
         [0x1f, 0x8b, ..] => Some("a gzip file: unpack it first"),
         [b'P', b'K', 3, 4, ..] => Some("a ZIP file, as a report package is: unpack it first"),

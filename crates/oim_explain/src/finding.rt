@@ -1,4 +1,5 @@
 use super::escaped::{Escaped, front_of};
+use super::format_keys::object_with;
 use super::sentence::{around, push_alone, push_limit};
 use oim_names::Reason;
 use oim_report::Part;
@@ -22,6 +23,18 @@ pub(crate) struct Finding<'a> {
     pub message: Option<&'a str>,
     /// The guessed kind of the file, if there is a guess.
     pub kind: Option<&'static str>,
+    /// What the name at fault means, if the sheet has a similar name.
+    pub meaning: Option<Meaning<'a>>,
+}
+
+/// The name that a report uses, and a name in the sheet with the same local part.
+#[derive(Clone, Copy)]
+pub(crate) struct Meaning<'a> {
+    pub local: &'a str,
+    /// The namespace that the report binds.
+    pub uri: &'a str,
+    /// The namespace in the sheet.
+    pub listed_uri: &'a str,
 }
 
 impl<'a> Finding<'a> {
@@ -40,12 +53,16 @@ impl<'a> Finding<'a> {
             part,
             message: None,
             kind: None,
+            meaning: None,
         }
     }
 
     pub(crate) fn sentence(&self, alloc: Global) -> Result<String, AllocError> {
         let mut sentence = String::new(alloc);
         self.push_said(alloc, &mut sentence)?;
+        if let Some(meaning) = self.meaning {
+            meaning.push(&mut sentence)?;
+        }
         if let Some(message) = self.message {
             write!(sentence, ": {message}")?;
         }
@@ -63,6 +80,9 @@ impl<'a> Finding<'a> {
             Part::NoObject(key) => write!(line, "\"{key}\" is not an object"),
             Part::NoArray(key) => write!(line, "\"{key}\" is not an array"),
             Part::NoText(key) => write!(line, "\"{key}\" is not a string"),
+            Part::Key(key) | Part::KeyIn(key, _) if self.is_misplaced(key) => {
+                push_misplaced(line, key)
+            }
             part => {
                 let (before, behind) = around(self.subject, self.reason, part);
                 line.push_str(before)?;
@@ -70,6 +90,14 @@ impl<'a> Finding<'a> {
                 line.push_str(behind)?;
                 push_limit(line, self.reason)
             }
+        }
+    }
+
+    /// Returns whether a key is at fault only because another object must contain it.
+    fn is_misplaced(&self, key: &str) -> bool {
+        match self.subject {
+            Subject::Sheet => false,
+            _ => self.reason == Reason::UnknownMember && object_with(key).is_some(),
         }
     }
 
@@ -83,6 +111,39 @@ impl<'a> Finding<'a> {
             Subject::Fact(_, _) => "the fact is not an object",
         }
     }
+}
+
+impl Meaning<'_> {
+    fn push(&self, line: &mut String) -> Result<(), AllocError> {
+        let (uri, listed_uri, local) = (self.uri, self.listed_uri, self.local);
+        line.push_str("; in the report it is ")?;
+        push_expanded(line, uri, local)?;
+        line.push_str(", the sheet has ")?;
+        push_expanded(line, listed_uri, local)
+    }
+}
+
+/// Appends a name as `{URI}local`. A long URI or local part is cut, and two dots follow.
+fn push_expanded(line: &mut String, uri: &str, local: &str) -> Result<(), AllocError> {
+    line.push_str("{")?;
+    push_front(line, uri)?;
+    line.push_str("}")?;
+    push_front(line, local)
+}
+
+fn push_front(line: &mut String, text: &str) -> Result<(), AllocError> {
+    let front = front_of(text);
+    let end = if front.len() == text.len() { "" } else { ".." };
+    write!(line, "{}{end}", Escaped(front))
+}
+
+/// Appends the sentence about a known key that is in the wrong object.
+fn push_misplaced(line: &mut String, key: &str) -> Result<(), AllocError> {
+    let object = object_with(key).unwrap_or_default();
+    write!(
+        line,
+        "\"{key}\" is in the wrong place: it belongs in {object}"
+    )
 }
 
 /// Appends a part. Its texts and values are written as JSON, and long ones are cut.
@@ -121,13 +182,46 @@ pub(crate) fn push_text(alloc: Global, line: &mut String, text: &str) -> Result<
 }
 
 /// Appends a value as JSON. If the value is not a text and its JSON has more than 80 characters,
-/// the JSON is cut, and two dots follow.
+/// the JSON is cut, and two dots follow. If the value is or contains a floating-point number, which
+/// might be printed in another spelling than the file's, only its type is appended.
 fn push_value(alloc: Global, line: &mut String, value: &Value) -> Result<(), AllocError> {
     if let Some(text) = value.as_str() {
         return push_text(alloc, line, text);
     }
     let json = value.to_string(alloc)?;
-    let front = front_of(json.as_str());
-    let end = if front.len() == json.len() { "" } else { ".." };
-    write!(line, "{}{end}", Escaped(front))
+    if has_float(json.as_str()) {
+        return line.push_str(type_of(value));
+    }
+    push_front(line, json.as_str())
+}
+
+fn type_of(value: &Value) -> &'static str {
+    if value.is_object() {
+        "(an object)"
+    } else if value.is_array() {
+        "(an array)"
+    } else {
+        "(a number)"
+    }
+}
+
+/// Returns whether a JSON text that `serde_json` has written contains a floating-point number: only
+/// such a number has a point outside strings, or an `e` after a digit.
+fn has_float(json: &str) -> bool {
+    let mut last = b' ';
+    let mut is_in_string = false;
+    for byte in json.bytes() {
+        if byte == b'"' && last != b'\\' {
+            is_in_string = !is_in_string;
+        } else if !is_in_string && (byte == b'.' || byte == b'e' && last.is_ascii_digit()) {
+            return true;
+        }
+        // a backslash that is itself escaped does not escape the next character
+        last = if byte == b'\\' && last == b'\\' {
+            b' '
+        } else {
+            byte
+        };
+    }
+    false
 }

@@ -12,10 +12,15 @@ mod escaped;
 mod explained;
 mod file_kind;
 mod finding;
+mod format_keys;
 mod lines;
+mod nesting;
 mod repeated;
 mod sentence;
+mod sheet_names;
 
 pub use escaped::Escaped;
 pub use explained::{explain, explain_repeated, explain_sheet};
+pub use file_kind::kind_of_taxonomy;
 pub use lines::{Explained, Format, Input};
+pub use sheet_names::SheetNames;

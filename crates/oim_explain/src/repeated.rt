@@ -43,8 +43,10 @@ fn push_report(lines: &mut Lines<'_>, tree: &Value<'_>) -> Result<(), AllocError
     let Some(Value::Object(facts)) = tree.get("facts") else {
         return Ok(());
     };
-    for (identifier, fact) in facts {
-        push_fact(lines, identifier, fact)?;
+    for index in indices_of_read(lines.alloc, facts.as_slice())? {
+        if let Some((identifier, fact)) = facts.get(index) {
+            push_fact(lines, identifier, fact)?;
+        }
     }
     Ok(())
 }
@@ -86,6 +88,29 @@ fn push_of(
         lines.push_repeated(key, sentence.as_str())?;
     }
     Ok(())
+}
+
+/// Returns the indices of the members that are read, in ascending order: of members with one key,
+/// only the last is read.
+fn indices_of_read<'a>(
+    alloc: Global,
+    members: &[(&'a str, Value<'a>)],
+) -> Result<Vec<usize>, AllocError> {
+    let mut keys: Vec<(&'a str, usize)> = Vec::with_capacity(alloc, members.len())?;
+    for (index, (key, _value)) in members.iter().enumerate() {
+        keys.push((*key, index))?;
+    }
+    keys.sort_unstable();
+    let mut found: Vec<usize> = Vec::with_capacity(alloc, keys.len())?;
+    let mut next: Option<&'a str> = None;
+    for (key, index) in keys.iter().rev() {
+        if next != Some(*key) {
+            found.push(*index)?;
+        }
+        next = Some(*key);
+    }
+    found.sort_unstable();
+    Ok(found)
 }
 
 /// Returns the repeated keys, each once, in byte order.

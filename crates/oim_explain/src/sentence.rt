@@ -1,7 +1,8 @@
 use super::finding::Subject;
 use oim_names::Reason;
-use oim_report::{MOST_LEVELS, MOST_REFERENCE_BYTES, Part};
+use oim_report::{MOST_REFERENCE_BYTES, Part};
 use oim_value::{MOST_DECIMALS, MOST_DIGITS};
+use serde_json::Value;
 use std::alloc::AllocError;
 use std::fmt;
 
@@ -23,26 +24,34 @@ pub(crate) fn around(
             " is not an entity such as prefix:identifier",
         ),
         (_, Reason::UnknownMember, Subject::Sheet) => (before(reason), " in a sheet"),
+        (Part::Value(Value::Null), Reason::UnitOnOther, _) => (
+            "a \"unit\", even ",
+            ", is only for concepts that are numeric in the sheet",
+        ),
+        (Part::Value(Value::Null), Reason::LanguageOnNumeric, _) => (
+            "a \"language\", even ",
+            ", is not for concepts that are numeric in the sheet",
+        ),
         _ => (before(reason), behind(reason)),
     }
 }
 
 /// Appends the whole sentence of a fault whose part is not shown.
 pub(crate) fn push_alone(line: &mut String, reason: Reason) -> Result<(), AllocError> {
-    if reason == Reason::NotJson {
+    if reason == Reason::DecimalsForm {
         return write!(
             line,
-            "the file cannot be read as JSON of at most {MOST_LEVELS} levels"
+            "\"decimals\" must be an integer from -{MOST_DECIMALS} to {MOST_DECIMALS}, without quotes, fraction or exponent, and zero without a sign"
         );
     }
     line.push_str(match reason {
+        Reason::NotJson => "the file cannot be read as JSON",
         Reason::DocumentType => {
             "\"documentType\" is missing; it must be \"https://xbrl.org/2021/xbrl-json\""
         }
         Reason::DimensionsMissing => "the fact has no \"dimensions\"",
         Reason::MissingConcept => "the fact has no \"concept\" in \"dimensions\"",
         Reason::ValueForm => "the value is neither a string nor null; numbers need quotes",
-        Reason::DecimalsForm => "\"decimals\" must be an integer without quotes",
         Reason::DecimalsOnOther => {
             "\"decimals\" is only for concepts that are numeric in the sheet"
         }

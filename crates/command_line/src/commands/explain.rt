@@ -6,7 +6,7 @@ use crate::error::{Error, Success};
 use crate::inputs::{Inputs, sheet_of};
 use clap::ArgMatches;
 use clap::builder::ValueParser;
-use oim_explain::{Explained, Format, Input, explain, explain_repeated, explain_sheet};
+use oim_explain::{Explained, Format, Input, SheetNames, explain, explain_repeated, explain_sheet};
 use oim_report::Sheet;
 use oim_write::Sink;
 use std::alloc::{AllocError, Global};
@@ -120,16 +120,18 @@ fn put_under<'n, F: Files, E: Write, S: Sink>(
         format,
     };
     let repeated = put_explained(out, explain_repeated(inputs.alloc, input, bytes))?;
-    put_each(&sheet, format, inputs, out, repeated)
+    let names = SheetNames::read(inputs.alloc, &sheet, bytes)?;
+    put_each(&names, format, inputs, out, repeated)
 }
 
 /// Errors: `Sheet` with the line that describes the fault of the sheet; out of memory.
 fn read_sheet<'n>(alloc: Global, name: &str, bytes: &[u8]) -> Result<Sheet, Error<'n>> {
     match sheet_of(alloc, bytes) {
-        Err(Error::Sheet(reason, _)) => {
-            let lines = explain_sheet(alloc, name, bytes)?;
-            Err(Error::Sheet(reason, Some(lines)))
-        }
+        Err(Error::Sheet { reason, .. }) => Err(Error::Sheet {
+            reason,
+            explained: Some(explain_sheet(alloc, name, bytes)?),
+            kind: None,
+        }),
         read => read,
     }
 }
@@ -165,7 +167,7 @@ fn put_explained<'n, S: Sink>(
 
 /// Explains each report. `faults` is the number of lines already written about the sheet.
 fn put_each<'n, F: Files, E: Write, S: Sink>(
-    sheet: &Sheet,
+    names_of_sheet: &SheetNames<'_>,
     format: Format,
     inputs: &mut Inputs<'n, F, E>,
     out: &mut S,
@@ -184,7 +186,10 @@ fn put_each<'n, F: Files, E: Write, S: Sink>(
             name,
             format,
         };
-        counts = counts.with(put_explained(out, explain(alloc, sheet, input, report.as_bytes()))?);
+        counts = counts.with(put_explained(
+            out,
+            explain(alloc, names_of_sheet, input, report.as_bytes()),
+        )?);
     }
     Ok(counts)
 }

@@ -1,4 +1,4 @@
-use oim_explain::{Format, Input, explain, explain_sheet};
+use oim_explain::{Format, Input, SheetNames, explain, explain_sheet};
 use oim_report::Sheet;
 use std::alloc::AllocError;
 use std::test::Fail;
@@ -41,50 +41,54 @@ const TABLES: [Table<'static>; 3] = [
         rows: &[
             (
                 "{\"documentInfo\":\n}",
-                "r: 1 NotJson: the file cannot be read as JSON of at most 127 levels: invalid JSON at line 2 column 1\n",
+                "r: 1 NotJson: the file cannot be read as JSON: invalid JSON at line 2 column 1\n",
             ),
             (
                 "<?xml version=\"1.0\"?>",
-                "r: 1 NotJson: the file cannot be read as JSON of at most 127 levels: invalid JSON at line 1 column 1; the file looks like XML: convert it to xBRL-JSON with another program\n",
+                "r: 1 NotJson: the file cannot be read as JSON: invalid JSON at line 1 column 1; the file looks like XML: convert it to xBRL-JSON with another program\n",
             ),
             (
                 "<html xmlns:ix=\"http://www.xbrl.org/2013/inlineXBRL\">",
-                "r: 1 NotJson: the file cannot be read as JSON of at most 127 levels: invalid JSON at line 1 column 1; the file looks like Inline XBRL: convert it to xBRL-JSON with another program\n",
+                "r: 1 NotJson: the file cannot be read as JSON: invalid JSON at line 1 column 1; the file looks like Inline XBRL: convert it to xBRL-JSON with another program\n",
             ),
             (
                 "concept,value\na,1\n",
-                "r: 1 NotJson: the file cannot be read as JSON of at most 127 levels: invalid JSON at line 1 column 1; the file looks like CSV: convert it to xBRL-JSON with another program\n",
+                "r: 1 NotJson: the file cannot be read as JSON: invalid JSON at line 1 column 1; the file looks like CSV: convert it to xBRL-JSON with another program\n",
             ),
             (
                 "\"concept\";\"value\"\n",
-                "r: 1 NotJson: the file cannot be read as JSON of at most 127 levels: invalid JSON at line 1 column 10; the file looks like CSV: convert it to xBRL-JSON with another program\n",
+                "r: 1 NotJson: the file cannot be read as JSON: invalid JSON at line 1 column 10; the file looks like CSV: convert it to xBRL-JSON with another program\n",
             ),
             // prose, parts of JSON and JSON after a comment are not taken for CSV
             (
                 "//a,b\n{}",
-                "r: 1 NotJson: the file cannot be read as JSON of at most 127 levels: invalid JSON at line 1 column 1\n",
+                "r: 1 NotJson: the file cannot be read as JSON: invalid JSON at line 1 column 1\n",
             ),
             (
                 "Dear reader, here is the report\n",
-                "r: 1 NotJson: the file cannot be read as JSON of at most 127 levels: invalid JSON at line 1 column 1\n",
+                "r: 1 NotJson: the file cannot be read as JSON: invalid JSON at line 1 column 1\n",
             ),
             (
                 "\"facts\":{},\"a\":1",
-                "r: 1 NotJson: the file cannot be read as JSON of at most 127 levels: invalid JSON at line 1 column 9\n",
+                "r: 1 NotJson: the file cannot be read as JSON: invalid JSON at line 1 column 9\n",
             ),
             (
                 "\u{feff}\u{feff}<a>",
-                "r: 1 NotJson: the file cannot be read as JSON of at most 127 levels: invalid JSON at line 1 column 1; the file looks like XML: convert it to xBRL-JSON with another program\n",
+                "r: 1 NotJson: the file cannot be read as JSON: invalid JSON at line 1 column 1; the file looks like XML: convert it to xBRL-JSON with another program\n",
             ),
             (
                 "{\0\"\0",
-                "r: 1 NotJson: the file cannot be read as JSON of at most 127 levels: invalid JSON at line 1 column 2; the file looks like text in UTF-16: convert it to UTF-8\n",
+                "r: 1 NotJson: the file cannot be read as JSON: invalid JSON at line 1 column 2; the file looks like text in UTF-16: convert it to UTF-8\n",
+            ),
+            (
+                "[[[[[[[[[[[[[[[[[[[[[[[[[[[[[[[[[[[[[[[[[[[[[[[[[[[[[[[[[[[[[[[[[[[[[[[[[[[[[[[[[[[[[[[[[[[[[[[[[[[[[[[[[[[[[[[[[[[[[[[[[[[[[[[[",
+                "r: 1 NotJson: the file cannot be read as JSON: more than 127 levels of objects and arrays at line 1 column 128\n",
             ),
             // repeated members of a refused report are not shown if `serde_json` cannot read the
             // file
             (
                 r#"{"documentInfo":{},"facts":{"a":1,"a":2},"x:y":1e999}"#,
-                "r: 1 NotJson: the file cannot be read as JSON of at most 127 levels: number out of range at line 1 column 53\n",
+                "r: 1 NotJson: the file cannot be read as JSON: number out of range at line 1 column 53\n",
             ),
             (
                 "[]",
@@ -133,6 +137,11 @@ const TABLES: [Table<'static>; 3] = [
                 r#","taxonomy":["http://example.org/a-long-way-to-a-schema-that-is-found-without-any-trouble-at-all.xsd","",["b"]]}}"#,
                 "r: 7 TaxonomyUrl: the reference [\"b\"] of \"taxonomy\" is not a string, is longer than 65,536 bytes as written or as a URL, or is not an http or https URL when resolved against \"baseURL\"\n",
             ),
+            // the text of a floating-point number is not kept
+            (
+                r#","taxonomy":[1e2]},"namespaces":{}}"#,
+                "r: 3 UnknownMember: \"namespaces\" is in the wrong place: it belongs in \"documentInfo\"\nr: 7 TaxonomyUrl: the reference (a number) of \"taxonomy\" is not a string, is longer than 65,536 bytes as written or as a URL, or is not an http or https URL when resolved against \"baseURL\"\n",
+            ),
             (
                 r#","namespaces":{"a":"https://xbrl.org/2021","b":"https://xbrl.org/2021"},"features":{"a:allowedDuplicates":"all","b:allowedDuplicates":"none"}}}"#,
                 "r: 8 Feature: \"features\" must have \"allowedDuplicates\" once, with \"none\", \"complete\", \"consistent\" or \"all\"; it has {\"a:allowedDuplicates\":\"all\",\"b:allowedDuplicates\":\"none\"}\n",
@@ -170,6 +179,21 @@ const TABLES: [Table<'static>; 3] = [
                 r#""a":{"value":"1","dimensions":{"concept":"eg:Z","eg:Hue":"red","eg:Reg":null}}"#,
                 "r: fact \"a\": 16 UnknownConcept: the concept \"eg:Z\" is not in the sheet\nr: fact \"a\": 17 UnknownDimension: the dimension \"eg:Hue\" is not in the sheet\nr: fact \"a\": 18 DimensionValue: the dimension \"eg:Reg\": null does not fit the sheet: an explicit dimension takes a name such as prefix:local, a typed dimension a string or null\n",
             ),
+            // a similar name in the sheet is shown
+            (
+                r#""a":{"value":"1","dimensions":{"concept":"x:A","x:Sku":"b"}}"#,
+                "r: fact \"a\": 16 UnknownConcept: the concept \"x:A\" is not in the sheet; in the report it is {http://example.org/u}A, the sheet has {http://example.org/t}A\nr: fact \"a\": 17 UnknownDimension: the dimension \"x:Sku\" is not in the sheet; in the report it is {http://example.org/u}Sku, the sheet has {http://example.org/t}Sku\n",
+            ),
+            // a member in the wrong object, and a unit of null
+            (
+                r#""a":{"value":"1","concept":"eg:A","dimensions":{"concept":"eg:T","unit":null}}"#,
+                "r: fact \"a\": 2 MemberForm: \"unit\" is not a string\nr: fact \"a\": 3 UnknownMember: \"concept\" is in the wrong place: it belongs in the \"dimensions\" of a fact\nr: fact \"a\": 22 UnitOnOther: a \"unit\", even null, is only for concepts that are numeric in the sheet\n",
+            ),
+            // of a repeated fact, only the last is searched for repeated members
+            (
+                r#""a":{"value":"1","value":"2","dimensions":{"concept":"eg:A"}},"a":{"value":"1","dimensions":{"concept":"eg:A"}}"#,
+                "r: fact \"a\" is repeated; only the last one is read\n",
+            ),
             (
                 r#""a":{"value":"1","dimensions":{"concept":"eg:A","eg:Sku":"b","zz:Sku":"b"}}"#,
                 "r: fact \"a\": 18 DimensionValue: the keys \"eg:Sku\" and \"zz:Sku\" name the same dimension\n",
@@ -177,7 +201,7 @@ const TABLES: [Table<'static>; 3] = [
             // in `value` and `decimals`, a number is shown as the file spells it, or not at all
             (
                 r#""a":{"value":"1","decimals":1e23,"dimensions":{"concept":"eg:A","scenario":"s"}}"#,
-                "r: fact \"a\": 3 UnknownMember: the format has no member \"scenario\" in \"dimensions\"\nr: fact \"a\": 28 DecimalsForm: \"decimals\" must be an integer without quotes\n",
+                "r: fact \"a\": 3 UnknownMember: the format has no member \"scenario\" in \"dimensions\"\nr: fact \"a\": 28 DecimalsForm: \"decimals\" must be an integer from -18 to 18, without quotes, fraction or exponent, and zero without a sign\n",
             ),
             (
                 r#""a":{"value":1,"decimals":"0","dimensions":{"concept":"eg:T","period":"2020","unit":"x:a/","language":"e n"}}"#,
@@ -200,7 +224,7 @@ const TABLES: [Table<'static>; 3] = [
             // repeated members are shown, and control characters are escaped
             (
                 r#""a":{"value":"1","value":"2","dimensions":{"concept":"eg:A"}},"\u001b[2J":7,"a":{"value":"1","dimensions":{"concept":"eg:A","concept":"eg:A"}}"#,
-                "r: fact \"\\u001b[2J\": 2 MemberForm: the fact is not an object\nr: fact \"a\" is repeated; only the last one is read\nr: fact \"a\": \"value\" is repeated; only the last one is read\nr: fact \"a\": \"concept\" is repeated in \"dimensions\"; only the last one is read\n",
+                "r: fact \"\\u001b[2J\": 2 MemberForm: the fact is not an object\nr: fact \"a\" is repeated; only the last one is read\nr: fact \"a\": \"concept\" is repeated in \"dimensions\"; only the last one is read\n",
             ),
             // invisible characters, and characters that change the direction of text, are escaped
             (
@@ -221,34 +245,38 @@ const TABLES: [Table<'static>; 3] = [
 const BYTES: [(&[u8], &str); 5] = [
     (
         b"\xff\xfe{\0",
-        "r: 1 NotJson: the file cannot be read as JSON of at most 127 levels: invalid JSON at line 1 column 1; the file looks like text in UTF-16: convert it to UTF-8\n",
+        "r: 1 NotJson: the file cannot be read as JSON: invalid JSON at line 1 column 1; the file looks like text in UTF-16: convert it to UTF-8\n",
     ),
     (
         b"\x1f\x8b\x08\0",
-        "r: 1 NotJson: the file cannot be read as JSON of at most 127 levels: invalid JSON at line 1 column 2; the file looks like a gzip file: unpack it first\n",
+        "r: 1 NotJson: the file cannot be read as JSON: invalid JSON at line 1 column 2; the file looks like a gzip file: unpack it first\n",
     ),
     (
         b"PK\x03\x04",
-        "r: 1 NotJson: the file cannot be read as JSON of at most 127 levels: invalid JSON at line 1 column 1; the file looks like a ZIP file, as a report package is: unpack it first\n",
+        "r: 1 NotJson: the file cannot be read as JSON: invalid JSON at line 1 column 1; the file looks like a ZIP file, as a report package is: unpack it first\n",
     ),
     (
         b"<?xml version=\"1.0\" encoding=\"ISO-8859-1\"?><a>\xe4</a>",
-        "r: 1 NotJson: the file cannot be read as JSON of at most 127 levels: invalid JSON at line 1 column 47; the file looks like XML: convert it to xBRL-JSON with another program\n",
+        "r: 1 NotJson: the file cannot be read as JSON: invalid JSON at line 1 column 47; the file looks like XML: convert it to xBRL-JSON with another program\n",
     ),
     (
         b"concept,value\nUms\xe4tze,1\n",
-        "r: 1 NotJson: the file cannot be read as JSON of at most 127 levels: invalid JSON at line 2 column 4; the file looks like CSV: convert it to xBRL-JSON with another program\n",
+        "r: 1 NotJson: the file cannot be read as JSON: invalid JSON at line 2 column 4; the file looks like CSV: convert it to xBRL-JSON with another program\n",
     ),
 ];
 
-const SHEETS: [(&str, &str); 7] = [
+const SHEETS: [(&str, &str); 8] = [
+    (
+        "<s xmlns='http://www.w3.org/2001/XMLSchema'/>",
+        "s: the file cannot be read as JSON: invalid JSON at line 1 column 1; the file looks like a schema of a taxonomy: run `tools/make_sheet FILE >sheet.json`\n",
+    ),
     (
         r#"{"documentInfo":{}}"#,
         "s: the format has no member \"documentInfo\" in a sheet; the file looks like a report, not a sheet\n",
     ),
     (
         "<xml>",
-        "s: the file cannot be read as JSON of at most 127 levels: invalid JSON at line 1 column 1; the file looks like XML: convert it to xBRL-JSON with another program\n",
+        "s: the file cannot be read as JSON: invalid JSON at line 1 column 1; the file looks like XML: convert it to xBRL-JSON with another program\n",
     ),
     (r#"{"concepts":[]}"#, "s: \"concepts\" is not an object\n"),
     (
@@ -269,9 +297,19 @@ const SHEETS: [(&str, &str); 7] = [
     ),
 ];
 
+fn read_names<'s>(rt: &HostRuntime, sheet: &'s Sheet) -> Result<SheetNames<'s>, AllocError> {
+    match SheetNames::read(rt.alloc(), sheet, SHEET.as_bytes()) {
+        Err(_) => {
+            tell_refused(rt);
+            SheetNames::read(rt.alloc(), sheet, SHEET.as_bytes())
+        }
+        read => read,
+    }
+}
+
 fn is_said_once(
     rt: &HostRuntime,
-    sheet: &Sheet,
+    names: &SheetNames<'_>,
     bytes: &[u8],
     lines: &str,
 ) -> Result<bool, AllocError> {
@@ -280,7 +318,7 @@ fn is_said_once(
         name: "r",
         format: Format::Text,
     };
-    let said = explain(rt.alloc(), sheet, input, bytes)?;
+    let said = explain(rt.alloc(), names, input, bytes)?;
     let faults = lines.split('\n').count() - 1;
     Ok(are_lines(rt, said.text.as_str(), lines) && said.faults == faults as u64)
 }
@@ -293,11 +331,16 @@ fn are_lines(rt: &HostRuntime, found: &str, lines: &str) -> bool {
     found == lines
 }
 
-fn is_said(rt: &HostRuntime, sheet: &Sheet, bytes: &[u8], lines: &str) -> Result<bool, AllocError> {
-    match is_said_once(rt, sheet, bytes, lines) {
+fn is_said(
+    rt: &HostRuntime,
+    names: &SheetNames<'_>,
+    bytes: &[u8],
+    lines: &str,
+) -> Result<bool, AllocError> {
+    match is_said_once(rt, names, bytes, lines) {
         Err(_) => {
             tell_refused(rt);
-            is_said_once(rt, sheet, bytes, lines)
+            is_said_once(rt, names, bytes, lines)
         }
         said => said,
     }
@@ -305,18 +348,22 @@ fn is_said(rt: &HostRuntime, sheet: &Sheet, bytes: &[u8], lines: &str) -> Result
 
 fn is_row_said(
     rt: &HostRuntime,
-    sheet: &Sheet,
+    names: &SheetNames<'_>,
     table: &Table<'_>,
     row: &(&str, &str),
 ) -> Result<bool, AllocError> {
     let report = joined(rt, &[table.start, row.0, table.end])?;
-    is_said(rt, sheet, report.as_slice(), row.1)
+    is_said(rt, names, report.as_slice(), row.1)
 }
 
-fn is_table_said(rt: &HostRuntime, sheet: &Sheet, table: &Table<'_>) -> Result<bool, AllocError> {
+fn is_table_said(
+    rt: &HostRuntime,
+    names: &SheetNames<'_>,
+    table: &Table<'_>,
+) -> Result<bool, AllocError> {
     let mut all = true;
     for row in table.rows {
-        all = is_row_said(rt, sheet, table, row)? && all;
+        all = is_row_said(rt, names, table, row)? && all;
     }
     Ok(all)
 }
@@ -343,8 +390,9 @@ fn is_said_of_sheet(rt: &HostRuntime, text: &str, line: &str) -> Result<bool, Al
 #[test]
 fn faults_of_reports_are_said(rt: HostRuntime) -> Result<(), Fail> {
     let sheet = read_sheet(&rt, SHEET)?;
+    let names = read_names(&rt, &sheet)?;
     for table in &TABLES {
-        assert!(rt; is_table_said(&rt, &sheet, table)?);
+        assert!(rt; is_table_said(&rt, &names, table)?);
     }
     Ok(())
 }
@@ -352,8 +400,9 @@ fn faults_of_reports_are_said(rt: HostRuntime) -> Result<(), Fail> {
 #[test]
 fn faults_of_reports_in_other_formats_are_said(rt: HostRuntime) -> Result<(), Fail> {
     let sheet = read_sheet(&rt, SHEET)?;
+    let names = read_names(&rt, &sheet)?;
     for (bytes, line) in &BYTES {
-        assert!(rt; is_said(&rt, &sheet, bytes, line)?);
+        assert!(rt; is_said(&rt, &names, bytes, line)?);
     }
     Ok(())
 }
