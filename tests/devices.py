@@ -56,6 +56,11 @@ STOPS_INPUT = {"standard input closed": "<&-", "standard input a folder": "<.", 
 
 UNREAD, MEMORY, LENGTH = (3, "file strange: cannot be read\n"), (3, "out of memory\n"), (3, "file strange: too long\n")
 BAD_SHEET, BAD_EVENT, BAD_REPORT = (3, "sheet: 1 NotJson\n"), (3, "event 2: refused\n"), (1, "report 1: 1 NotJson at document\n")
+# the first bytes of parts of a taxonomy, and their kinds
+TAXONOMIES = {
+    b"PK\3\4": "a ZIP file, as a taxonomy package is",
+    b'\xef\xbb\xbf<?xml version="1.0"?>\n<schema xmlns="http://www.w3.org/2001/XMLSchema"/>': "a schema of a taxonomy",
+}
 # for each kind of file, three results (status and line): as the sheet, as the events, and as a report
 FILES = {
     "missing": (UNREAD, UNREAD, UNREAD),
@@ -302,6 +307,35 @@ def compare_files(scratch):
             scratch.expect(ran == (3, b"", ends[1].replace("strange", "-")), f"standard input is {kind}", "", ran)
 
 
+def run_on_terminal(scratch, words):
+    """Runs the program with a terminal as standard error."""
+    outer, inner = os.openpty()
+    with open(outer, "rb", buffering=0) as shown:
+        done = subprocess.run(scratch.command(words, ""), cwd=scratch.folder, stdin=subprocess.DEVNULL, stdout=subprocess.PIPE,
+                              stderr=inner, timeout=LIMIT)
+        os.close(inner)
+        lines = b""
+        try:
+            while more := shown.read(4096):
+                lines += more
+        except OSError:  # the program has closed the terminal
+            pass
+    return Ran(done.returncode, done.stdout, lines.decode(errors="replace").replace("\r\n", "\n"))
+
+
+def compare_terminals(scratch):
+    """Passes a part of a taxonomy as the sheet. On a terminal, a second line says how to make a sheet from it."""
+    for content, kind in TAXONOMIES.items():
+        with open(f"{scratch.folder}/taxonomy", "wb") as file:
+            file.write(content)
+        words = "merge --sheet taxonomy report"
+        hint = f"The file looks like {kind}: run `tools/make_sheet FILE >sheet.json`.\n"
+        ran = scratch.run(words)
+        scratch.expect(ran == (3, b"", BAD_SHEET[1]), "a taxonomy as the sheet", words, ran)
+        ran = run_on_terminal(scratch, words)
+        scratch.expect(ran == (3, b"", BAD_SHEET[1] + hint), "a taxonomy as the sheet, on a terminal", words, ran)
+
+
 def main():
     parser = argparse.ArgumentParser(description=__doc__, formatter_class=argparse.RawDescriptionHelpFormatter)
     parser.add_argument("PROGRAM", nargs="?")
@@ -309,7 +343,7 @@ def main():
     started, counts = time.monotonic(), []
     with tempfile.TemporaryDirectory(prefix="devices-") as folder:
         scratch = Scratch(program, folder)
-        for compare in (compare_wholes, compare_outputs, compare_pipes, compare_inputs, compare_files):
+        for compare in (compare_wholes, compare_outputs, compare_pipes, compare_inputs, compare_files, compare_terminals):
             before = scratch.count
             compare(scratch)
             counts.append(f"{scratch.count - before} of {compare.__name__.removeprefix('compare_')}")
