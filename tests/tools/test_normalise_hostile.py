@@ -176,6 +176,60 @@ class Exact(ToolTest):
             self.assertEqual((done.returncode, b"Traceback" in done.stderr), (status, False), words)
 
 
+CONVERT = "convert it to xBRL-JSON with another program"
+CSV = {"documentInfo": {"documentType": "https://xbrl.org/2021/xbrl-csv", "namespaces": {}}, "tables": {"t": {"url": "t.csv"}}}
+# files that are no reports, each with the end of its message
+NO_REPORTS = (
+    (b"{\n  }}", "the file cannot be read as JSON: invalid JSON at line 2 column 4"),
+    ('{"\u00e4":x}'.encode(), "the file cannot be read as JSON: invalid JSON at line 1 column 7"),
+    (b"", "the file cannot be read as JSON: invalid JSON at line 1 column 1"),
+    (b'{"a":NaN}', "the file cannot be read as JSON: NaN is no JSON"),
+    (b'{"a":"\\ud800"}', "the file cannot be read as JSON: a text has half a surrogate pair"),
+    (b'{"a":"\xff"}', "the file cannot be read as JSON: it is not UTF-8"),
+    (b"\x1f\x8b\x08\0", "the file looks like a gzip file: unpack it first"),
+    (b"PK\3\4", "the file looks like a ZIP file, as a report package is: unpack it first"),
+    *(("{}".encode(encoding), "the file looks like text in UTF-16: convert it to UTF-8") for encoding in ("utf-16", "utf-16-le", "utf-16-be")),
+    (b'\xef\xbb\xbf <html xmlns:ix="http://www.xbrl.org/2013/inlineXBRL"/>', f"the file looks like Inline XBRL: {CONVERT}"),
+    (b"<?xml version='1.0' encoding='ISO-8859-1'?><a>\xe4</a>", f"the file looks like XML: {CONVERT}"),
+    (b"concept,value\na,1\n", f"the file looks like CSV: {CONVERT}"),
+    (b"Dear reader, here it is", "invalid JSON at line 1 column 1"),
+    (json.dumps(CSV).encode(), f"it is not an xBRL-JSON report; the file looks like the metadata of an xBRL-CSV report: {CONVERT}"),
+    (b'{"documentInfo":{},"tables":{}}', f"the file looks like the metadata of an xBRL-CSV report: {CONVERT}"),
+    (json.dumps(SHEET).encode(), "it is not an xBRL-JSON report; the file looks like a sheet, not a report"),
+)
+NO_SHEETS = (
+    (b"PK\3\4", "the file looks like a taxonomy: make a sheet of it with tools/make_sheet"),
+    (b"<xs:schema/>", "the file looks like a taxonomy: make a sheet of it with tools/make_sheet"),
+    (report({}).encode(), "it is not a sheet; the file looks like a report, not a sheet"),
+    (json.dumps(CSV).encode(), "it is not a sheet; the file looks like the metadata of an xBRL-CSV report, not a sheet"),
+)
+
+
+class NoReports(ToolTest):
+    """Files that are no reports or no sheets are refused, with the words of `xbrlmerge explain`."""
+
+    def check_told(self, told, *words):
+        status, lines = self.run_tool(*words)
+        self.assertEqual((status, lines.count("\n"), os.path.exists(self.out)), (3, 1, False), lines)
+        self.assertTrue(lines.endswith(f"{told}\n"), (lines, told))
+
+    def test_each_kind_of_file(self):
+        for data, told in NO_REPORTS:
+            self.check_told(told, self.write("report.json", data), self.out, self.changes)
+        self.check_told("report.json: Is a directory", self.folder("report.json"), self.out, self.changes)
+        self.check_told("nowhere.json: No such file or directory", "nowhere.json", self.out, self.changes)
+
+    def test_each_kind_of_sheet(self):
+        good = self.write("report.json", report({}))
+        for data, told in NO_SHEETS:
+            self.check_told(told, good, self.out, self.changes, "--sheet", self.write("sheet.json", data))
+
+    def folder(self, name):
+        os.unlink(self.place(name))
+        os.mkdir(self.place(name))
+        return self.place(name)
+
+
 class Numbers(unittest.TestCase):
     """Compares `plain_number` with the decimal module, on drawn numbers with exponents."""
 

@@ -9,6 +9,7 @@ import json
 import re
 from typing import Any, Callable, NamedTuple, Optional
 
+from file_kinds import kind_of_file, looks_like
 from process import NotDone, shortened
 from text_files import read_text
 
@@ -31,24 +32,39 @@ class Twins(NamedTuple):
     second: Tree
 
 
-def read_json(path: str) -> Tree:
-    return read_json_of_length(path)[0]
+def read_json(path: str, is_sheet: bool = False) -> Tree:
+    return read_json_of_length(path, is_sheet)[0]
 
 
-def read_json_of_length(path: str) -> tuple[Tree, int]:
-    """Returns the tree of a file, and the length of the file in characters.
+def read_json_of_length(path: str, is_sheet: bool = False) -> tuple[Tree, int]:
+    """Returns the tree of a report or a sheet, and the length of the file in characters.
 
     Raises NotDone if the file cannot be read, is too long, is not JSON, is nested too deeply or has half a surrogate pair, or
     if two members of one object share a name.
     """
     try:
         text = read_text(path)
-    except (OSError, ValueError) as fault:
-        raise NotDone(f"{path}: {type(fault).__name__}: {fault}") from None
-    return tree_of(text, path), len(text)
+        return tree_of(text, path), len(text)
+    except OSError as fault:
+        raise NotDone(f"{path}: {fault.strerror or fault}") from None
+    except UnicodeError as fault:
+        why = "it is not UTF-8" if isinstance(fault, UnicodeDecodeError) else "a text has half a surrogate pair"
+    except json.JSONDecodeError as fault:
+        why = f"invalid JSON at {place_of(fault)}"
+    except ValueError as fault:
+        raise NotDone(f"{path}: {shortened(str(fault))}") from None
+    raise NotDone(f"{path}: the file cannot be read as JSON: {why}{looks_like(kind_of_file(path, is_sheet))}")
+
+
+def place_of(fault: json.JSONDecodeError) -> str:
+    """Returns the line and the column of a fault, both from 1. Columns count bytes, as in `xbrlmerge explain`."""
+    line = fault.doc[fault.doc.rfind("\n", 0, fault.pos) + 1 : fault.pos]
+    return f"line {fault.lineno} column {len(line.encode(errors='surrogatepass')) + 1}"
 
 
 def tree_of(text: str, path: str) -> Tree:
+    """Returns the tree of a text. Errors: NotDone if it is nested too deeply, or if two members of one object share a name;
+    ValueError if it is not JSON, or has half a surrogate pair."""
     twins: list[Twins] = []
 
     def members(pairs: list[tuple[str, Tree]]) -> dict[str, Tree]:
@@ -63,15 +79,13 @@ def tree_of(text: str, path: str) -> Tree:
             text_of(tree).encode()  # fails for unpaired surrogates
     except RecursionError:
         raise NotDone(f"{path}: it is nested too deeply") from None
-    except ValueError as fault:
-        raise NotDone(f"{path}: {type(fault).__name__}: {shortened(str(fault))}") from None
     if twins:
         raise NotDone(f"{path}: {told_twice(tree, twins[0])}")
     return tree
 
 
 def no_constant(word: str) -> None:
-    raise ValueError(f"{word} is not JSON")
+    raise ValueError(f"the file cannot be read as JSON: {word} is no JSON")
 
 
 def twins_in(pairs: list[tuple[str, Tree]], made: dict[str, Tree]) -> Twins:

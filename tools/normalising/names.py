@@ -3,6 +3,7 @@ from __future__ import annotations
 
 from typing import Optional
 
+from file_kinds import kind_of_sheet, looks_like
 from names import XBRL, Uris
 from normalising.json_text import Number, Tree, read_json
 from process import NotDone, shortened
@@ -21,7 +22,8 @@ def core_spelling(key: str, uris: Uris) -> Optional[str]:
 
 def sheet_at(path: Optional[str]) -> Sheet:
     """Returns the sheet in a file. Without a file, the sheet is empty. Errors: NotDone."""
+    tree = {} if path is None else read_json(path, is_sheet=True)
     try:
-        return Sheet({} if path is None else read_json(path))
+        return Sheet(tree)
     except ValueError as fault:
-        raise NotDone(f"{path}: {shortened(str(fault))}") from None
+        raise NotDone(f"{path}: {shortened(str(fault))}{looks_like(kind_of_sheet(tree))}") from None

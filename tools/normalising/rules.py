@@ -6,6 +6,7 @@ import re
 from decimal import Decimal, InvalidOperation
 from typing import Optional
 
+from file_kinds import kind_of_report, looks_like
 from names import SPACE, XBRL, Name, Uris, expanded, uris_of
 from normalising import moments
 from normalising.changes import Log, Part, Reason
@@ -43,6 +44,9 @@ class Normaliser:
         """
         if not isinstance(tree, dict):
             raise NotDone("it is not a report: its root is not an object")
+        kind = kind_of_report(tree)
+        if kind:
+            raise NotDone(f"it is not an xBRL-JSON report{looks_like(kind)}")
         whole = Log()
         drop_unknown_members(Part(tree, (), whole), "report")
         information = tree.get("documentInfo")

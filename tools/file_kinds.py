@@ -1,0 +1,75 @@
+"""Guesses what a file is if it is not the report or the sheet that was expected, in the words of `xbrlmerge explain`."""
+from __future__ import annotations
+
+import codecs
+import os
+import re
+from typing import Any, Optional
+
+START = 1 << 20  # the bytes at the start of a file that are looked at
+INLINE = "http://www.xbrl.org/2013/inlineXBRL"
+CONVERT = "convert it to xBRL-JSON with another program"
+CSV = "the metadata of an xBRL-CSV report"
+TAXONOMY = "a taxonomy: make a sheet of it with tools/make_sheet"
+# a byte order mark of UTF-16, or the first character of JSON or XML in UTF-16
+UTF_16 = (codecs.BOM_UTF16_BE, codecs.BOM_UTF16_LE, b"{\0", b"<\0", b"\0{", b"\0<")
+# braces, keys, and spaces after commas or semicolons are of JSON or prose, not of a row of a table
+NO_ROW = re.compile(r'[{}]|" ?:|[,;] ')
+
+
+def looks_like(kind: Optional[str]) -> str:
+    return f"; the file looks like {kind}" if kind else ""
+
+
+def kind_of_file(path: str, is_sheet: bool = False) -> Optional[str]:
+    """Guesses the kind of a file that is not JSON, although a report or a sheet was expected. Errors: OSError."""
+    if not os.path.isfile(path):  # a FIFO cannot be read again
+        return None
+    with open(path, "rb") as file:
+        start = file.read(START)
+    if start.startswith(b"\x1f\x8b"):
+        return "a gzip file: unpack it first"
+    if start.startswith(b"PK\3\4"):
+        return TAXONOMY if is_sheet else "a ZIP file, as a report package is: unpack it first"
+    if start.startswith(UTF_16):
+        return "text in UTF-16: convert it to UTF-8"
+    return kind_of_text(valid_text(start).lstrip("\ufeff").lstrip(), is_sheet)
+
+
+def valid_text(data: bytes) -> str:
+    """Returns the text before the first byte that is not UTF-8."""
+    try:
+        return data.decode()
+    except UnicodeDecodeError as fault:
+        return data[: fault.start].decode()
+
+
+def kind_of_text(text: str, is_sheet: bool) -> Optional[str]:
+    if text.startswith("<"):
+        if INLINE in text:
+            return f"Inline XBRL: {CONVERT}"
+        return TAXONOMY if is_sheet else f"XML: {CONVERT}"
+    row = text.partition("\n")[0]
+    is_row = any(sign in row for sign in ",;\t") and not NO_ROW.search(row)
+    return f"CSV: {CONVERT}" if is_row and not text.startswith(("[", "/")) else None
+
+
+def kind_of_report(tree: dict[str, Any]) -> Optional[str]:
+    """Guesses the kind of a JSON object that is not a report. Returns None if it may be one."""
+    if is_csv(tree):
+        return f"{CSV}: {CONVERT}"
+    return "a sheet, not a report" if "documentInfo" not in tree and "concepts" in tree else None
+
+
+def kind_of_sheet(tree: Any) -> Optional[str]:
+    """Guesses the kind of a JSON value that is not a sheet."""
+    if not isinstance(tree, dict):
+        return None
+    return f"{CSV}, not a sheet" if is_csv(tree) else "a report, not a sheet" if "documentInfo" in tree else None
+
+
+def is_csv(tree: dict[str, Any]) -> bool:
+    information = tree.get("documentInfo")
+    kind = information.get("documentType") if isinstance(information, dict) else None
+    is_named = isinstance(kind, str) and kind.endswith("/xbrl-csv")
+    return is_named or "tableTemplates" in tree or "tables" in tree and "facts" not in tree
