@@ -5,7 +5,9 @@
 
 make_sheet reads taxonomies and sheets; contradictions reads taxonomies with labels, merged texts, sheets and the lines of
 `verdicts` and `sources`; normalise reads reports and sheets. In most cases one file is broken, or the package that contains
-the file, or both. Each run must end within 10 seconds of processor time and 1 GiB of memory, with status 0, 1 or 3. Its lines
+the file, or both. Some files have the names of options, or names with control characters, and follow `--`. Some taxonomies are
+read with another one whose catalog rewrites their references; their kinds must not change. Some outputs are longer than a bound,
+which is then low. No cell of a table may begin with a sign of a formula where a spreadsheet could split the table. Each run must end within 10 seconds of processor time and 1 GiB of memory, with status 0, 1 or 3. Its lines
 on standard error must be printable, and the tool must raise no exception that it does not expect. With status 0 or 1 all
 outputs must be complete, and a second run of normalise on its output must change nothing. With status 3 no output may change.
 The tools run inside this script. In about one case in 20, a tool also runs as a process; its result must be the same. JOBS
@@ -16,6 +18,7 @@ cases or more. The first 20 faults are printed with the seed and the case. The f
 """
 import argparse
 import collections
+import contextlib
 import csv
 import importlib
 import io
@@ -33,6 +36,7 @@ import tempfile
 import time
 import types
 import zipfile
+from unittest import mock
 
 HERE = os.path.dirname(os.path.abspath(__file__))
 sys.path.insert(0, os.path.join(HERE, "tools"))
@@ -41,33 +45,23 @@ import in_process  # noqa: E402
 import lines_of_verdicts  # noqa: E402
 import malformed  # noqa: E402
 import process  # noqa: E402
+from drawn_taxonomies import NAMESPACE, drawn_other_taxonomy, drawn_taxonomy, own_kinds, packed  # noqa: E402
+from contradicting import tables as bounds_of_tables  # noqa: E402
+from normalising import rules  # noqa: E402
 
 CASES, SEED, CASE, JOBS = malformed.CASES, malformed.SEED, malformed.CASE, malformed.JOBS
 TOOLS = {name: importlib.import_module(name) for name in ("make_sheet", "normalise", "contradictions")}
 AS_PROCESS, BATCH, SECONDS, PATIENCE, BYTES = 20, 25, 10, 300, 1 << 30
 BEFORE = b"of a run before"
 
-NAMESPACE = "http://made.example/2024"
-SCHEMA = """<xs:schema xmlns:xs="http://www.w3.org/2001/XMLSchema" xmlns:xbrli="http://www.xbrl.org/2003/instance"
-    xmlns:xbrldt="http://xbrl.org/2005/xbrldt" xmlns:m="{namespace}" targetNamespace="{namespace}">{parts}</xs:schema>"""
-ELEMENTS = (
-    '<xs:element name="{name}" id="m_{name}" type="xbrli:monetaryItemType" substitutionGroup="xbrli:item"/>',
-    '<xs:element name="{name}" type="m:{name}Type" substitutionGroup="xbrli:item"/><xs:complexType name="{name}Type">'
-    '<xs:simpleContent><xs:restriction base="xbrli:stringItemType"/></xs:simpleContent></xs:complexType>',
-    '<xs:element name="{name}" type="xbrli:stringItemType" substitutionGroup="m:{other}"/>',
-    '<xs:element name="{name}" abstract="true" substitutionGroup="xbrldt:dimensionItem" xbrldt:typedDomainRef="#d"/>',
-)
-REFERENCES = (
-    '<xs:import namespace="http://made.example/base" schemaLocation="base.xsd"/>',
-    '<xs:include schemaLocation="http://made.example/xbrl/part.xsd"/>',
-)
-CATALOG = """<catalog xmlns="urn:oasis:names:tc:entity:xmlns:xml:catalog"><rewriteURI
-    uriStartString="http://made.example/xbrl/" rewritePrefix="../"/></catalog>"""
-LINKBASE = """<link:linkbase xmlns:link="http://www.xbrl.org/2003/linkbase" xmlns:xlink="http://www.w3.org/1999/xlink">
-    <link:labelLink xlink:type="extended" xlink:role="http://www.xbrl.org/2003/role/link">{parts}</link:labelLink></link:linkbase>"""
-LABEL = """<link:loc xlink:type="locator" xlink:href="core.xsd#m_{name}" xlink:label="{name}"/>
-    <link:label xlink:type="resource" xlink:label="{name}_l" xml:lang="en">Label of &amp; {name}</link:label>
-    <link:labelArc xlink:type="arc" xlink:from="{name}" xlink:to="{name}_l"/>"""
+# the names of files, which follow `--`
+ODD_NAMES = ("report", "--x", "-", "-o", "--", "--sheet=x.json", "A=B.json", "a\x1b[31m\n.json", "x;=1+1", "=1", "a|@b\t+c", "\u202e", "\udcff")
+# names of providers, and texts with separators before the signs of formulas
+PROVIDERS = ("A,B,C", "A;=1,B|-2,+C", "\uff1dA,B\u001b,C")
+SEPARATED = ("=1", "a;=1", "a|+1", "a\t@1", "a\r\n-1", "; \ufeff=1", "\"'=1", "a,=1", "x;\uff0b1", "\n'=1", "a;\u2003-1", "-1", "a;-1;b")
+FORMULA = re.compile("[\\s\x00-\x20\ufeff'\"]*[=+@\uff1d\uff0b\uff0d\uff20-]")
+GUARD = re.compile("[\\s\x00-\x20\ufeff\"]*'")
+PLAIN = re.compile(r"-?\d+(\.\d+)?", re.ASCII)
 # replacements for an attribute's value, a name or a piece of text
 XML_PIECES = (b"", b"<", b">", b"/>", b"&lt;", b"&x;", b"<!DOCTYPE a>", b"<!--", b"]]>", b"<![CDATA[", b"xs:", b"m:", b"q:A", b"\x00",
               b"\xff", b"\xef\xbb\xbf", b"../", b"/etc/passwd", b"file:///dev/zero", b"http://made.example/xbrl/", b"#", b"%00",
@@ -76,7 +70,6 @@ XML_RUNS = (b"<a>", b"<xs:element>", b'<xs:element name="a">', b" ", b"\n", b"A"
 LINES = (b"complete", b"consistent common 1 2", b"inconsistent apart f1 f2", b"f1", b"99", b'"a"', b'"\\ud800"', b"-1", b"NaN", b"1e999999")
 URIS = {"n1": NAMESPACE, "n2": "http://other.example", "n3": "HTTP://other.example"}
 SHEET = {"namespaces": URIS, "concepts": {"n1:A": "numeric", "n1:Q": "name", "n1:T": "text"}, "dimensions": {"n1:R": "explicit", "n1:S": "typed"}}
-NAMES = "Alpha Beta Gamma Delta Epsilon Zeta Eta Theta".split()
 
 
 class Fault(BaseException):
@@ -121,32 +114,13 @@ def broken(chance, text, other, breaks):
     return text
 
 
-def drawn_schema(chance, namespace, suffix="", references=()):
-    names = chance.sample(NAMES, chance.randint(1, len(NAMES)))
-    parts = (chance.choice((*ELEMENTS, *references)).format(name=name + suffix, other=chance.choice(NAMES)) for name in names)
-    return SCHEMA.format(namespace=namespace, parts="".join(parts)).encode()
-
-
-def drawn_taxonomy(chance):
-    """Returns the files of a taxonomy by their paths."""
-    labels = "".join(LABEL.format(name=name) for name in chance.sample(NAMES, 2))
-    return {
-        "t/core.xsd": drawn_schema(chance, NAMESPACE, "", REFERENCES),
-        "t/base.xsd": drawn_schema(chance, "http://made.example/base"),
-        "part.xsd": drawn_schema(chance, NAMESPACE, "OfPart"),
-        "t/labels.xml": LINKBASE.format(parts=labels).encode(),
-        "META-INF/catalog.xml": CATALOG.encode(),
-        "META-INF/taxonomyPackage.xml": b"<a/>",
-    }
-
-
 def drawn_facts(chance):
     """Returns the facts of a merged text: rows in order, each with one to three facts."""
     facts = []
     for concept in sorted(chance.sample("AQT", chance.randint(1, 3))):
         for period in sorted(chance.sample(["2020-01-01T00:00:00", "2020-01-02T00:00:00", "2021-01-01T00:00:00/2022-01-01T00:00:00"], 2)):
             dimensions = {"concept": f"n1:{concept}", "entity": chance.choice(("n2:e", "n3:e")), "period": period}
-            dimensions |= {"n1:R": "n1:North"} if chance.random() < 0.3 else {"n1:S": chance.choice((None, "s"))}
+            dimensions |= {"n1:R": "n1:North"} if chance.random() < 0.3 else {"n1:S": chance.choice((None, "s", *SEPARATED))}
             dimensions |= {"unit": "(n1:a*n2:b)/n1:c"} if concept == "A" and chance.random() < 0.5 else {}
             facts += [{**of, "dimensions": dimensions} for of in drawn_values(chance, concept)]
     return facts
@@ -156,7 +130,7 @@ def drawn_values(chance, concept):
     if concept == "A":
         numbers = sorted(chance.sample(range(1, 100_000), chance.randint(1, 3)))
         return [{"value": str(each), "decimals": chance.randint(-3, 0)} for each in numbers]
-    values = {"Q": ("n1:x", "n2:x"), "T": ("=a", "b\n", "c" * 200, "d\u202e<b>")}[concept]
+    values = {"Q": ("n1:x", "n2:x"), "T": ("=a", "b\n", "c" * 200, "d\u202e<b>", *SEPARATED)}[concept]
     return [{"value": each} for each in chance.sample(values, chance.randint(1, 2))]
 
 
@@ -165,15 +139,16 @@ def drawn_text(chance):
     facts = drawn_facts(chance)
     names = [f"f{rank:0{len(str(len(facts)))}}" for rank in range(1, len(facts) + 1)]
     text = json.dumps({"documentInfo": {"namespaces": URIS}, "facts": dict(zip(names, facts))}, indent=chance.choice((None, None, 1)))
-    sources = "".join(f'{name} {chance.randint(1, 3)} "id {name}"\n' for name in names for _ in range(chance.randint(1, 2)))
+    sources = "".join(f'{name} {chance.randint(1, 3)} {json.dumps(chance.choice(("id ", "=", "a;@")) + name)}\n' for name in names for _ in range(chance.randint(1, 2)))
     return text.encode(), lines_of_verdicts.lines(text).encode(), sources.encode()
 
 
 class Scratch:
-    """The number of a case, and the counts of its results. The case runs in the current folder."""
+    """The number of a case, and the counts of its results. The case runs in the current folder. If it changes a bound of a tool,
+    `is_patched` is set, and the tool does not run as a process."""
 
     def __init__(self, case):
-        self.case, self.counts = case, collections.Counter()
+        self.case, self.counts, self.is_patched = case, collections.Counter(), False
 
     def write(self, name, content):
         if os.path.dirname(name):
@@ -196,7 +171,7 @@ class Scratch:
         expect(after.keys() <= before.keys() | {*outputs}, f"{line}: it left {after.keys() - before.keys()}")
         expect(status != 3 or after == before and not out, f"{line}: something is written")
         expect(status == 3 or all(after.get(name, BEFORE) != BEFORE for name in outputs), f"{line}: something is not written")
-        if self.case % AS_PROCESS == 0:
+        if self.case % AS_PROCESS == 0 and not self.is_patched:
             self.run_process(tool, words, (int(status), told), before, after)
         self.counts[f"{tool} {int(status)}"] += 1
         return status, out
@@ -261,19 +236,24 @@ def write_taxonomy(scratch, chance, kinds):
         for path, content in files.items():
             scratch.write(os.path.join("taxonomy", path), content)
         return chance.choice(("taxonomy", "taxonomy/t/core.xsd"))
-    packed = io.BytesIO()
-    with zipfile.ZipFile(packed, "w", chance.choice((zipfile.ZIP_STORED, zipfile.ZIP_DEFLATED))) as package:
-        for path, content in files.items():
-            package.writestr(path, content)
-    content = packed.getvalue()
+    content = packed(files, chance.choice((zipfile.ZIP_STORED, zipfile.ZIP_DEFLATED)))
     is_whole = chance.random() < 0.6
     return scratch.write("taxonomy.zip", content if is_whole else broken(chance, content, content, malformed.BREAKS[:6]))
 
 
 def of_taxonomy(scratch, chance):
-    """Runs make_sheet on a taxonomy. A schema or the catalog may be broken, and so may the package."""
-    status, out = scratch.run("make_sheet", [write_taxonomy(scratch, chance, (".xsd", "catalog.xml"))], [])
+    """Runs make_sheet on a taxonomy. A schema or the catalog may be broken, and so may the package. In some cases, another taxonomy
+    is read too, and must not change the kinds of the first, or few tags are permitted."""
+    taxonomy = write_taxonomy(scratch, chance, (".xsd", "catalog.xml"))
+    options = ["--tags", "1"] * (chance.random() < 0.1)
+    status, out = scratch.run("make_sheet", [*options, taxonomy], [])
     expect_sheet(status, out)
+    if chance.random() < 0.5 and not options:
+        other = scratch.write(chance.choice(("other.zip", "--union", "x;=1.zip", "\x1b.zip")), packed(drawn_other_taxonomy(chance), zipfile.ZIP_STORED))
+        both, out_of_both = scratch.run("make_sheet", ["--", *chance.sample([taxonomy, other], 2)], [])
+        expect_sheet(both, out_of_both)
+        if status != 3:
+            expect(both != 3 and own_kinds(out) == own_kinds(out_of_both), f"the other taxonomy changes {out} to {out_of_both}")
 
 
 def of_union(scratch, chance):
@@ -299,16 +279,36 @@ def of_report(scratch, chance):
     else:
         sheet = broken(chance, sheet, drawn, JSON_BREAKS)
     options = [word for word in drawn_reports.OPTIONS if chance.random() < 0.4]
-    words = ["--sheet", scratch.write("sheet", sheet), *options]
-    status, _ = scratch.run("normalise", [scratch.write("report", drawn), "out", "changes", *words], ["out", "changes"])
-    if status != 3:
-        changes = [json.loads(line) for line in open_bytes("changes").decode().split("\n")[:-1]]
-        expect(status == int(any(change["loss"] for change in changes)), f"status {status} with {changes}")
-        out = open_bytes("out")
-        expect(out.endswith(b"\n") and isinstance(json.loads(out), dict), f"it is not a report: {out[:200]!r}")
-        scratch.case += 1
-        again, _ = scratch.run("normalise", ["out", "again", "more", *words], ["again", "more"])
-        expect((again, open_bytes("again"), open_bytes("more")) == (0, out, b""), "it changes its own output")
+    words = ["--sheet", scratch.write("sheet", sheet), *options, "--"]
+    report, made, told = odd_names(chance, 3)
+    scratch.write(report, drawn)
+    with low_bound(scratch, chance, rules, ("SMALL", "GROWTH")):
+        status, _ = scratch.run("normalise", [*words, report, made, told], [made, told])
+        if status != 3:
+            changes = [json.loads(line) for line in open_bytes(told).decode().split("\n")[:-1]]
+            expect(status == int(any(change["loss"] for change in changes)), f"status {status} with {changes}")
+            out = open_bytes(made)
+            expect(out.endswith(b"\n") and isinstance(json.loads(out), dict), f"it is not a report: {out[:200]!r}")
+            scratch.case += 1
+            again, _ = scratch.run("normalise", [*words, made, "again", "more"], ["again", "more"])
+            expect((again, open_bytes("again"), open_bytes("more")) == (0, out, b""), "it changes its own output")
+
+
+def odd_names(chance, count):
+    """Returns different names for files. Most are usual names, and some are from ODD_NAMES."""
+    return [odd if chance.random() < 0.3 else f"file{place}" for place, odd in enumerate(chance.sample(ODD_NAMES, count))]
+
+
+@contextlib.contextmanager
+def low_bound(scratch, chance, module, names):
+    """Sets one of the bounds of a module to a small number in one case of eight, until the block ends."""
+    if chance.random() < 0.875:
+        yield
+        return
+    scratch.is_patched = True
+    with mock.patch.object(module, chance.choice(names), chance.choice((0, 1, 40, 400))):
+        yield
+    scratch.counts["low bounds"] += 1
 
 
 def of_text(scratch, chance):
@@ -331,14 +331,15 @@ def of_labels(scratch, chance):
 def run_on_text(scratch, chance, files, words):
     for name, content in files.items():
         scratch.write(name, content)
-    owned = ["A=merged", "B=merged"]
+    owned = ["A=merged", "B=merged", "--", scratch.write(chance.choice(ODD_NAMES), files["merged"])]
     if chance.random() < 0.7:
-        words, owned = [*words, "--sources", "sources", "--names", "A,B,C"], []
+        words, owned = [*words, "--sources", "sources", "--names", chance.choice(PROVIDERS)], []
     near = ["near"] * chance.randint(0, 1)
     words += ["--near", "near"] * len(near)
     tables = [os.path.join("out", name) for name in ("contradictions.csv", "rows.csv")] + near
     words = [*words, "-o", "out", "--from", "merged", "sheet", "verdicts", *owned]
-    status, _ = scratch.run("contradictions", words, [os.path.join("out", "page.html"), *tables])
+    with low_bound(scratch, chance, bounds_of_tables, ("LONGEST_ROW", "LONGEST_TABLE")):
+        status, _ = scratch.run("contradictions", words, [os.path.join("out", "page.html"), *tables])
     if status != 3:
         expect(open_bytes(os.path.join("out", "page.html")).endswith(b"</body></html>\n"), "the page is not whole")
         lines = [whole_table(name) for name in tables]
@@ -350,6 +351,9 @@ def whole_table(name):
     text = open_bytes(name).decode("utf-8-sig")
     lines = [*csv.reader(io.StringIO(text, newline=""))]
     expect(text.endswith("\r\n") and len({len(line) for line in lines}) == 1, f"the table {name} is not whole")
+    for cell in (cell for line in lines for cell in line if not PLAIN.fullmatch(cell)):
+        pieces = re.split("[;|\t\r\n]", cell)
+        expect(not any(FORMULA.match(piece) and not GUARD.match(piece) for piece in pieces), f"{name} has the formula {cell!r}")
     return lines
 
 

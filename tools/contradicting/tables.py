@@ -14,6 +14,12 @@ from contradicting.sources import identifiers, providers
 from names import Name
 from process import NotDone
 
+# What the cells are guarded against. A spreadsheet may begin a cell at the start of a text and, if it splits there, after each ; |
+# tab, carriage return and line feed. Before a formula, it may skip white space of any kind, control characters up to U+0020, a
+# byte order mark, ' and ". A text is changed only where one of SIGNS would then come first: a ' precedes the skipped characters
+# at the start and after ; and |, and a ' follows each tab, carriage return and line feed among the skipped characters. A text
+# with a comma needs no ' after it: `csv` quotes the cell, and no program splits at a quoted comma. Numbers are written as they
+# are, also negative ones. `xbrlmerge --spreadsheet` guards the same.
 SIGNS = "=+-@\uff1d\uff0b\uff0d\uff20"  # characters that begin a formula
 SKIPPED = "[\\s\x00-\x20\ufeff'\"]+"  # characters that a spreadsheet may skip before a formula
 BEFORE_FORMULA = re.compile(f"{SKIPPED}|(?<![^;|])(?=[{re.escape(SIGNS)}])")
