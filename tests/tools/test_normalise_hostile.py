@@ -110,6 +110,13 @@ class Long(ToolTest):
         self.assertEqual((status, os.listdir(self.scratch).count("out.json")), (3, 0))
         self.assertIn("the names of its sets, with their URIs, add more than 16 times its length", told)
 
+    def test_the_growth_of_sets_is_counted_in_bytes(self):
+        facts = {f"f{number}": fact("wide:a", "eg:S") for number in range(100)}
+        for sign, status in (("u", 0), ("\U0001f40b", 3)):
+            uris = {**SHEET["namespaces"], "wide": "http://example.org/" + sign * 10_000}
+            text = json.dumps({"documentInfo": {"namespaces": uris}, "facts": facts}, ensure_ascii=False)
+            self.assertEqual(self.run_tool(*self.words(text))[0], status)
+
 
 class Exact(ToolTest):
     """Cases in which a careless tool would give a wrong result, a wrong status, or a line with control characters."""

@@ -27,7 +27,7 @@ SCIENTIFIC = re.compile(r"[+-]?(?P<mantissa>\d+(\.\d*)?|\.\d+)[eE][+-]?\d+", re.
 WHOLE = re.compile(r"[+-]?\d{1,18}", re.ASCII)
 DIGITS = 18  # the most digits of a number written without its exponent, counted as in refusal 27
 
-GROWTH, SMALL = 16, 1_000_000  # the names of sets add at most GROWTH times the report's length plus SMALL characters
+GROWTH, SMALL = 16, 1_000_000  # the names of sets add at most GROWTH times the report's length plus SMALL bytes
 
 
 class Normaliser:
@@ -80,7 +80,7 @@ def drop_unknown_members(part: Part, kind: str) -> None:
 
 
 class FactReader:
-    """The rules for the facts of one report. `left` is the number of characters that the names of sets may still add."""
+    """The rules for the facts of one report. `left` is the number of bytes that the names of sets may still add."""
 
     def __init__(self, sheet: Sheet, options: argparse.Namespace, uris: Uris, left: int) -> None:
         self.sheet, self.options, self.uris, self.left = sheet, options, uris, left
@@ -176,9 +176,10 @@ class FactReader:
         if len(names) < len(found):
             fact.leave("value", "the set repeats a name, or has an item that cannot be written as URI#LOCAL")
             return
-        self.left -= sum(len(uri) + len(local) + 2 for uri, local in names) - len(given)
+        lengths = {uri: len(uri.encode()) for uri in {uri for uri, _ in names}}  # each URI is encoded once, since it may be long
+        self.left -= sum(lengths[uri] + len(local.encode()) + 2 for uri, local in names) - len(given.encode())
         if self.left < 0:
-            raise NotDone(f"the names of its sets, with their URIs, add more than {GROWTH} times its length plus {SMALL} characters")
+            raise NotDone(f"the names of its sets, with their URIs, add more than {GROWTH} times its length plus {SMALL} bytes")
         fact.change("value", " ".join(sorted(map("#".join, names))), "set")
 
     def concept_of(self, members: dict[str, Tree]) -> Optional[Name]:
