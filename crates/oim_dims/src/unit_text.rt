@@ -1,11 +1,12 @@
 ghost use Rattle.std.specs.Prelude.{◌≡◌, ◌≢◌, ◌⊎◌, ◌↔◌, [], ◌∷◌, ◌++◌, None, Some, true, All, IsTrue, IfOk, IfErr, IfSome, MatchOption, OnOk, is_some, option_map, string_bytes};
 ghost use Rattle.std.specs.List.{AllZip, find, list_all, list_any, slice_split};
-ghost use Rattle.std.specs.List.Sorted.{IsSorted};
+ghost use Rattle.std.specs.List.Sorted.{IsPermutation, IsSorted};
 ghost use Rattle.oim_names.specs.Expansion.{Expands, a_name, name_refusal, refuses};
 ghost use Rattle.oim_value.specs.ValueOrder.{name_cmp};
 ghost use Rattle.oim_dims.specs.Separators.{is_star};
 ghost use Rattle.oim_dims.specs.Unit.{DenotesUnit, IsMeasure, IsUnit, NamesEach, UnitOf, can_write, denominator_pieces, inner, is_mark, is_piece, is_unit_text, is_writable, measure_text, numerator_pieces, product_text, pure_name, side_text, some_piece, unit_refusal, unit_text};
 
+use crate::long_uris::likely_name_order;
 use crate::sequence::Sequence;
 use crate::spelling::spell_unit;
 use crate::unit::Unit;
@@ -68,8 +69,18 @@ fn measures(alloc: Global, aliases: &Aliases, side: &str) -> Result<Sequence<Nam
 {
     aliases.known();
     let mut names = names_of(alloc, aliases, side)?;
-    names.sort()?;
+    sort(&mut names)?;
     Ok(Sequence::new(names))
+}
+
+// After the first sort, the second compares the URIs of adjacent names only. URIs may be long.
+fn sort(names: &mut Vec<Name>) -> Result<(), AllocError>
+    ensures permutation { OnOk result (IsPermutation names.old.items names.new.items) }
+    ensures sorted { OnOk result (IsSorted name_cmp names.new.items) }
+{
+    names.sort_unstable_by(|name, next| likely_name_order(name, next));
+    names.sort()?;
+    Ok(())
 }
 
 fn names_of(alloc: Global, aliases: &Aliases, side: &str) -> Result<Vec<Name>, Reason>

@@ -1,5 +1,5 @@
-use Rattle.std.proofs.Common.{◌≡◌, length, rules}
-use Rattle.std.proofs.lemmas.List.Sorted.{All-permutation}
+use Rattle.std.proofs.Common.{◌≡◌, length, ap, ◌∙◌}
+use Rattle.std.proofs.lemmas.List.Sorted.{All-permutation, length_permutation}
 use Rattle.std.specs.List.{slice_split}
 use Rattle.oim_dims.specs.Separators.{is_star}
 use Rattle.oim_dims.specs.Unit.{IsMeasure}
@@ -15,5 +15,5 @@ returns-clause-measures c =
 
 pub returns-clause-some : goal.returns-clause-some
 returns-clause-some c =
-    let long : length c.new.result ≡ length c.in_ok-names.names.items = search rules in
+    let long : length c.new.result ≡ length c.in_ok-names.names.items = ap length c.new.ensures ∙ length_permutation _ _ c.in_ok-sort.ensures.permutation in
     side_some c.args.aliases.now c.args.side.now c.in_ok-names.names.items c.new.result c.in_ok-names.ensures.names long
