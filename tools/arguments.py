@@ -6,6 +6,7 @@ import sys
 from typing import NoReturn, Optional
 
 from process import Status, print_lines
+from text_files import as_file
 
 
 class Parser(argparse.ArgumentParser):
@@ -20,11 +21,11 @@ class Parser(argparse.ArgumentParser):
 
     def read(self) -> argparse.Namespace:
         """Returns the options. `words` contains the arguments before `--` that are not options, and `files` the arguments after
-        `--`. Ends the tool with status USAGE if an argument is invalid."""
+        `--`, where `-` is a file as well. Ends the tool with status USAGE if an argument is invalid."""
         given = sys.argv[1:]
         end = given.index("--") if "--" in given else len(given)
         options = self.parse_intermixed_args(given[:end])
-        options.files = given[end + 1 :]
+        options.files = [*map(as_file, given[end + 1 :])]
         return options
 
     def error(self, message: str) -> NoReturn:

@@ -59,6 +59,7 @@ from contradicting.tables import lines_of, listed_table, table  # noqa: E402
 from normalising.options import add_losses, loses  # noqa: E402
 from process import Status, print_lines, printable, run  # noqa: E402
 from program import add_program, program_at  # noqa: E402
+from text_files import STANDARD  # noqa: E402
 from whole_files import files_written  # noqa: E402
 
 
@@ -98,6 +99,8 @@ def check(parser: Parser, options: argparse.Namespace) -> None:
             parser.error("a name in --names is empty")
     elif not (options.words or options.files) or options.sources or options.names:
         parser.error("name the reports; --sources and --names need --from")
+    if STANDARD in (options.output, options.near):
+        parser.error("standard output has the summary: write ./- for a folder or a file with the name -")
     if loses(options) and not options.normalise:
         parser.error("options that lose something need --normalise")
     try:

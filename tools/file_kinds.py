@@ -2,11 +2,9 @@
 from __future__ import annotations
 
 import codecs
-import os
 import re
 from typing import Any, Optional
 
-START = 1 << 20  # the bytes at the start of a file that are looked at
 INLINE = "http://www.xbrl.org/2013/inlineXBRL"
 CONVERT = "convert it to xBRL-JSON with another program"
 CSV = "the metadata of an xBRL-CSV report"
@@ -21,12 +19,8 @@ def looks_like(kind: Optional[str]) -> str:
     return f"; the file looks like {kind}" if kind else ""
 
 
-def kind_of_file(path: str, is_sheet: bool = False) -> Optional[str]:
-    """Guesses the kind of a file that is not JSON, although a report or a sheet was expected. Errors: OSError."""
-    if not os.path.isfile(path):  # a FIFO cannot be read again
-        return None
-    with open(path, "rb") as file:
-        start = file.read(START)
+def kind_of_bytes(start: bytes, is_sheet: bool = False) -> Optional[str]:
+    """Guesses the kind of a file that is not JSON, although a report or a sheet was expected, from the bytes at its start."""
     if start.startswith(b"\x1f\x8b"):
         return "a gzip file: unpack it first"
     if start.startswith(b"PK\3\4"):

@@ -5,7 +5,7 @@
     tools/make_sheet --union [--] SHEET .. > sheet.json
 
 A schema is read together with the schemas that it imports, includes or redefines. In a folder or package, every .xsd file
-is read. Nothing is downloaded: a schema that is imported by URL must be in a named folder or package whose
+is read. One FILE or SHEET may be standard input, written as -. Nothing is downloaded: a schema that is imported by URL must be in a named folder or package whose
 META-INF/catalog.xml maps the URL to it. The schemas of the specifications, at xbrl.org and w3.org, are not needed: their
 item types are built in, except some of the data type registry.
 
@@ -30,7 +30,12 @@ Status 0: done. 1: done, but something is left out. 2: invalid arguments. 3: not
 status 3, standard output contains at most a part of a sheet.
 """
 import argparse
+import contextlib
+import functools
+import os
 import sys
+import tempfile
+from typing import Iterator
 
 sys.dont_write_bytecode = True
 from arguments import Parser  # noqa: E402
@@ -38,6 +43,7 @@ from process import Status, print_lines, run  # noqa: E402
 from sheet_making.limits import Limits, reading  # noqa: E402
 from sheet_making.making import kinds_in  # noqa: E402
 from sheet_making.sheets import sheet_text, union  # noqa: E402
+from text_files import LONGEST, PIECE, STANDARD, opened  # noqa: E402
 
 
 def read_options() -> argparse.Namespace:
@@ -58,10 +64,30 @@ def read_options() -> argparse.Namespace:
     return options
 
 
+@contextlib.contextmanager
+def standard_input_kept(inputs: list[str]) -> Iterator[list[str]]:
+    """Yields the inputs, with a temporary copy of standard input in place of `-`, because a package is not read in order.
+
+    Errors: NotDone, OSError; exceptions of the block.
+    """
+    if STANDARD not in inputs:
+        yield inputs
+        return
+    with tempfile.TemporaryDirectory() as folder:
+        kept = os.path.join(folder, "standard input")
+        with reading("standard input"), opened(STANDARD) as source, open(kept, "wb") as copy:
+            for piece in iter(functools.partial(source.read, PIECE), b""):
+                if copy.tell() + len(piece) > LONGEST:
+                    raise ValueError(f"it is longer than {LONGEST} bytes")
+                copy.write(piece)
+        yield [kept if path == STANDARD else path for path in inputs]
+
+
 def main() -> Status:
     options = read_options()
     limits = Limits(options.megabytes, options.outside, options.tags)
-    kinds, lines = (union(options.inputs, limits), []) if options.union else kinds_in(options.inputs, limits)
+    with standard_input_kept(options.inputs) as inputs:
+        kinds, lines = (union(inputs, limits), []) if options.union else kinds_in(inputs, limits)
     print_lines(lines)
     with reading("standard output"):
         sys.stdout.buffer.write(sheet_text(kinds).encode())

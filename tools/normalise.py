@@ -1,9 +1,10 @@
 #!/usr/bin/env python3
 """Rewrites a report so that xbrlmerge can read it, and lists every change.
 
-    tools/normalise REPORT OUT CHANGES.jsonl [--sheet SHEET] [options]
+    tools/normalise [--sheet SHEET] [options] [--] REPORT OUT CHANGES.jsonl
 
-REPORT is an xBRL-JSON report. OUT is the new report, on one line. CHANGES.jsonl contains a line for each change, with the
+REPORT is an xBRL-JSON report; - means standard input. OUT is the new report, on one line. For OUT or CHANGES.jsonl, - means
+standard output. After --, - is a file, too. CHANGES.jsonl contains a line for each change, with the
 fact, the JSON pointer, the old value, any new value, the rule, and whether something was lost. In these lines, identifiers,
 URIs and texts are cut to 80 characters. Without options, nothing that the format defines is lost. Some rules need the kind of a
 concept or dimension, and act only on names that SHEET lists. If a rule has to leave an exponent, a set or a period as it is,
@@ -14,7 +15,7 @@ the list of changes.
 refused, no fact is dropped, and standard error shows why. The program should have the same version as this tool.
 
 Status 0: nothing was lost. 1: something was lost. 2: invalid arguments. 3: not done, and standard error shows why. After
-status 2 or 3, no output has changed, unless a replaced file could not be restored.
+status 2 or 3, no file has changed, unless a replaced file could not be restored; standard output may have a part of the output.
 """
 from __future__ import annotations
 
@@ -33,7 +34,8 @@ from normalising.options import add_losses  # noqa: E402
 from normalising.rules import Normaliser  # noqa: E402
 from process import NotDone, Status, print_lines, run  # noqa: E402
 from program import Program, add_program, program_at  # noqa: E402
-from whole_files import write_files  # noqa: E402
+from text_files import STANDARD, shown_path  # noqa: E402
+from whole_files import files_written  # noqa: E402
 
 
 def read_options() -> argparse.Namespace:
@@ -49,8 +51,11 @@ def read_options() -> argparse.Namespace:
     options.REPORT, options.OUT, options.CHANGES = names
     if (options.drop_unknown or options.drop_unreadable) and not options.sheet:
         parser.error("--drop-unknown and --drop-unreadable need --sheet")
-    files = [options.REPORT, options.OUT, options.CHANGES, *([options.sheet] if options.sheet else [])]
-    if len({*map(os.path.realpath, files)}) < len(files):
+    if options.sheet == STANDARD and options.drop_unreadable:
+        parser.error("--drop-unreadable needs a sheet in a file")
+    inputs, outputs = [options.REPORT, *[options.sheet] * bool(options.sheet)], [options.OUT, options.CHANGES]
+    files = [*map(os.path.realpath, (path for path in (*inputs, *outputs) if path != STANDARD))]
+    if len({*files}) < len(files) or inputs.count(STANDARD) > 1 or outputs.count(STANDARD) > 1:
         parser.error("REPORT, OUT, CHANGES and SHEET must be different files")
     return options
 
@@ -61,7 +66,8 @@ def program_asked(options: argparse.Namespace) -> Iterator[Optional[Program]]:
     if not options.drop_unreadable:
         yield None
         return
-    with tempfile.TemporaryDirectory(prefix=".new-", dir=os.path.dirname(os.path.abspath(options.OUT))) as folder:
+    beside = None if options.OUT == STANDARD else os.path.dirname(os.path.abspath(options.OUT))
+    with tempfile.TemporaryDirectory(prefix=".new-", dir=beside) as folder:
         yield Program(program_at(options.program), options.sheet, folder)
 
 
@@ -72,9 +78,13 @@ def main() -> Status:
         with program_asked(options) as program:
             log = Normaliser(sheet, options, program).normalise(tree, length)
     except NotDone as fault:
-        raise NotDone(f"{options.REPORT}: {fault}") from None
+        raise NotDone(f"{shown_path(options.REPORT)}: {fault}") from None
     print_lines(log.left)
-    write_files([(options.OUT, [*pieces_of(tree), "\n"]), (options.CHANGES, log.lines)])
+    outputs = (options.OUT, [*pieces_of(tree), "\n"]), (options.CHANGES, log.lines)
+    with files_written(output for output in outputs if output[0] != STANDARD):
+        for _, pieces in (output for output in outputs if output[0] == STANDARD):
+            sys.stdout.buffer.writelines(piece.encode() for piece in pieces)
+            sys.stdout.flush()
     return Status.LOOK if log.is_lossy else Status.DONE
 
 

@@ -1,8 +1,12 @@
 """Tests of the arguments of all three tools: files with odd names, and messages about them."""
+import io
 import json
 import os
 import shutil
+import subprocess
+import sys
 import unittest
+import zipfile
 
 import in_process
 import contradictions
@@ -52,6 +56,55 @@ class OddNames(Stubbed):
         inputs = map(os.path.abspath, (merged, SHEET, example("verdicts.txt")))
         self.assertEqual(in_process.run(contradictions, "-o", "out", "--from", *inputs, "--", "--names=a"), (1, ""))
         self.assertEqual({cell["providers"] for cell in self.cells("contradictions.csv")}, {"'--names=a"})
+
+
+class StandardStreams(Stubbed):
+    """Runs with - for standard input or standard output."""
+
+    REPORT = b'{"documentInfo":{"documentType":"https://xbrl.org/2021/xbrl-json"},"facts":{"a":{"value":1,"dimensions":{}}}}'
+    NORMAL = REPORT.replace(b"1,", b'"1",') + b"\n"
+    CHANGE = b'{"fact":"a","pointer":"/facts/a/value","was":1,"now":"1","rule":"value-text","loss":false}\n'
+
+    def run_piped(self, name, *words, given=b"", **options):
+        tool = os.path.join(in_process.TOOLS, f"{name}.py")
+        done = subprocess.run([sys.executable, tool, *words], input=given, capture_output=True, cwd=self.scratch, **options)
+        return done.returncode, done.stderr, done.stdout
+
+    def test_normalise_reads_and_writes_standard_streams(self):
+        self.write("report.json", self.REPORT)
+        self.assertEqual(self.run_piped("normalise", "-", "-", "changes", given=self.REPORT), (0, b"", self.NORMAL))
+        self.assertEqual(content(self.place("changes")).encode(), self.CHANGE)
+        self.assertEqual(self.run_piped("normalise", "report.json", "out", "-"), (0, b"", self.CHANGE))
+        self.assertEqual(content(self.place("out")).encode(), self.NORMAL)
+        told = b"normalise: standard input: the file cannot be read as JSON: it is not UTF-8; the file looks like a gzip file: unpack it first\n"
+        self.assertEqual(self.run_piped("normalise", "-", "-", "changes", given=b"\x1f\x8b"), (3, told, b""))
+        self.assertFalse(os.path.exists(self.place("-")))
+
+    def test_a_full_device_changes_no_file(self):
+        self.write("report.json", self.REPORT)
+        for out, changes in (("-", "made"), ("made", "-")):
+            with open("/dev/full", "wb") as full:
+                words = [sys.executable, os.path.join(in_process.TOOLS, "normalise.py"), "report.json", out, changes]
+                done = subprocess.run(words, stdout=full, stderr=subprocess.PIPE, cwd=self.scratch)
+            self.assertEqual((done.returncode, done.stderr), (3, b"normalise: No space left on device\n"))
+            self.assertFalse(os.path.exists(self.place("made")))
+
+    def test_make_sheet_reads_standard_input(self):
+        schema = (SCHEMA % ITEM % ("A", "string")).encode()
+        sheet = json.dumps({"namespaces": {"p": "u"}, "concepts": {"p:B": "text"}}).encode()
+        packed = io.BytesIO()
+        with zipfile.ZipFile(packed, "w") as package:
+            package.writestr("a.xsd", schema)
+        for words, given, concept in ((["-"], schema, "n1:A"), (["-"], packed.getvalue(), "n1:A"), (["--union", "-"], sheet, "n1:B")):
+            status, told, out = self.run_piped("make_sheet", *words, given=given)
+            self.assertEqual((status, told, [*json.loads(out)["concepts"]]), (0, b"", [concept]))
+
+    def test_streams_that_are_none(self):
+        sheet = ["--sheet", SHEET, "-o"]
+        for tool, *words in ((normalise, "a", "-", "-"), (normalise, "-", "b", "c", "--sheet", "-"), (contradictions, *sheet, "-", REPORTS[0]),
+                             (contradictions, *sheet, self.output, "--near", "-", REPORTS[0]),
+                             (normalise, "a", "b", "c", "--sheet", "-", "--drop-unreadable")):
+            self.assertEqual(in_process.run(tool, *words)[0], 2, words)
 
 
 class Messages(Stubbed):

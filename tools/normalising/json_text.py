@@ -9,9 +9,9 @@ import json
 import re
 from typing import Any, Callable, NamedTuple, Optional
 
-from file_kinds import kind_of_file, looks_like
+from file_kinds import kind_of_bytes, looks_like
 from process import NotDone, shortened
-from text_files import read_text
+from text_files import PIECE, NotUtf8, read_text, shown_path
 
 Tree = Any  # None, bool, str, Number, or a dict or list of such trees
 HALF = re.compile(r"\\u[dD][89a-fA-F]")  # an escaped half of a surrogate pair
@@ -42,18 +42,21 @@ def read_json_of_length(path: str, is_sheet: bool = False) -> tuple[Tree, int]:
     Raises NotDone if the file cannot be read, is too long, is not JSON, is nested too deeply or has half a surrogate pair, or
     if two members of one object share a name.
     """
+    shown, start = shown_path(path), b""
     try:
         text = read_text(path)
-        return tree_of(text, path), len(text)
+        return tree_of(text, shown), len(text)
     except OSError as fault:
-        raise NotDone(f"{path}: {fault.strerror or fault}") from None
-    except UnicodeError as fault:
-        why = "it is not UTF-8" if isinstance(fault, UnicodeDecodeError) else "a text has half a surrogate pair"
+        raise NotDone(f"{shown}: {fault.strerror or fault}") from None
+    except NotUtf8 as fault:
+        why, start = str(fault), fault.start
+    except UnicodeEncodeError:
+        why = "a text has half a surrogate pair"
     except json.JSONDecodeError as fault:
-        why = f"invalid JSON at {place_of(fault)}"
+        why, start = f"invalid JSON at {place_of(fault)}", fault.doc[:PIECE].encode(errors="surrogatepass")
     except ValueError as fault:
-        raise NotDone(f"{path}: {shortened(str(fault))}") from None
-    raise NotDone(f"{path}: the file cannot be read as JSON: {why}{looks_like(kind_of_file(path, is_sheet))}")
+        raise NotDone(f"{shown}: {shortened(str(fault))}") from None
+    raise NotDone(f"{shown}: the file cannot be read as JSON: {why}{looks_like(kind_of_bytes(start, is_sheet))}")
 
 
 def place_of(fault: json.JSONDecodeError) -> str:

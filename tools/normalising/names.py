@@ -8,6 +8,7 @@ from names import XBRL, Uris
 from normalising.json_text import Number, Tree, read_json
 from process import NotDone, shortened
 from sheets import Sheet
+from text_files import shown_path
 
 
 def is_text(value: Tree) -> bool:
@@ -26,4 +27,4 @@ def sheet_at(path: Optional[str]) -> Sheet:
     try:
         return Sheet(tree)
     except ValueError as fault:
-        raise NotDone(f"{path}: {shortened(str(fault))}{looks_like(kind_of_sheet(tree))}") from None
+        raise NotDone(f"{shown_path(path or '')}: {shortened(str(fault))}{looks_like(kind_of_sheet(tree))}") from None
