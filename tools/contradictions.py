@@ -13,6 +13,9 @@ no merged.json:
     rows.csv            all rows, with how many providers report each ("1 of 3")
     merged.json         the merged report
 
+The first two forms also write verdicts.txt, sources.txt, refusals.txt and, with --normalise, the normalised reports as
+reports/NUMBER.json. The foot of the page has a command that checks the run with these files and tools/recheck.
+
 Providers are named after their files: the provider of issuer.json is "issuer". NAME=REPORT sets another name. If a provider
 made several reports, repeat its NAME. After --, each argument is the whole name of a file. Write -- before a glob, as in
 -- *.json, because files from others may be named like an option or like NAME=REPORT. A refused report is listed with the first 20 faults that `xbrlmerge explain` finds, and
@@ -42,12 +45,14 @@ After status 2 or 3, no output has changed, unless a replaced file could not be 
 from __future__ import annotations
 
 import argparse
+import contextlib
 import os
 import sys
 import tempfile
 
 sys.dont_write_bytecode = True
 from arguments import Parser  # noqa: E402
+from contradicting.checking import FOLDER, LINES, report_file  # noqa: E402
 from contradicting.inputs import Inputs, Run, counted, inputs_named, output_folder  # noqa: E402
 from contradicting.labels import read_labels  # noqa: E402
 from contradicting.near import Near  # noqa: E402
@@ -115,6 +120,10 @@ def check(parser: Parser, options: argparse.Namespace) -> None:
 def outputs_of(options: argparse.Namespace) -> list[str]:
     names = ["page.html", "contradictions.csv", "rows.csv", *["merged.json"] * (not options.texts)]
     names += ["sheet.json"] * bool(options.taxonomy) + ["changes.csv"] * options.normalise
+    if not options.texts:
+        names += [f"{name}.txt" for name in LINES]
+    if options.normalise:
+        names += [report_file(number) for number, _ in enumerate(reports_named(options), 1)]
     return [*(os.path.join(options.output, name) for name in names), *[options.near] * bool(options.near)]
 
 
@@ -138,7 +147,8 @@ def main() -> Status:
 
 def run_program(options: argparse.Namespace, progress: Progress) -> Status:
     program, reports = program_at(options.program), reports_named(options)
-    with tempfile.TemporaryDirectory(prefix=".new-", dir=os.path.abspath(options.output)) as folder:
+    normalised = output_folder(os.path.join(options.output, FOLDER)) if options.normalise else contextlib.nullcontext()
+    with normalised, tempfile.TemporaryDirectory(prefix=".new-", dir=os.path.abspath(options.output)) as folder:
         return write(Run(program, options, reports, folder, progress).inputs(), options, progress)
 
 
@@ -149,7 +159,7 @@ def write(inputs: Inputs, options: argparse.Namespace, progress: Progress) -> St
     reader = Reader(inputs.text, inputs.sheet, inputs.sources, near, [])
     rows = reader.rows(inputs.verdicts)
     labels = read_labels(options.labels, options.language)
-    files = [("page.html", page(rows, reader, labels, inputs.refusals)), ("contradictions.csv", lines_of(table(rows, labels, reader))),
+    files = [("page.html", page(rows, reader, labels, inputs.refusals, inputs.check)), ("contradictions.csv", lines_of(table(rows, labels, reader))),
              ("rows.csv", lines_of(listed_table(reader.listed))), *inputs.files]
     texts = [(os.path.join(options.output, name), pieces) for name, pieces in files]
     if near:

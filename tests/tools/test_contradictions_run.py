@@ -92,7 +92,8 @@ class Files(Stubbed):
         done = self.run_on(*REPORTS)
         self.assertEqual((done.returncode, done.stderr), (1, ""))
         self.assertEqual(done.stdout, f"{SUMMARY}; page: {self.page}\n")
-        self.assertEqual(sorted(os.listdir(self.output)), ["contradictions.csv", "merged.json", "page.html", "rows.csv"])
+        self.assertEqual(sorted(os.listdir(self.output)),
+                         ["contradictions.csv", "merged.json", "page.html", "refusals.txt", "rows.csv", "sources.txt", "verdicts.txt"])
         self.assertEqual(content(os.path.join(self.output, "merged.json")), content(example("merged.json")))
         self.assertEqual(len(self.cells("rows.csv")), 64)
         told = {cell["fact"]: (cell["identifiers"], cell["reported_by"]) for cell in self.cells("contradictions.csv")}

@@ -7,6 +7,7 @@ import os
 from dataclasses import dataclass, field
 from typing import Iterator, Optional
 
+from contradicting.checking import LINES, command, report_file
 from contradicting.normalised import Normalised, pieces_of_file
 from contradicting.progress import Progress
 from contradicting.refusals import Refusals
@@ -38,6 +39,7 @@ class Inputs:
     files: list[File] = field(default_factory=list)
     losses: list[str] = field(default_factory=list)  # for the summary
     notes: list[str] = field(default_factory=list)  # lines for standard error
+    check: str = ""  # the command that checks the run, for a shell
 
 
 def inputs_named(options: argparse.Namespace) -> Inputs:
@@ -67,9 +69,11 @@ class Run:
             raise NotDone("a report or the sheet changed while it was read")
         merged, verdicts, sources = map(self.program.place, ("merge", "verdicts", "sources"))
         names = [report.provider for report in self.reports]
-        files = [("merged.json", pieces_of_file(merged)), *self.files]
+        check, refused = self.check(paths), (f"report {number}: {refusal}\n" for number, refusal in sorted(found[0].items()))
+        lines = zip((f"{name}.txt" for name in LINES), (pieces_of_file(verdicts), pieces_of_file(sources), refused))
+        files = [("merged.json", pieces_of_file(merged)), *self.files, *lines]
         return Inputs(Text(merged), sheet_at(self.program.sheet), verdicts, Sources(sources, names, found[0]),
-                      self.refusals(found[0], paths), files, self.losses, self.notes)
+                      self.refusals(found[0], paths), files, self.losses, self.notes, check)
 
     def sheet(self) -> str:
         """Returns the path of the sheet, which is made first if taxonomies are named."""
@@ -96,6 +100,16 @@ class Run:
         self.losses += [f"{counted(len(made.notes), 'report')} not normalised"] * bool(made.notes)
         self.losses += [f"{counted(made.losses, 'loss', 'losses')} in changes.csv"] * bool(made.losses)
         return made.paths
+
+    def check(self, paths: list[str]) -> str:
+        """Returns the command that checks the run. Each normalised report is also written beside the page."""
+        reports = [report.path for report in self.reports]
+        for place, path in enumerate(paths):
+            if path != reports[place]:
+                self.files.append((report_file(place + 1), pieces_of_file(path)))
+                reports[place] = os.path.join(self.options.output, report_file(place + 1))
+        sheet = os.path.join(self.options.output, "sheet.json") if self.options.taxonomy else self.options.sheet
+        return command(self.options.output, sheet, reports)
 
     def read(self, command: str, paths: list[str]) -> dict[int, str]:
         self.progress.show(f"running {command} on {counted(len(paths), 'report')}")

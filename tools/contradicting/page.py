@@ -33,8 +33,9 @@ def part(name: str) -> str:
         return file.read()
 
 
-def page(rows: list[Row], reader: Reader, labels: Labels, refusals: Refusals) -> Iterator[str]:
-    """Yields the pieces of the page. The page's policy permits only inline styles and the page's own script."""
+def page(rows: list[Row], reader: Reader, labels: Labels, refusals: Refusals, check: str = "") -> Iterator[str]:
+    """Yields the pieces of the page. The page's policy permits only inline styles and the page's own script. `check` is the
+    command that checks the run, if there is one."""
     script = part("page.js")
     known = base64.b64encode(hashlib.sha256(script.encode()).digest()).decode()
     policy = f"default-src 'none'; style-src 'unsafe-inline'; script-src 'sha256-{known}'"
@@ -54,7 +55,10 @@ other. Long texts are cut to {MOST_CHARACTERS} characters near the first differe
     for row in largest[:FIRST]:
         yield from section(row, reader, labels)
     yield from by_concept(largest, reader, labels)
-    yield f"</div><script>{script}</script></body></html>\n"
+    yield "</div>"
+    if check:
+        yield f'<details class="check"><summary>Check this run with a second program</summary><pre>{html.escape(check)}</pre></details>\n'
+    yield f"<script>{script}</script></body></html>\n"
 
 
 def counts(reader: Reader, refusals: Refusals) -> Iterator[tuple[int, str]]:
