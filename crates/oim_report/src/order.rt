@@ -1,10 +1,12 @@
-ghost use Rattle.std.specs.Prelude.{◌≡◌, ℕ, Some, IfOk, IsTrue, slice_get};
+ghost use Rattle.std.specs.Prelude.{◌≡◌, ℕ, Some, IfOk, IsTrue, length, slice_get};
+ghost use Rattle.std.specs.List.{range_with_len};
+ghost use Rattle.std.specs.List.Sorted.{IsPermutation};
 ghost use Rattle.oim_dims.specs.FactOrder.{fact_cmp};
 ghost use Rattle.oim_report.specs.Report.{IsOrderOf, index_cmp};
 ghost use Rattle.oim_report.specs.code.DimensionRuns.{HaveDimensionsOf};
 ghost use Rattle.oim_report.specs.code.UriIndices.{ShareUris};
 
-use oim_dims::Fact;
+use oim_dims::{Fact, has_long_uri, likely_order};
 use std::alloc::{AllocError, Global};
 use std::cmp::Ordering;
 
@@ -19,13 +21,34 @@ pub(crate) fn order_of(
     requires { ShareUris facts.now indices.now }
     ensures { IfOk result (λ order. IsOrderOf facts.now order.items) }
 {
-    // `collect` is not used: if its request for memory is refused, it requests a smaller amount
-    let mut order: Vec<usize> = Vec::with_capacity(alloc, facts.len())?;
-    order.extend(0..facts.len())?;
+    let mut order = indices_of(alloc, facts)?;
     let starts = run_starts(alloc, facts)?;
     let starts = starts.as_slice();
     order.sort_unstable_by(|i, j| compared(facts, starts, indices, *i, *j));
     Ok(order)
+}
+
+// Returns the index of each fact once. If a URI is long, the facts at these indices likely ascend, so
+// a sort compares few URIs.
+fn indices_of(alloc: Global, facts: &[Fact]) -> Result<Vec<usize>, AllocError>
+    ensures { IfOk result (λ all. IsPermutation (range_with_len 0 (length facts.now)) all.items) }
+{
+    // `collect` is not used: if its request for memory is refused, it requests a smaller amount
+    let mut all: Vec<usize> = Vec::with_capacity(alloc, facts.len())?;
+    all.extend(0..facts.len())?;
+    if facts.iter().any(|fact| has_long_uri(&fact.dimensions)) {
+        all.sort_unstable_by(|i, j| likely_compared(facts, *i, *j));
+    }
+    Ok(all)
+}
+
+fn likely_compared(facts: &[Fact], i: usize, j: usize) -> Ordering {
+    match (facts.get(i), facts.get(j)) {
+        (Some(one), Some(other)) => likely_order(&one.dimensions, &other.dimensions).then_with(
+            || one.value.cmp(&other.value),
+        ),
+        _ => i.cmp(&j),
+    }
 }
 
 // Returns, for each fact, the index of the first fact in its run of adjacent facts with equal
