@@ -14,6 +14,11 @@ FACTS = 1_000
 REFUSED = "refused.json"
 
 
+def expected(command):
+    """The status with which a command of a shape must end."""
+    return int("explain" in command or REFUSED in command)
+
+
 # ---- the parts of an input
 
 def sheet(concepts=None, dimensions=None, namespaces=None):
@@ -105,6 +110,11 @@ def references_that_fall(n):
     return merging(sheet(), report(numbered([fact()]), taxonomy=[f"{URI}/{n - place:07}.xsd" for place in range(n)]))
 
 
+def references_beside_a_long_base(n, size=5_000):
+    """n references, each of which is stored as a URL of about `size` bytes."""
+    return merging(sheet(), report(numbered([fact()]), taxonomy=[str(place) for place in range(n)], baseURL=f"{URI}/{'b' * size}/"))
+
+
 def references_of_many_reports(n):
     return merging(sheet(), *(report(numbered([fact()]), taxonomy=[f"{URI}/{place:07}.xsd"]) for place in range(n)))
 
@@ -133,6 +143,40 @@ def measures_beside_a_long_uri(n):
     """A unit with n measures of one namespace, whose URI has about 5,000 bytes."""
     names = {"eg": URI, "u": f"{URI}/{'u' * 5_000}"}
     return merging(sheet(), report(numbered([numeric("1", unit="*".join(f"u:m{n - place:07}" for place in range(n)))]), names))
+
+
+def measures_in_no_order(n, size=5_000):
+    """A unit with n measures in no order, of one namespace whose URI has about `size` bytes."""
+    names = {"eg": URI, "u": f"{URI}/{'u' * size}"}
+    return merging(sheet(), report(numbered([numeric("1", unit="*".join(f"u:{place:05}" for place in shuffled(range(n))))]), names))
+
+
+def shuffled(items):
+    return random.Random(1).sample(list(items), len(items))
+
+
+def members_of_a_long_uri(n, size=50_000):
+    """n facts of one concept and one entity, in no order. The URI of the entity and of all members has about `size` bytes."""
+    bound = {"eg": URI, "u": f"{URI}/{'u' * size}"}
+    facts = (fact(entity="u:e", **{"eg:D": f"u:m{place:05}"}) for place in shuffled(range(n)))
+    return merging(sheet(dimensions={"eg:D": "explicit"}), report(numbered(facts), bound))
+
+
+def entities_of_a_long_uri(n, size=50_000):
+    """n facts of one concept, each of another entity with another member, in no order. One URI of about `size` bytes."""
+    bound = {"eg": URI, "u": f"{URI}/{'u' * size}"}
+    facts = (fact(entity=f"u:e{place:05}", **{"eg:D": f"u:m{place:05}"}) for place in shuffled(range(n)))
+    return merging(sheet(dimensions={"eg:D": "explicit"}), report(numbered(facts), bound))
+
+
+def sources_of_members_of_a_long_uri(n, size=50_000):
+    words, files = members_of_a_long_uri(n, size)
+    return ["sources", *words[1:]], files
+
+
+def take_of_members_of_a_long_uri(n, size=50_000):
+    words, files = members_of_a_long_uri(n, size)
+    return ["replay", "--replicas", "1", "--events", "events.txt", *words[1:]], {**files, "events.txt": "take 1 1\n"}
 
 
 def long_uri(names, size):
@@ -227,6 +271,17 @@ def objects_in_an_extension(n):
     return merging(sheet(), {**report(numbered([fact()])), "x:e": [{"a": 1}] * n})
 
 
+def empty_keys_in_an_extension(n):
+    """An extension with n objects whose only key is empty."""
+    return merging(sheet(), {**report(numbered([fact()])), "x:e": [{"": 0}] * n})
+
+
+def empty_keys_before_and_behind_facts(n):
+    """The same objects, half of them in a member before the facts, and half behind."""
+    half = [{"": 0}] * (n // 2)
+    return merging(sheet(), {"x:a": half, **report(numbered([fact()])), "x:b": half})
+
+
 def concepts(n):
     return merging(sheet({"eg:C": "text", **{f"eg:C{place:07}": "numeric" for place in range(n)}}), report(numbered([fact()])))
 
@@ -270,7 +325,7 @@ def facts_with_the_last_refused(n):
 
 
 def reports(n):
-    return merging(sheet(), *(report(numbered([numeric(str(place), period=period(place))])) for place in range(n)))
+    return merging(sheet(), *tiny_reports(n))
 
 
 def facts_of_one_dimension_set(n):
@@ -364,6 +419,27 @@ def texts_sent_and_received(n):
     return replaying(2, events, report(numbered([numeric("1")])), report(numbered([numeric("2")])))
 
 
+def reports_sent_in_a_ring(n):
+    """n reports that a replica takes one by one. After each, three replicas send their texts to each other in a ring."""
+    events, sent = [], 0
+    for place in range(1, n + 1):
+        events.append(f"take 1 {place}")
+        for sender, receiver in ((1, 2), (2, 3), (3, 1)):
+            sent += 1
+            events += [f"send {sender}", f"receive {receiver} {sent}"]
+    return replaying(3, events, *tiny_reports(n))
+
+
+def reports_received_late(n):
+    """n reports that a replica takes one by one, sending its text after each. Then another replica receives all texts."""
+    events = [event for place in range(1, n + 1) for event in (f"take 1 {place}", "send 1")]
+    return replaying(2, events + [f"receive 2 {place}" for place in range(1, n + 1)], *tiny_reports(n))
+
+
+def tiny_reports(n):
+    return [report(numbered([numeric(str(place), period=period(place))])) for place in range(n)]
+
+
 def sends_without_a_change(n):
     """n texts that one replica of 1,000 facts sends while its base does not change."""
     facts = report(numbered(numeric(str(place), period=period(place)) for place in range(FACTS)))
@@ -377,7 +453,7 @@ def joins_that_add_nothing(n):
 
 
 def takes_of_different_reports(n):
-    return replaying(1, (f"take 1 {place}" for place in range(1, n + 1)), *(report(numbered([numeric(str(place), period=period(place))])) for place in range(n)))
+    return replaying(1, (f"take 1 {place}" for place in range(1, n + 1)), *tiny_reports(n))
 
 
 def events_of_eight_replicas(n):
@@ -395,12 +471,18 @@ SHAPES = {
     namespaces_written_that_fall: 5_000,
     references: 5_000,
     references_that_fall: 5_000,
+    references_beside_a_long_base: 500,
     references_of_many_reports: 500,
     features: 5_000,
     dimensions_of_one_fact: 5_000,
     dimensions_whose_names_fall: 5_000,
     measures_of_a_unit: 5_000,
     measures_beside_a_long_uri: 1_000,
+    measures_in_no_order: 1_000,
+    members_of_a_long_uri: 1_000,
+    entities_of_a_long_uri: 1_000,
+    sources_of_members_of_a_long_uri: 1_000,
+    take_of_members_of_a_long_uri: 1_000,
     names_of_a_long_uri: 2_000,
     bytes_of_a_uri_of_many_names: 50_000,
     names_and_bytes_of_a_uri: 2_000,
@@ -419,6 +501,8 @@ SHAPES = {
     extension_members_of_a_report: 5_000,
     extension_members_of_a_fact: 5_000,
     objects_in_an_extension: 50_000,
+    empty_keys_in_an_extension: 50_000,
+    empty_keys_before_and_behind_facts: 50_000,
     concepts: 5_000,
     dimensions_of_a_sheet: 5_000,
     facts: 5_000,
@@ -449,4 +533,32 @@ SHAPES = {
     joins_that_add_nothing: 100,
     takes_of_different_reports: 500,
     events_of_eight_replicas: 500,
+}
+
+# shapes that --megabyte measures besides, each with a size to begin at. Texts that are sent after each report contain the square of
+# their number, so these shapes cannot grow as slowly as the others.
+SENT = {
+    reports_sent_in_a_ring: 500,
+    reports_received_late: 500,
+}
+
+# the sizes with which some shapes cost most for a megabyte; the other shapes have one size
+MEGABYTES = {
+    measures_in_no_order: (54_000, 490_000),
+    members_of_a_long_uri: (5_200, 500_000),
+    entities_of_a_long_uri: (5_200, 500_000),
+    sources_of_members_of_a_long_uri: (5_200, 500_000),
+    take_of_members_of_a_long_uri: (5_200, 500_000),
+    reports_sent_in_a_ring: (2_000,),
+    reports_received_late: (2_000,),
+}
+
+# shapes of which a megabyte may cost more than --megabyte allows; docs/COSTS.md lists them
+COSTLY = {
+    references_beside_a_long_base,
+    objects_in_an_extension,
+    empty_keys_in_an_extension,
+    empty_keys_before_and_behind_facts,
+    reports_sent_in_a_ring,
+    reports_received_late,
 }

@@ -11,14 +11,15 @@ if n is at least 256. A quadratic cost grows sixteenfold and fails. The result i
     --memory            measures peak memory instead of instructions
     --size N            the smaller size, instead of the shape's own
     --bound TIMES       the largest allowed ratio (5)
+    --megabyte          runs each shape once, at a size of about a megabyte, and measures processor seconds and peak memory.
+                        A run may take at most 2 seconds and 100 MB; shapes that docs/COSTS.md lists may take more
     --program FILE      the program, instead of the built one in crates/xbrlmerge
     --keep FOLDER       leaves the input files in FOLDER
 
-Status 0: every ratio is within the bound. 1: some ratios are not. 2: a measurement failed, an argument is wrong, or a
+Status 0: every cost is within its bound. 1: some are not. 2: a measurement failed, an argument is wrong, or a
 program is missing.
 """
 import argparse
-import json
 import os
 import re
 import shutil
@@ -27,7 +28,8 @@ import sys
 import tempfile
 
 sys.dont_write_bytecode = True
-from shaped import REFUSED, SHAPES  # noqa: E402
+from megabyte import too_costly, write_files  # noqa: E402
+from shaped import SENT, SHAPES, expected  # noqa: E402
 
 REPOSITORY = os.path.dirname(os.path.dirname(os.path.realpath(__file__)))
 BUILT = os.path.join(REPOSITORY, "crates", "xbrlmerge", "out", "xbrlmerge")
@@ -42,13 +44,6 @@ class Failure(Exception):
 
 # ---- measuring
 
-def write_files(files, folder):
-    os.makedirs(folder, exist_ok=True)
-    for name, content in files.items():
-        with open(os.path.join(folder, name), "w", encoding="utf-8") as file:
-            file.write(content if isinstance(content, str) else json.dumps(content, separators=(",", ":")))
-
-
 def run(command, folder):
     """Runs a command, and returns its standard error and the resources that it used."""
     with tempfile.TemporaryFile() as told:
@@ -57,7 +52,7 @@ def run(command, folder):
         child.returncode = os.waitstatus_to_exitcode(status)
         told.seek(0)
         said = told.read().decode(errors="replace")
-    if child.returncode != ("explain" in command or REFUSED in command):
+    if child.returncode != expected(command):
         raise Failure(f"{' '.join(command)[:200]} in {folder} ended with status {child.returncode}: {said[-400:]}")
     return said, used
 
@@ -105,15 +100,15 @@ def measure_all(shapes, given, measure, folder):
     return broken
 
 
-def chosen(words):
-    """Returns the shapes with these names, or all shapes if no names are given. Words in a name may be separated by `_` or
+def chosen(words, shapes):
+    """Returns the shapes with these names, or all of `shapes` if no names are given. Words in a name may be separated by `_` or
     spaces."""
-    named = {shape.__name__: shape for shape in SHAPES}
+    named = {shape.__name__: shape for shape in shapes}
     names = [word.replace(" ", "_") for word in words]
     unknown = [name for name in names if name not in named]
     if unknown:
         raise Failure(f"no shape is named {', '.join(unknown)}: --list lists the names")
-    return [named[name] for name in names] or list(SHAPES)
+    return [named[name] for name in names] or list(shapes)
 
 
 def read_words():
@@ -124,10 +119,19 @@ def read_words():
     parser.add_argument("--memory", action="store_true")
     parser.add_argument("--size", type=int)
     parser.add_argument("--bound", type=float, default=BOUND)
+    parser.add_argument("--megabyte", action="store_true")
     parser.add_argument("--program", default=BUILT)
     parser.add_argument("--keep", metavar="FOLDER")
     parser.add_argument("shapes", nargs="*", metavar="SHAPE")
     return parser.parse_args()
+
+
+def report_costly(shapes, given):
+    with tempfile.TemporaryDirectory() as room:
+        costly = too_costly(shapes, given.program, given.keep or room)
+    for name in costly:
+        print(f"shapes: {name}: a megabyte costs too much", file=sys.stderr)
+    return 1 if costly else 0
 
 
 def main():
@@ -135,14 +139,17 @@ def main():
     if given.help:
         print(__doc__, end="")
         return 0
+    sizes = {**SHAPES, **SENT} if given.megabyte else SHAPES
     if given.list:
-        print("\n".join(shape.__name__ for shape in SHAPES))
+        print("\n".join(shape.__name__ for shape in sizes))
         return 0
-    shapes = chosen(given.shapes)
+    shapes = chosen(given.shapes, sizes)
     given.program = os.path.realpath(given.program)
     if not os.access(given.program, os.X_OK):
         raise Failure(f"{given.program} cannot be run: ./build makes the program")
     measure = kilobytes if given.memory else seconds if given.seconds else instructions
+    if given.megabyte:
+        return report_costly({shape: sizes[shape] for shape in shapes}, given)
     if measure is instructions and shutil.which("valgrind") is None:
         raise Failure("valgrind is not installed; --seconds and --memory measure without it")
     with tempfile.TemporaryDirectory() as room:

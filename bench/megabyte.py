@@ -1,0 +1,90 @@
+"""Runs each shape of bench/shaped.py once at a size of about a megabyte, and measures processor seconds and peak memory."""
+import json
+import multiprocessing
+import os
+import resource
+import subprocess
+
+from shaped import COSTLY, MEGABYTES, expected
+
+MEGABYTE = 1_000_000
+NEAR = 50_000
+TRIES = 20
+MOST_SECONDS = 2
+MOST_KILOBYTES = 100_000
+# a run is ended at these bounds
+SECONDS_LIMIT = 60
+BYTES_LIMIT = 2_000_000_000
+
+
+def text_of(content):
+    return content if isinstance(content, str) else json.dumps(content, separators=(",", ":"))
+
+
+def write_files(files, folder):
+    os.makedirs(folder, exist_ok=True)
+    for name, content in files.items():
+        with open(os.path.join(folder, name), "w", encoding="utf-8") as file:
+            file.write(text_of(content))
+
+
+def bytes_of(files):
+    return sum(len(text_of(content).encode()) for content in files.values())
+
+
+def megabyte_of(shape, start):
+    """The arguments and files of a shape, at a size at which the files have about a megabyte."""
+    if shape in MEGABYTES:
+        return shape(*MEGABYTES[shape])
+    (before, fewer), size = (0, bytes_of(shape(1)[1])), start
+    for _ in range(TRIES):
+        words, files = shape(size)
+        found = bytes_of(files)
+        if abs(found - MEGABYTE) <= NEAR or found == fewer:
+            break
+        slope = (found - fewer) / (size - before)
+        before, fewer = size, found
+        size = max(1, round(size + (MEGABYTE - found) / slope))
+    return words, files
+
+
+def make(shape, start, folder):
+    words, files = megabyte_of(shape, start)
+    write_files(files, folder)
+    return words, bytes_of(files)
+
+
+def made(shape, start, folder):
+    """Makes the files in another process: a program's peak memory includes that of the process that starts it."""
+    with multiprocessing.get_context("fork").Pool(1) as pool:
+        return pool.apply(make, (shape, start, folder))
+
+
+def limit():
+    resource.setrlimit(resource.RLIMIT_CPU, (SECONDS_LIMIT, SECONDS_LIMIT))
+    resource.setrlimit(resource.RLIMIT_AS, (BYTES_LIMIT, BYTES_LIMIT))
+
+
+def measure(command, folder):
+    """Returns processor seconds, peak memory in kilobytes, and whether the command ended as it must."""
+    nothing = subprocess.DEVNULL
+    child = subprocess.Popen(command, cwd=folder, stdin=nothing, stdout=nothing, stderr=nothing, preexec_fn=limit)
+    _, status, used = os.wait4(child.pid, 0)
+    child.returncode = os.waitstatus_to_exitcode(status)
+    return used.ru_utime + used.ru_stime, used.ru_maxrss, child.returncode == expected(command)
+
+
+def too_costly(shapes, program, folder):
+    """Prints a table with the cost of each shape, and returns the names of those that cost too much without being listed."""
+    print("| Shape | Bytes | Seconds | Memory | |\n|---|--:|--:|--:|---|", flush=True)
+    costly = []
+    for shape, start in shapes.items():
+        name, place = shape.__name__.replace("_", " "), os.path.join(folder, shape.__name__)
+        words, size = made(shape, start, place)
+        seconds, kilobytes, done = measure([program, *words], place)
+        is_costly = seconds > MOST_SECONDS or kilobytes > MOST_KILOBYTES or not done
+        note = ("too much, listed" if shape in COSTLY else "too much") if is_costly else ""
+        print(f"| {name} | {size:,} | {seconds:.2f} | {kilobytes / 1e3:,.0f} MB | {note if done else 'ended early, ' + note} |", flush=True)
+        if is_costly and shape not in COSTLY:
+            costly.append(name)
+    return costly
