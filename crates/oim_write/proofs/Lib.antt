@@ -1,3 +1,4 @@
+pub mod BoundedRuns
 pub mod Ranks
 pub mod UriSets
 pub mod Passing

@@ -6,5 +6,6 @@ pub mod Tokens
 pub mod Bytes
 pub mod Prefixes
 pub mod Sink
+pub mod BoundedSink
 pub mod SinkBuffer
 pub mod code

@@ -1,6 +1,7 @@
 //! Laws of the definitions. Each is the contract of a function that does nothing.
 ghost use Rattle.oim_dims.specs.FactOrder.{fact_cmp};
 ghost use Rattle.fact_base.specs.Body.{text_cmp};
+ghost use Rattle.oim_write.specs.BoundedSink.{RunsStayBounded};
 ghost use Rattle.oim_write.specs.Bytes.{BytesIgnoreOrder, TreesArePlain};
 ghost use Rattle.oim_write.specs.Ordered.{FactsAreWrittenInOrder};
 ghost use Rattle.oim_write.specs.Prefixes.{FactsAreSpelled};
@@ -49,4 +50,10 @@ pub fn ranks_are_within()
 /// If two numbers fit in a width, the padded text of the smaller number is first in byte order.
 pub fn padded_keeps_order()
     ensures { PaddedKeepsOrder }
+{}
+
+/// However often a `BoundedSink` is given bytes, it passes at most as many as its bound, and exactly
+/// as many if it overran.
+pub fn runs_stay_bounded()
+    ensures { RunsStayBounded }
 {}

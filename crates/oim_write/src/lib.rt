@@ -1,6 +1,7 @@
 //! Writes the canonical text of a base: one xBRL-JSON report with all facts of the base.
 #![tactic(auto)]
 
+mod bounded_sink;
 mod concept_texts;
 mod encoded;
 mod fact_text;
@@ -15,6 +16,7 @@ mod uri_set;
 mod write_fault;
 mod writer;
 
+pub use bounded_sink::{BOUND_PER_BYTE, BoundedSink, default_bound};
 pub use encoded::Encoded;
 pub use fact_text::{write_decimals, write_defined, write_dimensions, write_value};
 pub use labels::identifier;

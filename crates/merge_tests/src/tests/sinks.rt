@@ -1,7 +1,7 @@
 use fact_base::Base;
 use oim_names::Aliases;
 use oim_report::{Sheet, read_report};
-use oim_write::{StdSink, WriteFault, prefixes, write_to};
+use oim_write::{BoundedSink, StdSink, WriteFault, prefixes, write_to};
 use std::alloc::{AllocError, Global};
 use std::test::Fail;
 use test_helpers::asked_again::{SHEET, holds, tell_refused};
@@ -54,6 +54,25 @@ fn takes_seven(alloc: Global, then: Then) -> Result<bool, AllocError> {
     Ok(ended == Err(WriteFault::Device(7)) && sink.into_inner().held() == br#"{"docum"#.as_slice())
 }
 
+/// True if the text of an empty base, which has 108 bytes, ends so under this bound, and the bytes
+/// that fit were written.
+fn ends_bounded(
+    alloc: Global,
+    most: u64,
+    wanted: Result<(), WriteFault>,
+) -> Result<bool, AllocError> {
+    let sheet = sheet(alloc)?;
+    let base = Base::new(alloc, &sheet);
+    let mut sink = BoundedSink::new(StdSink::new(Vec::new(alloc)), most);
+    let ended = write_to(alloc, &base, &mut sink);
+    let is_full = sink.overruns() > 0;
+    if ended.is_err() && !is_full {
+        return Err(AllocError);
+    }
+    let written = sink.into_inner().into_inner().len() as u64;
+    Ok(ended == wanted && is_full == wanted.is_err() && written == most)
+}
+
 fn are_two(aliases: &Aliases) -> bool {
     aliases.uri("n2") == Some("http://example.org/u")
         && aliases.prefix_of("http://example.org/t") == Some("n1")
@@ -82,4 +101,17 @@ fn a_sink_that_takes_seven_bytes_holds_these(rt: HostRuntime) -> Result<(), Fail
 #[test]
 fn prefixes_are_those_of_the_text(rt: HostRuntime) {
     assert!(rt; holds(&rt, has_two_prefixes));
+}
+
+#[test]
+fn a_bounded_sink_takes_what_fits(rt: HostRuntime) -> Result<(), Fail> {
+    for (most, wanted) in [(108, Ok(())), (107, Err(WriteFault::Device(107)))] {
+        let mut answer = ends_bounded(rt.alloc(), most, wanted);
+        if answer.is_err() {
+            tell_refused(&rt);
+            answer = ends_bounded(rt.alloc(), most, wanted);
+        }
+        assert!(rt; answer == Ok(true));
+    }
+    Ok(())
 }
