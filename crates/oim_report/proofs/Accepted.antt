@@ -29,7 +29,7 @@ pub record EachSays (sheet : Sheet) (bs : List Binding) (kind : ConceptKind) (ds
   pub language : said_language kind ds.language ≡ Some said.language
   pub members : said_members sheet bs ds.defined ≡ Some said.members
 
-each_says : (sheet : Sheet) (bs : List Binding) (kind : ConceptKind) (ds : DimensionMembers) (said : DimensionSet) → said_dimensions sheet bs kind ds ≡ Some said → EachSays sheet bs kind ds said
+pub each_says : (sheet : Sheet) (bs : List Binding) (kind : ConceptKind) (ds : DimensionMembers) (said : DimensionSet) → said_dimensions sheet bs kind ds ≡ Some said → EachSays sheet bs kind ds said
 each_says sheet bs kind ds said e =
     let a = and_then_some _ (said_concept bs ds.concept) said e in
     let b = and_then_some _ (said_entity bs ds.entity) said a.2 in

@@ -217,6 +217,20 @@ pub refused_by_first : (sheet : Sheet) (bs : List Binding) (d : Data) (place : P
 refused_by_first sheet bs d place r e =
     ap (λ o. fact_or o (option_and_then (said_fact sheet bs) (fact_parts d))) (sym (first_told (holds sheet bs d)) ∙ by_told place (told (holds sheet bs d)) r e)
 
+no_told : (place : Place) (rs : List Reason) → first_of (map (at place) rs) ≡ None → first rs ≡ None
+no_told place [] e = refl
+no_told place (r ∷ rs) e = absurd (cc)
+
+-- an object of no fact has a fault
+pub some_fault : (sheet : Sheet) (bs : List Binding) (d : Data) (place : Place) → ((f : Fact) → fact_outcome sheet bs d ≢ Ok f) → first_of (map (at place) (told (holds sheet bs d))) ≡ None → ⊥
+some_fault sheet bs d place never none =
+    let least_none = sym (first_told (holds sheet bs d)) ∙ no_told place (told (holds sheet bs d)) none in
+    let said = free_is_said sheet bs d ((none_is (holds sheet bs d)).0 least_none) in
+    never said.0 said.1
+
+pub no_document_fault : (tree : Data) → map (at AtDocument) (told (document_holds tree)) ≡ [] → document_refusal tree ≡ None
+no_document_fault tree none = sym (first_told (document_holds tree)) ∙ no_told AtDocument (told (document_holds tree)) (ap first_of none)
+
 none_first : (place : Place) (rs : List Reason) (later : List Refusal) → first rs ≡ None → first_of (map (at place) rs ++ later) ≡ first_of later
 none_first place [] later h = refl
 none_first place (r ∷ rs) later h = absurd (cc)

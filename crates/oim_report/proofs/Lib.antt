@@ -47,6 +47,7 @@ pub mod ValueWords
 pub mod AllFaults
 pub mod FreeMembers
 pub mod SaidWhereFree
+pub mod Unsaid
 pub mod JsonStrings
 pub mod JsonWords
 pub mod JsonLexemes

@@ -326,6 +326,10 @@ pub comes_again_is : (fs : List Item) → comes_again (names_of fs) ≡ repeats 
 comes_again_is [] = refl
 comes_again_is (f ∷ fs) = λ i. same_there f.0 fs i || comes_again_is fs i
 
+nothing_after : {A B C : Type 0} (g : A → B → Option C) (a : Option A) (b : Option B) → b ≡ None → option_and_then (λ x. option_and_then (g x) b) a ≡ None
+nothing_after g None b none = refl
+nothing_after g (Some x) b none = ap (option_and_then (g x)) none
+
 none_left : {X : Type 0} (xs : List X) (i : ℕ) → length xs ≤ i → drop i xs ≡ []
 none_left [] zero past = refl
 none_left [] (suc i) past = refl
@@ -349,6 +353,26 @@ module _ (sheet : Sheet) (bs : List Binding) (xs : List (Bor (List ℕ) × JsonM
       ∙ ap Some (same_rising (with_each found []) sorted (members_rise sheet bs (seen_defined xs) (with_each found []) said) up
       (λ x c. Contains-permutation found sorted x moved (⊎_elim (λ old. absurd (none_in x old)) (λ one. one) (old_or_one found [] x c)))
       (λ x c. each_is_there found [] x (Contains-permutation sorted found x (IsPermutation-sym found sorted moved) c)))
+
+  either_none : {X : Type 0} (b : Bool) (o : Option X) → o ≡ None → (if b then None else o) ≡ None
+  either_none true o none = refl
+  either_none false o none = none
+
+  -- a member that denotes nothing, or a repeated name, is enough for no members to be said
+  pub unsaid_at : (i : ℕ) (x : Bor (List ℕ) × JsonMember) → i < length xs → AreFound i → let d = seen_item (get_or xs i x) in said_member bs (dimension_kind sheet bs d.0) d.1 ≡ None → said_members sheet bs (seen_defined xs) ≡ None
+  unsaid_at i x within are none =
+      let d = seen_item (get_or xs i x) in
+      let es = with_each found [] in
+      let rest = seen_defined (drop (i + 1) xs) in
+      let stops : members_with sheet bs es (d ∷ rest) ≡ None = nothing_after (λ n m. members_with sheet bs (with_member n m es) rest) (named bs d.0) (said_member bs (dimension_kind sheet bs d.0) d.1) none in
+      either_none (comes_again (dimension_names bs (seen_defined xs))) (members_with sheet bs [] (seen_defined xs)) (sym are.members ∙ ap (members_with sheet bs es) (next_defined xs i x within) ∙ stops)
+
+  pub unsaid_again : (i : ℕ) → length xs ≤ i → AreFound i → repeats found ≡ true → said_members sheet bs (seen_defined xs) ≡ None
+  unsaid_again i past are again =
+      let nothing : drop i xs ≡ [] = none_left xs i past in
+      let names : names_of found ≡ dimension_names bs (seen_defined xs) = sym (append-nil (names_of found)) ∙ ap (λ ys. names_of found ++ dimension_names bs (seen_defined ys)) (sym nothing) ∙ are.names in
+      let twice : comes_again (dimension_names bs (seen_defined xs)) ≡ true = ap comes_again (sym names) ∙ comes_again_is found ∙ again in
+      ap (λ b. if b then None else members_with sheet bs [] (seen_defined xs)) twice
 
 pub found_more : (sheet : Sheet) (bs : List Binding) (xs : List (Bor (List ℕ) × JsonMember)) (found new : List Item) (i : ℕ) (x : Bor (List ℕ) × JsonMember) (within : i < length xs) (n : QName) (m : Member) → let d = seen_item (get_or xs i x) in
     named bs d.0 ≡ Some n → said_member bs (dimension_kind sheet bs d.0) d.1 ≡ Some m → new ≡ found ++ (n, m) ∷ [] → AreFound sheet bs xs found i → AreFound sheet bs xs new (i + 1)

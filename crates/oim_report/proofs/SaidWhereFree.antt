@@ -22,6 +22,7 @@ use Rattle.oim_report.specs.declared.concept_kind.ConceptKind.TheVariants.{Numer
 use Rattle.oim_report.specs.Holds.{as_text, holds, holds_with, is_kind, is_some_and, lacks_moment, names, no_text, pieces, runs_backward}
 use Rattle.oim_report.specs.Json.{given_of, is_absent, is_no_object, members, text_of}
 use Rattle.oim_report.specs.Names.{comes_again, named, names_refusal}
+use Rattle.oim_report.specs.Least.{least}
 use Rattle.oim_report.specs.Outcome.{FactsAreSaid, IsFree, fact_or, fact_outcome}
 use Rattle.oim_report.specs.FactMembers.{DimensionMembers, FactMembers, HasForm, defined_members, dimension_parts, fact_parts, parts_of}
 use Rattle.oim_report.specs.Said.{concept_kind, fact_of, fact_with, said_concept, said_dimensions, said_fact, said_members, said_value, value_with}
@@ -82,6 +83,10 @@ parts_said sheet bs p ds xs same c free =
     (record { dimensions = d; value = v.0 }, with_value sheet bs c.kind p ds d v.0 c.listed (together sheet bs c.kind ds d each) value)
 
 -- ---- tests
+
+was_true : (b : Bool) → not b ≡ false → b ≡ true
+was_true true e = refl
+was_true false e = absurd (cc)
 
 is_there : (o : Option Data) (ms : Members) → option_and_then as_object o ≡ Some ms → is_none o ≡ false
 is_there None ms is = absurd (cc)
@@ -292,6 +297,18 @@ module _ (sheet : Sheet) (bs : List Binding) (fms ms : Members) where
         let c = concept_said sheet bs ds.concept concept_row in
         parts_said sheet bs (parts_of fms) ds (defined_members ms) (defined_same ms) c (free_parts c.kind c.listed)
 
+    object_has_form : HasForm (parts_of fms) ds
+    object_has_form =
+        let known = or_parts _ _ (free UnknownMember) in
+        record {
+          there = ap (option_map dimension_parts) is;
+          shaped = λ i. shape.dimensions_is i || shape.links_is i;
+          known = known.0;
+          known_inside = known.1;
+          unlinked = free Links;
+          unnoted = was_true (is_absent ds.note) (sym (there_same (at (codes "noteId"))) ∙ free Notes);
+        }
+
 -- ---- a fact object that denotes a fact
 
 free_inside : (sheet : Sheet) (bs : List Binding) (fms ms : Members) (f : Fact) → option_and_then as_object (get_member (codes "dimensions") fms) ≡ Some ms → HasForm (parts_of fms) (dimension_parts ms) → fact_of sheet bs (parts_of fms) (dimension_parts ms) ≡ Some f → IsFree sheet bs (object fms)
@@ -334,6 +351,30 @@ object_is_said sheet bs fms free =
     let rows : (r : Reason) → holds_with sheet bs (object fms) ms.0 r ≡ false = λ r. sym (ap (λ m. holds_with sheet bs (object fms) (members m) r) ms.1) ∙ free r in
     let f = object_says sheet bs fms ms.0 rows ms.1 in
     (f.0, ap (λ m. option_and_then (fact_of sheet bs (parts_of fms)) (option_map dimension_parts m)) ms.1 ∙ f.1)
+
+object_form : (sheet : Sheet) (bs : List Binding) (fms : Members) → IsFree sheet bs (object fms) → (ds : DimensionMembers) × HasForm (parts_of fms) ds
+unfolding holds
+object_form sheet bs fms free =
+    let inner = get_member (codes "dimensions") fms in
+    let shape = shaped (is_none (get_member (codes "value") fms)) (is_no_object inner) _ _ _ _ _ _ (free MemberForm) in
+    let ms = dimensions_are inner shape.dimensions_is (free DimensionsMissing) in
+    let rows : (r : Reason) → holds_with sheet bs (object fms) ms.0 r ≡ false = λ r. sym (ap (λ m. holds_with sheet bs (object fms) (members m) r) ms.1) ∙ free r in
+    (dimension_parts ms.0, object_has_form sheet bs fms ms.0 rows ms.1)
+
+-- the parts of an accepted fact object have a valid form
+pub free_form : (sheet : Sheet) (bs : List Binding) (d : Data) (p : FactMembers) → fact_parts d ≡ Some p → IsFree sheet bs d → (ds : DimensionMembers) × HasForm p ds
+free_form sheet bs (object fms) p are free =
+    let same : parts_of fms ≡ p = cc in
+    let formed = object_form sheet bs fms free in
+    (formed.0, subst (λ q. HasForm q formed.0) same formed.1)
+free_form sheet bs d p are free = absurd (cc)
+
+free_or : (r : Option Reason) (o : Option Fact) (f : Fact) → fact_or r o ≡ Ok f → r ≡ None
+free_or None o f e = refl
+free_or (Some r) o f e = absurd (cc)
+
+pub outcome_free : (sheet : Sheet) (bs : List Binding) (d : Data) (f : Fact) → fact_outcome sheet bs d ≡ Ok f → IsFree sheet bs d
+outcome_free sheet bs d f e = (none_is (holds sheet bs d)).0 (free_or (least (holds sheet bs d)) (option_and_then (said_fact sheet bs) (fact_parts d)) f e)
 
 pub facts_are_said : FactsAreSaid
 unfolding holds

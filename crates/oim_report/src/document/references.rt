@@ -30,9 +30,7 @@ pub(crate) fn read_taxonomy(
     };
     for item in items {
         let kept = keep_item(alloc, base, item)?;
-        if references.push(kept).is_err() {
-            return Err(Reason::OutOfMemory);
-        }
+        references.push(kept)?;
     }
     Ok(references)
 }

@@ -1,12 +1,14 @@
 //! Reads the value, entity, period, unit and language of a fact. An error other than `OutOfMemory`
-//! shows only that some condition applies, not which one.
+//! shows only that the part is refused, not why.
 //!
 //! A text that a cache lacks is read and, if it is accepted, passed to `TextCache::add`. A condition
 //! that needs more than the text, such as `UnitOnOther`, is tested for each fact.
 
-ghost use Rattle.std.specs.Prelude.{◌≡◌, Some, IfOk};
+ghost use Rattle.std.specs.Prelude.{◌≡◌, ◌⊎◌, None, Some, IfOk, IfErr};
+ghost use Rattle.std.specs.Result.{result_ok};
 ghost use Rattle.oim_names.specs.Expansion.{Expands, ExpandsEntity};
 ghost use Rattle.oim_report.specs.Json.{whole};
+ghost use Rattle.oim_report.specs.Names.{named};
 ghost use Rattle.oim_report.specs.Said.{said_decimals, said_entity, said_language, said_period, said_unit, said_value, text_said};
 ghost use Rattle.oim_report.specs.code.JsonMember.{seen};
 ghost use Rattle.oim_report.specs.code.TextCache.{IsTextCache, TextSaysLanguage, TextSaysPeriod, TextSaysUnit};
@@ -19,6 +21,7 @@ use oim_names::{Aliases, Copied, Name, Reason, Text};
 use oim_value::{Decimals, Value, read_fixed};
 use std::alloc::Global;
 
+#[tactic(auto, using(crate::proofs::Unsaid::unnamed))]
 pub(crate) fn cached_name(
     alloc: Global,
     aliases: &Aliases,
@@ -27,6 +30,7 @@ pub(crate) fn cached_name(
 ) -> Result<Name, Reason>
     requires known { IsTextCache (Expands aliases.now) names.old }
     ensures ok { IfOk result (Expands aliases.now text.now) }
+    ensures errors { IfErr result (λ r. (r ≡ Reason.OutOfMemory) ⊎ (named aliases.now text.now ≡ None)) }
     ensures known { IsTextCache (Expands aliases.now) names.new }
 {
     if let Some(known) = names.find(text) {
@@ -37,6 +41,7 @@ pub(crate) fn cached_name(
     Ok(name)
 }
 
+#[tactic(auto, using(crate::proofs::Unsaid::entity_unsaid))]
 pub(crate) fn cached_entity(
     alloc: Global,
     aliases: &Aliases,
@@ -45,6 +50,7 @@ pub(crate) fn cached_entity(
 ) -> Result<Option<Name>, Reason>
     requires known { IsTextCache (ExpandsEntity aliases.now) entities.old }
     ensures said { IfOk result (λ read. said_entity aliases.now (seen entity.entry) ≡ Some read) }
+    ensures errors { IfErr result (λ r. (r ≡ Reason.OutOfMemory) ⊎ (said_entity aliases.now (seen entity.entry) ≡ None)) }
     ensures known { IsTextCache (ExpandsEntity aliases.now) entities.new }
 {
     match entity {
@@ -68,6 +74,7 @@ pub(crate) fn cached_period(
 ) -> Result<Period, Reason>
     requires known { IsTextCache TextSaysPeriod periods.old }
     ensures said { IfOk result (λ read. said_period (seen period.entry) ≡ Some read) }
+    ensures errors { IfErr result (λ r. (r ≡ Reason.OutOfMemory) ⊎ (said_period (seen period.entry) ≡ None)) }
     ensures known { IsTextCache TextSaysPeriod periods.new }
 {
     match period {
@@ -86,6 +93,7 @@ pub(crate) fn cached_period(
     }
 }
 
+#[tactic(auto, using(crate::proofs::Unsaid::unit_unsaid))]
 pub(crate) fn cached_unit(
     alloc: Global,
     aliases: &Aliases,
@@ -95,6 +103,7 @@ pub(crate) fn cached_unit(
 ) -> Result<Option<Unit>, Reason>
     requires known { IsTextCache (TextSaysUnit aliases.now) units.old }
     ensures said { IfOk result (λ read. said_unit aliases.now kind (seen unit.entry) ≡ Some read) }
+    ensures errors { IfErr result (λ r. (r ≡ Reason.OutOfMemory) ⊎ (said_unit aliases.now kind (seen unit.entry) ≡ None)) }
     ensures known { IsTextCache (TextSaysUnit aliases.now) units.new }
 {
     match (kind, unit) {
@@ -111,7 +120,7 @@ pub(crate) fn cached_unit(
     }
 }
 
-#[tactic(auto, using(crate::proofs::TextCacheAdds::still))]
+#[tactic(auto, using(crate::proofs::TextCacheAdds::still, crate::proofs::Unsaid::language_unsaid))]
 pub(crate) fn cached_language(
     alloc: Global,
     languages: &mut TextCache<Text>,
@@ -120,6 +129,7 @@ pub(crate) fn cached_language(
 ) -> Result<Option<Text>, Reason>
     requires known { IsTextCache TextSaysLanguage languages.old }
     ensures said { IfOk result (λ read. said_language kind (seen language.entry) ≡ Some read) }
+    ensures errors { IfErr result (λ r. (r ≡ Reason.OutOfMemory) ⊎ (said_language kind (seen language.entry) ≡ None)) }
     ensures known { IsTextCache TextSaysLanguage languages.new }
 {
     match (kind, language) {
@@ -145,6 +155,7 @@ pub(crate) fn read_value(
 ) -> Result<Value, Reason>
     ensures said { IfOk result
         (λ v. said_value aliases.now kind (seen value.entry) (seen decimals.entry) ≡ Some v) }
+    ensures errors { IfErr result (λ r. (r ≡ Reason.OutOfMemory) ⊎ (said_value aliases.now kind (seen value.entry) (seen decimals.entry) ≡ None)) }
 {
     let places = read_decimals(kind, decimals)?;
     match value {
@@ -154,6 +165,7 @@ pub(crate) fn read_value(
     }
 }
 
+#[tactic(auto, using(crate::proofs::Unsaid::number_unsaid, crate::proofs::Unsaid::unnamed))]
 fn read_text(
     alloc: Global,
     aliases: &Aliases,
@@ -161,7 +173,8 @@ fn read_text(
     places: Decimals,
     text: &str,
 ) -> Result<Value, Reason>
-    ensures { IfOk result (λ v. text_said aliases.now kind places text.now ≡ Some v) }
+    ensures said { IfOk result (λ v. text_said aliases.now kind places text.now ≡ Some v) }
+    ensures errors { IfErr result (λ r. (r ≡ Reason.OutOfMemory) ⊎ (text_said aliases.now kind places text.now ≡ None)) }
 {
     match kind {
         ConceptKind::Numeric => Ok(Value::Number(read_fixed(text)?, places)),
@@ -172,7 +185,7 @@ fn read_text(
 
 // A number without decimals is exact.
 fn read_decimals(kind: ConceptKind, decimals: JsonMember<'_>) -> Result<Decimals, Reason>
-    ensures { IfOk result (λ read. said_decimals kind (seen decimals.entry) ≡ Some read) }
+    ensures { result_ok result ≡ said_decimals kind (seen decimals.entry) }
 {
     match (kind, decimals) {
         (_, JsonMember::Absent) => Ok(Decimals::INFINITE),
@@ -182,7 +195,7 @@ fn read_decimals(kind: ConceptKind, decimals: JsonMember<'_>) -> Result<Decimals
 }
 
 fn read_whole(number: i128) -> Result<Decimals, Reason>
-    ensures { IfOk result (λ read. said_decimals ConceptKind.Numeric (whole number) ≡ Some read) }
+    ensures { result_ok result ≡ said_decimals ConceptKind.Numeric (whole number) }
 {
     match i64::try_from(number) {
         Ok(number) => Decimals::finite(number),

@@ -1,7 +1,7 @@
 //! Reads the members of a fact, from a JSON value or from a tape. Both lend the texts, so they are
 //! not copied.
 
-ghost use Rattle.std.specs.Prelude.{◌≡◌, ◌≤◌, ◌||◌, length, true, false, IfOk, IfSome, OnSome, insert, option_map, option_and_then};
+ghost use Rattle.std.specs.Prelude.{◌≡◌, ◌≤◌, ◌||◌, length, true, false, IfNone, IfOk, IfSome, OnSome, insert, option_map, option_and_then};
 ghost use Rattle.json.specs.Find.{BeginsWith};
 ghost use Rattle.json.specs.Json.{Json, object};
 ghost use Rattle.json.specs.Json as spec;
@@ -9,7 +9,7 @@ ghost use Rattle.serde_json.specs.Data.{Data, Members, no_members, put};
 ghost use Rattle.serde_json.specs.Find.{as_object};
 ghost use Rattle.serde_json.specs.View.{view, members_view};
 ghost use Rattle.oim_report.specs.Json.{Given, given, is_no_object};
-ghost use Rattle.oim_report.specs.FactMembers.{HasForm, defined_in, dimension_parts, fact_parts, parts_of};
+ghost use Rattle.oim_report.specs.FactMembers.{DimensionMembers as FormMembers, HasForm, defined_in, dimension_parts, fact_parts, parts_of};
 ghost use Rattle.oim_report.specs.ReadBack.{with_given};
 ghost use Rattle.oim_report.specs.code.JsonMember.{seen};
 ghost use Rattle.oim_report.specs.code.SeenMembers.{seen_defined, seen_dimensions, seen_parts};
@@ -146,8 +146,10 @@ fn is_misshapen(dimensions: Option<&Value>, links: Option<&Value>) -> bool
 }
 
 pub(crate) fn well_formed<'p, 'a>(parts: &'p FactMembers<'a>) -> Option<&'p DimensionMembers<'a>>
-    ensures { let p = seen_parts parts.now in
+    ensures form { let p = seen_parts parts.now in
         IfSome result (λ found. HasForm p (seen_dimensions found.now)) }
+    ensures none { let p = seen_parts parts.now in
+        IfNone result ((ds : FormMembers) → ¬ (HasForm p ds)) }
 {
     let dimensions = parts.dimensions.as_ref()?;
     let is_unknown = parts.unknown || dimensions.unknown;

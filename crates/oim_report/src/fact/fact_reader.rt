@@ -1,4 +1,5 @@
-ghost use Rattle.std.specs.Prelude.{◌≡◌, ◌+◌, ◌≤◌, ◌⊎◌, [], length, vec_len, vec_capacity, Ok, Err, Some, None, IfOk, IfErr, IfSome, OnOk, option_map};
+ghost use Rattle.std.specs.Prelude.{◌≡◌, ◌≢◌, ◌+◌, ◌≤◌, ◌⊎◌, [], length, vec_len, vec_capacity, Ok, Err, Some, None, IfOk, IfErr, IfSome, OnOk, option_map};
+ghost use Rattle.oim_dims.specs.declared.fact.Fact.{Fact as AFact};
 ghost use Rattle.serde_json.specs.Data.{Data};
 ghost use Rattle.serde_json.specs.View.{view, members_view};
 ghost use Rattle.oim_names.specs.Bindings.{uri_at};
@@ -31,7 +32,7 @@ use crate::sheet::Sheet;
 use oim_dims::{Dimensions, Fact, Member};
 use oim_names::{Aliases, Copied, Name, Reason, Text, split_name};
 use serde_json::{Map, Value};
-use std::alloc::Global;
+use std::alloc::{AllocError, Global};
 use std::marker::Model;
 
 /// Reads facts under a sheet and the prefixes of a report. Reports often bind the same prefixes to
@@ -113,18 +114,18 @@ impl<'s> FactReader<'s> {
             ⊎ (fact_outcome self.old.sheet self.old.aliases (view object.now) ≡ Err r)) }
     {
         let Some(parts) = FactMembers::of(self.alloc, object)? else {
-            return Err(self.least_fault(object));
+            return Err(self.least_fault(object)?);
         };
         match self.read_parts(&parts) {
             Ok(fact) => Ok(fact),
             Err(Reason::OutOfMemory) => Err(Reason::OutOfMemory),
-            Err(_) => Err(self.least_fault(object)),
+            Err(_) => Err(self.least_fault(object)?),
         }
     }
 
-    fn least_fault(&self, object: &Value) -> Reason
-        ensures { (result ≡ Reason.OutOfMemory)
-            ⊎ (fact_outcome self.now.sheet self.now.aliases (view object.now) ≡ Err result) }
+    fn least_fault(&self, object: &Value) -> Result<Reason, AllocError>
+        requires { (f : AFact) → fact_outcome self.now.sheet self.now.aliases (view object.now) ≢ Ok f }
+        ensures { IfOk result (λ r. fact_outcome self.now.sheet self.now.aliases (view object.now) ≡ Err r) }
     {
         let mut faults = Faults::new(self.alloc);
         let fact = FactInScope {
@@ -132,23 +133,25 @@ impl<'s> FactReader<'s> {
             aliases: &self.aliases,
             object,
         };
-        match fact.add_faults(self.alloc, Place::Document, &mut faults) {
-            Ok(()) => match faults.as_slice().first() {
-                Some(refusal) => refusal.reason,
-                None => Reason::OutOfMemory,
-            },
-            Err(_) => Reason::OutOfMemory,
+        fact.add_faults(self.alloc, Place::Document, &mut faults)?;
+        match faults.as_slice().first() {
+            Some(refusal) => Ok(refusal.reason),
+            // the object is not that of a fact, so a condition applies
+            None => unreachable!(),
         }
     }
 
-    /// Reads a fact from the parts of its object. An error shows only that some condition applies,
-    /// or that a request for memory was refused.
+    /// Reads a fact from the parts of its object. An error other than `OutOfMemory` shows only that
+    /// the parts are those of no fact, not why.
     pub(crate) fn read_parts(&mut self, parts: &FactMembers<'_>) -> Result<Fact, Reason>
         ensures same { self.new ≡ self.old }
         ensures ok { IfOk result (λ f. (d : Data) → fact_parts d ≡ Some (seen_parts parts.now)
             → fact_outcome self.old.sheet self.old.aliases d ≡ Ok f) }
         ensures concept { IfOk result (λ f. concept_in self.old.aliases (seen_parts parts.now)
             ≡ Some f.dimensions.concept) }
+        ensures errors { IfErr result (λ r. (r ≡ Reason.OutOfMemory)
+            ⊎ ((d : Data) → fact_parts d ≡ Some (seen_parts parts.now)
+            → (f : AFact) → fact_outcome self.old.sheet self.old.aliases d ≢ Ok f)) }
     {
         let Some(dimensions) = well_formed(parts) else {
             return Err(Reason::MemberForm);
@@ -176,6 +179,9 @@ impl<'s> FactReader<'s> {
         ensures said { let p = seen_parts parts.now in
             let ds = seen_dimensions dimensions.now in
             IfOk result (λ f. fact_of self.old.sheet self.old.aliases p ds ≡ Some f) }
+        ensures errors { let p = seen_parts parts.now in
+            let ds = seen_dimensions dimensions.now in
+            IfErr result (λ r. (r ≡ Reason.OutOfMemory) ⊎ (fact_of self.old.sheet self.old.aliases p ds ≡ None)) }
     {
         let Some((name, kind)) = self.find_concept(dimensions.concept) else {
             return Err(Reason::UnknownConcept);
@@ -196,6 +202,8 @@ impl<'s> FactReader<'s> {
         ensures same { self.new ≡ self.old }
         ensures said { let ds = seen_dimensions parts.now in
             IfOk result (λ d. said_dimensions self.old.sheet self.old.aliases kind ds ≡ Some d) }
+        ensures errors { let ds = seen_dimensions parts.now in
+            IfErr result (λ r. (r ≡ Reason.OutOfMemory) ⊎ (said_dimensions self.old.sheet self.old.aliases kind ds ≡ None)) }
     {
         let mut read = Dimensions::new(self.alloc, concept.copied(self.alloc)?);
         self.read_dimensions(kind, parts, &mut read)?;
@@ -225,6 +233,8 @@ impl<'s> FactReader<'s> {
         ensures same { self.new ≡ self.old }
         ensures said { OnOk result
             (said_dimensions self.old.sheet self.old.aliases kind (seen_dimensions parts.now) ≡ Some read.new) }
+        ensures errors { let ds = seen_dimensions parts.now in
+            IfErr result (λ r. (r ≡ Reason.OutOfMemory) ⊎ (said_dimensions self.old.sheet self.old.aliases kind ds ≡ None)) }
     {
         self.read_members(parts.defined.as_slice(), read)?;
         let (alloc, aliases, caches) = (self.alloc, &self.aliases, &mut self.caches);
@@ -247,6 +257,8 @@ impl<'s> FactReader<'s> {
         ensures same { self.new ≡ self.old }
         ensures said { let all = seen_defined defined.now in
             OnOk result (said_members self.old.sheet self.old.aliases all ≡ Some read.new.members) }
+        ensures errors { let all = seen_defined defined.now in
+            IfErr result (λ r. (r ≡ Reason.OutOfMemory) ⊎ (said_members self.old.sheet self.old.aliases all ≡ None)) }
         ensures others { OnOk result (read.new ≡ record read.old { members = read.new.members }) }
     {
         let mut found = Vec::with_capacity(self.alloc, defined.len())?;
@@ -263,6 +275,8 @@ impl<'s> FactReader<'s> {
         ensures name { IfOk result (λ d. named self.old.aliases key.now ≡ Some d.0) }
         ensures said { let kind = dimension_kind self.old.sheet self.old.aliases key.now in
             IfOk result (λ d. said_member self.old.aliases kind (seen member.entry) ≡ Some d.1) }
+        ensures errors { let kind = dimension_kind self.old.sheet self.old.aliases key.now in
+            IfErr result (λ r. (r ≡ Reason.OutOfMemory) ⊎ (said_member self.old.aliases kind (seen member.entry) ≡ None)) }
     {
         let dimensions = self.sheet.dimensions();
         let Some((name, kind)) = self.caches.dimensions.find(dimensions, &self.aliases, key) else {
@@ -276,6 +290,7 @@ impl<'s> FactReader<'s> {
         ensures same { self.new ≡ self.old }
         ensures said { IfOk result
             (λ m. said_member self.old.aliases (Some kind) (seen member.entry) ≡ Some m) }
+        ensures errors { IfErr result (λ r. (r ≡ Reason.OutOfMemory) ⊎ (said_member self.old.aliases (Some kind) (seen member.entry) ≡ None)) }
     {
         match (kind, member) {
             (DimensionKind::Explicit, JsonMember::Text(text)) => {

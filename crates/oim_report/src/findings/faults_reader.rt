@@ -57,9 +57,11 @@ pub fn tree_faults(alloc: Global, sheet: &Sheet, tree: &Value) -> Result<Faults,
     if !faults.as_slice().is_empty() {
         return Ok(faults);
     }
-    // No condition of the document applies, so the only error left is out of memory.
-    let Some(info) = unless_memory(read_info(alloc, tree))? else {
-        return Err(AllocError);
+    let info = match read_info(alloc, tree) {
+        Ok(info) => info,
+        Err(Reason::OutOfMemory) => return Err(AllocError),
+        // no condition of the document applies
+        Err(_) => unreachable!(),
     };
     add_facts_faults(alloc, sheet, &info.aliases, tree, &mut faults)?;
     if !faults.as_slice().is_empty() {

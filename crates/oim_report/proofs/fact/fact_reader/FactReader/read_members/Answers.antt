@@ -1,10 +1,11 @@
-use Rattle.std.proofs.Common.{◌≡◌, ◌+◌, get_or, Some, sym, ap, ◌∙◌}
+use Rattle.std.proofs.Common.{◌≡◌, ◌+◌, get_or, inr, Err, Some, sym, ap, ◌∙◌}
+use Rattle.std.proofs.lemmas.Result.{err_from_is_err_and}
 use Rattle.std.proofs.lemmas.Bool.{false_from_ne_true}
 use Rattle.oim_dims.specs.DimensionSet.{repeats}
 use Rattle.oim_report.specs.Names.{named}
 use Rattle.oim_report.specs.Said.{said_member}
 use Rattle.oim_report.specs.Sheet.{dimension_kind}
-use Rattle.oim_report.proofs.MembersSay.{found_more, put_in_order, seen_item}
+use Rattle.oim_report.proofs.MembersSay.{found_more, put_in_order, seen_item, unsaid_again}
 use Rattle.oim_report.proofs.fact.fact_reader.FactReader.read_members.Goals as goal
 
 pub loop-key-preserved : goal.loop-key-preserved
@@ -30,3 +31,11 @@ returns-clause-said c =
     let own = c.args.self.now in
     let once = false_from_ne_true (repeats l.found.items) (λ again. let bad = c.in_ok-set_members.ensures.refused.1 again in cc) in
     put_in_order own.sheet own.aliases c.args.defined.now l.found.items l.key-index c.loop-key-test.false l.invariant.found c.set_members.new.self.members once c.in_ok-set_members.ensures.members c.in_ok-set_members.ensures.sorted
+
+pub returns-in_err-set_members-clause-errors : goal.returns-in_err-set_members-clause-errors
+returns-in_err-set_members-clause-errors c =
+    let l = c.loop-key in
+    let own = c.args.self.now in
+    let again = c.in_err-set_members.ensures.refused.0 (ap Err c.in_err-set_members.ensures.errors) in
+    let p = err_from_is_err_and c.from_residual-in_err-set_members.result c.from_residual-in_err-set_members.ensures.1 in rw (p.1, p.2)
+    (inr (unsaid_again own.sheet own.aliases c.args.defined.now l.found.items l.key-index c.loop-key-test.false l.invariant.found again))
