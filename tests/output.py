@@ -107,6 +107,17 @@ class Tests:
             self.is_(f"{at}: not killed", ran.returncode < 0)
             self.leaves(f"{at}, killed", before, 1)
 
+    def before_the_mode_is_set(self):
+        """Tests that no other user can open the new file before it has the old file's mode: kills the run when it sets the mode."""
+        self.empty(True)
+        os.chmod(f"{self.folder}/new", 0o600)
+        words = [*COMMANDS["check"], "-o", "new"]
+        _, calls = self.calls(words)
+        self.empty(True)
+        self.calls(words, KILL=str(calls.index("fchmod") + 1))
+        modes = [stat.S_IMODE(os.stat(f"{self.folder}/{it}").st_mode) for it in os.listdir(self.folder) if it != "new"]
+        self.is_(f"before the mode is set: modes {[*map(oct, modes)]}", modes == [0o600])
+
     def refused(self):
         """Tests outputs that cannot be replaced, and runs that end with status 2 or 3 for another reason."""
         words = [*COMMANDS["merge"], "-o", "new"]
@@ -171,6 +182,7 @@ def main(words):
         for name in COMMANDS:
             for old in (True, False):
                 tests.each_call(name, old)
+        tests.before_the_mode_is_set()
         tests.refused()
         tests.over_setuid()
         tests.among_leftovers()

@@ -4,14 +4,17 @@ use crate::inputs::Inputs;
 use crate::request::Request;
 use oim_write::StdSink;
 use std::alloc::{AllocError, Global};
-use std::fs::{self, File, OpenFile, Permissions};
+use std::fs::{self, OpenFile, OpenOptions, Permissions};
 use std::io::{self, ErrorKind, Write};
-use std::os::unix::fs::PermissionsExt;
+use std::os::unix::fs::{OpenOptionsExt, PermissionsExt};
 use std::rt::Files;
 
 /// The mode bits that the new file gets from the old one. The new file may have another owner, so
 /// setuid, setgid and sticky are not among them.
 const KEPT_BITS: u32 = 0o777;
+
+/// The mode of a new file until it gets the old one's, so that no other user can open it before.
+const PRIVATE: u32 = 0o600;
 
 /// Runs the request and writes its output to standard output. Flushes standard output if the
 /// command ran to its end or a row was above the allowed level. If standard output fails, the error
@@ -82,7 +85,12 @@ fn new_beside<'w, F: Files>(
     name: &'w str,
 ) -> Result<Named<F::File>, Error<'w>> {
     let kept = old_mode(files, name)?;
-    let (beside, file) = first_new(alloc, files, name)?;
+    let mut how = OpenOptions::new();
+    how.write(true).create_new(true);
+    if kept.is_some() {
+        how.mode(PRIVATE);
+    }
+    let (beside, file) = first_new(alloc, files, &how, name)?;
     if let Some(mode) = kept {
         if file.set_permissions(mode).is_err() {
             let _ = fs::remove_file(files, beside.as_str());
@@ -125,11 +133,12 @@ fn old_mode<'w, F: Files>(files: &F, name: &'w str) -> Result<Option<Permissions
 fn first_new<'w, F: Files>(
     alloc: Global,
     files: &F,
+    how: &OpenOptions,
     name: &'w str,
 ) -> Result<Named<F::File>, Error<'w>> {
     for number in 0..u32::MAX {
         let beside = name_beside(alloc, name, number)?;
-        match File::create_new(files, beside.as_str()) {
+        match how.open(files, beside.as_str()) {
             Ok(file) => return Ok((beside, file)),
             Err(fault) if fault.kind() == ErrorKind::AlreadyExists => {}
             Err(_) => break,
