@@ -12,14 +12,13 @@ use Rattle.oim_report.specs.Sheet.{Sheet}
 use Rattle.fact_base.specs.Body.{Body, body, union, text_cmp}
 use Rattle.fact_base.specs.Fits.{Fits, IsAccepted}
 use Rattle.fact_base.specs.Sets.{set_of}
-use Rattle.fact_base.specs.Verdict.{verdict}
 use Rattle.fact_base.proofs.Bodies.{accepted_fits, body_ignores_order, body_of_both}
 use Rattle.fact_base.proofs.Members.{first_there, later_there, first_or_later, in_one_of_both}
 use Rattle.fact_base.proofs.Sets.{is_set_of}
 use Rattle.fact_base.proofs.TextOrder.{text_cmp_exact, text_cmp_total}
 use Rattle.oim_merge.proofs.ReadsBack.{canonical_reads_back, earlier_reads_back}
 use Rattle.oim_write.specs.Bytes.{canonical}
-use Rattle.oim_merge.specs.History.{History, fresh, took, joined, body_of, documents_of, EarlierTextsGiveBodies, HistoriesAreForgotten, HistoriesGiveBodies, LevelsAreForgotten, MergedTextsMerge, ReferencesAreForgotten, TextsGiveBodies, VerdictsAreForgotten}
+use Rattle.oim_merge.specs.History.{History, fresh, took, joined, body_of, documents_of, EarlierTextsGiveBodies, HistoriesAreForgotten, HistoriesGiveBodies, MergedTextsMerge, TextsGiveBodies}
 use Rattle.oim_merge.specs.ReadBack.{MergedTextsAreCanonical, document_at}
 use Rattle.std.specs.List.{All, IsAllAdjacentAnswer, range_with_len}
 use Rattle.std.specs.List.Sorted.{IsSorted, IsStrictlyIncreasing, IsStrictlySortedBy}
@@ -47,20 +46,8 @@ histories_give_bodies fresh = refl
 histories_give_bodies (took h d) = ap (λ b. union b (body (d ∷ []))) (histories_give_bodies h) ∙ sym (body_of_both (documents_of h) (d ∷ []))
 histories_give_bodies (joined h k) = (λ i. union (histories_give_bodies h i) (histories_give_bodies k i)) ∙ sym (body_of_both (documents_of h) (documents_of k))
 
-same_body : (h k : History) → SameMembers (documents_of h) (documents_of k) → body_of h ≡ body_of k
-same_body h k same = histories_give_bodies h ∙ body_ignores_order (documents_of h) (documents_of k) same ∙ sym (histories_give_bodies k)
-
 pub histories_are_forgotten : HistoriesAreForgotten
-histories_are_forgotten h k same = ap canonical (same_body h k same)
-
-pub verdicts_are_forgotten : VerdictsAreForgotten
-verdicts_are_forgotten h k s same = ap (λ (b : Body). verdict b.facts s) (same_body h k same)
-
-pub levels_are_forgotten : LevelsAreForgotten
-levels_are_forgotten h k same = ap (λ (b : Body). level_of b.facts) (same_body h k same)
-
-pub references_are_forgotten : ReferencesAreForgotten
-references_are_forgotten h k same = ap (λ (b : Body). b.references) (same_body h k same)
+histories_are_forgotten h k same = histories_give_bodies h ∙ body_ignores_order (documents_of h) (documents_of k) same ∙ sym (histories_give_bodies k)
 
 pub body_again : (sheet : Sheet) (b : Body) (d : Document) → Fits sheet b → d.facts ≡ b.facts → d.references ≡ b.references → body (d ∷ []) ≡ b
 body_again sheet b d fits facts references =

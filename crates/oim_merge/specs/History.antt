@@ -2,14 +2,11 @@
 use Rattle.std.specs.Prelude.{◌≡◌, ℕ, List, [], ◌∷◌, ◌++◌, Contains, Ok}
 use Rattle.std.specs.List.{All}
 use Rattle.merge_laws.specs.Members.{SameMembers}
-use Rattle.oim_dims.specs.DimensionSet.{DimensionSet}
 use Rattle.oim_report.specs.Document.{Document}
-use Rattle.oim_report.specs.Duplicates.{level_of}
 use Rattle.oim_report.specs.Outcome.{outcome}
 use Rattle.oim_report.specs.Sheet.{Sheet}
 use Rattle.fact_base.specs.Body.{Body, body, union}
 use Rattle.fact_base.specs.Fits.{Fits, IsAccepted}
-use Rattle.fact_base.specs.Verdict.{verdict}
 use Rattle.oim_write.specs.Bytes.{canonical, earlier}
 
 -- the history of a base: it is new, it took a document, or it joined another base
@@ -34,22 +31,9 @@ documents_of (joined h k) = documents_of h ++ documents_of k
 abbrev pub HistoriesGiveBodies : Type 0
 HistoriesGiveBodies = (h : History) → body_of h ≡ body (documents_of h)
 
--- if the same documents reached two bases, both write the same bytes, whatever the order, grouping and repetition
+-- if the same documents reached two bases, both have the same body, whatever the order, grouping and repetition
 abbrev pub HistoriesAreForgotten : Type 0
-HistoriesAreForgotten = (h k : History) → SameMembers (documents_of h) (documents_of k) → canonical (body_of h) ≡ canonical (body_of k)
-
--- if the same documents reached two bases, both have the same verdicts
-abbrev pub VerdictsAreForgotten : Type 0
-VerdictsAreForgotten =
-    (h k : History) (s : DimensionSet) → SameMembers (documents_of h) (documents_of k) → verdict (body_of h).facts s ≡ verdict (body_of k).facts s
-
--- if the same documents reached two bases, both have the same level
-abbrev pub LevelsAreForgotten : Type 0
-LevelsAreForgotten = (h k : History) → SameMembers (documents_of h) (documents_of k) → level_of (body_of h).facts ≡ level_of (body_of k).facts
-
--- if the same documents reached two bases, both have the same references
-abbrev pub ReferencesAreForgotten : Type 0
-ReferencesAreForgotten = (h k : History) → SameMembers (documents_of h) (documents_of k) → (body_of h).references ≡ (body_of k).references
+HistoriesAreForgotten = (h k : History) → SameMembers (documents_of h) (documents_of k) → body_of h ≡ body_of k
 
 -- ---- round trips
 

@@ -3,7 +3,7 @@ ghost use Rattle.oim_write.specs.Bytes.{canonical};
 ghost use Rattle.oim_merge.specs.Above.{AllowedIsDeclared};
 ghost use Rattle.oim_merge.specs.Added.{StepsAreList};
 ghost use Rattle.oim_merge.specs.EventLines.{LinesSayOneEvent};
-ghost use Rattle.oim_merge.specs.History.{EarlierTextsGiveBodies, HistoriesAreForgotten, HistoriesGiveBodies, IsReadAsBody, LevelsAreForgotten, MergedTextsMerge, ReferencesAreForgotten, TextsGiveBodies, VerdictsAreForgotten};
+ghost use Rattle.oim_merge.specs.History.{EarlierTextsGiveBodies, HistoriesAreForgotten, HistoriesGiveBodies, IsReadAsBody, MergedTextsMerge, TextsGiveBodies};
 ghost use Rattle.oim_merge.specs.Lines.{LinesAreOne, LinesTellVerdicts, WordsShowVerdicts};
 ghost use Rattle.oim_merge.specs.ReadBack.{CanonicalReadsBack, EarlierIsNotCanonical, EarlierReadsBack, LeastLevelIsDeclared, MergedTextsAreCanonical};
 ghost use Rattle.oim_merge.specs.Replicas.{EqualSetsWriteTheSame, ReplicasSayAsAfresh, ReplicasStay, WireAgrees};
@@ -88,15 +88,12 @@ pub fn earlier_is_not_canonical()
 {}
 
 /// A base has the body of the documents that reached it, directly or through bases that it joined.
-/// So two bases have the same canonical text, verdicts, level and references if the same documents
-/// reached both, whatever the order, grouping and repetition.
-#[tactic(auto, using(crate::proofs::Histories::histories_are_forgotten, crate::proofs::Histories::histories_give_bodies, crate::proofs::Histories::levels_are_forgotten, crate::proofs::Histories::references_are_forgotten, crate::proofs::Histories::verdicts_are_forgotten))]
+/// So two bases have the same body if the same documents reached both, whatever the order, grouping
+/// and repetition. A base's canonical text, verdicts, level and references depend only on its body.
+#[tactic(auto, using(crate::proofs::Histories::histories_are_forgotten, crate::proofs::Histories::histories_give_bodies))]
 pub fn histories_are_forgotten()
     ensures body { HistoriesGiveBodies }
-    ensures bytes { HistoriesAreForgotten }
-    ensures verdicts { VerdictsAreForgotten }
-    ensures level { LevelsAreForgotten }
-    ensures references { ReferencesAreForgotten }
+    ensures forgotten { HistoriesAreForgotten }
 {}
 
 /// Merging a merged text with itself and with any of the reports that it was merged from gives the
