@@ -7,8 +7,9 @@ pub fn rows_are_one()
     ensures { RowsAreOne }
 {}
 
-/// In a body that fits a sheet, the evidence for a row shows the verdict on the row's dimension
-/// set.
+/// In a body that fits a sheet, each row has a verdict, and the text of the row shows the word for
+/// this verdict: a line of JSON begins with the row's number and the word; in CSV, each record of the
+/// row has both in their columns.
 pub fn rows_tell_verdicts()
     ensures { RowsTellVerdicts }
 {}
