@@ -3,218 +3,42 @@
 
     tests/doubt [--format] [--quiet] [--write]
 
-An entry, `- [FILE](../crates/..): `name`, ..`, lists contracts, types, limits and lines of code (`src/`), or definitions
-(`specs/`). A row `| [`word`](../crates/..) | [`law`](../crates/..) |` names a word and its laws. A word is a definition that
-needs no reading, because its laws state enough. FORMAT may use every name that DOUBT lists, and may list words of DOUBT as
-entries. The status is 1 if
+An entry, `- [FILE](../crates/..): `name`, ..`, lists contracts, types and limits (`src/`), or definitions (`specs/`). The entry
+of a type shows its view. A row `| [`word`](../crates/..) | [`law`](../crates/..) |` names a word and its laws. A word is a
+definition that needs no reading, because its laws state enough. FORMAT may use every name that DOUBT lists, and may list words
+of DOUBT as entries. A law is the contract of a function that does nothing: it returns nothing and has no argument to change.
+The status is 1 if
 
 - a name is not in its file, or is listed twice;
-- a listed definition or contract uses a definition of this repository that is neither listed, nor a word, nor in the table;
+- a listed definition, contract or view, or a field of a listed type, uses a definition or type of this repository that is
+  neither listed, nor a word, nor in the table;
 - a page lists a word, a definition, a type or a limit that none of the page's contracts needs;
 - a word has no law, or its law does not exist, is on neither page, or does not mention the word;
+- a numbered clause has only laws, or a word is needed only by laws;
+- more than 10 names of DOUBT are used before they are listed;
 - the table of conditions differs from `Reason`, its numbers, or the definitions of the conditions;
-- a page shows a wrong number of lines, or the number for DOUBT is above 600.
+- a page shows a wrong number of lines, or the number for DOUBT is above 650.
 
-Names that the kit defines need no entry. A variable hides a definition of the same name within the variable's scope. A record
-field hides a definition of the same name in the later fields of the record. Without options, the script prints the definitions
-that DOUBT lists; with --format, those that FORMAT lists; with --quiet, none. --write updates the entries, the table of
-conditions and the numbers of lines, but not the words.
+Names that the kit defines need no entry. Without options, the script prints the definitions that DOUBT lists; with --format,
+those that FORMAT lists; with --quiet, none. --write updates the entries, the table of conditions and the numbers of lines, but
+not the words. In DOUBT it puts each name before those that use it, in the clause of the first contract that needs it.
 """
-import glob
+import itertools
 import os
 import re
 import sys
 
+from definitions import Specs, closure, is_contract, is_law, needs
 from support import TOP, content
 
-DOUBT, FORMAT, MOST_LINES = "docs/DOUBT.md", "docs/FORMAT.md", 600
+DOUBT, FORMAT, MOST_LINES, MOST_AHEAD = "docs/DOUBT.md", "docs/FORMAT.md", 650, 10
 LINK = re.compile(r"\[`([^`]+)`\]\(\.\./(crates/[^)]+)\)")
 ENTRY = re.compile(r"- \[[^]]+\]\(\.\./(crates/[^)]+)\): (.*)")
 COUNT = re.compile(r"(\d[\d,]*) lines of definitions and contracts")
 CONDITION = re.compile(r"\| (\d+) \| `(\w+)` \| (.*?) \| (.*?) \| (.*) \|")
 REASONS = ("crates/oim_names/src/reason.rt", "crates/oim_names/specs/Reasons.antt")
+CLAUSE = re.compile(r"\d+\. ")
 IN_THE_TABLE = [(REASONS[0], "Reason"), (REASONS[1], "reasons"), (REASONS[1], "entry_of")]
-USE = re.compile(r"^\s*(?:ghost )?(?:pub )?use Rattle\.([\w.]+?)(?:\.\{(.*?)\}| as (\w+));?$", re.MULTILINE)
-HEAD = re.compile(r"\s*(?:(?:abbrev|unfoldable|opaque|pub) )*(?:(data|record) )?([^\s:({]+)(?(1)| :)")
-WORD = re.compile(r"(?<![\w.])[A-Za-z_]\w*(?:\.[A-Za-z_]\w*)*")
-TOKEN = re.compile(rf"λ [\w ]+\.|[({{](?:0 )?(?:\w+ )+:|\blet \w+|[(){{}}]|{WORD.pattern}")
-FIELD_TOKEN = re.compile(rf"\n\s+(?:pub )?\w+ :|{TOKEN.pattern}")
-
-
-def imports_of(text):
-    """Returns the module and the original name of each imported name. The original name of a module is None."""
-    found = {}
-    for module, names, alias in USE.findall(text):
-        for name in filter(None, (it.strip() for it in names.split(","))):
-            there, _, here = name.partition(" as ")
-            found[here or there] = (module, there)
-        if alias:
-            found[alias] = (module, None)
-    return found
-
-
-def pieces(text):
-    """Yields each definition of a file in order: its name, the other names that it owns, and its text.
-
-    A `data` definition owns its constructors. A mutual definition is listed under its first name, and owns its other names.
-    A record does not own its fields.
-    """
-    for block in re.split(r"\n[ \t]*\n", text):
-        lines = [it for it in block.split("\n") if it.strip() and not re.match(r"\s*(-- ----|use |module )", it)]
-        code = [it for it in lines if not it.lstrip().startswith("--")]
-        is_mutual = bool(code) and code[0].strip() == "abbrev mutual"
-        heads = [it for it in map(HEAD.match, code[1:] if is_mutual else code[:1]) if it]
-        if not heads:
-            continue
-        others = [it[2] for it in heads[1:]]
-        if heads[0][1] == "data":
-            others += re.findall(r"^\s+(?:pub )?([\w◌]+) :", "\n".join(code[1:]), re.MULTILINE)
-        yield heads[0][2], others, "\n".join(lines)
-
-
-class Specs:
-    """The definitions of the repository, and the files that define types and limits."""
-
-    def __init__(self):
-        self.texts, self.names, self.owners, self.imports, self.types = {}, {}, {}, {}, {}
-        for path in sorted(glob.glob(os.path.join(TOP, "crates/*/specs/**/*.antt"), recursive=True)):
-            path = os.path.relpath(path, TOP)
-            text = content(path)
-            self.imports[path] = imports_of(text)
-            for name, others, piece in pieces(text):
-                self.texts[path, name] = piece
-                self.names[path, name] = [name, *others]
-                self.owners[path, name] = (path, name)
-                for it in others:
-                    self.owners.setdefault((path, it), (path, name))
-        for path in sorted(glob.glob(os.path.join(TOP, "crates/*/src/**/*.rt"), recursive=True)):
-            path = os.path.relpath(path, TOP)
-            crate = path.split("/")[1]
-            for name in re.findall(r"^pub (?:struct|enum|const) (\w+)", content(path), re.MULTILINE):
-                self.types.setdefault((crate, name), path)
-
-    def owner(self, path, word):
-        """Returns the definition, type or limit that a word in a file means. For a word of the kit, returns its full name; for
-        other words, returns None."""
-        word, *rest = word.split(".")
-        if (path, word) in self.owners:
-            return self.owners[path, word]
-        if word not in self.imports[path]:
-            return None
-        module, name = self.imports[path][word]
-        crate, _, within = module.partition(".specs.")
-        if not os.path.isdir(os.path.join(TOP, "crates", crate)):
-            return ("kit", f"{module}.{name or '.'.join(rest)}")
-        if within.startswith("declared."):
-            kind = re.sub(r"\.(TheVariants|TheConstants)$", "", within).split(".")[-1]
-            name = name if within.endswith("TheConstants") else kind
-            return (self.types[crate, name], name) if (crate, name) in self.types else None
-        return self.owner(f"crates/{crate}/specs/{within.replace('.', '/')}.antt", name)
-
-    def text(self, path, name):
-        """Returns the text of a definition, a type, a limit, a contract or a line of code; None if the file lacks it."""
-        if path.endswith(".antt"):
-            return self.texts.get((path, name))
-        if not os.path.exists(os.path.join(TOP, path)):
-            return None
-        return of_code(path, name) if " " not in name else name if name in content(path) else None
-
-
-def of_code(path, name):
-    """Returns the text of a type, a limit or the contract of a function, with its comment; None if the file lacks it."""
-    lines = content(path).split("\n")
-    head = re.compile(rf"\s*pub (?:struct|enum|const|fn|trait) {name.split('::')[-1]}\b")
-    place = next((n for n, it in enumerate(lines) if head.match(it)), None)
-    if place is None:
-        return None
-    first = last = place
-    while first > 0 and re.match(r"\s*(///|#\[)", lines[first - 1]):
-        first -= 1
-    is_function = " fn " in lines[place]
-    while not re.match(r"\s*\{\}?$" if is_function else r"\}|.*;$|.*\{\}$", lines[last]):
-        last += 1
-    return "\n".join(lines[first : last + (not is_function)])
-
-
-def free_words(code, bound, is_record=False):
-    """Yields the free words of a clause or a record.
-
-    λ, let and (x : T) bind a name up to the end of the surrounding brackets. A record field binds its name in the later fields.
-    """
-    scopes, opened, lets, field = [set(bound)], [], [], None
-    for token in (FIELD_TOKEN if is_record else TOKEN).findall(re.sub(r"([{;]\s*)\w+ = ", r"\1", code)):
-        names = re.findall(r"\w+", token)
-        if token.startswith("\n"):
-            scopes[-1] |= {field}
-            field = names[-1]
-        elif token.startswith("λ "):
-            scopes[-1] |= set(names)
-        elif token.startswith("let "):
-            lets.append(names[-1])
-        elif token == "in":
-            scopes[-1].add(lets.pop())
-        elif token[0] in "({":
-            opened.append(names)
-            scopes.append(set(scopes[-1]))
-        elif token in ")}":
-            scopes.pop()
-            scopes[-1] |= set(opened.pop())
-        elif names[0] not in scopes[-1]:
-            yield token
-
-
-def without_comments(text):
-    return "\n".join(it.split(" -- ")[0] for it in text.split("\n") if not it.lstrip().startswith(("--", "///")))
-
-
-def defined_words(specs, path, name):
-    """Yields the free words of a definition. In a pattern only constructors are free; all other words are bound."""
-    code = without_comments(specs.texts[path, name])
-    heads = "|".join(map(re.escape, specs.names[path, name]))
-    indent = re.search(r"^( *)(?!abbrev mutual)\S", code, re.MULTILINE)[1]
-    first, *clauses = re.split(rf"^(?={indent}(?:{heads})\s)", code, flags=re.MULTILINE)
-    yield from free_words(first, set(), re.match(r" *(?:pub )?record ", first) is not None)
-    for clause in clauses:
-        pattern, body = re.split(r" =(?=\s)", clause, maxsplit=1)
-        words = WORD.findall(pattern)
-        constructors = [it for it in words if it in specs.imports[path] or specs.owners.get((path, it), ("", it))[1] != it]
-        yield from constructors
-        yield from free_words(body, set(words) - set(constructors))
-
-
-def contract_words(specs, path, name):
-    """Returns the free words of a contract."""
-    specs.imports.setdefault(path, imports_of(content(path)))
-    contract = "\n".join(re.findall(r"(?:ensures|requires)[^{]*\{.*", of_code(path, name), re.DOTALL))
-    return free_words(without_comments(contract), set())
-
-
-def needs(specs, path, name):
-    """Returns the names that a contract or a definition uses, in order of use."""
-    words = (contract_words if path.endswith(".rt") else defined_words)(specs, path, name)
-    owners = (specs.owner(path, it) for it in words)
-    return [it for it in dict.fromkeys(owners) if it and it != (path, name)]
-
-
-def closure(specs, root, stops=()):
-    """Returns the names that a contract or a definition depends on, except the kit's. Each name is listed after the names that
-    it depends on. Names that only names in `stops` depend on are left out."""
-    order, seen = [], {root}
-
-    def follow(item):
-        for owner in needs(specs, *item):
-            if owner not in seen and owner[0] != "kit":
-                seen.add(owner)
-                if owner not in stops:
-                    follow(owner)
-                order.append(owner)
-
-    follow(root)
-    return order
-
-
-def is_contract(specs, path, name):
-    return path.endswith(".rt") and re.search(r"^\s*pub fn ", specs.text(path, name) or "", re.MULTILINE) is not None
 
 
 class Page:
@@ -233,15 +57,22 @@ class Page:
                 self.words[there, word] = [(it[1], it[0]) for it in laws]
         self.there = [(path, name) for _, path, name in self.entries]
         self.contracts = [it for it in self.there if is_contract(specs, *it)]
-        self.tabled = IN_THE_TABLE if CONDITION.search(self.text) else []
+        self.calls = [it for it in self.contracts if not is_law(specs, *it)]
+        self.tabled = IN_THE_TABLE if CONDITION.search(content(FORMAT)) else []
         # names that need no entry: words, names in the table, and names that only the previous page lists
         self.stops = {*self.words, *self.tabled, *({*before.there, *before.words}.difference(self.there) if before else ())}
 
-    def needed(self):
-        """Returns the names that the page's contracts need, each after the names that it depends on. Names that only names in
-        `stops` depend on are left out."""
-        found = (it for root in self.contracts for it in closure(self.specs, root, self.stops))
+    def needed(self, roots):
+        """Returns the names that these contracts of the page need, each after the names that it depends on. Names that only
+        names in `stops` depend on are left out."""
+        found = (it for root in roots for it in closure(self.specs, root, self.stops))
         return [it for it in dict.fromkeys(found) if it not in self.contracts]
+
+    def ahead(self):
+        """Returns a line for each name that is used before it is listed."""
+        place = {it: n for n, it in enumerate(self.there)}
+        pairs = ((it, used) for it in self.there if self.specs.text(*it) for used in needs(self.specs, *it))
+        return [f"`{it[1]}` uses `{used[1]}`" for it, used in pairs if place.get(used, 0) > place[it]]
 
     def shown(self):
         """Returns the lines to print: the listed definitions without empty lines, the words with their laws, and the table."""
@@ -276,14 +107,23 @@ def entry_problems(page, others):
             found.append(f"{path} has no `{name}`")
         elif (page.there + others).count((path, name)) > 1:
             found.append(f"{path}: `{name}` is on the pages twice")
-        elif (path, name) in page.there and " " not in name:
+        elif (path, name) in page.there:
             missing = (it for it in needs(specs, path, name) if it[0] != "kit" and it not in page.there and it not in page.stops)
             found += [f"{path}: `{name}` uses `{it[1]}` of {it[0]}, which is missing on the page" for it in missing]
     if not found:
-        needed = {*page.needed(), *page.contracts}
-        idle = (it for it in [*page.there, *page.words] if it not in needed and " " not in it[1])
+        needed = {*page.needed(page.contracts), *page.contracts}
+        idle = (it for it in [*page.there, *page.words] if it not in needed)
         found = [f"{path}: no contract of the page needs `{name}`" for path, name in idle]
     return found
+
+
+def path_problems(page):
+    """Returns the faults in the path from a page's clauses to code."""
+    clauses = {heading for heading, *it in page.entries if CLAUSE.match(heading) and tuple(it) in page.calls}
+    headings = (line.lstrip("# ") for line in page.text.split("\n") if line.startswith("## "))
+    found = [f"no function of `{it}` does anything" for it in headings if CLAUSE.match(it) and it not in clauses]
+    reached = {it for call in page.calls for it in closure(page.specs, call, page.words)}
+    return found + [f"`{it[1]}`: only laws need it" for it in page.words if it not in reached]
 
 
 def word_problems(page, entries):
@@ -329,29 +169,48 @@ def mended_table(page):
     return "\n".join([*lines[: places[0]], *table_rows(page), *lines[places[-1] + 1 :]]) if places else page.text
 
 
-def mended_entries(page):
-    """Returns the text of the page with the entries that its contracts need. A new name follows the other names of its file."""
-    needed, groups = [it for it in page.needed() if it not in page.stops], []
-    keep = [it for it in page.entries if it[1:] in {*needed, *page.contracts} or " " in it[2]]
-    for heading, path, name in keep:
-        if not groups or groups[-1][:2] != [heading, path]:
-            groups.append([heading, path, []])
-        groups[-1][2].append(name)
+def completed(page):
+    """Returns the entries that the page's contracts need. A new name follows the other names of its file."""
+    needed = [it for it in page.needed(page.contracts) if it not in page.stops]
+    keep = [it for it in page.entries if it[1:] in {*needed, *page.contracts}]
     for path, name in (it for it in needed if it not in page.there):
-        if path not in (it[1] for it in groups):
-            root = next(it for it in page.contracts if (path, name) in closure(page.specs, it, page.stops))
-            groups.append([next(it[0] for it in keep if it[1:] == root), path, []])
-        next(it for it in groups if it[1] == path)[2].append(name)
+        root = next(it for it in page.contracts if (path, name) in closure(page.specs, it, page.stops))
+        same = [n for n, it in enumerate(keep) if it[1] == path] or [n for n, it in enumerate(keep) if it[1:] == root]
+        keep.insert(same[-1] + 1, (keep[same[-1]][0], path, name))
+    return keep
+
+
+def arranged(page):
+    """Returns the entries that the page's contracts need. Each name precedes those that use it, in the section of the first
+    contract that needs it. Names of one file follow each other if they can."""
+    placed = []
+    for heading in dict.fromkeys(it[0] for it in page.entries):
+        left = []
+        for root in (it[1:] for it in page.entries if it[0] == heading and it[1:] in page.contracts):
+            left += [it for it in [*closure(page.specs, root, page.stops), root] if it not in page.stops]
+        left, last = [it for it in dict.fromkeys(left) if it not in {it[1:] for it in placed}], ""
+        while left:
+            ready = [it for it in left if not set(left).intersection(needs(page.specs, *it))] or left
+            item = next((it for it in ready if it[0] == last), ready[0])
+            left.remove(item)
+            placed.append((heading, *item))
+            last = item[0]
+    return placed
+
+
+def mended_entries(page):
+    """Returns the text of the page with the entries that its contracts need."""
     lines, heading, is_written = [], "", set()
+    entries = arranged(page) if any(CLAUSE.match(it[0]) for it in page.entries) else completed(page)
     for line in page.text.split("\n"):
         heading = line.lstrip("# ") if line.startswith("##") else heading
         if not ENTRY.match(line):
             lines.append(line)
         elif heading not in is_written:
             is_written.add(heading)
-            for _, path, names in (it for it in groups if it[0] == heading):
+            for path, names in itertools.groupby((it for it in entries if it[0] == heading), key=lambda it: it[1]):
                 file = f"{path.split('/')[1]}/{os.path.basename(path)}"
-                lines.append(f"- [{file}](../{path}): " + ", ".join(f"`{it}`" for it in names))
+                lines.append(f"- [{file}](../{path}): " + ", ".join(f"`{it[2]}`" for it in names))
     return "\n".join(lines)
 
 
@@ -375,13 +234,15 @@ def problems(pages):
     for place, page in enumerate(pages):
         before = [it for other in pages[:place] for it in other.there]
         count, told = page.count(), COUNT.search(page.text)
-        found += entry_problems(page, before) + word_problems(page, everything)
-        rows = (it for it in table_rows(page) if page.tabled and it not in page.text.split("\n"))
+        found += entry_problems(page, before) + word_problems(page, everything) + path_problems(page)
+        rows = (it for it in table_rows(page) if CONDITION.search(page.text) and it not in page.text.split("\n"))
         found += [f"{page.path}: the table of conditions should have {it}" for it in rows]
         if told is None or int(told[1].replace(",", "")) != count:
             found.append(f"{page.path} should say that there are {count:,} lines of definitions and contracts")
         if page.path == DOUBT and count > MOST_LINES:
             found.append(f"{page.path}: the headline has {count:,} lines; at most {MOST_LINES} are allowed")
+        if page.path == DOUBT and len(ahead := page.ahead()) > MOST_AHEAD:
+            found.append(f"{page.path}: {len(ahead)} names are used before they are listed, such as {ahead[0]}; at most {MOST_AHEAD} may be")
     return list(dict.fromkeys(found))
 
 

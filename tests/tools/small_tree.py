@@ -8,15 +8,15 @@ from in_process import TESTS
 
 
 class SmallTree:
-    """A folder with copies of a script and of support.py, and with the files that a test writes. The folder is removed when the
-    test ends."""
+    """A folder with copies of a script, of its modules and of support.py, and with the files that a test writes. The folder is
+    removed when the test ends."""
 
-    def __init__(self, test, script):
+    def __init__(self, test, script, *modules):
         self.folder = tempfile.mkdtemp()
         test.addCleanup(shutil.rmtree, self.folder)
         self.script = os.path.join(self.folder, "tests", script)
         os.makedirs(os.path.dirname(self.script))
-        for name in (script, "support.py"):
+        for name in (script, *modules, "support.py"):
             shutil.copy(os.path.join(TESTS, name), os.path.dirname(self.script))
 
     def put(self, path, text):

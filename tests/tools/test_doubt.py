@@ -80,6 +80,43 @@ pub enum Reason {
 }
 """
 
+BILL = """\
+use money::{Price};
+
+enum Kind {
+    Paid,
+}
+
+/// What is paid.
+pub struct Bill {
+    kind: Kind,
+    price: Option<Price>,
+}
+"""
+
+PRICE = """\
+/// A price.
+pub struct Price {
+    cents: u64,
+}
+
+impl Model for Price {
+    ghost use Rattle.money.specs.Amount.{amount};
+
+    ghost Value = { ℕ };
+
+    ghost view = { λ a. amount a.cents };
+
+    ghost invariant = { λ a. hidden a };
+}
+"""
+
+AMOUNT = """\
+-- an amount
+abbrev pub amount : ℕ → ℕ
+amount n = n
+"""
+
 SPECS_PATH, LAWS_PATH = "crates/shop/specs/Order.antt", "crates/shop/src/laws.rt"
 
 PAGE = """\
@@ -117,10 +154,11 @@ def word(name, law):
 
 class Doubt(unittest.TestCase):
     def setUp(self):
-        self.tree = SmallTree(self, "doubt.py")
+        self.tree = SmallTree(self, "doubt.py", "definitions.py")
         self.tree.put("crates/shop/src/sum.rt", CODE)
         self.tree.put(LAWS_PATH, LAWS)
         self.tree.put(SPECS_PATH, SPECS)
+        self.tree.put("crates/money/specs/Amount.antt", AMOUNT)
         self.tree.put("crates/oim_names/src/reason.rt", REASON)
         self.tree.put("crates/oim_names/specs/Reasons.antt", REASONS)
 
@@ -177,16 +215,59 @@ class Doubt(unittest.TestCase):
             with self.subTest(law=law):
                 self.assertEqual(self.problems(names, 18, word("added", law), form), (1, [f"doubt: `added`: {wrong}"]))
 
-    def test_a_line_of_code(self):
-        there = "\n- [shop/sum.rt](../crates/shop/src/sum.rt): `order.sum is`"
+    def test_a_clause_of_laws_only(self):
+        names = ["SumsArePaid", "added", "paid"]
+        page = PAGE.replace("sum.rt", "laws.rt").replace("`sum`", "`sums_are_paid`")
+        self.tree.put("docs/DOUBT.md", page.format(lines=13, words="", names=listed(names)))
+        self.tree.put("docs/FORMAT.md", NO_FORMAT)
+        found = ["doubt: no function of `1. The sum` does anything"]
+        self.assertEqual(self.tree.run("--quiet")[::2], (1, found))
+        # a function with a result, or with an argument that it may change, does something
+        for head in ("pub fn sums_are_paid() -> u64\n", "pub fn sums_are_paid(order: &mut Order)\n"):
+            self.tree.put(LAWS_PATH, LAWS.replace("pub fn sums_are_paid()\n", head))
+            self.assertEqual(self.tree.run("--quiet")[0], 0)
+
+    def test_a_word_that_only_laws_need(self):
+        # `paid` is used by `IsPaid` and by a law; without `IsPaid`, no function that does something needs it
+        self.tree.put("crates/shop/src/sum.rt", CODE.replace(" × IsPaid order.now", ""))
+        names = ["Order", "added", "total"]
+        status, found = self.problems(names, 14, word("paid", "sums_are_paid"), self.laws("sums_are_paid"))
+        self.assertEqual((status, found[0]), (1, f"doubt: {SPECS_PATH}: no contract of the page needs `paid`"))
+        page = PAGE + f"- [shop/laws.rt](../{LAWS_PATH}): `sums_are_paid`\n- [shop/Order.antt](../{SPECS_PATH}): `SumsArePaid`\n"
+        self.tree.put("docs/DOUBT.md", page.format(lines=21, words=word("paid", "sums_are_paid"), names=listed(names)))
+        self.tree.put("docs/FORMAT.md", NO_FORMAT)
+        self.assertEqual(self.tree.run("--quiet")[::2], (1, ["doubt: `paid`: only laws need it"]))
+
+    def test_fields_and_views_name_types_and_definitions(self):
+        self.tree.put("crates/shop/src/bill.rt", BILL)
+        self.tree.put("crates/money/src/price.rt", PRICE)
+        self.tree.put(SPECS_PATH, "use Rattle.shop.specs.declared.bill.Bill.{Bill}\n\n" + SPECS.replace("prices : List ℕ\n", "prices : List Bill\n"))
         names = ["Order", "added", "total", "paid", "IsPaid"]
-        self.assertEqual(self.problems(names, 20, there)[1], ["doubt: crates/shop/src/sum.rt has no `order.sum is`"])
-        self.assertEqual(self.problems(names, 21, there.replace("order.sum is", "-> u64"))[0], 0)
+        missing = "doubt: {}: `{}` uses `{}` of {}, which is missing on the page"
+        bill, price = "crates/shop/src/bill.rt", "crates/money/src/price.rt"
+        lists = f"\n- [shop/bill.rt](../{bill}): `Bill`"
+        self.assertIn(missing.format(SPECS_PATH, "Order", "Bill", bill), self.problems(names, 20)[1])
+        found = self.problems(names, 25, lists)[1]
+        self.assertEqual(found, [missing.format(bill, "Bill", it, there) for it, there in (("Kind", bill), ("Price", price))])
+        lists = lists.replace("`Bill`", "`Bill`, `Kind`") + f"\n- [money/price.rt](../{price}): `Price`"
+        self.assertEqual(self.problems(names, 34, lists)[1], [missing.format(price, "Price", "amount", "crates/money/specs/Amount.antt")])
+
+    def test_names_that_are_used_before_they_are_listed(self):
+        more = "".join(f"\n-- a name\nabbrev pub n{number} : ℕ\nn{number} = {number}\n" for number in range(9))
+        sums = "\n-- their sum\nabbrev pub sums : ℕ\nsums = n0 + n1 + n2 + n3 + n4 + n5 + n6 + n7 + n8\n"
+        self.tree.put(SPECS_PATH, SPECS + more + sums)
+        self.tree.put("crates/shop/src/sum.rt", CODE.replace("order.now }", "order.now × (sums ≡ 0) }").replace("total}", "total, sums}"))
+        late = [f"n{number}" for number in range(9)]
+        names = ["Order", "added", "total", "paid", "IsPaid"]
+        # `sum` uses three names that follow it, and `sums` nine
+        page = "doubt: docs/DOUBT.md: 12 names are used before they are listed, such as `sum` uses `total`; at most 10 may be"
+        self.assertEqual(self.problems([*names, "sums", *late], 50), (1, [page]))
+        self.assertEqual(self.problems([*names, *late, "sums"], 50)[0], 0)
 
     def test_a_headline_that_is_too_long(self):
-        self.tree.put(SPECS_PATH, SPECS.replace("-- one order\n", "-- one order\n" * 582))
-        found = ["doubt: docs/DOUBT.md: the headline has 601 lines; at most 600 are allowed"]
-        self.assertEqual(self.problems(["Order", "added", "total", "paid", "IsPaid"], 601), (1, found))
+        self.tree.put(SPECS_PATH, SPECS.replace("-- one order\n", "-- one order\n" * 632))
+        found = ["doubt: docs/DOUBT.md: the headline has 651 lines; at most 650 are allowed"]
+        self.assertEqual(self.problems(["Order", "added", "total", "paid", "IsPaid"], 651), (1, found))
 
     def test_the_table_of_conditions_is_that_of_the_code(self):
         rows = ["| 0 | `NotPaid` | An order that is not paid. | shop | own |", "| 1 | `NoOrder` | There is an order. | shop | RFC 1 |"]
@@ -197,12 +278,21 @@ class Doubt(unittest.TestCase):
         self.assertEqual(self.tree.run("--quiet", "--write")[0], 0)
         self.assertEqual(self.page("FORMAT"), form.replace(rows[1], mended))
 
-    def test_write_mends_entries_and_counts(self):
+    def test_write_lists_each_name_before_its_users(self):
         self.problems(["Order", "IsPaid", "total", "AllArePaid"], 3)
         status, _, found = self.tree.run("--quiet", "--write")
         self.assertEqual((status, found[0]), (0, "doubt: the headline has 6 names and 20 lines"))
-        names = ["Order", "IsPaid", "total", "added", "paid"]
-        self.assertEqual(self.page("DOUBT"), PAGE.format(lines=20, words="", names=listed(names)))
+        before, _, after = PAGE.partition("- [")
+        call, definitions = f"- [{after}".splitlines()
+        names = ["Order", "added", "total", "paid", "IsPaid"]
+        self.assertEqual(self.page("DOUBT"), f"{before}{definitions}\n{call}\n".format(lines=20, words="", names=listed(names)))
+
+    def test_write_mends_entries_of_the_format(self):
+        entries = f"- [shop/laws.rt](../{LAWS_PATH}): `sums_are_paid`\n- [shop/Order.antt](../{SPECS_PATH}): `AllArePaid`, `SumsArePaid`"
+        names = ["Order", "added", "total", "paid", "IsPaid"]
+        self.problems(names, 20, form=FORMAT.format(lines=3, entries=entries))
+        self.assertEqual(self.tree.run("--quiet", "--write")[0], 0)
+        self.assertEqual(self.page("FORMAT"), FORMAT.format(lines=6, entries=entries.replace("`AllArePaid`, ", "")))
 
 
 if __name__ == "__main__":
