@@ -10,6 +10,7 @@ writes these tables. The status is 1 if
 
 - the tables differ from the code;
 - a public function or law has no doc comment;
+- a promise says what a call costs, as no contract does: costs belong in a later paragraph of the doc comment;
 - the page names a function that does not exist (`crate::x`, `Type::x`, `laws::x`). `Type::x` is not checked if Type has no functions.
 """
 import glob
@@ -27,6 +28,7 @@ OWNER = re.compile(r"(pub trait |impl(?:<.*?>)? (?:(\w+)[^{]* for )?)(\w+)")
 FUNCTION = re.compile(r" *(pub )?(?:pub\(crate\) )?(extern \"C\" )?fn (\w+)")
 LAW = re.compile(r"    ghost (\w+): \{")
 CLAUSE = re.compile(r" *ensures(?: (\w+))? \{")
+COST = re.compile(r"\b(?:not allocate|log n|saves time|less memory|parsed only once)\b")
 NAME = re.compile(r"`((?:\w+::)+\w+)`")
 
 
@@ -91,6 +93,7 @@ class Library:
 
 def problems(page, libraries):
     wrong = [f"`{name}` has no doc comment" for it in libraries.values() for name, promise in it.promises.items() if not promise.says]
+    wrong += [f"the promise of `{name}` says what it costs" for it in libraries.values() for name, promise in it.promises.items() if COST.search(promise.says)]
     known = {name for it in libraries.values() for name in (*it.promises, *it.others)}
     owners = {name.partition("::")[0] for name in known if "::" in name}
     for name in dict.fromkeys(NAME.findall(page)):

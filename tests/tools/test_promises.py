@@ -105,6 +105,11 @@ class Promises(unittest.TestCase):
         self.tree.put("crates/shop/src/laws.rt", LAWS.replace("/// Does nothing.\n", ""))
         self.assertEqual(self.problems(PAGE)[1][0], "`laws::orders_are` has no doc comment")
 
+    def test_a_cost_is_no_promise(self):
+        self.tree.put("crates/shop/src/order.rt", ORDER.replace("cents.\n    ///\n    /// It takes no memory.", "cents. It does not allocate."))
+        page = PAGE.replace("in cents. |", "in cents. It does not allocate. |")
+        self.assertEqual(self.problems(page)[:2], (1, ["the promise of `Order::price` says what it costs"]))
+
 
 if __name__ == "__main__":
     unittest.main()

@@ -82,7 +82,9 @@ impl<K: Key, V: Merge> SortedMap<K, V> {
         moved.make(&mut self.entries)
     }
 
-    /// Returns the value at a key, or None. Among n keys, this takes about log n comparisons.
+    /// Returns the value at a key, or None.
+    ///
+    /// Among n keys, this takes about log n comparisons.
     pub fn get(&self, key: &K) -> Option<&V>
         ensures { option_copied result ≡ value_at K.cmp key.now self.now }
     {

@@ -38,7 +38,9 @@ impl<T: Key> SortedSet<T> {
         }
     }
 
-    /// Returns the set of one item. The call does not allocate.
+    /// Returns the set of one item.
+    ///
+    /// The call does not allocate.
     pub fn of_one(alloc: Global, item: T) -> Self
         ensures { result ≡ item ∷ [] }
     {

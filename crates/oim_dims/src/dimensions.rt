@@ -182,7 +182,9 @@ impl Dimensions {
     }
 
     /// Replaces the taxonomy-defined dimensions and their members. The new dimensions may be in any
-    /// order. An error changes nothing. The call does not allocate.
+    /// order. An error changes nothing.
+    ///
+    /// The call does not allocate.
     ///
     /// Errors: `DimensionValue` exactly if a dimension is repeated.
     pub fn set_members(&mut self, mut members: Vec<(Name, Member)>) -> Result<(), Reason>

@@ -25,7 +25,9 @@ pub fn read_language(alloc: Global, text: &str) -> Result<Text, Reason>
     Ok(Text::from_string(alloc, lower)?)
 }
 
-/// Returns whether a text has the form of a language. The call does not allocate.
+/// Returns whether a text has the form of a language.
+///
+/// The call does not allocate.
 pub fn is_language(text: &str) -> bool
     ensures { result ≡ is_language text.now }
 {

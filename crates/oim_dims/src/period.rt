@@ -38,7 +38,9 @@ impl Period {
 }
 
 /// Reads a period: one date-time, or two with `/` between them. Two equal date-times denote an
-/// instant. The call does not allocate.
+/// instant.
+///
+/// The call does not allocate.
 ///
 /// Errors: `PeriodForm` if the text has another form, or if a date-time does not exist or is after
 /// the year 9999; `PeriodOrder` if the end is before the start.

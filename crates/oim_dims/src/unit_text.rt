@@ -135,7 +135,9 @@ fn inner(side: &str) -> &str
 
 /// Returns why a text is refused as a unit under these aliases, or None. The form of the unit is
 /// tested first (`UnitForm`). Then all measures are tested for `NameForm`, then all for
-/// `UnboundPrefix`, then all for `ReservedNamespace`. The call does not allocate.
+/// `UnboundPrefix`, then all for `ReservedNamespace`.
+///
+/// The call does not allocate.
 pub fn unit_refusal(aliases: &Aliases, text: &str) -> Option<Reason>
     ensures { result ≡ unit_refusal aliases.now text.now }
 {

@@ -25,8 +25,9 @@ pub struct Checked {
 }
 
 /// Reads a report under a sheet. Returns the number of its facts, their level, and whether the
-/// bytes are canonical (xBRL-JSON 1.0; levels: OIM Common 1.0; the canonical text is our own). The
-/// report and its canonical text may be in memory at the same time.
+/// bytes are canonical (xBRL-JSON 1.0; levels: OIM Common 1.0; the canonical text is our own).
+///
+/// The report and its canonical text may be in memory at the same time.
 ///
 /// Errors: the report's first refusal, with its place; `OutOfMemory`, at the document.
 pub fn check_report(alloc: Global, sheet: &Sheet, bytes: &[u8]) -> Result<Checked, Refusal>

@@ -127,8 +127,10 @@ impl<'s> Consolidation<'s> {
         self.add_read(read)
     }
 
-    /// Does the same as `add`, but consumes the bytes and frees them before the report's facts are
-    /// merged, so that a long report needs less memory.
+    /// Does the same as `add`, but consumes the bytes.
+    ///
+    /// The bytes are freed before the report's facts are merged, so a long report needs less
+    /// memory.
     ///
     /// Errors: out of memory; then nothing changes, but the bytes are lost.
     pub fn add_owned(&mut self, report: Encoded) -> Result<(), AllocError>
@@ -201,8 +203,9 @@ impl<'s> Consolidation<'s> {
         write_within(alloc, &base, refusals, allow, out)
     }
 
-    /// Does the same as `finish`, but does not free the facts. This saves time if the program exits
-    /// afterwards.
+    /// Does the same as `finish`, but does not free the facts.
+    ///
+    /// This saves time if the program exits afterwards.
     ///
     /// Errors: the same as `finish`.
     pub fn finish_last<S: Sink>(self, allow: Level, out: &mut S) -> Result<Refusals, Fault>

@@ -21,7 +21,9 @@ impl Model for Refusals {
 }
 
 impl Refusals {
-    /// Returns an empty list. The call does not allocate.
+    /// Returns an empty list.
+    ///
+    /// The call does not allocate.
     pub fn new(alloc: Global) -> Refusals
         ensures { result ≡ [] }
     {

@@ -159,7 +159,9 @@ impl Aliases {
     }
 
     /// Expands a prefixed name: a bound prefix, a colon and a local part (XML Namespaces 1.0,
-    /// section 4). The name shares the URI of its prefix.
+    /// section 4).
+    ///
+    /// The name shares the URI of its prefix.
     ///
     /// Errors: the reason that `name_refusal` returns; `OutOfMemory`.
     pub fn expand(&self, text: &str) -> Result<Name, Reason>
@@ -174,7 +176,9 @@ impl Aliases {
         Ok(named(*self.bindings.allocator(), uri, local)?)
     }
 
-    /// Returns the URI and the local part of a prefixed name. The call does not allocate.
+    /// Returns the URI and the local part of a prefixed name.
+    ///
+    /// The call does not allocate.
     ///
     /// Errors: the reason that `name_refusal` returns.
     pub fn resolve<'a>(&'a self, text: &'a str) -> Result<(&'a str, &'a str), Reason>
@@ -188,7 +192,9 @@ impl Aliases {
     }
 
     /// Returns why `expand` refuses the text under these bindings, or None. The order of the tests
-    /// is `NameForm`, `UnboundPrefix`, `ReservedNamespace`. The call does not allocate.
+    /// is `NameForm`, `UnboundPrefix`, `ReservedNamespace`.
+    ///
+    /// The call does not allocate.
     pub fn name_refusal(&self, text: &str) -> Option<Reason>
         ensures { result ≡ name_refusal self.now text.now }
     {
@@ -209,8 +215,9 @@ impl Aliases {
     }
 
     /// Expands an entity: a prefix bound to the scheme's URI, a colon and an identifier, which may
-    /// be any non-empty text (xBRL-JSON 1.0, section 3.1.4). The entity shares the URI of its
-    /// prefix.
+    /// be any non-empty text (xBRL-JSON 1.0, section 3.1.4).
+    ///
+    /// The entity shares the URI of its prefix.
     ///
     /// Errors: the reason that `entity_refusal` returns; `OutOfMemory`.
     pub fn expand_entity(&self, text: &str) -> Result<Name, Reason>
@@ -226,7 +233,9 @@ impl Aliases {
     }
 
     /// Returns why `expand_entity` refuses the text under these bindings, or None. The order of the
-    /// tests is `NameForm`, `UnboundPrefix`, `ReservedNamespace`. The call does not allocate.
+    /// tests is `NameForm`, `UnboundPrefix`, `ReservedNamespace`.
+    ///
+    /// The call does not allocate.
     pub fn entity_refusal(&self, text: &str) -> Option<Reason>
         ensures { result ≡ entity_refusal self.now text.now }
     {

@@ -111,7 +111,9 @@ impl<'s> ReportReader<'s> {
     }
 
     /// Reads a report as `read` does, and its identifiers as `fact_identifiers` does (xBRL-JSON
-    /// 1.0; further conditions are our own). The bytes are parsed only once.
+    /// 1.0; further conditions are our own).
+    ///
+    /// The bytes are parsed only once.
     ///
     /// Errors: as for `read`.
     #[tactic(auto, unfolding(crate::specs::Outcome::outcome))]
