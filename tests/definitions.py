@@ -116,7 +116,7 @@ def of_code(path, name):
     is_function = " fn " in lines[place]
     while not re.match(r"\s*\{\}?$" if is_function else r"\}|.*;$|.*\{\}$", lines[last]):
         last += 1
-    model = re.search(rf"^impl\S* Model for {name}\b.*?^\}}", content(path), re.MULTILINE | re.DOTALL)
+    model = re.search(rf"^impl(?:<.*?>)? Model for {name}\b.*?^\}}", content(path), re.MULTILINE | re.DOTALL)
     view = re.findall(r"^ *ghost (?:Value|view) = .*", model[0] if model else "", re.MULTILINE)
     return "\n".join([*lines[first : last + (not is_function)], *view])
 

@@ -96,11 +96,11 @@ pub struct Bill {
 
 PRICE = """\
 /// A price.
-pub struct Price {
+pub struct Price<T: Ord> {
     cents: u64,
 }
 
-impl Model for Price {
+impl<T: Ord> Model for Price<T> {
     ghost use Rattle.money.specs.Amount.{amount};
 
     ghost Value = { ℕ };
