@@ -17,5 +17,5 @@ of_rising-requires c = (omega arith, subst (IsSet text_cmp) (sym c.in_ok-put_in_
 pub returns : goal.returns
 returns c =
     c.in_ok-absorb.ensures.ok
-    ∙ (λ i. set_union text_cmp (c.in_ok-wider.ensures i) ((c.of_rising.ensures ∙ c.in_ok-put_in_order.ensures.ok ∙ ap (set_of text_cmp) c.in_ok-added.ensures) i))
+    ∙ (λ i. set_union text_cmp (c.in_ok-wider.ensures i) ((c.of_rising.ensures ∙ c.in_ok-put_in_order.ensures.ok ∙ ap (set_of text_cmp) c.in_ok-added.ensures.copies) i))
     ∙ set_among c.args.references.now c.args.others.now c.known.ensures

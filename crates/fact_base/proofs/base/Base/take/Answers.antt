@@ -8,7 +8,7 @@ use Rattle.fact_base.proofs.Stored.{union_is, Leaves, take_leaves, all_moved}
 leaves : (c : goal.After-replace) → Leaves c.self.inside.sheet.now c.absorb.new.self c.replace.new.references (union (record { facts = facts_of_entries c.self.inside.entries; references = c.self.inside.references }) (body (c.args.report.now.document ∷ [])))
 leaves c =
     take_leaves c.self.inside.sheet.now c.args.report.now.sheet c.self.inside.entries c.in_ok-entries.entries c.absorb.new.self c.self.inside.references c.taxonomy.result.now c.replace.new.references c.in_ok-facts.facts.items c.args.report.now.document
-    c.self.invariant (c.requires ∙ sym (ap (λ (b : Contents). b.sheet) c.self.view_is)) c.known.ensures.facts c.known.ensures.references (c.in_ok-facts.ensures ∙ c.facts.ensures) (all_moved c.in_ok-facts.facts.items c.in_order.result.items c.in_ok-entries.entries c.in_order.ensures.moved c.in_ok-entries.ensures)
+    c.self.invariant (c.requires ∙ sym (ap (λ (b : Contents). b.sheet) c.self.view_is)) c.known.ensures.facts c.known.ensures.references (c.in_ok-facts.ensures.copies ∙ c.facts.ensures) (all_moved c.in_ok-facts.facts.items c.in_order.result.items c.in_ok-entries.entries c.in_order.ensures.moved c.in_ok-entries.ensures)
     ((c.in_ok-absorb.ensures).ok ∙ union_is c.self.inside.entries c.in_ok-entries.entries) c.taxonomy.ensures (c.replace.ensures ∙ c.in_ok-references.ensures)
 
 pub invariant_of-self-2 : goal.invariant_of-self-2

@@ -14,7 +14,7 @@ append-requires c =
     let facts = c.in_order-facts.result.items in
     let references = c.in_ok-references.references.items in
     let same = subst (SameMembers facts) c.into_facts-facts.ensures.facts (same_moved c.into_facts-facts.result.0.items facts c.in_order-facts.ensures.moved) in
-    let is = gathered_document facts references d same (c.in_ok-references.ensures ∙ c.taxonomy.ensures) in
+    let is = gathered_document facts references d same (c.in_ok-references.ensures.copies ∙ c.taxonomy.ensures) in
     let sheet = c.requires ∙ ap (λ (b : Contents). b.sheet) (sym c.settle.ensures) in
     subst (Fits c.settle.new.self.sheet) (sym is) (subst (λ s. Fits s (body (d ∷ []))) sheet (document_fits c.args.report.sheet d c.known.ensures.facts c.known.ensures.references))
 
@@ -24,7 +24,7 @@ returns-clause-ok c =
     let facts = c.in_order-facts.result.items in
     let references = c.in_ok-references.references.items in
     let same = subst (SameMembers facts) c.into_facts-facts.ensures.facts (same_moved c.into_facts-facts.result.0.items facts c.in_order-facts.ensures.moved) in
-    let is = gathered_document facts references d same (c.in_ok-references.ensures ∙ c.taxonomy.ensures) in
+    let is = gathered_document facts references d same (c.in_ok-references.ensures.copies ∙ c.taxonomy.ensures) in
     on_ok_weaker c.append.result (λ with.
     with
     ∙ ap (λ (b : Contents). let x : Contents = record { sheet = b.sheet; body = union b.body (gathered facts references) } in x) c.settle.ensures
