@@ -1,5 +1,5 @@
 ghost use Rattle.std.proofs.Props.{props};
-ghost use Rattle.std.specs.Prelude.{◌≡◌};
+ghost use Rattle.std.specs.Prelude.{◌≡◌, ◌≤◌, length};
 ghost use Rattle.std.specs.List.{All};
 ghost use Rattle.fact_base.specs.code.Judged.{AreSummarised};
 ghost use Rattle.fact_base.specs.Verdict.{IsEvidence, verdict_of};
@@ -80,7 +80,8 @@ impl Rows<'_> {
     /// At most half of them are left out. URIs may be long, so few are compared: rows ascend by these
     /// URIs first, so if the rows at two distances have the URI, all rows between have it.
     pub fn uri_run(&self, uri: &str) -> usize
-        ensures { HoldForUris (λ u. u ≡ uri.now) result (rows_left self.now) }
+        ensures uris { HoldForUris (λ u. u ≡ uri.now) result (rows_left self.now) }
+        ensures within { result ≤ length (rows_left self.now) }
     {
         let left = self.entries.len().saturating_sub(self.next);
         let mut count = 0;
