@@ -24,7 +24,7 @@ BOUNDS = {
     ("docs/GUIDE.md",): 4500,
     ("docs/REFUSALS.md",): 1500,
     ("docs/LIBRARY.md",): 1800,
-    PROSE: 1500,
+    PROSE: 2200,
     ("docs/PROVED.md",): 3000,
     ("docs/MAP.md",): 1200,
     ("CONTRIBUTING.md",): 900,
