@@ -5,9 +5,9 @@
 
 A node of a fold merges one group. The script draws reports that overlap, agree, contradict each other, or are refused. The
 results of examples/fold/Makefile and examples/fold/fold_dask.py must equal the bytes of one run. The Makefile runs with three
-numbers of branches, and fold_dask.py with three numbers of files per node. The script also tests late, changed and removed
-reports, files with odd names, and nodes that fail or are stopped. If Dask is not installed, a small module replaces it and runs
-the nodes in turn. Nodes that call the library are skipped if there is no lib/libxbrlmerge.so, which ./build --library makes.
+numbers of branches, and fold_dask.py with three numbers of files per node. tools/recheck must agree with each result. The script
+also tests late, changed and removed reports, files with odd names, and nodes that fail or are stopped. If Dask is not installed,
+a small module replaces it and runs the nodes in turn. Nodes that call the library are skipped if there is no lib/libxbrlmerge.so, which ./build --library makes.
 
 Status 0: all is as expected. 1: something is not; each fault is printed. 2: the program is not built.
 """
@@ -25,6 +25,7 @@ import time
 from support import TOP, built_program, bytes_of
 
 FOLD = os.path.join(TOP, "examples", "fold")
+RECHECK = os.path.join(TOP, "tools", "recheck.py")
 LIBRARY = os.path.exists(os.path.join(TOP, "lib", "libxbrlmerge.so"))
 COUNT, JOBS, SEED = (int(os.environ.get(name, usual)) for name, usual in (("REPORTS", 200), ("JOBS", 2), ("SEED", 1)))
 URI, WIDTHS = "https://made.example/2024", (3, 14, 60)
@@ -113,6 +114,8 @@ def compare(told, done, out, wanted):
     is_same = done.returncode in (0, 1) and bytes_of(out) == wanted[0]
     check(is_same, f"{told}: wrong bytes, or status {done.returncode}: {done.stderr[-300:]}")
     check(refused_in(done.stderr) == wanted[1], f"{told}: wrong files are refused")
+    again = run(sys.executable, RECHECK, "--sheet=sheet.json", f"--merged={out}", "--", *paths())
+    check(again.returncode == 0, f"{told}: tools/recheck ends with {again.returncode}: {again.stdout}{again.stderr}")
 
 
 def made_again(width, told, branches):

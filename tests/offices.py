@@ -7,7 +7,8 @@ office. Not part of the gate.
 By default, PROGRAM is $XBRLMERGE or the built program. Three offices, each with its own folder, use only the commands `merge`
 and `check`. They follow a drawn schedule: they take reports, and exchange texts. Some reports are refused. Texts arrive late,
 repeated or reordered, and an office may lose everything. A sent text must be canonical and declare the strictest level that
-its facts satisfy; the script computes this level too. Some texts are then sent in the earlier form, without a level.
+its facts satisfy; the script computes this level too. Some texts are then sent in the earlier form, without a level. In the end,
+tools/recheck must agree with the text of each office.
 
 Status 0: all is as expected. 1: something is not, or a counted event, such as a restart, is missing in a run of 200 schedules
 or more. The first fault is printed with the seed and the schedule. 2: there is no program.
@@ -28,6 +29,7 @@ from support import TOP, built_program, bytes_of
 SCHEDULES, SEED = (int(os.environ.get(name, usual)) for name, usual in (("SCHEDULES", 200), ("SEED", 1)))
 COUNTED = ("refused takes", "agreements sent", "contradictions sent", "earlier texts", "late texts", "repeated texts",
            "restarts")
+RECHECK = os.path.join(TOP, "tools", "recheck.py")
 OFFICES, URI = (1, 2, 3), "https://made.example/2024"
 KINDS = {"A0": "numeric", "A1": "numeric", "T0": "text"}
 SHEET = {"namespaces": {"m": URI}, "concepts": {f"m:{name}": kind for name, kind in KINDS.items()}}
@@ -217,6 +219,9 @@ class Schedule:
         status, text, lines = self.merge(*(f"reports/{name}" for name in names))
         expect((status, lines) == (0, ""), f"a merge of {' '.join(names)} ends with {status}: {lines}")
         expect(self.present(office) == text, f"office {office} does not have the text of {' '.join(names) or 'no report'}")
+        words = ("--sheet=sheet.json", f"--merged={office}/merged.json", "--", *(f"reports/{name}" for name in names))
+        status, told, lines = run(sys.executable, RECHECK, *words)
+        expect((status, lines) == (0, ""), f"tools/recheck on the text of office {office} ends with {status}: {told.decode()}{lines}")
 
 
 def play(program, seed, counts):

@@ -53,7 +53,7 @@ NO_NUMBERS = ("", ".", "+", "-.", "1e2", "INF", "NaN", " 1", "1 ", "1\n", "+-1",
 LONG_NUMBERS = ("1234567890123456789", "0.0000000000000000001", "1000000000000000000", "-123456789.1234567891")
 LANGUAGES, NO_LANGUAGES = ("en", "EN-gb", "sv-FI", "zh-Hant-1", "abcdefgh"), ("", "en_GB", "abcdefghi", "1a", "en-", "-en", "en-123456789", "é")
 TEXTS = ("Blue", "blue", "", " ", "a\"b\\c", "\u0001\t\n\u007f", "\u00e9", "\u2028", "\U0001f40b", "\ue000")
-NAMES = ("m:North", "made:North", "x:South", "a:North", "m:\u00e9", "x:a/b")
+NAMES = ("m:North", "made:North", "x:South", "a:North", "m:\u00e9", "x:a/b", "x:\u00a0\u000b\u0085")
 ENTITIES = ("x:529900:A1", "x: a\n", "m:A", "made:A", "a:\u00e9")
 NO_NAMES, NO_ENTITIES = ("North", ":a", "m:", "m:a:b", "m:a b", "m :a", "", "m:\t"), ("A", ":A", "x:", " x:A", "")
 WRONG = (None, True, 5, [], {}, 1.5)
@@ -106,7 +106,7 @@ def drawn_dimensions(chance, name):
         given[f"{chance.choice(('m', 'made'))}:Sku"] = chance.choice((None, "m:North", *TEXTS))
     if chance.random() < 0.3:
         given.update({"unit": chance.choice(UNITS)} if KINDS[name] == "numeric" else {"language": chance.choice(LANGUAGES)})
-    return given
+    return dict(chance.sample([*given.items()], len(given)))
 
 
 def drawn_period(chance):
@@ -143,9 +143,14 @@ def drawn_report(chance):
         info.update(chance.choice(({"linkTypes": 5}, {"linkGroups": {"a": []}}, {"x:y": None})))
     identifiers = chance.sample(("f1", "f10", "f2", "", "é", "\ue000", "\U0001f40b", "a b", "\"\\\n", "F"), chance.randint(0, 6))
     facts = {own: drawn_fact(chance) for own in identifiers}
+    more = {"x:deep": nested(chance.choice((125, 126, 127)))} if chance.random() < 0.03 else {}
     if facts and chance.random() < 0.2:
         facts["again"] = chance.choice([*facts.values()])
-    return {"documentInfo": info, "facts": facts}
+    return {"documentInfo": info, "facts": facts, **more}
+
+
+def nested(depth):
+    return [nested(depth - 1)] if depth > 1 else []
 
 
 # ---- faults, by the number that they usually cause

@@ -1,5 +1,5 @@
 #!/usr/bin/env python3
-"""Checks one run of xbrlmerge: a second opinion, written apart from it.
+"""Checks one run of xbrlmerge: a second opinion that shares no code with it.
 
     tools/recheck --sheet SHEET --merged MERGED [--verdicts LINES] [--sources LINES] [--refusals LINES] [--explain ROW] REPORT ..
 
@@ -11,7 +11,7 @@ their intervals, and each pair of them.
 URLs are not resolved. `references not checked: N` counts the taxonomy references and base URLs that are not plainly http or https
 URLs in standard form. Each may have given any one reference of the merged report, and causes a refusal only if --refusals says so.
 
-This program is written from docs/FORMAT.md alone. Its parts are in the order of that page, and each rule has its sentence there.
+This program follows docs/FORMAT.md. Its parts are in the order of that page, and each rule has its sentence there.
 
 Status 0: all given texts agree. 1: something differs. 2: invalid arguments. 3: not done, and standard error shows why.
 """
@@ -355,23 +355,20 @@ def evidence(row: Sequence[tuple[str, Value]]) -> str:
 class Run:
     """What the sheet and the reports of a run give: facts with their identifiers, rows, and the lines that are printed."""
     def __init__(self, sheet: bytes, reports: Sequence[str], told: Mapping[str, str]) -> None:
-        refused: list[str] = []
         self.sheet: Sheet = {}
-        self.objects: list[tuple[Fact, int, str]] = []  # each fact object's fact, the number of its report, its own identifier
-        self.references: set[str] = set()
-        self.others: list[str] = []  # the URLs that are not plain
+        refused, accepted = [], []
         try:
             self.sheet = read_sheet(sheet)
         except Refused as fault:
             refused.append(f"sheet: {fault}\n")
         for number, path in enumerate(reports if self.sheet else [], 1):
             try:
-                facts, references, others = read_report(Path(path).read_bytes(), self.sheet, int(told.get(str(number), 0)))
-                self.objects += [(fact, number, own) for own, fact in facts.items()]
-                self.references |= references.difference(others)
-                self.others += others
+                accepted.append((number, *read_report(Path(path).read_bytes(), self.sheet, int(told.get(str(number), 0)))))
             except Refused as fault:
                 refused.append(f"report {number}: {fault}\n")
+        self.objects = [(fact, number, own) for number, facts, _, _ in accepted for own, fact in facts.items()]
+        self.others = [url for *_, others in accepted for url in others]
+        self.references = {url for _, _, references, others in accepted for url in references.difference(others)}
         self.facts = sorted({fact for fact, _, _ in self.objects})
         self.identifiers = dict(zip(self.facts, numbered("f", len(self.facts))))
         self.rows = [[(self.identifiers[fact], fact[1]) for fact in row] for row in rows_of(self.facts)]
@@ -394,7 +391,7 @@ def differences(given: Mapping[str, bytes], run: Run) -> Iterator[str]:
         yield from [f"merged: fact {own} is in no report" for own, fact in facts.items() if fact not in run.identifiers][:1]
         yield from [f"report {number}: its fact {own} is not in the merged report" for fact, number, own in run.objects if fact not in said][:1]
         yield from [f"merged: its reference {url} is in no report" for url in more[len(run.others):]][:1]
-        wanted["merged"] = canonical_text(run.facts, run.references.union(more))
+        wanted["merged"] = canonical_text(run.facts, run.references.union(more[:len(run.others)]))
     for name, content in given.items():
         found, text = content.decode(errors="surrogateescape"), wanted[name]
         if found != text:
@@ -423,7 +420,9 @@ def main() -> int:
         parser.add_argument(f"--{name}", required=name in ("sheet", "merged"), metavar="FILE")
     parser.add_argument("--explain", type=int, metavar="ROW")
     parser.add_argument("reports", nargs="*", metavar="REPORT")
-    options = parser.parse_intermixed_args()
+    end = [*sys.argv, "--"].index("--")  # all words after -- are reports
+    options = parser.parse_intermixed_args(sys.argv[1:end])
+    options.reports += sys.argv[end + 1:]
     given = {name: Path(getattr(options, name)).read_bytes() for name in texts if getattr(options, name)}
     told = dict(re.findall(r"^report (\d+): (\d+) ", given.get("refusals", b"").decode(errors="replace"), re.MULTILINE | re.ASCII))
     run = Run(Path(options.sheet).read_bytes(), options.reports, told)
@@ -435,8 +434,7 @@ def main() -> int:
               "row": len(run.rows), "contradiction": contradictions}
     summary = ", ".join(f"{count} {word}{'s' * (count != 1)}" for word, count in counts.items() if count or word != "refused report")
     lines += [*found, *[f"references not checked: {len(run.others)}"] * bool(run.others), f"{summary}: {'differ' if found else 'agree'}"]
-    for line in lines:
-        print("".join(each if each.isprintable() else json.dumps(each)[1:-1] for each in line))
+    print(*("".join(each if each.isprintable() else json.dumps(each)[1:-1] for each in line) for line in lines), sep="\n")
     return 1 if found else 0
 
 

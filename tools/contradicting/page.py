@@ -57,7 +57,8 @@ other. Long texts are cut to {MOST_CHARACTERS} characters near the first differe
     yield from by_concept(largest, reader, labels)
     yield "</div>"
     if check:
-        yield f'<details class="check"><summary>Check this run with a second program</summary><pre>{html.escape(check)}</pre></details>\n'
+        yield '<details class="check"><summary>Check this run with a second program</summary>\n'
+        yield f"<p>Run this command in the folder where the page was made:</p><pre>{html.escape(check)}</pre></details>\n"
     yield f"<script>{script}</script></body></html>\n"
 
 
