@@ -9,6 +9,7 @@ pub mod AllowedLevels
 pub mod Histories
 pub mod Agreement
 pub mod StoredTexts
+pub mod ReadBases
 pub mod Replays
 pub mod IndexedFacts
 pub mod Traces

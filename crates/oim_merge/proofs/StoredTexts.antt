@@ -81,6 +81,10 @@ number_within greatest (suc index) inside = let least : suc index ≤ greatest =
 pub sender_within : (replicas reports sent : ℕ) (event : Event) (i : ℕ) → event ≡ Send i → names_none replicas reports sent event ≡ false → i - 1 < replicas
 sender_within replicas reports sent event i is good = number_within replicas i (names_good replicas reports sent event (Send i) is good)
 
+pub receiver_within : (replicas reports sent : ℕ) (event : Event) (i k : ℕ) → event ≡ Receive i k → names_none replicas reports sent event ≡ false → i - 1 < replicas
+receiver_within replicas reports sent event i k is good =
+    number_within replicas i (or_parts (is_outside replicas i) (is_outside sent k) (names_good replicas reports sent event (Receive i k) is good)).0
+
 numbered_there : {A : Type 0} (xs : List A) (number : ℕ) (d : A) → is_outside (length xs) number ≡ false → numbered xs number ≡ Some (get_or xs (number - 1) d)
 numbered_there xs zero d inside = absurd (true≢false inside)
 numbered_there xs (suc index) d inside =
@@ -174,11 +178,15 @@ current_after_send texts more bases indices each stay k base index there is =
     zip_set (IsCurrent more) bases indices (zip_weaker (IsCurrent texts) (IsCurrent more) (still_current texts more stay) bases indices each) k base index
     (subst (λ b. IsCurrent more b index) there is)
 
+pub current_after_receive : (texts : List (List ℕ)) (bases more : List Contents) (indices left : List (Option ℕ)) → AllZip (IsCurrent texts) bases indices →
+    (k : ℕ) (base : Contents) (index : Option ℕ) → IsCurrent texts base index → more ≡ set bases k base → left ≡ set indices k index → AllZip (IsCurrent texts) more left
+current_after_receive texts bases more indices left each k base index is changed known =
+    subst (λ bs. AllZip (IsCurrent texts) bs left) (sym changed)
+    (subst (AllZip (IsCurrent texts) (set bases k base)) (sym known) (zip_both (IsCurrent texts) bases indices each k base index is))
+
 pub current_after_change : (texts : List (List ℕ)) (bases more : List Contents) (indices left : List (Option ℕ)) → AllZip (IsCurrent texts) bases indices →
     (k : ℕ) (base : Contents) → more ≡ set bases k base → left ≡ set indices k None → AllZip (IsCurrent texts) more left
-current_after_change texts bases more indices left each k base changed forgotten =
-    subst (λ bs. AllZip (IsCurrent texts) bs left) (sym changed)
-    (subst (AllZip (IsCurrent texts) (set bases k base)) (sym forgotten) (zip_both (IsCurrent texts) bases indices each k base None tt))
+current_after_change texts bases more indices left each k base changed forgotten = current_after_receive texts bases more indices left each k base None tt changed forgotten
 
 pub none_is_current : (texts : List (List ℕ)) (n : ℕ) (base : Contents) → AllZip (IsCurrent texts) (replicate n base) (replicate n None)
 none_is_current texts zero base = tt

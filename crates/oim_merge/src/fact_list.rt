@@ -8,10 +8,9 @@ ghost use Rattle.oim_dims.specs.FactOrder.{fact_cmp};
 ghost use Rattle.oim_merge.specs.code.BufferedRows.{lent};
 
 use fact_base::{Base, Row};
-use oim_dims::{Dimensions, Fact};
+use oim_dims::{Dimensions, Fact, likely_order};
 use oim_value::Value;
 use std::alloc::{AllocError, Global};
-use std::cmp::Ordering;
 
 /// A borrowed fact of a base.
 #[derive(Clone, Copy, Debug)]
@@ -48,20 +47,24 @@ fn add_row<'b>(facts: &mut Vec<LentFact<'b>>, row: Row<'b>) -> Result<(), AllocE
 
 /// Returns the number of facts that are less than this one.
 ///
-/// A URI may be long, and most facts of a report have one. So the fact is first looked for in the run
-/// without a comparison of URIs. If the fact at the index that is found equals it, this is the
-/// number, and the URI was read once.
-pub(crate) fn index_of(facts: &[LentFact<'_>], run: &mut Run, fact: &Fact) -> usize
+/// A URI may be long, and most facts of a report have one. So the fact is first looked for by an
+/// order that reads no long URI. If the fact at the index that is found equals it, this is the
+/// number, and each URI was read once.
+pub(crate) fn index_of(facts: &[LentFact<'_>], fact: &Fact) -> usize
     requires { IsSet fact_cmp (map lent facts.now) }
     ensures { result ≡ count_by (λ f. is_lt (fact_cmp f fact.now)) (map lent facts.now) }
 {
-    let guess = run.find(facts, fact);
+    let guess = facts.partition_point(|one| is_likely_less(one, fact));
     if is_at(facts, guess, fact) {
         return guess;
     }
-    let index = facts.partition_point(|one| is_less(one, fact));
-    run.learn(facts, index);
-    index
+    facts.partition_point(|one| is_less(one, fact))
+}
+
+fn is_likely_less(one: &LentFact<'_>, fact: &Fact) -> bool {
+    likely_order(one.dimensions, &fact.dimensions)
+        .then_with(|| one.value.cmp(&fact.value))
+        .is_lt()
 }
 
 fn is_at(facts: &[LentFact<'_>], index: usize, fact: &Fact) -> bool
@@ -79,56 +82,4 @@ fn is_less(one: &LentFact<'_>, fact: &Fact) -> bool
 {
     let of_fact = (&fact.dimensions, &fact.value);
     (one.dimensions, one.value).cmp(&of_fact).is_lt()
-}
-
-/// The indices of the facts whose concepts have one URI, in a list of ascending facts. No contract
-/// depends on them: a fact that is found in a run is compared once more.
-#[derive(Clone, Copy, Debug)]
-pub(crate) struct Run {
-    start: usize,
-    end: usize,
-    // the index that was learned last
-    last: usize,
-}
-
-impl Run {
-    /// Returns a run without facts.
-    pub(crate) fn new() -> Run {
-        Run {
-            start: 0,
-            end: 0,
-            last: 0,
-        }
-    }
-
-    /// Returns the index of the fact in the list, if the concept of the fact has the URI of the run.
-    pub(crate) fn find(&self, facts: &[LentFact<'_>], fact: &Fact) -> usize {
-        match facts.get(self.start..self.end) {
-            Some(run) => { self.start + run.partition_point(|one| order_in_run(one, fact).is_lt()) }
-            None => 0,
-        }
-    }
-
-    /// Takes the run of the fact at this index, if the fact that was learned before is in it. So
-    /// facts whose URIs alternate cost no search for runs.
-    pub(crate) fn learn(&mut self, facts: &[LentFact<'_>], index: usize) {
-        if let (Some(last), Some(one)) = (facts.get(self.last), facts.get(index)) {
-            let uri = one.dimensions.concept().uri();
-            if last.dimensions.concept().uri() == uri {
-                self.start = facts.partition_point(|one| one.dimensions.concept().uri() < uri);
-                self.end = facts.partition_point(|one| one.dimensions.concept().uri() <= uri);
-            }
-        }
-        self.last = index;
-    }
-}
-
-// Compares the fact with another whose concept has the same URI, which is not read.
-fn order_in_run(one: &LentFact<'_>, fact: &Fact) -> Ordering {
-    let (given, wanted) = (one.dimensions, &fact.dimensions);
-    let names = given.concept().local().cmp(wanted.concept().local());
-    names
-        .then_with(|| (given.entity(), given.period()).cmp(&(wanted.entity(), wanted.period())))
-        .then_with(|| (given.unit(), given.language()).cmp(&(wanted.unit(), wanted.language())))
-        .then_with(|| (given.members(), one.value).cmp(&(wanted.members(), &fact.value)))
 }

@@ -6,14 +6,14 @@ ghost use Rattle.oim_merge.specs.code.Held.{AreHeld, IsCurrent, IsTextAt, Stay, 
 ghost use Rattle.oim_merge.specs.Replicas.{with_outcome};
 ghost use Rattle.oim_write.specs.Bytes.{canonical};
 
-use crate::readings::{Reading, take_at};
+use crate::readings::{Reading, none_read, take_at};
 use fact_base::Base;
 use oim_report::Sheet;
 use oim_write::{Encoded, text};
 use std::alloc::{AllocError, Global};
 use std::cmp::Ordering;
 
-/// The sent texts in order. Equal texts are stored and read once. Contracts guarantee that a text
+/// The sent texts in order. Equal texts are stored once. Contracts guarantee that a text
 /// found by `find` is equal, but not that `find` finds each equal text. If `find` misses a text,
 /// this costs only memory and time.
 #[derive(Drop)]
@@ -22,11 +22,17 @@ pub(crate) struct Messages<'s> {
     pub texts: Vec<Encoded>,
     /// For each distinct text, the cached result of reading it.
     pub kept: Vec<Reading<'s>>,
-    /// The indices in `texts`, in the byte order of the texts.
+    /// The indices in `texts`, ordered by the length of the texts, then by their bytes.
     pub order: Vec<usize>,
     /// For each sent text, its index among the distinct texts.
     pub sent: Vec<usize>,
+    /// The length of all texts that `kept` has a result for, in bytes.
+    pub kept_bytes: usize,
 }
+
+// The length of the texts whose readings are cached together, in bytes. A base takes a few times as
+// much memory as its text.
+const MOST_KEPT_BYTES: usize = 8_000_000;
 
 impl<'s> Messages<'s> {
     pub(crate) fn new(alloc: Global) -> Messages<'s>
@@ -38,6 +44,7 @@ impl<'s> Messages<'s> {
             kept: Vec::new(alloc),
             order: Vec::new(alloc),
             sent: Vec::new(alloc),
+            kept_bytes: 0,
         }
     }
 
@@ -80,7 +87,7 @@ impl<'s> Messages<'s> {
         if let Some(index) = current {
             return Ok(index);
         }
-        let text = text(alloc, base)?;
+        let text = exact_text(alloc, base)?;
         let _sheet = base.sheet();
         match self.find(&text) {
             Ok(index) => Ok(index),
@@ -113,13 +120,46 @@ impl<'s> Messages<'s> {
 
     fn compare(&self, index: usize, text: &Encoded) -> Ordering {
         match self.texts.get(index) {
-            Some(known) => known.as_bytes().cmp(text.as_bytes()),
+            Some(known) => {
+                let (known, text) = (known.as_bytes(), text.as_bytes());
+                known.len().cmp(&text.len()).then_with(|| known.cmp(text))
+            }
             None => Ordering::Less,
         }
     }
 
+    // Counts the text at `index` among those with cached readings. If these texts are too long
+    // together, all cached readings are dropped.
+    fn make_room(&mut self, alloc: Global, index: usize) -> Result<(), AllocError>
+        requires { index < length self.old.texts.items }
+        ensures texts { self.new.texts ≡ self.old.texts }
+        ensures sent { self.new.sent ≡ self.old.sent }
+        ensures held { (sheet : SheetSeen) → AreHeld sheet self.old → OnOk result (AreHeld sheet self.new) }
+    {
+        if let Some(Some(_read)) = self.kept.get(index) {
+            return Ok(());
+        }
+        let length = self.texts[index].as_bytes().len();
+        self.kept_bytes = self.kept_bytes.saturating_add(length);
+        if self.kept_bytes > MOST_KEPT_BYTES {
+            self.kept_bytes = length;
+            return self.drop_readings(alloc);
+        }
+        Ok(())
+    }
+
+    fn drop_readings(&mut self, alloc: Global) -> Result<(), AllocError>
+        ensures texts { self.new.texts ≡ self.old.texts }
+        ensures sent { self.new.sent ≡ self.old.sent }
+        ensures held { (sheet : SheetSeen) → AreHeld sheet self.old → OnOk result (AreHeld sheet self.new) }
+    {
+        self.kept = none_read(alloc, self.texts.len())?;
+        Ok(())
+    }
+
     /// Adds the facts and references of a sent text to a base. `number` counts sent texts from 0.
-    /// Each text is read only once. If the text is refused, the base does not change.
+    /// The result of reading a text is cached as long as there is room. If the text is refused, the
+    /// base does not change.
     ///
     /// Errors: out of memory.
     pub(crate) fn give(
@@ -139,6 +179,7 @@ impl<'s> Messages<'s> {
             ≡ with_outcome (outcome sheet.now (slice_index_or (sent_texts self.old) number [])) base.old) }
     {
         let index = self.sent[number];
+        self.make_room(alloc, index)?;
         take_at(
             alloc,
             sheet,
@@ -149,4 +190,27 @@ impl<'s> Messages<'s> {
         )?;
         Ok(())
     }
+
+    /// Returns the index of a sent text if it is the text of this base, as far as its cached reading
+    /// shows. `number` counts sent texts from 0.
+    pub(crate) fn index_if_of(&self, number: usize, base: &Base<'_>) -> Option<usize>
+        requires number { number < length self.now.sent.items }
+        requires held { AreHeld base.now.sheet self.now }
+        ensures { IsCurrent self.now.texts.items base.now result }
+    {
+        let index = self.sent[number];
+        match self.kept.get(index) {
+            Some(Some(Ok(read))) if base.same_as(read) => Some(index),
+            _ => None,
+        }
+    }
+}
+
+// Returns the canonical text of a base in no more memory than its bytes take. `text` may reserve
+// twice as much.
+fn exact_text(alloc: Global, base: &Base<'_>) -> Result<Encoded, AllocError>
+    ensures { IfOk result (λ text. text ≡ canonical base.now.body) }
+{
+    let written = text(alloc, base)?;
+    Encoded::new(alloc, written.as_bytes())
 }

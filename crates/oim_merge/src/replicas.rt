@@ -107,9 +107,12 @@ impl<'s> Replicas<'s> {
             }
             Event::Receive(i, k) => {
                 let index = i as usize - 1;
-                forget(&mut self.current, index);
                 let base = &mut self.bases[index];
                 self.messages.give(alloc, sheet, k as usize - 1, base)?;
+                // a replica that has only facts of the text does not write the text again
+                let base = &self.bases[index];
+                let known = self.messages.index_if_of(k as usize - 1, base);
+                set_current(&mut self.current, index, known);
             }
             Event::Restart(i) => {
                 let index = i as usize - 1;
@@ -131,8 +134,14 @@ fn is_there(number: u32, greatest: usize) -> bool
 fn forget(current: &mut Vec<Option<usize>>, index: usize)
     ensures { current.new.items ≡ slice_set current.old.items index None }
 {
+    set_current(current, index, None);
+}
+
+fn set_current(current: &mut Vec<Option<usize>>, index: usize, text: Option<usize>)
+    ensures { current.new.items ≡ slice_set current.old.items index text }
+{
     if let Some(known) = current.get_mut(index) {
-        *known = None;
+        *known = text;
     }
 }
 

@@ -5,9 +5,9 @@ use Rattle.oim_merge.specs.code.Held.{AreHeld, IsCurrent, sent_texts, world_in}
 use Rattle.oim_merge.specs.Replicas.{wire}
 use Rattle.oim_merge.specs.Schedule.{happens}
 use Rattle.oim_merge.specs.declared.event.Event.TheVariants.{Receive}
-use Rattle.oim_merge.proofs.StoredTexts.{current_after_change, current_after_send, current_at, names_good, receives_text, sender_within, kept_long}
+use Rattle.oim_merge.proofs.StoredTexts.{current_after_change, current_after_receive, current_after_send, current_at, kept_long, names_good, receiver_within, receives_text, sender_within}
 use Rattle.std.proofs.lemmas.Slice.Zip.{AllZip-long}
-use Rattle.std.proofs.lemmas.List.{with_items_is}
+use Rattle.std.proofs.lemmas.List.{get_or-set_same, with_items_is}
 use Rattle.oim_merge.specs.code.Readings.{AreReadings}
 use Rattle.oim_merge.proofs.replicas.Replicas.step.Goals as goal
 
@@ -95,16 +95,20 @@ returns-in_ok-give-in-Receive-clause-world c =
 pub returns-in_ok-give-in-Receive-clause-kept : goal.returns-in_ok-give-in-Receive-clause-kept
 returns-in_ok-give-in-Receive-clause-kept c =
     let old = c.args.self.now in
+    let bases = old.bases.items in
     let index = c.in-Receive.i - 1 in
     let base = c.give.new.base in
-    let more = set old.bases.items index base in
-    let left = c.forget-in-Receive.new.current.items in
-    let same : old.messages.texts.items ≡ c.give.new.self.texts.items = λ t. ((sym c.in_ok-give-in-Receive.ensures.texts) t).items in
+    let texts = c.give.new.self.texts.items in
+    let known = c.index_if_of-known.result in
+    let within = receiver_within (length bases) (length c.args.reports.now) (length (sent_texts old.messages)) c.args.event c.in-Receive.i c.in-Receive.k c.in-Receive.is c.requires.there in
+    let there : c.index-base.result.now ≡ base = c.index-base.ensures ∙ get_or-set_same bases index base c.index-base.result.now within in
+    let same : old.messages.texts.items ≡ texts = λ t. ((sym c.in_ok-give-in-Receive.ensures.texts) t).items in
+    let before = subst (λ ts. AllZip (IsCurrent ts) bases old.current.items) same c.requires.kept.current in
     record {
       taken = c.requires.kept.taken;
       held = c.in_ok-give-in-Receive.ensures.held;
-      current = subst (λ texts. AllZip (IsCurrent texts) more left) same
-          (current_after_change old.messages.texts.items old.bases.items more old.current.items left c.requires.kept.current index base refl c.forget-in-Receive.ensures);
+      current = current_after_receive texts bases (set bases index base) old.current.items c.set_current.new.current.items before index base known
+          (subst (λ b. IsCurrent texts b known) there c.index_if_of-known.ensures) refl c.set_current.ensures;
     }
 
 pub returns-in-Restart-clause-kept : goal.returns-in-Restart-clause-kept
