@@ -1,7 +1,6 @@
 -- Facts that were found in a text, sorted by their identifiers.
-use Rattle.std.proofs.Common.{◌≡◌, ℕ, List, [], ◌∷◌, Bool, false, Option, Some, None, Result, Ok, Err, refl, sym, ap, ◌∙◌, subst, codes, not, is_none, option_and_then, if◌then◌else◌, IfOk, IfSome, MatchResult, IsUtf8, unwrap_or, suc, ◌+◌, ◌<◌, ◌++◌, length, get_or, drop, map, true, cond, String, Global, string_bytes, arith, append_assoc, append-nil, zero, slice_get, string_cmp, Ordering, Less, Equal, Greater}
+use Rattle.std.proofs.Common.{◌≡◌, ℕ, List, [], ◌∷◌, Bool, false, Option, Some, None, Result, Ok, Err, refl, sym, ap, ◌∙◌, subst, codes, not, is_none, option_and_then, if◌then◌else◌, IfOk, IfSome, IsUtf8, unwrap_or, suc, ◌+◌, ◌<◌, ◌++◌, length, get_or, drop, map, true, cond, String, Global, string_bytes, arith, append_assoc, append-nil, zero, slice_get, string_cmp, Ordering, Less, Equal, Greater}
 use Rattle.std.proofs.lemmas.Bool.{or_parts, or_from, false≢true}
-use Rattle.std.specs.Result.{result_ok}
 use Rattle.std.specs.Ordering.{nat_cmp, match_ordering, is_lt}
 use Rattle.std.specs.Cmp.Lexicographic.{slice_cmp}
 use Rattle.std.specs.BTreeMap.{insert_entry}
@@ -136,18 +135,10 @@ whole_outcome sheet bytes tree ms fs facts references level t read accepted said
     ap (tree_outcome sheet) read ∙ ap (λ o. unless_refused o (then_allowed (map_ok (document_with all) (facts_said sheet (bindings_of all) (facts_of all))))) none
     ∙ ap (λ o. then_allowed (map_ok (document_with all) o)) same ∙ ap allowed made ∙ ap (λ b. if b then Err (at AtDocument DisallowedDuplicates) else Ok document) above
 
-pub taken : {A E : Type 0} (r : Result A E) (x : A) (P : A → Type 0) → IfOk r P → Some x ≡ result_ok r → P x
-taken (Ok a) x P h e = let same : a ≡ x = cc in subst P same h
-taken (Err q) x P h e = absurd (cc)
-
-pub taken_case : {A E : Type 0} (r : Result A E) (x : A) (P : A → Type 0) (Q : E → Type 0) → MatchResult r P Q → Some x ≡ result_ok r → P x
-taken_case (Ok a) x P Q h e = let same : a ≡ x = cc in subst P same h
-taken_case (Err q) x P Q h e = absurd (cc)
-
-pub json_outline : {A : Type 0} (r : Option A) (t : A → Data) (f : A → List ℕ) (bytes text : List ℕ) → IfSome r (λ o. IsOutline text (t o) (f o)) → IsUtf8 text → text ≡ without_mark bytes
-    → IfSome r (λ o. (before : Members) × (t o ≡ object before) × ((found : Members) → IsPiece (f o) found → json bytes ≡ Some (object (put (codes "facts") (object found) before))))
-json_outline None t f bytes text h utf8 e = tt
-json_outline (Some o) t f bytes text h utf8 e = (h.0, h.1, λ found p. ap json_text (sym e) ∙ passes text (read text) utf8 ∙ h.2 found p)
+pub json_outline : {A E : Type 0} (r : Result A E) (t : A → Data) (f : A → List ℕ) (bytes text : List ℕ) → IfOk r (λ o. IsOutline text (t o) (f o)) → IsUtf8 text → text ≡ without_mark bytes
+    → IfOk r (λ o. (before : Members) × (t o ≡ object before) × ((found : Members) → IsPiece (f o) found → json bytes ≡ Some (object (put (codes "facts") (object found) before))))
+json_outline (Err q) t f bytes text h utf8 e = tt
+json_outline (Ok o) t f bytes text h utf8 e = (h.0, h.1, λ found p. ap json_text (sym e) ∙ passes text (read text) utf8 ∙ h.2 found p)
 
 module _ (sheet : Sheet) (bs : List Binding) where
   -- ---- one piece after another
@@ -243,10 +234,6 @@ stops l s ss e = ap (λ b. cond b (rise_after (Some (string_bytes s)) ss) false)
 pub one_further : (ms : Members) (k : List ℕ) (d : Data) (ns : Members) → append (append ms (member k d no_members)) ns ≡ append ms (member k d ns)
 one_further no_members k d ns = refl
 one_further (member l e ms) k d ns = ap (member l e) (one_further ms k d ns)
-
-pub weaker : {A : Type 0} (r : Option A) (P Q : A → Type 0) → IfSome r P → ((x : A) → P x → Q x) → IfSome r Q
-weaker None P Q h f = tt
-weaker (Some x) P Q h f = f x h
 
 pub at_index : {X : Type 0} (xs : List X) (i : ℕ) (x : X) → i < length xs → x ≡ get_or xs i x → drop i xs ≡ x ∷ drop (i + 1) xs
 at_index xs i x l e = drop_more xs i x l ∙ ap (λ y. y ∷ drop (i + 1) xs) (sym e)

@@ -1,15 +1,15 @@
 -- The parts of an object, and the parts after a member is put into the object.
-use Rattle.std.proofs.Common.{◌≡◌, ℕ, List, Bool, true, false, cond, ◌||◌, Option, Some, codes, bytes_eq, nat_cmp, Less, Equal, Greater, refl, sym, ap, ◌∙◌, zero, suc, ◌+◌, ◌<◌, [], ◌∷◌, length, get_or, Bor, subst, arith, None, Result, Ok, Err, insert, ◌++◌, append_assoc, ◌&&◌, not, option_map, option_and_then}
+use Rattle.std.proofs.Common.{◌≡◌, ℕ, List, Bool, true, false, cond, ◌||◌, Option, Some, codes, bytes_eq, nat_cmp, Less, Equal, Greater, refl, sym, ap, ◌∙◌, zero, suc, ◌+◌, ◌<◌, [], ◌∷◌, length, get_or, Bor, subst, arith, Result, insert, ◌++◌, append_assoc, ◌&&◌, not, option_map, option_and_then}
 use Rattle.std.specs.Ordering.{match_ordering}
 use Rattle.std.specs.Cmp.Lexicographic.{slice_cmp}
 use Rattle.std.specs.Str.{is_utf8, IsUtf8}
 use Rattle.std.proofs.lemmas.Bool.{false≢true, cond-true, or_parts, and_from}
 use Rattle.std.specs.List.{list_any}
 use Rattle.std.proofs.lemmas.List.{map-append}
+use Rattle.std.proofs.lemmas.Result.{on_ok_weaker}
 use Rattle.std.proofs.lemmas.Slice.Eq.{bytes_eq-Decides}
 use Rattle.oim_names.proofs.Bytes.{bytes_not_eq}
-use Rattle.std.specs.Prelude.{⊤, OnSome, is_ok, if◌then◌else◌}
-use Rattle.std.specs.Result.{result_ok}
+use Rattle.std.specs.Prelude.{⊤, OnOk}
 use Rattle.std.proofs.lemmas.Str.{is_utf8-from_IsUtf8}
 use Rattle.serde_json.specs.Data.{Data, object, Members, no_members, member, put}
 use Rattle.serde_json.specs.Find.{as_object, get, get_member}
@@ -218,19 +218,10 @@ seen_insert [] (suc n) x = refl
 seen_insert (y ∷ xs) zero x = refl
 seen_insert (y ∷ xs) (suc n) x = ap (λ l. (y.0.now, seen y.1) ∷ l) (seen_insert xs n x)
 
-pub if_inserted : {A E : Type 0} (r : Result (Unit {0}) E) (o : Option (Unit {0})) (new xs ys : List A) → o ≡ result_ok r → new ≡ (if is_ok r then xs else ys) → OnSome o (new ≡ xs)
-if_inserted r None new xs ys e i = tt
-if_inserted (Ok u) (Some x) new xs ys e i = i
-if_inserted (Err q) (Some x) new xs ys e i = absurd (Prim.cc)
-
-pub on_some : {P Q : Type 0} (o : Option (Unit {0})) → (P → Q) → OnSome o P → OnSome o Q
-on_some None f h = tt
-on_some (Some x) f h = f h
-
-pub defined_at : (r : Option (Unit {0})) (old new : LentDimensions) (key : List ℕ) (g : Given) → IsUtf8 key → has_colon key ≡ true → new ≡ record old { defined = new.defined }
-    → OnSome r (seen_defined new.defined.items ≡ with_given key g (seen_defined old.defined.items))
-    → OnSome r ((d : Data) (ms : Members) → given d ≡ g → Ascends ms → dimension_parts ms ≡ seen_dimensions old → dimension_parts (put key d ms) ≡ seen_dimensions new)
-defined_at r old new key g utf8 colon others here = on_some r
+pub defined_at : {E : Type 0} (r : Result (Unit {0}) E) (old new : LentDimensions) (key : List ℕ) (g : Given) → IsUtf8 key → has_colon key ≡ true → new ≡ record old { defined = new.defined }
+    → OnOk r (seen_defined new.defined.items ≡ with_given key g (seen_defined old.defined.items))
+    → OnOk r ((d : Data) (ms : Members) → given d ≡ g → Ascends ms → dimension_parts ms ≡ seen_dimensions old → dimension_parts (put key d ms) ≡ seen_dimensions new)
+defined_at r old new key g utf8 colon others here = on_ok_weaker r
     (λ h d ms is rises are.
     let p = seen_dimensions old in
     defined_dimension key d ms colon (is_utf8-from_IsUtf8 key utf8) rises

@@ -1,4 +1,4 @@
-ghost use Rattle.std.specs.Prelude.{◌≡◌, ◌⊎◌, Some, Ok, Err, IfOk, IfErr, IfSome, map, string_bytes};
+ghost use Rattle.std.specs.Prelude.{◌≡◌, ◌⊎◌, Some, Ok, Err, IfOk, IfErr, map, string_bytes};
 ghost use Rattle.serde_json.specs.View.{view};
 ghost use Rattle.oim_report.specs.Document.{SaysDocument};
 ghost use Rattle.oim_report.specs.Identifiers.{identifiers};
@@ -12,6 +12,7 @@ use crate::document::json_tree::{read_json, read_json_outline};
 use crate::fact::fact_reader::{FactReader, read_facts};
 use crate::limits::PIECE_BYTES;
 use crate::order::order_of;
+use crate::pieces::not_in_pieces::NotInPieces;
 use crate::pieces::piece_facts::{PieceBuffers, read_facts_in_pieces};
 use crate::place::Place;
 use crate::refusal::Refusal;
@@ -103,8 +104,10 @@ impl<'s> ReportReader<'s> {
         ensures errors { IfErr result
             (λ r. (r ≡ at Place.Document Reason.OutOfMemory) ⊎ (outcome self.old bytes.now ≡ Err r)) }
     {
-        if let Some((report, _identifiers)) = self.read_in_pieces(bytes) {
-            return Ok(report);
+        match self.read_in_pieces(bytes) {
+            Ok((report, _identifiers)) => return Ok(report),
+            Err(NotInPieces::Memory(error)) => return Err(Refusal::from(error)),
+            Err(NotInPieces::NeedsTree) => {}
         }
         let tree = read_json(self.alloc, bytes)?;
         self.read_tree(&tree)
@@ -125,8 +128,10 @@ impl<'s> ReportReader<'s> {
         ensures errors { IfErr result
             (λ r. (r ≡ at Place.Document Reason.OutOfMemory) ⊎ (outcome self.old bytes.now ≡ Err r)) }
     {
-        if let Some((report, identifiers)) = self.read_in_pieces(bytes) {
-            return Ok((report, texts_of(self.alloc, identifiers)?));
+        match self.read_in_pieces(bytes) {
+            Ok((report, identifiers)) => return Ok((report, texts_of(self.alloc, identifiers)?)),
+            Err(NotInPieces::Memory(error)) => return Err(Refusal::from(error)),
+            Err(NotInPieces::NeedsTree) => {}
         }
         let tree = read_json(self.alloc, bytes)?;
         let report = self.read_tree(&tree)?;
@@ -155,19 +160,19 @@ impl<'s> ReportReader<'s> {
     }
 
     /// Does the same as `read_identified`, but parses the facts in pieces. Only one piece at a time
-    /// is held as a tape. The result is `None` if the text cannot be read in pieces, or if the
-    /// report or a request for memory is refused. After `None`, the whole text is read as a tree.
-    fn read_in_pieces(&mut self, bytes: &[u8]) -> Option<(Report<'s>, Vec<String>)>
+    /// is held as a tape. The result is `NeedsTree` if the text cannot be read in pieces, or if the
+    /// report is refused.
+    fn read_in_pieces(&mut self, bytes: &[u8]) -> Result<(Report<'s>, Vec<String>), NotInPieces>
         ensures same { self.new ≡ self.old }
-        ensures ok { IfSome result (λ read. outcome self.old bytes.now ≡ Ok read.0.document) }
-        ensures sheet { IfSome result (λ read. read.0.sheet ≡ self.old) }
-        ensures identifiers { IfSome result
+        ensures ok { IfOk result (λ read. outcome self.old bytes.now ≡ Ok read.0.document) }
+        ensures sheet { IfOk result (λ read. read.0.sheet ≡ self.old) }
+        ensures identifiers { IfOk result
             (λ read. identifiers bytes.now ≡ Some (map string_bytes read.1.items)) }
     {
         let alloc = self.alloc;
         let sheet = self.facts.sheet();
         let outline = read_json_outline(alloc, bytes)?;
-        let info = read_info(alloc, &outline.tree).ok()?;
+        let info = read_info(alloc, &outline.tree)?;
         self.facts.turn_to(info.aliases);
         let found = read_facts_in_pieces(
             alloc,
@@ -182,11 +187,11 @@ impl<'s> ReportReader<'s> {
             facts,
             indices,
         } = found?;
-        let order = order_of(alloc, facts.as_slice(), indices.as_slice()).ok()?;
+        let order = order_of(alloc, facts.as_slice(), indices.as_slice())?;
         if is_above(info.level, facts.as_slice(), order.as_slice()) {
-            return None;
+            return Err(NotInPieces::NeedsTree);
         }
         let report = Report::new(sheet, facts, info.references, info.level, order);
-        Some((report, identifiers))
+        Ok((report, identifiers))
     }
 }

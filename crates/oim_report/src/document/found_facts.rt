@@ -1,4 +1,4 @@
-ghost use Rattle.std.specs.Prelude.{◌≡◌, ◌++◌, ◌∷◌, [], List, None, true, map, IfSome, OnSome};
+ghost use Rattle.std.specs.Prelude.{◌≡◌, ◌++◌, ◌∷◌, [], List, None, map, IfOk, OnOk};
 ghost use Rattle.std.specs.BTreeMap.{insert_entry};
 ghost use Rattle.std.specs.String.{string_cmp};
 ghost use Rattle.oim_names.specs.Bindings.{Binding};
@@ -8,8 +8,9 @@ ghost use Rattle.oim_report.specs.code.UriIndices.{AreUriIndices};
 ghost use Rattle.oim_report.specs.Pieces.{put_all};
 ghost use Rattle.oim_report.specs.Sheet.{Sheet as ASheet};
 
+use crate::pieces::not_in_pieces::NotInPieces;
 use oim_dims::Fact;
-use std::alloc::Global;
+use std::alloc::{AllocError, Global};
 use std::collections::BTreeMap;
 
 /// The facts of one or more pieces, with their identifiers, in the order of the text. Identifiers
@@ -37,62 +38,63 @@ impl FoundFacts {
         }
     }
 
-    fn reserve(&mut self, count: usize) -> Option<()>
-        ensures identifiers { OnSome result (self.new.identifiers.items ≡ self.old.identifiers.items) }
-        ensures facts { OnSome result (self.new.facts.items ≡ self.old.facts.items) }
-        ensures indices { OnSome result (self.new.indices.items ≡ self.old.indices.items) }
+    fn reserve(&mut self, count: usize) -> Result<(), AllocError>
+        ensures identifiers { OnOk result (self.new.identifiers.items ≡ self.old.identifiers.items) }
+        ensures facts { OnOk result (self.new.facts.items ≡ self.old.facts.items) }
+        ensures indices { OnOk result (self.new.indices.items ≡ self.old.indices.items) }
     {
-        self.identifiers.reserve(count).ok()?;
-        self.facts.reserve(count).ok()?;
-        self.indices.reserve(count).ok()
+        self.identifiers.reserve(count)?;
+        self.facts.reserve(count)?;
+        self.indices.reserve(count)
     }
 
-    /// Adds a fact at the end. The result is `None` if a request for memory is refused.
+    /// Adds a fact at the end.
     pub(crate) fn push(
         &mut self,
         identifier: String,
         fact: Fact,
         index: Option<usize>,
-    ) -> Option<()>
-        ensures identifiers { OnSome result (self.new.identifiers.items ≡ self.old.identifiers.items ++ identifier ∷ []) }
-        ensures facts { OnSome result (self.new.facts.items ≡ self.old.facts.items ++ fact ∷ []) }
-        ensures indices { OnSome result (self.new.indices.items ≡ self.old.indices.items ++ index ∷ []) }
+    ) -> Result<(), AllocError>
+        ensures identifiers { OnOk result (self.new.identifiers.items ≡ self.old.identifiers.items ++ identifier ∷ []) }
+        ensures facts { OnOk result (self.new.facts.items ≡ self.old.facts.items ++ fact ∷ []) }
+        ensures indices { OnOk result (self.new.indices.items ≡ self.old.indices.items ++ index ∷ []) }
     {
-        self.facts.push(fact).ok()?;
-        self.identifiers.push(identifier).ok()?;
-        self.indices.push(index).ok()
+        self.facts.push(fact)?;
+        self.identifiers.push(identifier)?;
+        self.indices.push(index)?;
+        Ok(())
     }
 
-    /// Adds the facts at the end. The result is `None` if a request for memory is refused.
-    pub(crate) fn append(&mut self, more: FoundFacts) -> Option<()>
-        ensures identifiers { OnSome result (self.new.identifiers.items ≡ self.old.identifiers.items ++ more.identifiers.items) }
-        ensures facts { OnSome result (self.new.facts.items ≡ self.old.facts.items ++ more.facts.items) }
-        ensures indices { OnSome result (self.new.indices.items ≡ self.old.indices.items ++ more.indices.items) }
+    /// Adds the facts at the end.
+    pub(crate) fn append(&mut self, more: FoundFacts) -> Result<(), AllocError>
+        ensures identifiers { OnOk result (self.new.identifiers.items ≡ self.old.identifiers.items ++ more.identifiers.items) }
+        ensures facts { OnOk result (self.new.facts.items ≡ self.old.facts.items ++ more.facts.items) }
+        ensures indices { OnOk result (self.new.indices.items ≡ self.old.indices.items ++ more.indices.items) }
     {
         let FoundFacts {
             mut identifiers,
             mut facts,
             mut indices,
         } = more;
-        self.identifiers.append(&mut identifiers).ok()?;
-        self.facts.append(&mut facts).ok()?;
-        self.indices.append(&mut indices).ok()
+        self.identifiers.append(&mut identifiers)?;
+        self.facts.append(&mut facts)?;
+        self.indices.append(&mut indices)
     }
 
     /// Sorts the facts by their identifiers in byte order. If an identifier is repeated, only its
-    /// last fact is kept. The result is `None` if a request for memory is refused.
-    pub(crate) fn in_order(self, alloc: Global) -> Option<FoundFacts>
-        ensures found { IfSome result (λ f. (sheet : ASheet) (bs : List Binding) (ms : Members) →
+    /// last fact is kept.
+    pub(crate) fn in_order(self, alloc: Global) -> Result<FoundFacts, NotInPieces>
+        ensures found { IfOk result (λ f. (sheet : ASheet) (bs : List Binding) (ms : Members) →
             AreFound sheet bs ms self.identifiers.items self.facts.items →
             AreFound sheet bs (put_all ms no_members) f.identifiers.items f.facts.items) }
-        ensures indices { IfSome result (λ f. (bs : List Binding) →
+        ensures indices { IfOk result (λ f. (bs : List Binding) →
             AreUriIndices bs self.facts.items self.indices.items → AreUriIndices bs f.facts.items f.indices.items) }
     {
         if rise(self.identifiers.as_slice()) {
-            return Some(self);
+            return Ok(self);
         }
         let found = by_identifier(alloc, self)?;
-        found_in(alloc, found)
+        Ok(found_in(alloc, found)?)
     }
 }
 
@@ -112,11 +114,14 @@ fn rise(identifiers: &[String]) -> bool
     true
 }
 
-fn by_identifier(alloc: Global, read: FoundFacts) -> Option<BTreeMap<String, IndexedFact>>
-    ensures found { IfSome result (λ m. (sheet : ASheet) (bs : List Binding) (ms : Members) →
+fn by_identifier(
+    alloc: Global,
+    read: FoundFacts,
+) -> Result<BTreeMap<String, IndexedFact>, NotInPieces>
+    ensures found { IfOk result (λ m. (sheet : ASheet) (bs : List Binding) (ms : Members) →
         AreFound sheet bs ms read.identifiers.items read.facts.items →
         AreFound sheet bs (put_all ms no_members) (map (λ e. e.0) m.entries) (map (λ e. e.1.0) m.entries)) }
-    ensures indices { IfSome result (λ m. (bs : List Binding) →
+    ensures indices { IfOk result (λ m. (bs : List Binding) →
         AreUriIndices bs read.facts.items read.indices.items →
         AreUriIndices bs (map (λ e. e.1.0) m.entries) (map (λ e. e.1.1) m.entries)) }
 {
@@ -124,23 +129,31 @@ fn by_identifier(alloc: Global, read: FoundFacts) -> Option<BTreeMap<String, Ind
     let mut facts = read.facts.into_iter();
     let mut indices = read.indices.into_iter();
     for identifier in read.identifiers {
-        let fact = (facts.next()?, indices.next()?);
-        if !put(&mut found, identifier, fact) {
-            return None;
-        }
+        let Some(fact) = facts.next() else {
+            return Err(NotInPieces::NeedsTree);
+        };
+        let Some(index) = indices.next() else {
+            return Err(NotInPieces::NeedsTree);
+        };
+        put(&mut found, identifier, (fact, index))?;
     }
-    Some(found)
+    Ok(found)
 }
 
 // The function is generic because its proof takes long for a fact, which has many parts to drop.
-fn put<T: Drop>(found: &mut BTreeMap<String, T>, identifier: String, item: T) -> bool
-    ensures { result ≡ true → found.new.entries ≡ insert_entry string_cmp found.old.entries identifier item }
+fn put<T: Drop>(
+    found: &mut BTreeMap<String, T>,
+    identifier: String,
+    item: T,
+) -> Result<(), AllocError>
+    ensures { OnOk result (found.new.entries ≡ insert_entry string_cmp found.old.entries identifier item) }
 {
-    found.insert(identifier, item).is_ok()
+    found.insert(identifier, item)?;
+    Ok(())
 }
 
-fn found_in(alloc: Global, found: BTreeMap<String, IndexedFact>) -> Option<FoundFacts>
-    ensures { IfSome result (λ f. (f.identifiers.items ≡ map (λ e. e.0) found.entries)
+fn found_in(alloc: Global, found: BTreeMap<String, IndexedFact>) -> Result<FoundFacts, AllocError>
+    ensures { IfOk result (λ f. (f.identifiers.items ≡ map (λ e. e.0) found.entries)
         × (f.facts.items ≡ map (λ e. e.1.0) found.entries)
         × (f.indices.items ≡ map (λ e. e.1.1) found.entries)) }
 {
@@ -149,5 +162,5 @@ fn found_in(alloc: Global, found: BTreeMap<String, IndexedFact>) -> Option<Found
     for (identifier, (fact, index)) in found {
         all.push(identifier, fact, index)?;
     }
-    Some(all)
+    Ok(all)
 }

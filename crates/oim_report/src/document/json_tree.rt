@@ -6,6 +6,7 @@ ghost use Rattle.serde_json.specs.View.{view, members_view};
 ghost use Rattle.oim_report.specs.Json.{without_mark, json, object_at, within, any_in, has_member, has_colon, is_unknown, is_no_object, is_no_array};
 ghost use Rattle.oim_report.specs.Shown.{unknown_in};
 
+use crate::pieces::not_in_pieces::NotInPieces;
 use crate::pieces::outline::{Outline, read_outline};
 use oim_names::Reason;
 use serde_json::{Map, Value};
@@ -26,13 +27,15 @@ pub(crate) fn read_json(alloc: Global, bytes: &[u8]) -> Result<Value, Reason>
     }
 }
 
-pub(crate) fn read_json_outline(alloc: Global, bytes: &[u8]) -> Option<Outline<'_>>
-    ensures { IfSome result (λ o. (before : Members) × (view o.tree ≡ object before)
+pub(crate) fn read_json_outline(alloc: Global, bytes: &[u8]) -> Result<Outline<'_>, NotInPieces>
+    ensures { IfOk result (λ o. (before : Members) × (view o.tree ≡ object before)
         × ((found : Members) → IsPiece o.facts.now found
         → json bytes.now ≡ Some (object (put (codes "facts") (object found) before)))) }
 {
-    let text = str::from_utf8(after_mark(bytes)).ok()?;
-    read_outline(alloc, text)
+    match str::from_utf8(after_mark(bytes)) {
+        Ok(text) => read_outline(alloc, text),
+        Err(_) => Err(NotInPieces::NeedsTree),
+    }
 }
 
 /// Returns the bytes after the UTF-8 byte order mark at the start, or all bytes if there is no

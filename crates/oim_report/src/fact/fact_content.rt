@@ -37,7 +37,7 @@ pub(crate) fn cached_name(
         return Ok(known.copied(alloc)?);
     }
     let name = aliases.expand(text)?;
-    names.add(text, name.copied(alloc)?);
+    names.add(text, name.copied(alloc)?)?;
     Ok(name)
 }
 
@@ -60,7 +60,7 @@ pub(crate) fn cached_entity(
                 return Ok(Some(known.copied(alloc)?));
             }
             let read = aliases.expand_entity(text)?;
-            entities.add(text, read.copied(alloc)?);
+            entities.add(text, read.copied(alloc)?)?;
             Ok(Some(read))
         }
         _ => Err(Reason::MemberForm),
@@ -85,7 +85,7 @@ pub(crate) fn cached_period(
             }
             let read = read_period(alloc, text);
             if let Ok(period) = &read {
-                periods.add(text, *period);
+                periods.add(text, *period)?;
             }
             read
         }
@@ -113,7 +113,7 @@ pub(crate) fn cached_unit(
                 return Ok(Copied::copied(known, alloc)?);
             }
             let read = read_unit(alloc, aliases, text)?;
-            units.add(text, Copied::copied(&read, alloc)?);
+            units.add(text, Copied::copied(&read, alloc)?)?;
             Ok(read)
         }
         _ => Err(Reason::UnitOnOther),
@@ -139,7 +139,7 @@ pub(crate) fn cached_language(
                 return Ok(Some(known.copied(alloc)?));
             }
             let read = read_language(alloc, text)?;
-            languages.add(text, read.copied(alloc)?);
+            languages.add(text, read.copied(alloc)?)?;
             Ok(Some(read))
         }
         _ => Err(Reason::LanguageOnNumeric),

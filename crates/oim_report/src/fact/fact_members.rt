@@ -1,7 +1,7 @@
 //! Reads the members of a fact, from a JSON value or from a tape. Both lend the texts, so they are
 //! not copied.
 
-ghost use Rattle.std.specs.Prelude.{◌≡◌, ◌≤◌, ◌||◌, length, true, false, IfNone, IfOk, IfSome, OnSome, insert, option_map, option_and_then};
+ghost use Rattle.std.specs.Prelude.{◌≡◌, ◌≤◌, ◌||◌, length, true, false, IfNone, IfOk, IfSome, OnOk, insert, option_map, option_and_then};
 ghost use Rattle.json.specs.Find.{BeginsWith};
 ghost use Rattle.json.specs.Json.{Json, object};
 ghost use Rattle.json.specs.Json as spec;
@@ -18,6 +18,7 @@ ghost use Rattle.oim_report.specs.code.TapeValues.{Ascends, AreDimensions, IsFac
 use crate::document::json_tree::{has_colon, has_member, is_no_object, unknown_in};
 use crate::fact::json_member::JsonMember;
 use crate::limits::MOST_INSERTED;
+use crate::pieces::not_in_pieces::NotInPieces;
 use json::Element;
 use serde_json::{Map, Value};
 use std::alloc::{AllocError, Global};
@@ -175,20 +176,25 @@ impl<'a> DimensionMembers<'a> {
         }
     }
 
-    fn of_element(alloc: Global, object: &Element<'_, 'a>) -> Option<DimensionMembers<'a>>
+    fn of_element(
+        alloc: Global,
+        object: &Element<'_, 'a>,
+    ) -> Result<DimensionMembers<'a>, NotInPieces>
         ensures { (v : Json) → BeginsWith object.now v
-            → IfSome result (λ parts. AreDimensions v (seen_dimensions parts)) }
+            → IfOk result (λ parts. AreDimensions v (seen_dimensions parts)) }
     {
-        let mut members = object.members()?;
+        let Some(mut members) = object.members() else {
+            return Err(NotInPieces::NeedsTree);
+        };
         let mut parts = DimensionMembers::new(alloc);
         while let Some((key, member)) = members.next() {
             parts.put(key, JsonMember::of_element(&member)?)?;
         }
-        Some(parts)
+        Ok(parts)
     }
 
-    fn put(&mut self, key: &'a str, member: JsonMember<'a>) -> Option<()>
-        ensures { OnSome result ((d : Data) (ms : Members) → given d ≡ seen member.entry → Ascends ms
+    fn put(&mut self, key: &'a str, member: JsonMember<'a>) -> Result<(), NotInPieces>
+        ensures { OnOk result ((d : Data) (ms : Members) → given d ≡ seen member.entry → Ascends ms
             → dimension_parts ms ≡ seen_dimensions self.old
             → dimension_parts (put key.now d ms) ≡ seen_dimensions self.new) }
     {
@@ -200,22 +206,24 @@ impl<'a> DimensionMembers<'a> {
             "language" => self.language = member,
             "noteId" => self.note = member,
             key if has_colon(key) => return self.put_defined(key, member),
-            _ => return None,
+            _ => return Err(NotInPieces::NeedsTree),
         }
-        Some(())
+        Ok(())
     }
 
     // Inserts a taxonomy-defined dimension in byte order of the keys.
-    fn put_defined(&mut self, key: &'a str, member: JsonMember<'a>) -> Option<()>
+    fn put_defined(&mut self, key: &'a str, member: JsonMember<'a>) -> Result<(), NotInPieces>
         ensures others { self.new ≡ record self.old { defined = self.new.defined } }
-        ensures defined { OnSome result (seen_defined self.new.defined.items
+        ensures defined { OnOk result (seen_defined self.new.defined.items
             ≡ with_given key.now (seen member.entry) (seen_defined self.old.defined.items)) }
     {
-        if self.defined.len() >= MOST_INSERTED {
-            return None;
+        match index_of(self.defined.as_slice(), key) {
+            Some(at) if self.defined.len() < MOST_INSERTED => {
+                self.defined.insert(at, (key, member))?;
+                Ok(())
+            }
+            _ => Err(NotInPieces::NeedsTree),
         }
-        let at = index_of(self.defined.as_slice(), key)?;
-        self.defined.insert(at, (key, member)).ok()
     }
 }
 
@@ -253,24 +261,28 @@ impl<'a> FactMembers<'a> {
         }
     }
 
-    /// Returns the parts of the fact object at this place of a tape. The result is `None` if the
-    /// value is not an object, `put` does not accept a member, or a request for memory is refused.
-    /// The report is then read as a tree.
-    pub(crate) fn of_element(alloc: Global, object: &Element<'_, 'a>) -> Option<FactMembers<'a>>
+    /// Returns the parts of the fact object at this place of a tape. The result is `NeedsTree` if
+    /// the value is not an object, or if `put` does not accept a member.
+    pub(crate) fn of_element(
+        alloc: Global,
+        object: &Element<'_, 'a>,
+    ) -> Result<FactMembers<'a>, NotInPieces>
         ensures { (v : Json) → BeginsWith object.now v
-            → IfSome result (λ parts. IsFactObject v (seen_parts parts)) }
+            → IfOk result (λ parts. IsFactObject v (seen_parts parts)) }
     {
-        let mut members = object.members()?;
+        let Some(mut members) = object.members() else {
+            return Err(NotInPieces::NeedsTree);
+        };
         let mut parts = FactMembers::new();
         while let Some((key, member)) = members.next() {
             parts.put(alloc, key, &member)?;
         }
-        Some(parts)
+        Ok(parts)
     }
 
-    fn put(&mut self, alloc: Global, key: &str, member: &Element<'_, 'a>) -> Option<()>
+    fn put(&mut self, alloc: Global, key: &str, member: &Element<'_, 'a>) -> Result<(), NotInPieces>
         ensures { (v : Json) → BeginsWith member.now v
-            → OnSome result (IsPut key.now v (seen_parts self.old) (seen_parts self.new)) }
+            → OnOk result (IsPut key.now v (seen_parts self.old) (seen_parts self.new)) }
     {
         match key {
             "value" => self.value = JsonMember::of_element(member)?,
@@ -280,9 +292,9 @@ impl<'a> FactMembers<'a> {
             key if has_colon(key) => {
                 let _extension = JsonMember::of_element(member)?;
             }
-            _ => return None,
+            _ => return Err(NotInPieces::NeedsTree),
         }
-        Some(())
+        Ok(())
     }
 }
 

@@ -183,7 +183,7 @@ impl<'s> FactReader<'s> {
             let ds = seen_dimensions dimensions.now in
             IfErr result (λ r. (r ≡ Reason.OutOfMemory) ⊎ (fact_of self.old.sheet self.old.aliases p ds ≡ None)) }
     {
-        let Some((name, kind)) = self.find_concept(dimensions.concept) else {
+        let Some((name, kind)) = self.find_concept(dimensions.concept)? else {
             return Err(Reason::UnknownConcept);
         };
         let dimensions = self.read_dimension_set(name, kind, dimensions)?;
@@ -210,13 +210,19 @@ impl<'s> FactReader<'s> {
         Ok(read)
     }
 
-    fn find_concept(&mut self, concept: JsonMember<'_>) -> Option<(&'s Name, ConceptKind)>
+    fn find_concept(
+        &mut self,
+        concept: JsonMember<'_>,
+    ) -> Result<Option<(&'s Name, ConceptKind)>, AllocError>
         ensures same { self.new ≡ self.old }
-        ensures kind { option_map (λ c. c.1) result
-            ≡ concept_kind self.old.sheet self.old.aliases (seen concept.entry) }
-        ensures name { IfSome result (λ c. said_concept self.old.aliases (seen concept.entry) ≡ Some c.0.now) }
+        ensures kind { IfOk result (λ found. option_map (λ c. c.1) found
+            ≡ concept_kind self.old.sheet self.old.aliases (seen concept.entry)) }
+        ensures name { IfOk result (λ found. IfSome found
+            (λ c. said_concept self.old.aliases (seen concept.entry) ≡ Some c.0.now)) }
     {
-        let text = concept.text()?;
+        let Some(text) = concept.text() else {
+            return Ok(None);
+        };
         let concepts = self.sheet.concepts();
         self.caches.concepts.find(concepts, &self.aliases, text)
     }
@@ -279,7 +285,7 @@ impl<'s> FactReader<'s> {
             IfErr result (λ r. (r ≡ Reason.OutOfMemory) ⊎ (said_member self.old.aliases kind (seen member.entry) ≡ None)) }
     {
         let dimensions = self.sheet.dimensions();
-        let Some((name, kind)) = self.caches.dimensions.find(dimensions, &self.aliases, key) else {
+        let Some((name, kind)) = self.caches.dimensions.find(dimensions, &self.aliases, key)? else {
             return Err(Reason::UnknownDimension);
         };
         let member = self.read_member(kind, member)?;

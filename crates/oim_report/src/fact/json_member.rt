@@ -1,4 +1,4 @@
-ghost use Rattle.std.specs.Prelude.{◌≡◌, ◌<◌, ◌==◌, true, false, Some, IfSome, IsTrue, length, slice_index, option_map};
+ghost use Rattle.std.specs.Prelude.{◌≡◌, ◌<◌, ◌==◌, true, false, Some, IfOk, IfSome, IsTrue, length, slice_index, option_map};
 ghost use Rattle.json.specs.Find.{BeginsWith};
 ghost use Rattle.json.specs.Json.{Json};
 ghost use Rattle.serde_json.specs.Data as tree;
@@ -10,6 +10,7 @@ ghost use Rattle.oim_report.specs.code.JsonMember.{seen};
 ghost use Rattle.oim_report.specs.code.TapeValues.{IsLeaf};
 ghost use Rattle.oim_report.specs.Json.{given, given_of, is_absent, is_no_text, text_of};
 
+use crate::pieces::not_in_pieces::NotInPieces;
 use fast_float::Numeral;
 use json::Element;
 use serde_json::Value;
@@ -51,18 +52,24 @@ impl<'a> JsonMember<'a> {
         }
     }
 
-    /// Returns the value at this place of a tape. The result is `None` if the value is not a text,
-    /// `null` or an integer that `whole_number` reads.
-    pub(crate) fn of_element(element: &Element<'_, 'a>) -> Option<JsonMember<'a>>
-        ensures { (v : Json) → BeginsWith element.now v → IfSome result (λ m. IsLeaf v (seen m)) }
+    /// Returns the value at this place of a tape. The result is `NeedsTree` if the value is not a
+    /// text, `null` or an integer that `whole_number` reads.
+    pub(crate) fn of_element(element: &Element<'_, 'a>) -> Result<JsonMember<'a>, NotInPieces>
+        ensures { (v : Json) → BeginsWith element.now v → IfOk result (λ m. IsLeaf v (seen m)) }
     {
         if let Some(text) = element.as_str() {
-            return Some(JsonMember::of_text(text));
+            return Ok(JsonMember::of_text(text));
         }
         if element.is_null() {
-            return Some(JsonMember::Nil);
+            return Ok(JsonMember::Nil);
         }
-        Some(JsonMember::Whole(whole_number(element.as_number()?)?))
+        let Some(digits) = element.as_number() else {
+            return Err(NotInPieces::NeedsTree);
+        };
+        match whole_number(digits) {
+            Some(whole) => Ok(JsonMember::Whole(whole)),
+            None => Err(NotInPieces::NeedsTree),
+        }
     }
 
     fn of_text(text: &'a str) -> JsonMember<'a>

@@ -1,4 +1,4 @@
-ghost use Rattle.std.specs.Prelude.{◌≡◌, ℕ, List, Some, None, IfSome, option_map, option_copied};
+ghost use Rattle.std.specs.Prelude.{◌≡◌, ℕ, List, Some, None, IfOk, IfSome, option_map, option_copied};
 ghost use Rattle.std.specs.FinMap.{FinMap};
 ghost use Rattle.oim_names.specs.Bindings.{Binding};
 ghost use Rattle.oim_value.specs.ValueOrder.{name_cmp};
@@ -13,7 +13,7 @@ use crate::sheet::kind::Kind;
 use crate::sheet::name_table::{Group, NameTable, find_in};
 use oim_dims::{Period, Unit};
 use oim_names::{Aliases, Name, Text, split_name};
-use std::alloc::Global;
+use std::alloc::{AllocError, Global};
 use std::collections::{BTreeMap, HashMap};
 
 /// A cache of texts and their meanings, so that a repeated text is not read again. The cache
@@ -44,18 +44,18 @@ impl<T> TextCache<T> {
 }
 
 impl<T: Drop> TextCache<T> {
-    /// Adds a text with its meaning. Nothing changes if the cache is full, the text has more than
-    /// `MOST_MEANING_BYTES` bytes, or a request for memory is refused.
+    /// Adds a text with its meaning. Nothing changes if the cache is full, if the text has more than
+    /// `MOST_MEANING_BYTES` bytes, or after an error.
     #[tactic(auto, using(crate::proofs::TextCacheAdds::after_insert))]
-    pub(crate) fn add(&mut self, text: &str, value: T)
+    pub(crate) fn add(&mut self, text: &str, value: T) -> Result<(), AllocError>
         ensures { Adds self.old text.now value self.new }
     {
         if self.is_full() || text.len() > MOST_MEANING_BYTES {
-            return;
+            return Ok(());
         }
-        if let Ok(key) = String::from_str(self.alloc, text) {
-            let _replaced = self.meanings.insert(key, value);
-        }
+        let key = String::from_str(self.alloc, text)?;
+        self.meanings.insert(key, value)?;
+        Ok(())
     }
 }
 
@@ -87,22 +87,26 @@ impl<'s, K: Kind> NameCache<'s, K> {
         table: &'s NameTable<K>,
         aliases: &Aliases,
         text: &str,
-    ) -> Option<(&'s Name, K)>
+    ) -> Result<Option<(&'s Name, K)>, AllocError>
         requires known { IsNameCache table.now aliases.now self.old }
-        ensures kind { option_map (λ e. e.1) result ≡ kind_of table.now aliases.now text.now }
-        ensures name { IfSome result (λ e. named aliases.now text.now ≡ Some e.0.now) }
+        ensures kind { IfOk result
+            (λ found. option_map (λ e. e.1) found ≡ kind_of table.now aliases.now text.now) }
+        ensures name { IfOk result
+            (λ found. IfSome found (λ e. named aliases.now text.now ≡ Some e.0.now)) }
         ensures known { IsNameCache table.now aliases.now self.new }
     {
         if let Some(known) = self.texts.find(text) {
-            return Some((known.0, known.1));
+            return Ok(Some((known.0, known.1)));
         }
         let Ok((_uri, local)) = aliases.resolve(text) else {
-            return None;
+            return Ok(None);
         };
         let (prefix, _local) = split_name(text);
-        let (name, kind) = find_in(self.group(table, aliases, prefix), local)?;
-        self.texts.add(text, (name, kind));
-        Some((name, kind))
+        let found = find_in(self.group(table, aliases, prefix)?, local);
+        if let Some((name, kind)) = &found {
+            self.texts.add(text, (*name, *kind))?;
+        }
+        Ok(found)
     }
 
     fn group(
@@ -110,19 +114,21 @@ impl<'s, K: Kind> NameCache<'s, K> {
         table: &'s NameTable<K>,
         aliases: &Aliases,
         prefix: &str,
-    ) -> Option<&'s Group<K>>
+    ) -> Result<Option<&'s Group<K>>, AllocError>
         requires known { IsNameCache table.now aliases.now self.old }
-        ensures reached { IsReached table.now aliases.now prefix.now result }
+        ensures reached { IfOk result (IsReached table.now aliases.now prefix.now) }
         ensures known { IsNameCache table.now aliases.now self.new }
     {
         if let Some(known) = self.groups.get(prefix) {
-            return *known;
+            return Ok(*known);
         }
-        let group = table.group(aliases.uri(prefix)?);
-        if let Ok(key) = String::from_str(self.alloc, prefix) {
-            let _replaced = self.groups.insert(key, group);
-        }
-        group
+        let Some(uri) = aliases.uri(prefix) else {
+            return Ok(None);
+        };
+        let group = table.group(uri);
+        let key = String::from_str(self.alloc, prefix)?;
+        self.groups.insert(key, group)?;
+        Ok(group)
     }
 }
 

@@ -1,8 +1,9 @@
-ghost use Rattle.std.specs.Prelude.{Some, IfSome, option_map};
+ghost use Rattle.std.specs.Prelude.{Some, IfOk, IfSome, option_map};
 ghost use Rattle.serde_json.specs.View.{view, members_view};
 ghost use Rattle.oim_report.specs.code.Pieces.{AreBoth, IsBeside, IsEnd, IsHead, IsOutline, IsSplit, IsTail};
 
 use crate::pieces::cuts::{cut_at, strip_back, strip_front, trim_back};
+use crate::pieces::not_in_pieces::NotInPieces;
 use crate::pieces::piece::read_piece;
 use serde_json::{Map, Value};
 use std::alloc::Global;
@@ -30,16 +31,18 @@ struct Split<'t> {
     behind: Option<&'t str>,
 }
 
-/// Splits a document, or returns `None` if it cannot be split or a request for memory is refused.
-/// If `facts` of the result can be parsed as a piece, the whole document can be parsed.
-pub(crate) fn read_outline(alloc: Global, text: &str) -> Option<Outline<'_>>
-    ensures { IfSome result (λ o. IsOutline text.now (view o.tree) o.facts.now) }
+/// Splits a document. If `facts` of the result can be parsed as a piece, the whole document can be
+/// parsed.
+pub(crate) fn read_outline(alloc: Global, text: &str) -> Result<Outline<'_>, NotInPieces>
+    ensures { IfOk result (λ o. IsOutline text.now (view o.tree) o.facts.now) }
 {
-    let split = split_document(text)?;
+    let Some(split) = split_document(text) else {
+        return Err(NotInPieces::NeedsTree);
+    };
     let tree = Value::Object(read_beside(alloc, split.before, split.behind)?);
     match tree.get("facts") {
-        Some(_) => None,
-        None => Some(Outline {
+        Some(_) => Err(NotInPieces::NeedsTree),
+        None => Ok(Outline {
             tree,
             facts: split.facts,
         }),
@@ -130,8 +133,8 @@ fn read_beside(
     alloc: Global,
     before: Option<&str>,
     behind: Option<&str>,
-) -> Option<Map<String, Value>>
-    ensures { IfSome result
+) -> Result<Map<String, Value>, NotInPieces>
+    ensures { IfOk result
         (λ m. IsBeside (option_map (λ t. t.now) before.entry) (option_map (λ t. t.now) behind.entry) (members_view m.entries)) }
 {
     let mut buffer = String::new(alloc);
@@ -139,7 +142,7 @@ fn read_beside(
         (Some(before), Some(behind)) => read_both(alloc, &mut buffer, before, behind),
         (Some(before), None) => read_piece(alloc, &mut buffer, before),
         (None, Some(behind)) => read_piece(alloc, &mut buffer, behind),
-        (None, None) => None,
+        (None, None) => Err(NotInPieces::NeedsTree),
     }
 }
 
@@ -148,14 +151,14 @@ fn read_both(
     buffer: &mut String,
     before: &str,
     behind: &str,
-) -> Option<Map<String, Value>>
-    ensures { IfSome result (λ m. AreBoth before.now behind.now (members_view m.entries)) }
+) -> Result<Map<String, Value>, NotInPieces>
+    ensures { IfOk result (λ m. AreBoth before.now behind.now (members_view m.entries)) }
 {
     let _before = read_piece(alloc, buffer, before)?;
     let _behind = read_piece(alloc, buffer, behind)?;
     let mut both = String::new(alloc);
-    both.push_str(before).ok()?;
-    both.push_str(",").ok()?;
-    both.push_str(behind).ok()?;
+    both.push_str(before)?;
+    both.push_str(",")?;
+    both.push_str(behind)?;
     read_piece(alloc, buffer, both.as_str())
 }

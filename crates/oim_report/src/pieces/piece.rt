@@ -1,29 +1,29 @@
-ghost use Rattle.std.specs.Prelude.{◌≡◌, true, IfSome, OnSome, string_bytes};
+ghost use Rattle.std.specs.Prelude.{◌≡◌, true, IfOk, IfSome, OnOk, string_bytes};
 ghost use Rattle.serde_json.specs.View.{view, members_view};
 ghost use Rattle.oim_report.specs.Pieces.{alone, one_data, EndsWithBrace, IsPiece};
 
+use crate::pieces::not_in_pieces::NotInPieces;
 use serde_json::{Map, Value};
-use std::alloc::Global;
+use std::alloc::{AllocError, Global};
 
-/// Reads a piece as the members of the only object of an array. The result is `None` if the text is
-/// not a piece (`IsPiece`), or if a request for memory is refused.
+/// Reads a piece as the members of the only object of an array. The result is `NeedsTree` if the
+/// text is not a piece (`IsPiece`).
 pub(crate) fn read_piece(
     alloc: Global,
     buffer: &mut String,
     piece: &str,
-) -> Option<Map<String, Value>>
-    ensures { IfSome result (λ m. IsPiece piece.now (members_view m.entries)) }
+) -> Result<Map<String, Value>, NotInPieces>
+    ensures { IfOk result (λ m. IsPiece piece.now (members_view m.entries)) }
 {
     if !ends_with_brace(piece) {
-        return None;
+        return Err(NotInPieces::NeedsTree);
     }
     fill_alone(buffer, piece)?;
-    let value = Value::from_str(alloc, buffer.as_str()).ok()?;
-    let members = only_object(value)?;
-    if members.len() == 0 {
-        return None;
+    let value = Value::from_str(alloc, buffer.as_str())?;
+    match only_object(value) {
+        Some(members) if members.len() > 0 => Ok(members),
+        _ => Err(NotInPieces::NeedsTree),
     }
-    Some(members)
 }
 
 pub(crate) fn ends_with_brace(piece: &str) -> bool
@@ -36,13 +36,13 @@ pub(crate) fn ends_with_brace(piece: &str) -> bool
 }
 
 /// Sets `buffer` to an array with one object, whose members are the piece.
-pub(crate) fn fill_alone(buffer: &mut String, piece: &str) -> Option<()>
-    ensures { OnSome result (string_bytes buffer.new ≡ alone piece.now) }
+pub(crate) fn fill_alone(buffer: &mut String, piece: &str) -> Result<(), AllocError>
+    ensures { OnOk result (string_bytes buffer.new ≡ alone piece.now) }
 {
     buffer.clear();
-    buffer.push_str("[{").ok()?;
-    buffer.push_str(piece).ok()?;
-    buffer.push_str("}]").ok()
+    buffer.push_str("[{")?;
+    buffer.push_str(piece)?;
+    buffer.push_str("}]")
 }
 
 fn only_object(value: Value) -> Option<Map<String, Value>>

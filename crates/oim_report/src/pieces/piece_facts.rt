@@ -1,4 +1,4 @@
-ghost use Rattle.std.specs.Prelude.{◌≡◌, IfSome, OnSome};
+ghost use Rattle.std.specs.Prelude.{◌≡◌, IfOk, IfSome, OnOk};
 ghost use Rattle.json.specs.Find.{BeginsWith, InMembers};
 ghost use Rattle.json.specs.Json.{Json};
 ghost use Rattle.json.specs.Json as spec;
@@ -12,8 +12,9 @@ ghost use Rattle.oim_report.specs.code.UriIndices.{AreUriIndices};
 use crate::document::found_facts::FoundFacts;
 use crate::fact::fact_members::FactMembers;
 use crate::fact::fact_reader::FactReader;
-use crate::limits::MOST_KEPT_BYTES;
+use crate::limits::{MOST_KEPT_BYTES, PIECE_BYTES};
 use crate::pieces::cuts::split_piece;
+use crate::pieces::not_in_pieces::NotInPieces;
 use crate::pieces::piece::{ends_with_brace, fill_alone};
 use json::{Element, Members, Scratch, Tape};
 use std::alloc::Global;
@@ -42,19 +43,19 @@ impl PieceBuffers {
     }
 }
 
-/// Returns the facts in `text`, in byte order of their identifiers. The result is `None` if a piece
-/// cannot be read, a fact is refused, or a request for memory is refused.
+/// Returns the facts in `text`, in byte order of their identifiers. The result is `NeedsTree` if a
+/// piece cannot be read or a fact is refused.
 pub(crate) fn read_facts_in_pieces(
     alloc: Global,
     reader: &mut FactReader<'_>,
     buffers: &mut PieceBuffers,
     text: &str,
     size: usize,
-) -> Option<FoundFacts>
+) -> Result<FoundFacts, NotInPieces>
     ensures same { reader.new ≡ reader.old }
-    ensures found { IfSome result (λ f. (objects : tree.Members) × IsPiece text.now objects
+    ensures found { IfOk result (λ f. (objects : tree.Members) × IsPiece text.now objects
         × AreFound reader.old.sheet reader.old.aliases objects f.identifiers.items f.facts.items) }
-    ensures indices { IfSome result (λ f. AreUriIndices reader.old.aliases f.facts.items f.indices.items) }
+    ensures indices { IfOk result (λ f. AreUriIndices reader.old.aliases f.facts.items f.indices.items) }
 {
     let mut found = FoundFacts::new(alloc);
     let mut left = text;
@@ -66,29 +67,34 @@ pub(crate) fn read_facts_in_pieces(
             None => return found.in_order(alloc),
         }
     }
-    None
+    Err(NotInPieces::NeedsTree)
 }
 
-// Reads the facts of a piece, in the order of the text. The result is `None` if the piece cannot
-// be read, a fact cannot be read from a tape, or a fact or a request for memory is refused.
+// Reads the facts of a piece, in the order of the text. The result is `NeedsTree` if the piece
+// cannot be read, a fact cannot be read from a tape, or a fact is refused.
 fn read_piece_facts(
     alloc: Global,
     reader: &mut FactReader<'_>,
     buffers: &mut PieceBuffers,
     piece: &str,
-) -> Option<FoundFacts>
+) -> Result<FoundFacts, NotInPieces>
     ensures same { reader.new ≡ reader.old }
-    ensures found { IfSome result (λ f. (ms : tree.Members) × IsPiece piece.now (put_all ms no_members)
+    ensures found { IfOk result (λ f. (ms : tree.Members) × IsPiece piece.now (put_all ms no_members)
         × AreFound reader.old.sheet reader.old.aliases ms f.identifiers.items f.facts.items) }
-    ensures indices { IfSome result (λ f. AreUriIndices reader.old.aliases f.facts.items f.indices.items) }
+    ensures indices { IfOk result (λ f. AreUriIndices reader.old.aliases f.facts.items f.indices.items) }
 {
     if !ends_with_brace(piece) {
-        return None;
+        return Err(NotInPieces::NeedsTree);
     }
+    // `json` ignores a refusal when it requests memory for all nodes, so enough is requested here
+    let nodes = Vec::with_capacity(alloc, (piece.len() / 2).min(PIECE_BYTES))?;
+    fill_alone(&mut buffers.text, piece)?;
     let PieceBuffers { text, scratch } = buffers;
-    fill_alone(text, piece)?;
-    let tape = Tape::parse(text.as_str(), scratch, Vec::new(alloc)).ok()?;
-    read_members(alloc, reader, only_object(&tape.root())?)
+    let tape = Tape::parse(text.as_str(), scratch, nodes)?;
+    let Some(members) = only_object(&tape.root()) else {
+        return Err(NotInPieces::NeedsTree);
+    };
+    read_members(alloc, reader, members)
 }
 
 fn only_object<'t, 'a>(root: &Element<'t, 'a>) -> Option<Members<'t, 'a>>
@@ -107,21 +113,21 @@ fn read_members(
     alloc: Global,
     reader: &mut FactReader<'_>,
     mut members: Members<'_, '_>,
-) -> Option<FoundFacts>
+) -> Result<FoundFacts, NotInPieces>
     ensures same { reader.new ≡ reader.old }
     ensures found { (vs : spec.Members) → InMembers members.entry vs
-        → IfSome result (λ f. (ms : tree.Members) × AreData vs ms × HasMember ms
+        → IfOk result (λ f. (ms : tree.Members) × AreData vs ms × HasMember ms
         × AreFound reader.old.sheet reader.old.aliases ms f.identifiers.items f.facts.items) }
-    ensures indices { IfSome result (λ f. AreUriIndices reader.old.aliases f.facts.items f.indices.items) }
+    ensures indices { IfOk result (λ f. AreUriIndices reader.old.aliases f.facts.items f.indices.items) }
 {
     let mut found = FoundFacts::new(alloc);
     while let Some((key, object)) = members.next() {
         read_member(alloc, reader, &mut found, key, &object)?;
     }
     if found.facts.is_empty() {
-        return None;
+        return Err(NotInPieces::NeedsTree);
     }
-    Some(found)
+    Ok(found)
 }
 
 fn read_member(
@@ -130,15 +136,16 @@ fn read_member(
     found: &mut FoundFacts,
     key: &str,
     object: &Element<'_, '_>,
-) -> Option<()>
+) -> Result<(), NotInPieces>
     ensures same { reader.new ≡ reader.old }
-    ensures found { OnSome result (HaveOneMore reader.old.sheet reader.old.aliases key.now object.now
+    ensures found { OnOk result (HaveOneMore reader.old.sheet reader.old.aliases key.now object.now
         found.old.identifiers.items found.new.identifiers.items found.old.facts.items found.new.facts.items) }
-    ensures indices { OnSome result (AreUriIndices reader.old.aliases found.old.facts.items found.old.indices.items
+    ensures indices { OnOk result (AreUriIndices reader.old.aliases found.old.facts.items found.old.indices.items
         → AreUriIndices reader.old.aliases found.new.facts.items found.new.indices.items) }
 {
     let parts = FactMembers::of_element(alloc, object)?;
     let index = reader.uri_index(&parts);
-    let fact = reader.read_parts(&parts).ok()?;
-    found.push(String::from_str(alloc, key).ok()?, fact, index)
+    let fact = reader.read_parts(&parts)?;
+    found.push(String::from_str(alloc, key)?, fact, index)?;
+    Ok(())
 }

@@ -16,11 +16,11 @@ loop-identifier-preserved c =
     let l = c.loop-identifier in
     let taken = l.invariant.0 in
     let s = c.in-Some.identifier in
-    let v : Fact × Option ℕ = (c.in_ok-next.field-0, c.in_ok-next-2.field-0) in
-    let entries = c.put.ensures c.if-not-put.false ∙ ap (λ es. insert_entry string_cmp es s v) l.invariant.4 ∙ sym (put_one_more l.yielded taken s v [] l.invariant.3) in (
+    let v : Fact × Option ℕ = (c.in-Some-next.fact, c.in-Some-next-2.index) in
+    let entries = c.in_ok-put.ensures ∙ ap (λ es. insert_entry string_cmp es s v) l.invariant.4 ∙ sym (put_one_more l.yielded taken s v [] l.invariant.3) in (
       taken ++ v ∷ [],
-      taken_one (λ w. w.0) c.args.read.facts.items c.next-in-loop-identifier.new.self.rest.items l.facts.rest.items taken v l.invariant.1 c.in_ok-next.ensures.items,
-      taken_one (λ w. w.1) c.args.read.indices.items c.next-in-loop-identifier-2.new.self.rest.items l.indices.rest.items taken v l.invariant.2 c.in_ok-next-2.ensures.items,
+      taken_one (λ w. w.0) c.args.read.facts.items c.next-in-loop-identifier.new.self.rest.items l.facts.rest.items taken v l.invariant.1 c.in-Some-next.ensures.items,
+      taken_one (λ w. w.1) c.args.read.indices.items c.next-in-loop-identifier-2.new.self.rest.items l.indices.rest.items taken v l.invariant.2 c.in-Some-next-2.ensures.items,
       longer taken l.yielded v s l.invariant.3,
       entries,
     )

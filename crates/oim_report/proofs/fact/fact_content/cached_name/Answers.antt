@@ -8,3 +8,9 @@ returns-clause-known c =
     let bs = c.args.aliases.now in
     let t = c.args.text.now in
     still (Expands bs) c.args.names.now c.add.new.self t c.in_ok-copied-2.field-0 c.requires.known (subst (Expands bs t) (sym c.in_ok-copied-2.ensures) c.in_ok-name.ensures.ok) c.add.ensures
+
+pub returns-in_err-add-clause-known : goal.returns-in_err-add-clause-known
+returns-in_err-add-clause-known c =
+    let bs = c.args.aliases.now in
+    let t = c.args.text.now in
+    still (Expands bs) c.args.names.now c.add.new.self t c.in_ok-copied-2.field-0 c.requires.known (subst (Expands bs t) (sym c.in_ok-copied-2.ensures) c.in_ok-name.ensures.ok) c.add.ensures

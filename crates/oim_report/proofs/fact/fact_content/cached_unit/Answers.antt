@@ -14,13 +14,21 @@ returns-in-Some-clause-said c =
     let known = c.requires.known.each t c.in-Some.known.now (sym c.find.ensures ∙ ap option_copied c.in-Some.is) in
     unit_read c.args.aliases.now c.args.kind (seen c.args.unit) t c.in-Some.known.now c.in-Numeric-Text.is-0 (ap seen c.in-Numeric-Text.is-1) known.0 known.1 ∙ ap Some (sym c.in_ok-copied-in-Numeric-Text.ensures)
 
-pub returns-in_ok-copied-in-Numeric-Text-2-clause-said : goal.returns-in_ok-copied-in-Numeric-Text-2-clause-said
-returns-in_ok-copied-in-Numeric-Text-2-clause-said c =
+pub returns-in_ok-add-in-Numeric-Text-clause-said : goal.returns-in_ok-add-in-Numeric-Text-clause-said
+returns-in_ok-add-in-Numeric-Text-clause-said c =
     let read = c.in_ok-read-in-Numeric-Text in
     unit_read c.args.aliases.now c.args.kind (seen c.args.unit) c.in-Numeric-Text.text.now read.read c.in-Numeric-Text.is-0 (ap seen c.in-Numeric-Text.is-1) read.ensures.unit read.ensures.sorted
 
-pub returns-in_ok-copied-in-Numeric-Text-2-clause-known : goal.returns-in_ok-copied-in-Numeric-Text-2-clause-known
-returns-in_ok-copied-in-Numeric-Text-2-clause-known c =
+pub returns-in_ok-add-in-Numeric-Text-clause-known : goal.returns-in_ok-add-in-Numeric-Text-clause-known
+returns-in_ok-add-in-Numeric-Text-clause-known c =
+    let bs = c.args.aliases.now in
+    let t = c.in-Numeric-Text.text.now in
+    let read = c.in_ok-read-in-Numeric-Text in
+    let copied = c.in_ok-copied-in-Numeric-Text-2 in
+    still (TextSaysUnit bs) c.args.units.now c.add.new.self t copied.field-0 c.requires.known (subst (TextSaysUnit bs t) (sym copied.ensures) (read.ensures.unit, read.ensures.sorted)) c.add.ensures
+
+pub returns-in_err-add-in-Numeric-Text-clause-known : goal.returns-in_err-add-in-Numeric-Text-clause-known
+returns-in_err-add-in-Numeric-Text-clause-known c =
     let bs = c.args.aliases.now in
     let t = c.in-Numeric-Text.text.now in
     let read = c.in_ok-read-in-Numeric-Text in

@@ -1,4 +1,5 @@
 use Rattle.std.proofs.Common.{rules, ◌≡◌, List, option_map, subst, refl, ap, ◌∙◌}
+use Rattle.std.proofs.lemmas.Result.{IfOk-weaker}
 use Rattle.oim_names.specs.Bindings.{Binding}
 use Rattle.serde_json.specs.Data.{Members, no_members}
 use Rattle.oim_report.specs.code.FoundFacts.{AreFound}
@@ -6,7 +7,7 @@ use Rattle.oim_report.specs.Pieces.{IsPiece, put_all}
 use Rattle.oim_report.specs.code.Pieces.{with_rest}
 use Rattle.oim_report.proofs.PieceTexts.{append}
 use Rattle.oim_report.specs.Sheet.{Sheet}
-use Rattle.oim_report.proofs.FoundInOrder.{none_found, found_append, found_by, weaker, none_indexed, indexed_by, indices_append}
+use Rattle.oim_report.proofs.FoundInOrder.{none_found, found_append, found_by, none_indexed, indexed_by, indices_append}
 use Rattle.oim_report.specs.code.Scope.{Scope}
 use Rattle.oim_report.specs.code.UriIndices.{AreUriIndices}
 use Rattle.oim_report.proofs.PiecesInTurn.{one_more, last_one}
@@ -33,11 +34,11 @@ returns-in-None-clause-found c =
     let added = c.in_ok-append.ensures.facts in
     let more_found = subst (λ r. AreFound r.sheet r.aliases new more.identifiers.items more.facts.items) c.loop.invariant.4 read.2 in
     let found = found_by sheet bs _ _ _ _ _ pushed added (found_append sheet bs objects new c.loop.found.identifiers.items more.identifiers.items c.loop.found.facts.items more.facts.items c.loop.invariant.3 more_found) in
-    weaker c.in_order.result
+    IfOk-weaker c.in_order.result
     (λ f. (s : Sheet) (b : List Binding) (ms : Members) → AreFound s b ms c.append.new.self.identifiers.items c.append.new.self.facts.items → AreFound s b (put_all ms no_members) f.identifiers.items f.facts.items)
     (λ f. (ms : Members) × IsPiece c.args.text.now ms × AreFound sheet bs ms f.identifiers.items f.facts.items)
-    c.in_order.ensures.found
     (λ f h. (put_all (append objects new) no_members, last_one c.args.text.now c.loop.left.now piece objects new c.loop.invariant.2 next read.1, h sheet bs (append objects new) found))
+    c.in_order.ensures.found
 
 pub returns-in-None-clause-indices : goal.returns-in-None-clause-indices
 returns-in-None-clause-indices c =
@@ -47,11 +48,11 @@ returns-in-None-clause-indices c =
     let indexed = c.in_ok-append.ensures.indices in
     let new = subst (λ (r : Scope). AreUriIndices r.aliases more.facts.items more.indices.items) c.loop.invariant.4 c.in_ok-read_piece_facts.ensures.indices in
     let all = indexed_by bs _ _ _ _ added indexed (indices_append bs c.loop.found.facts.items more.facts.items c.loop.found.indices.items more.indices.items c.loop.invariant.5 new) in
-    weaker c.in_order.result
+    IfOk-weaker c.in_order.result
     (λ f. (b : List Binding) → AreUriIndices b c.append.new.self.facts.items c.append.new.self.indices.items → AreUriIndices b f.facts.items f.indices.items)
     (λ f. AreUriIndices bs f.facts.items f.indices.items)
-    c.in_order.ensures.indices
     (λ f h. h bs all)
+    c.in_order.ensures.indices
 
 pub loop-preserved : goal.loop-preserved
 loop-preserved c =

@@ -14,5 +14,5 @@ returns-clause-said c =
     subst (λ s. IfOk c.read_tree.result (λ (r : Reading). SaysDocument s c.args.bytes.now r.document)) c.read_in_pieces.ensures.same
     (IfOk-weaker c.read_tree.result (λ (r : Reading). tree_outcome sheet tree ≡ Ok r.document) (λ (r : Reading). SaysDocument sheet c.args.bytes.now r.document) (λ r said. document_said sheet c.args.bytes.now tree r.document c.in_ok-tree.ensures.value said) c.read_tree.ensures.ok)
 
-pub returns-in-Some-clause-said : goal.returns-in-Some-clause-said
-returns-in-Some-clause-said c = outcomes_are_said c.args.self.now c.args.bytes.now _ c.in-Some.ensures.ok
+pub returns-in-Ok-clause-said : goal.returns-in-Ok-clause-said
+returns-in-Ok-clause-said c = outcomes_are_said c.args.self.now c.args.bytes.now _ c.in-Ok.ensures.ok

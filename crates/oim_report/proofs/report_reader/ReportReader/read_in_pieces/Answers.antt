@@ -1,17 +1,16 @@
-use Rattle.std.proofs.Common.{◌≡◌, Some, Ok, false, sym, ◌∙◌, subst, ap, None, option_map, is_lt}
+use Rattle.std.proofs.Common.{◌≡◌, Some, Ok, false, sym, ◌∙◌, subst, ap, option_map, is_lt}
 use Rattle.oim_value.specs.Level.{level_cmp}
 use Rattle.serde_json.specs.View.{view}
 use Rattle.oim_report.specs.Duplicates.{level_of}
-use Rattle.oim_report.specs.Holds.{document_refusal}
 use Rattle.oim_report.specs.Identifiers.{identifiers_in, tree_identifiers}
 use Rattle.oim_report.specs.Json.{entries}
-use Rattle.oim_report.specs.Info.{bindings_of, references_said, level_said}
+use Rattle.oim_report.specs.Info.{bindings_of}
 use Rattle.oim_report.specs.Report.{IsOrderOf}
 use Rattle.oim_report.specs.Outcome.{facts_said, outcome}
 use Rattle.oim_report.specs.code.Scope.{Scope}
 use Rattle.oim_report.proofs.AcceptedFacts.{facts_fit}
 use Rattle.oim_report.proofs.Documents.{bindings_are_namespaces}
-use Rattle.oim_report.proofs.FoundInOrder.{taken, facts_same, whole_outcome, found_said, keys_found, share_uris}
+use Rattle.oim_report.proofs.FoundInOrder.{facts_same, whole_outcome, found_said, keys_found, share_uris}
 use Rattle.oim_report.proofs.ReferenceTexts.{references_kept}
 use Rattle.oim_report.specs.code.UriIndices.{ShareUris}
 use Rattle.oim_report.proofs.report_reader.ReportReader.read_in_pieces.Goals as goal
@@ -22,19 +21,19 @@ new-report-requires-clause-facts c =
     let sheet = c.self.inside.facts.sheet in
     let said = c.in_ok-identifiers.ensures.found in
     let read = found_said c.turn_to.new.self.sheet c.turn_to.new.self.aliases said.0 _ _ said.2 in
-    let accepted = taken c.read_info.result c.in_ok-info.info (λ info. document_refusal tree ≡ None) c.read_info.ensures.accepted c.in_ok-info.ensures.value in
-    let aliases = taken c.read_info.result c.in_ok-info.info (λ info. info.aliases ≡ bindings_of tree) c.read_info.ensures.aliases c.in_ok-info.ensures.value in
+    let accepted = c.in_ok-info.ensures.accepted in
+    let aliases = c.in_ok-info.ensures.aliases in
     let turned = ap (λ (s : Scope). facts_said s.sheet s.aliases said.0) c.turn_to.ensures ∙ ap (λ bs. facts_said sheet bs said.0) aliases in
     rw c.sheet-sheet.ensures (facts_fit sheet (bindings_of tree) said.0 c.in_ok-identifiers.field-0.facts.items (bindings_are_namespaces tree accepted) (sym turned ∙ read))
 
 pub new-report-requires-clause-references : goal.new-report-requires-clause-references
 new-report-requires-clause-references c =
     let tree = view c.in_ok-outline.outline.tree in
-    references_kept tree _ (taken c.read_info.result c.in_ok-info.info (λ info. references_said tree ≡ Some info.references.items) c.read_info.ensures.references c.in_ok-info.ensures.value)
+    references_kept tree _ c.in_ok-info.ensures.references
 
 pub new-report-requires-clause-order : goal.new-report-requires-clause-order
 new-report-requires-clause-order c =
-    subst (λ l. IsOrderOf l c.in_ok-order.order.items) c.as_slice.ensures.value (taken c.order_of.result c.in_ok-order.order (λ indices. IsOrderOf c.as_slice.result.now indices.items) c.order_of.ensures c.in_ok-order.ensures.value)
+    subst (λ l. IsOrderOf l c.in_ok-order.order.items) c.as_slice.ensures.value c.in_ok-order.ensures
 
 pub returns-clause-ok : goal.returns-clause-ok
 returns-clause-ok c =
@@ -43,10 +42,10 @@ returns-clause-ok c =
     let o = c.in_ok-outline.ensures in
     let said = c.in_ok-identifiers.ensures.found in
     let read = found_said c.turn_to.new.self.sheet c.turn_to.new.self.aliases said.0 _ _ said.2 in
-    let accepted = taken c.read_info.result c.in_ok-info.info (λ info. document_refusal tree ≡ None) c.read_info.ensures.accepted c.in_ok-info.ensures.value in
-    let aliases = taken c.read_info.result c.in_ok-info.info (λ info. info.aliases ≡ bindings_of tree) c.read_info.ensures.aliases c.in_ok-info.ensures.value in
-    let references = taken c.read_info.result c.in_ok-info.info (λ info. references_said tree ≡ Some info.references.items) c.read_info.ensures.references c.in_ok-info.ensures.value in
-    let level = taken c.read_info.result c.in_ok-info.info (λ info. level_said tree ≡ Some info.level) c.read_info.ensures.level c.in_ok-info.ensures.value in
+    let accepted = c.in_ok-info.ensures.accepted in
+    let aliases = c.in_ok-info.ensures.aliases in
+    let references = c.in_ok-info.ensures.references in
+    let level = c.in_ok-info.ensures.level in
     let turned = ap (λ (s : Scope). facts_said s.sheet s.aliases said.0) c.turn_to.ensures ∙ ap (λ bs. facts_said sheet bs said.0) aliases in
     let above : is_lt (level_cmp c.in_ok-info.info.level (level_of c.in_ok-identifiers.field-0.facts.items)) ≡ false = ap (λ fs. is_lt (level_cmp c.in_ok-info.info.level (level_of fs))) (sym c.as_slice-3.ensures.value) ∙ sym c.is_above.ensures ∙ c.if-is_above.false in
     ap (λ s. outcome s c.args.bytes.now) (sym c.self.view_is)

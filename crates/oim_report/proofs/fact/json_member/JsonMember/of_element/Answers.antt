@@ -43,11 +43,11 @@ returns-in-Some c = λ v begins. text_leaf v c.in-Some.text.now (seen c.of_text.
 pub returns-then-is_null : goal.returns-then-is_null
 returns-then-is_null c = λ v begins. nil_leaf v (sym (c.is_null.ensures v begins) ∙ c.if-is_null.true)
 
-pub returns : goal.returns
-returns c = λ v begins.
-    let s = c.in_ok-as_number.field-0.now in
-    let text : find.as_number v ≡ Some s = sym (c.in_ok-as_number.ensures v begins) in
-    let read = c.in_ok-whole_number.ensures in
-    let integer : as_integer read.0 ≡ Some c.in_ok-whole_number.field-0 = read.2 in
+pub returns-in-Some-whole_number : goal.returns-in-Some-whole_number
+returns-in-Some-whole_number c = λ v begins.
+    let s = c.in-Some-as_number.digits.now in
+    let text : find.as_number v ≡ Some s = sym (c.in-Some-as_number.ensures v begins) in
+    let read = c.in-Some-whole_number.ensures in
+    let integer : as_integer read.0 ≡ Some c.in-Some-whole_number.whole = read.2 in
     let given : option_map_or whole (as_integer read.0) other ≡ whole _ = search rules in
     number_leaf v s read.0 _ text read.1 given

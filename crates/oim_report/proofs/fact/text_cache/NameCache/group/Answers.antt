@@ -8,14 +8,26 @@ use Rattle.oim_report.proofs.fact.text_cache.NameCache.group.Goals as goal
 pub returns-in-Some-clause-reached : goal.returns-in-Some-clause-reached
 returns-in-Some-clause-reached g c = c.requires.known.groups c.args.prefix.now c.in-Some.known.now (sym c.get.ensures.value ∙ ap option_copied c.in-Some.is)
 
-pub returns-in-Ok-clause-known : goal.returns-in-Ok-clause-known
-returns-in-Ok-clause-known g c =
+pub returns-in_err-insert-clause-known : goal.returns-in_err-insert-clause-known
+returns-in_err-insert-clause-known g c =
     let m = c.args.table.now in
     let bs = c.args.aliases.now in
     let p = c.args.prefix.now in
     let group = c.group-group.result in
-    let reached : IsReached m bs p group = λ u e. subst (λ v. IsGroupOf m v (option_copied group)) (same_Some _ _ (c.in_ok-uri.ensures.found ∙ e)) c.group-group.ensures in
+    let reached : IsReached m bs p group = λ u e. subst (λ v. IsGroupOf m v (option_copied group)) (same_Some _ _ (c.in-Some-uri.ensures.found ∙ e)) c.group-group.ensures in
     record {
       texts = c.requires.known.texts;
-      groups = each_after (IsReached m bs) c.args.self.now.groups c.insert-replaced.new.self p c.in-Ok.key group c.insert-replaced.result c.insert-replaced.ensures.updates c.insert-replaced.ensures.err c.in-Ok.ensures.ok c.requires.known.groups reached;
+      groups = each_after (IsReached m bs) c.args.self.now.groups c.insert.new.self p c.in_ok-key.key group c.insert.result c.insert.ensures.updates c.insert.ensures.err c.in_ok-key.ensures.ok c.requires.known.groups reached;
+    }
+
+pub returns-clause-known : goal.returns-clause-known
+returns-clause-known g c =
+    let m = c.args.table.now in
+    let bs = c.args.aliases.now in
+    let p = c.args.prefix.now in
+    let group = c.group-group.result in
+    let reached : IsReached m bs p group = λ u e. subst (λ v. IsGroupOf m v (option_copied group)) (same_Some _ _ (c.in-Some-uri.ensures.found ∙ e)) c.group-group.ensures in
+    record {
+      texts = c.requires.known.texts;
+      groups = each_after (IsReached m bs) c.args.self.now.groups c.insert.new.self p c.in_ok-key.key group c.insert.result c.insert.ensures.updates c.insert.ensures.err c.in_ok-key.ensures.ok c.requires.known.groups reached;
     }
