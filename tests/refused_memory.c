@@ -1,9 +1,11 @@
 /* This library, loaded by LD_PRELOAD, replaces malloc, calloc and realloc of the C library (glibc). Two environment variables
    control this library. REFUSE is the number of the request that is refused. Requests are counted from 1 once this library is
-   loaded. REFUSE_TOLD names a file, to which a refusal appends the line "refused". When the process exits normally, the number
-   of requests is appended to the same file. Without REFUSE_TOLD, requests are neither counted nor refused. */
+   loaded. REFUSE_TOLD names a file, to which a refusal appends the line "refused", or "refused smaller" if the request is for a
+   smaller block in place of a block. When the process exits normally, the number of requests is appended to the same file.
+   Without REFUSE_TOLD, requests are neither counted nor refused. */
 #include <errno.h>
 #include <fcntl.h>
+#include <malloc.h>
 #include <stdio.h>
 #include <stdlib.h>
 #include <string.h>
@@ -19,17 +21,21 @@ static void tell(const char *line) {
     if (file >= 0 && (write(file, line, strlen(line)) < 0 || close(file) < 0)) abort();
 }
 
-static int is_refused(void) {
+static int is_refused(const char *line) {
     if (!told || __atomic_add_fetch(&made, 1, __ATOMIC_RELAXED) != chosen) return 0;
-    tell("refused\n");
+    tell(line);
     errno = ENOMEM;
     return 1;
 }
 
-void *malloc(size_t size) { return is_refused() ? NULL : __libc_malloc(size); }
-void *calloc(size_t count, size_t size) { return is_refused() ? NULL : __libc_calloc(count, size); }
+static const char *line_of(void *block, size_t size) {
+    return size < malloc_usable_size(block) ? "refused smaller\n" : "refused\n";
+}
+
+void *malloc(size_t size) { return is_refused("refused\n") ? NULL : __libc_malloc(size); }
+void *calloc(size_t count, size_t size) { return is_refused("refused\n") ? NULL : __libc_calloc(count, size); }
 /* realloc to a size of 0 frees the block, so it is not a request for memory */
-void *realloc(void *block, size_t size) { return size && is_refused() ? NULL : __libc_realloc(block, size); }
+void *realloc(void *block, size_t size) { return size && is_refused(line_of(block, size)) ? NULL : __libc_realloc(block, size); }
 
 __attribute__((constructor)) static void begin(void) {
     const char *number = getenv("REFUSE");
