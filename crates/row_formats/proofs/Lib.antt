@@ -1,3 +1,6 @@
 pub mod Items
+pub mod Lengths
+pub mod MarkedCells
 pub mod Pushed
+pub mod RowLengths
 pub mod RowTexts

@@ -1,5 +1,5 @@
--- A row of a body as CSV, one record for each fact (RFC 4180; the columns are our own). In bytes, `'` is 39.
-use Rattle.std.specs.Prelude.{ℕ, suc, Bool, false, ◌&&◌, ◌||◌, ◌==◌, nat_lt, if◌then◌else◌, List, [], ◌∷◌, ◌++◌, codes, length, Option, Some, None, ℤ}
+-- A row of a body as CSV, one record for each fact (RFC 4180; the columns are our own).
+use Rattle.std.specs.Prelude.{ℕ, suc, Bool, ◌==◌, if◌then◌else◌, List, [], ◌∷◌, ◌++◌, codes, length, Option, Some, None, ℤ}
 use Rattle.std.specs.Fmt.{decimal, signed_decimal}
 use Rattle.std.specs.Option.{unwrap_or}
 use Rattle.csv.specs.Writing.{default_writer, row_text, with_terminator}
@@ -20,6 +20,7 @@ use Rattle.fact_base.specs.declared.evidence.Evidence.{Evidence}
 use Rattle.fact_base.specs.declared.evidence.Evidence.TheVariants.{Alike, Common, Apart}
 use Rattle.oim_write.specs.Ordered.{defined_members}
 use Rattle.oim_merge.specs.Lines.{verdict_shown, verdict_word}
+use Rattle.row_formats.specs.CsvCells.{cell}
 use Rattle.row_formats.specs.Spelled.{braced}
 
 -- commas between fields, quotes around a field that needs them, doubled quotes inside it, and CRLF after each record (RFC 4180)
@@ -36,24 +37,6 @@ columns =
     ∷ codes "value" ∷ codes "nil" ∷ codes "decimals"
     ∷ codes "common_low" ∷ codes "common_high" ∷ codes "apart_first" ∷ codes "apart_second" ∷ []
 
--- ---- texts that a spreadsheet may read as a formula
-
--- bytes that a spreadsheet may skip before a formula: those below 33, quotes, and two ranges that include the bytes of spaces such as U+00A0 and U+3000
-abbrev pub is_skipped : ℕ → Bool
-is_skipped b = nat_lt b 33 || b == 34 || b == 39 || (nat_lt 127 b && nat_lt b 195) || (nat_lt 224 b && nat_lt b 228)
-
--- a byte that may begin a formula: + - = @, or 239, which begins full-width signs and U+FEFF
-abbrev pub is_sign : ℕ → Bool
-is_sign b = b == 43 || b == 45 || b == 61 || b == 64 || b == 239
-
-abbrev pub begins_formula : List ℕ → Bool
-begins_formula [] = false
-begins_formula (b ∷ t) = if is_skipped b then begins_formula t else is_sign b
-
--- the text, after a `'` if the CSV is for a spreadsheet and the text may be read as a formula
-abbrev pub guarded : Bool → List ℕ → List ℕ
-guarded spreadsheet t = if spreadsheet && begins_formula t then 39 ∷ t else t
-
 -- ---- the fields of a fact
 
 abbrev pub or_empty : Option (List ℕ) → List ℕ
@@ -63,10 +46,10 @@ or_empty o = unwrap_or o []
 abbrev pub defined_text : List (QName × Member) → List ℕ
 defined_text es = if length es == 0 then [] else compact_text (object (defined_members braced es no_members))
 
-abbrev pub dimension_fields : DimensionSet → List (List ℕ)
-dimension_fields d =
-    braced d.concept ∷ or_empty (option_spelled braced d.entity) ∷ or_empty (period_text d.period)
-    ∷ or_empty (option_unit_text braced d.unit) ∷ or_empty d.language ∷ defined_text d.members ∷ []
+abbrev pub dimension_fields : Bool → DimensionSet → List (List ℕ)
+dimension_fields spreadsheet d =
+    cell spreadsheet (braced d.concept) ∷ cell spreadsheet (or_empty (option_spelled braced d.entity)) ∷ cell spreadsheet (or_empty (period_text d.period))
+    ∷ cell spreadsheet (or_empty (option_unit_text braced d.unit)) ∷ cell spreadsheet (or_empty d.language) ∷ cell spreadsheet (defined_text d.members) ∷ []
 
 -- finite decimals as text; empty for infinite decimals
 abbrev pub decimals_text : Option ℤ → List ℕ
@@ -77,8 +60,8 @@ decimals_text (Some d) = signed_decimal d
 abbrev pub value_fields : Bool → Value → List (List ℕ)
 value_fields spreadsheet Nil = [] ∷ codes "true" ∷ [] ∷ []
 value_fields spreadsheet (Number units places) = plain units ∷ [] ∷ decimals_text places ∷ []
-value_fields spreadsheet (AText t) = guarded spreadsheet t ∷ [] ∷ [] ∷ []
-value_fields spreadsheet (AName n) = braced n ∷ [] ∷ [] ∷ []
+value_fields spreadsheet (AText t) = cell spreadsheet t ∷ [] ∷ [] ∷ []
+value_fields spreadsheet (AName n) = cell spreadsheet (braced n) ∷ [] ∷ [] ∷ []
 
 -- the fields of the evidence, given the identifiers of the facts
 abbrev pub evidence_fields : (ℕ → List ℕ) → Evidence → List (List ℕ)
@@ -89,7 +72,7 @@ evidence_fields name (Apart i j) = [] ∷ [] ∷ name i ∷ name j ∷ []
 -- the fields of a fact with this identifier, in the row with this number
 abbrev pub fact_fields : Bool → ℕ → DimensionSet → Evidence → List (List ℕ) → List ℕ → Value → List (List ℕ)
 fact_fields spreadsheet n d e shown identifier v =
-    (decimal n ∷ verdict_word (verdict_shown e) ∷ identifier ∷ []) ++ (dimension_fields d ++ (value_fields spreadsheet v ++ shown))
+    (decimal n ∷ verdict_word (verdict_shown e) ∷ identifier ∷ []) ++ (dimension_fields spreadsheet d ++ (value_fields spreadsheet v ++ shown))
 
 -- ---- rows
 

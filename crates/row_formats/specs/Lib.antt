@@ -1,5 +1,6 @@
 pub mod Spelled
 pub mod JsonRows
+pub mod CsvCells
 pub mod CsvRows
 pub mod Rows
 pub mod SourceRows

@@ -1,5 +1,5 @@
 -- The rows of a body in a format, in order and numbered from 1 (own). In bytes, a quote is 34.
-use Rattle.std.specs.Prelude.{◌≡◌, true, false, ℕ, List, [], ◌∷◌, ◌++◌, codes, flat_map, length, slice_get, Contains, Some}
+use Rattle.std.specs.Prelude.{◌≡◌, ◌<◌, true, false, ℕ, List, [], ◌∷◌, ◌++◌, codes, flat_map, length, slice_get, Contains, Some}
 use Rattle.std.specs.Fmt.{decimal}
 use Rattle.std.specs.List.{All}
 use Rattle.fact_base.specs.Body.{Body}
@@ -9,6 +9,7 @@ use Rattle.fact_base.specs.Rows.{Row, rows_of}
 use Rattle.fact_base.specs.Verdict.{verdict}
 use Rattle.fact_base.specs.declared.verdict.Verdict.{Verdict}
 use Rattle.oim_merge.specs.Lines.{AreRowsOf, HasOneText, IsRow, RowText, verdict_word}
+use Rattle.row_formats.specs.CsvCells.{byte_order_mark}
 use Rattle.row_formats.specs.CsvRows.{columns, csv_row, record_text}
 use Rattle.row_formats.specs.JsonRows.{json_row}
 use Rattle.row_formats.specs.declared.row_format.RowFormat.{RowFormat}
@@ -20,17 +21,23 @@ row_text Json = json_row
 row_text Csv = csv_row false
 row_text SpreadsheetCsv = csv_row true
 
--- JSON lines have no header
+-- JSON lines have no header; CSV for a spreadsheet begins with a byte order mark
 abbrev pub header : RowFormat → List ℕ
 header Json = []
 header Csv = record_text columns
-header SpreadsheetCsv = record_text columns
+header SpreadsheetCsv = byte_order_mark ++ record_text columns
 
 -- the text is the header, followed by the rows of the body
 pub record AreRows (format : RowFormat) (b : Body) (text : List ℕ) : Type 0 where
   pub rows : List ℕ
   pub are : AreRowsOf (row_text format) b rows
   pub whole : text ≡ header format ++ rows
+
+-- the header and the rows of the body have more bytes than the bound
+pub record AreBeyond (format : RowFormat) (b : Body) (bound : ℕ) : Type 0 where
+  pub text : List ℕ
+  pub are : AreRows format b text
+  pub beyond : bound < length text
 
 -- ---- laws
 

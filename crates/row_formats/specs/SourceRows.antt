@@ -5,7 +5,8 @@ use Rattle.serde_json.specs.Data.{Data, unsigned, number, string, object, no_mem
 use Rattle.serde_json.specs.Written.{compact_text}
 use Rattle.fact_base.specs.Passed.{Sheet}
 use Rattle.oim_merge.specs.Sources.{SourceText, sources_by}
-use Rattle.row_formats.specs.CsvRows.{guarded, record_text}
+use Rattle.row_formats.specs.CsvCells.{byte_order_mark, cell}
+use Rattle.row_formats.specs.CsvRows.{record_text}
 use Rattle.row_formats.specs.declared.row_format.RowFormat.{RowFormat}
 use Rattle.row_formats.specs.declared.row_format.RowFormat.TheVariants.{Json, Csv, SpreadsheetCsv}
 
@@ -20,7 +21,7 @@ abbrev pub json_source : List ℕ → ℕ → List ℕ → List ℕ
 json_source fact report own = compact_text (source_data fact report own) ++ 10 ∷ []
 
 abbrev pub csv_source : Bool → List ℕ → ℕ → List ℕ → List ℕ
-csv_source spreadsheet fact report own = record_text (fact ∷ decimal report ∷ guarded spreadsheet own ∷ [])
+csv_source spreadsheet fact report own = record_text (fact ∷ decimal report ∷ cell spreadsheet own ∷ [])
 
 abbrev pub source_columns : List (List ℕ)
 source_columns = codes "fact" ∷ codes "report" ∷ codes "identifier" ∷ []
@@ -30,11 +31,11 @@ source_text Json = json_source
 source_text Csv = csv_source false
 source_text SpreadsheetCsv = csv_source true
 
--- JSON lines have no header
+-- JSON lines have no header; CSV for a spreadsheet begins with a byte order mark
 abbrev pub source_header : RowFormat → List ℕ
 source_header Json = []
 source_header Csv = record_text source_columns
-source_header SpreadsheetCsv = record_text source_columns
+source_header SpreadsheetCsv = byte_order_mark ++ record_text source_columns
 
 -- the header and the rows of all fact objects in accepted reports, in the order of facts, then reports, then identifiers
 abbrev pub sources_in : RowFormat → Sheet → List (List ℕ) → List ℕ

@@ -1,3 +1,4 @@
+ghost use Rattle.row_formats.specs.CsvCells.{FormulasAreMarked};
 ghost use Rattle.row_formats.specs.Rows.{RowsAreOne, RowsTellVerdicts};
 
 // Laws of the definitions. Each is the contract of a function that does nothing.
@@ -12,4 +13,9 @@ pub fn rows_are_one()
 /// row has both in their columns.
 pub fn rows_tell_verdicts()
     ensures { RowsTellVerdicts }
+{}
+
+/// In CSV for a spreadsheet, wherever the spreadsheet may begin a cell, a formula follows only a `'`.
+pub fn formulas_are_marked()
+    ensures { FormulasAreMarked }
 {}

@@ -1,10 +1,13 @@
 //! Verdicts and sources in formats that other programs read: one JSON object per line, and CSV.
 #![tactic(auto)]
 
+mod cells;
 mod csv_record;
 pub mod laws;
 mod row_csv;
 mod row_format;
 mod row_json;
+mod row_length;
 
 pub use row_format::RowFormat;
+pub use row_length::has_long_row;

@@ -10,11 +10,13 @@ ghost use Rattle.oim_value.specs.Plain.{plain};
 ghost use Rattle.oim_write.specs.Ordered.{defined_members};
 ghost use Rattle.oim_merge.specs.Lines.{verdict_shown, verdict_word};
 ghost use Rattle.oim_merge.specs.Judged.{IsJudged, judged_text, names_of};
+ghost use Rattle.row_formats.specs.CsvCells.{cell};
 ghost use Rattle.row_formats.specs.CsvRows.{columns, csv_row, decimals_text, defined_text, dimension_fields, evidence_fields, fact_fields, or_empty, record_text, value_fields};
 ghost use Rattle.row_formats.specs.SourceRows.{csv_source, source_columns};
 ghost use Rattle.row_formats.specs.Spelled.{braced};
 
-use crate::csv_record::{guard, push_three, text_of_record};
+use crate::cells::Cells;
+use crate::csv_record::{push_three, text_of_record};
 use crate::row_json::{Braced, word_of};
 use csv::StringRecord;
 use fact_base::Evidence;
@@ -78,13 +80,8 @@ fn push_record(
     let alloc = judged.identifiers.alloc;
     let mut record = StringRecord::with_capacity(alloc, RECORD, FIELDS)?;
     push_front(&mut record, judged, index)?;
-    push_fact(
-        alloc,
-        &mut record,
-        spreadsheet,
-        judged.row.dimensions,
-        value,
-    )?;
+    let cells = Cells { alloc, spreadsheet };
+    push_fact(cells, &mut record, judged.row.dimensions, value)?;
     push_evidence(&mut record, judged)?;
     let line = text_of_record(alloc, &record)?;
     text.extend_from_slice(line.as_slice())?;
@@ -109,114 +106,125 @@ fn push_front(
 }
 
 fn push_fact(
-    alloc: Global,
+    cells: Cells,
     fields: &mut StringRecord,
-    spreadsheet: bool,
     dimensions: &Dimensions,
     value: &Value,
 ) -> Result<(), AllocError>
     ensures { OnOk result (fields_of fields.new ≡ fields_of fields.old
-        ++ (dimension_fields dimensions.now ++ value_fields spreadsheet value.now)) }
+        ++ (dimension_fields cells.spreadsheet dimensions.now ++ value_fields cells.spreadsheet value.now)) }
 {
-    let mut room = String::new(alloc);
-    push_name(fields, &mut room, dimensions.concept())?;
-    push_entity(fields, &mut room, dimensions.entity())?;
-    push_period(alloc, fields, dimensions.period())?;
-    push_unit(fields, &mut room, dimensions.unit())?;
-    push_text(fields, dimensions.language())?;
-    push_defined(alloc, fields, &mut room, dimensions.members())?;
-    push_value(alloc, fields, &mut room, spreadsheet, value)
+    let mut room = String::new(cells.alloc);
+    push_name(cells, fields, &mut room, dimensions.concept())?;
+    push_entity(cells, fields, &mut room, dimensions.entity())?;
+    push_period(cells, fields, dimensions.period())?;
+    push_unit(cells, fields, &mut room, dimensions.unit())?;
+    push_text(cells, fields, dimensions.language())?;
+    push_defined(cells, fields, &mut room, dimensions.members())?;
+    push_value(cells, fields, &mut room, value)
 }
 
-fn push_name(fields: &mut StringRecord, room: &mut String, name: &Name) -> Result<(), AllocError>
-    ensures { OnOk result (fields_of fields.new ≡ fields_of fields.old ++ braced name.now ∷ []) }
+fn push_name(
+    cells: Cells,
+    fields: &mut StringRecord,
+    room: &mut String,
+    name: &Name,
+) -> Result<(), AllocError>
+    ensures { OnOk result (fields_of fields.new ≡ fields_of fields.old ++ cell cells.spreadsheet (braced name.now) ∷ []) }
 {
     spell(room, &Braced, name)?;
-    fields.push_field(room.as_str())
+    cells.push(fields, room.as_str())
 }
 
 fn push_entity(
+    cells: Cells,
     fields: &mut StringRecord,
     room: &mut String,
     entity: Option<&Name>,
 ) -> Result<(), AllocError>
-    ensures { OnOk result (fields_of fields.new ≡ fields_of fields.old ++ or_empty (option_spelled braced (option_copied entity.entry)) ∷ []) }
+    ensures { OnOk result (fields_of fields.new ≡ fields_of fields.old ++ cell cells.spreadsheet (or_empty (option_spelled braced (option_copied entity.entry))) ∷ []) }
 {
     match entity {
-        Some(entity) => push_name(fields, room, entity),
-        None => fields.push_field(""),
+        Some(entity) => push_name(cells, fields, room, entity),
+        None => cells.push(fields, ""),
     }
 }
 
-fn push_text(fields: &mut StringRecord, text: Option<&Text>) -> Result<(), AllocError>
-    ensures { OnOk result (fields_of fields.new ≡ fields_of fields.old ++ or_empty (option_copied text.entry) ∷ []) }
+fn push_text(cells: Cells, fields: &mut StringRecord, text: Option<&Text>) -> Result<(), AllocError>
+    ensures { OnOk result (fields_of fields.new ≡ fields_of fields.old ++ cell cells.spreadsheet (or_empty (option_copied text.entry)) ∷ []) }
 {
     match text {
-        Some(text) => fields.push_field(text.as_str()),
-        None => fields.push_field(""),
+        Some(text) => cells.push(fields, text.as_str()),
+        None => cells.push(fields, ""),
     }
 }
 
-fn push_period(alloc: Global, fields: &mut StringRecord, period: Period) -> Result<(), AllocError>
-    ensures { OnOk result (fields_of fields.new ≡ fields_of fields.old ++ or_empty (period_text period) ∷ []) }
+fn push_period(cells: Cells, fields: &mut StringRecord, period: Period) -> Result<(), AllocError>
+    ensures { OnOk result (fields_of fields.new ≡ fields_of fields.old ++ cell cells.spreadsheet (or_empty (period_text period)) ∷ []) }
 {
-    let text = write_period(alloc, &period)?;
-    push_text(fields, text.as_ref())
+    let text = write_period(cells.alloc, &period)?;
+    push_text(cells, fields, text.as_ref())
 }
 
 fn push_unit(
+    cells: Cells,
     fields: &mut StringRecord,
     room: &mut String,
     unit: Option<&Unit>,
 ) -> Result<(), AllocError>
-    ensures { OnOk result (fields_of fields.new ≡ fields_of fields.old ++ or_empty (option_unit_text braced (option_copied unit.entry)) ∷ []) }
+    ensures { OnOk result (fields_of fields.new ≡ fields_of fields.old ++ cell cells.spreadsheet (or_empty (option_unit_text braced (option_copied unit.entry))) ∷ []) }
 {
     let Some(unit) = unit else {
-        return fields.push_field("");
+        return cells.push(fields, "");
     };
     spell_unit(room, &Braced, unit)?;
-    fields.push_field(room.as_str())
+    cells.push(fields, room.as_str())
 }
 
 fn push_defined(
-    alloc: Global,
+    cells: Cells,
     fields: &mut StringRecord,
     room: &mut String,
     members: &[(Name, Member)],
 ) -> Result<(), AllocError>
-    ensures { OnOk result (fields_of fields.new ≡ fields_of fields.old ++ defined_text members.now ∷ []) }
+    ensures { OnOk result (fields_of fields.new ≡ fields_of fields.old ++ cell cells.spreadsheet (defined_text members.now) ∷ []) }
 {
     if members.is_empty() {
-        return fields.push_field("");
+        return cells.push(fields, "");
     }
-    let text = members_json(alloc, room, members)?;
+    let text = members_json(cells.alloc, room, members)?;
     match str::from_utf8(text.as_slice()) {
-        Ok(text) => fields.push_field(text),
+        Ok(text) => cells.push(fields, text),
         Err(_) => Err(AllocError),
     }
 }
 
 fn push_value(
-    alloc: Global,
+    cells: Cells,
     fields: &mut StringRecord,
     room: &mut String,
-    spreadsheet: bool,
     value: &Value,
 ) -> Result<(), AllocError>
-    ensures { OnOk result (fields_of fields.new ≡ fields_of fields.old ++ value_fields spreadsheet value.now) }
+    ensures { OnOk result (fields_of fields.new ≡ fields_of fields.old ++ value_fields cells.spreadsheet value.now) }
 {
     match value {
         Value::Nil => push_three(fields, "", "true", ""),
-        Value::Number(number, decimals) => push_number(alloc, fields, *number, *decimals),
-        Value::Text(text) => {
-            guard(room, spreadsheet, text.as_str())?;
-            push_three(fields, room.as_str(), "", "")
-        }
+        Value::Number(number, decimals) => push_number(cells.alloc, fields, *number, *decimals),
+        Value::Text(text) => push_alone(cells, fields, text.as_str()),
         Value::Name(name) => {
             spell(room, &Braced, name)?;
-            push_three(fields, room.as_str(), "", "")
+            push_alone(cells, fields, room.as_str())
         }
     }
+}
+
+// A value that is neither nil nor a number.
+fn push_alone(cells: Cells, fields: &mut StringRecord, text: &str) -> Result<(), AllocError>
+    ensures { OnOk result (fields_of fields.new ≡ fields_of fields.old ++ cell cells.spreadsheet text.now ∷ [] ∷ [] ∷ []) }
+{
+    cells.push(fields, text)?;
+    fields.push_field("")?;
+    fields.push_field("")
 }
 
 fn push_number(
@@ -307,9 +315,9 @@ pub(crate) fn csv_source(
     ensures { IfOk result (λ text. text.items ≡ csv_source spreadsheet fact.now report own.now) }
 {
     let report = format!(in alloc; "{report}")?;
-    let mut guarded = String::new(alloc);
-    guard(&mut guarded, spreadsheet, own)?;
     let mut record = StringRecord::new(alloc);
-    push_three(&mut record, fact, report.as_str(), guarded.as_str())?;
+    record.push_field(fact)?;
+    record.push_field(report.as_str())?;
+    Cells { alloc, spreadsheet }.push(&mut record, own)?;
     text_of_record(alloc, &record)
 }

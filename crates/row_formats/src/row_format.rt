@@ -1,3 +1,6 @@
+ghost use Rattle.std.specs.Prelude.{◌≡◌, ◌++◌, IfOk};
+ghost use Rattle.row_formats.specs.CsvCells.{byte_order_mark};
+
 use crate::row_csv::{csv_header, csv_row, csv_source, source_header};
 use crate::row_json::{json_row, json_source};
 use oim_merge::{IndexedMention, JudgedRow, SourceFormat, VerdictFormat};
@@ -12,8 +15,8 @@ pub enum RowFormat {
     Json,
     /// CSV (RFC 4180): a header, then a record for each fact (verdicts) or fact object (sources).
     Csv,
-    /// CSV for a spreadsheet: a `'` precedes each text value (verdicts), or each identifier in a
-    /// report (sources), that may be read as a formula.
+    /// CSV for a spreadsheet: the text begins with a byte order mark, and in each cell a `'` precedes
+    /// everything that may be read as a formula, also behind a separator.
     SpreadsheetCsv,
 }
 
@@ -30,7 +33,8 @@ impl VerdictFormat for RowFormat {
     fn header(&self, alloc: Global) -> Result<Vec<u8>, AllocError> {
         match self {
             RowFormat::Json => Ok(Vec::new(alloc)),
-            RowFormat::Csv | RowFormat::SpreadsheetCsv => csv_header(alloc),
+            RowFormat::Csv => csv_header(alloc),
+            RowFormat::SpreadsheetCsv => with_mark(alloc, csv_header(alloc)?),
         }
     }
 
@@ -53,7 +57,8 @@ impl SourceFormat for RowFormat {
     fn header(&self, alloc: Global) -> Result<Vec<u8>, AllocError> {
         match self {
             RowFormat::Json => Ok(Vec::new(alloc)),
-            RowFormat::Csv | RowFormat::SpreadsheetCsv => source_header(alloc),
+            RowFormat::Csv => source_header(alloc),
+            RowFormat::SpreadsheetCsv => with_mark(alloc, source_header(alloc)?),
         }
     }
 
@@ -71,4 +76,15 @@ impl SourceFormat for RowFormat {
             RowFormat::SpreadsheetCsv => csv_source(alloc, true, fact, report, own),
         }
     }
+}
+
+/// U+FEFF, from which a spreadsheet knows that the text is UTF-8.
+const BYTE_ORDER_MARK: [u8; 3] = [0xef, 0xbb, 0xbf];
+
+fn with_mark(alloc: Global, header: Vec<u8>) -> Result<Vec<u8>, AllocError>
+    ensures { IfOk result (λ text. text.items ≡ byte_order_mark ++ header.items) }
+{
+    let mut text = Vec::from_slice(alloc, &BYTE_ORDER_MARK)?;
+    text.extend_from_slice(header.as_slice())?;
+    Ok(text)
 }

@@ -39,7 +39,7 @@ const VERDICTS_CSV: &[u8] =
 ";
 
 const SOURCES_SPREADSHEET: &[u8] =
-    b"fact,report,identifier\r\nf1,1,p\r\nf2,3,p\r\nf3,1,r\r\nf4,1,s\r\nf5,1,'-q\r\nf6,3,q\r\n";
+    b"\xef\xbb\xbffact,report,identifier\r\nf1,1,p\r\nf2,3,p\r\nf3,1,r\r\nf4,1,s\r\nf5,1,'-q\r\nf6,3,q\r\n";
 
 #[derive(Clone, Copy)]
 enum Call {

@@ -15,6 +15,6 @@ returns c =
     let v = c.args.value.now in
     let front = decimal c.args.judged.now.number ∷ verdict_word (verdict_shown e) ∷ name c.args.index ∷ [] in
     let fields : fields_of c.push_evidence.new.fields ≡ fact_fields c.args.spreadsheet c.args.judged.now.number d e (evidence_fields name e) (name c.args.index) v
-    = pushed_three [] front (dimension_fields d ++ value_fields c.args.spreadsheet v) (evidence_fields name e)
+    = pushed_three [] front (dimension_fields c.args.spreadsheet d ++ value_fields c.args.spreadsheet v) (evidence_fields name e)
     (c.in_ok-push_front.ensures ∙ ap (λ xs. xs ++ front) c.in_ok-record.ensures.fields) c.in_ok-push_fact.ensures c.in_ok-push_evidence.ensures in
     c.in_ok-extend_from_slice.ensures.items ∙ ap (λ t. c.args.text.now.items ++ t) (c.as_slice.ensures.value ∙ c.in_ok-line.ensures ∙ ap record_text fields)

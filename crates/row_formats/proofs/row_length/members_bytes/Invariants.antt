@@ -1,0 +1,6 @@
+use Rattle.std.proofs.Common.{◌+◌, ◌≤◌, drop}
+use Rattle.row_formats.specs.code.RowLength.{members_bytes}
+use Rattle.row_formats.proofs.row_length.members_bytes.Given as goal
+
+abbrev pub invariant-loop-axis : goal.invariant-loop-axis
+invariant-loop-axis l = l.bytes + members_bytes (drop l.axis-index l.members) ≤ members_bytes l.members
