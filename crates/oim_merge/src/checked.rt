@@ -96,8 +96,11 @@ pub fn read_back<'s>(alloc: Global, base: &Base<'s>) -> Result<Base<'s>, AllocEr
 {
     let sheet = base.sheet();
     let text = text(alloc, base)?;
-    let Ok(report) = read_report(alloc, sheet, text.as_bytes()) else {
-        return Err(AllocError);
+    let report = match read_report(alloc, sheet, text.as_bytes()) {
+        Ok(report) => report,
+        Err(refusal) if refusal.reason == Reason::OutOfMemory => return Err(AllocError),
+        // a canonical text is accepted
+        Err(_) => unreachable!(),
     };
     let mut back = Base::new(alloc, sheet);
     back.take(&report)?;

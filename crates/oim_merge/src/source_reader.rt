@@ -46,8 +46,9 @@ pub fn read_all<S: Source>(alloc: Global, source: &mut S, limit: u32) -> Result<
     let mut bytes = Vec::new(alloc);
     let mut filled = 0;
     while filled < too_many {
-        if make_room(&mut bytes, filled, too_many).is_err() {
-            return Err(ReadFault::OutOfMemory);
+        match make_room(&mut bytes, filled, too_many) {
+            Ok(()) => {}
+            Err(AllocError) => return Err(ReadFault::OutOfMemory),
         }
         match get_behind(source, bytes.as_mut_slice(), filled) {
             Ok(0) => {

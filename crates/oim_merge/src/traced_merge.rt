@@ -155,8 +155,9 @@ fn push_mentions<S: Sink, F: SourceFormat>(
     ensures failures { S.failures out.new ≡ failures_after_write result (S.failures out.old) }
 {
     for mention in mentions {
-        let Ok(text) = text_of(alloc, count, mention, format) else {
-            return Err(buffer.stop(out));
+        let text = match text_of(alloc, count, mention, format) {
+            Ok(text) => text,
+            Err(refused) => return Err(buffer.stop(out, refused)),
         };
         buffer.push(out, text.as_slice())?;
     }

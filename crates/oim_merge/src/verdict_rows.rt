@@ -149,8 +149,9 @@ fn push_rows<S: Sink, F: VerdictFormat>(
             row,
             evidence: row.evidence(),
         };
-        let Ok(text) = format.row(&mut scratch, &judged) else {
-            return Err(buffer.stop(out));
+        let text = match format.row(&mut scratch, &judged) {
+            Ok(text) => text,
+            Err(refused) => return Err(buffer.stop(out, refused)),
         };
         buffer.push(out, text.as_slice())?;
         identifiers.before += row.values.len() as u128;

@@ -17,8 +17,8 @@ use Rattle.std.proofs.lemmas.List.{get_or-take, get_or_default, map-append, take
 use Rattle.std.proofs.lemmas.List.Folds.{list_all-append}
 use Rattle.std.proofs.lemmas.Str.{IsUtf8-append, IsUtf8-from_ascii}
 use Rattle.std.proofs.lemmas.Str.Ascii.{IsAscii-nil, IsAscii-cons}
-use Rattle.oim_names.specs.Bindings.{Binding, bound, uri_of}
-use Rattle.oim_names.proofs.Bytes.{other_bytes, same_bytes}
+use Rattle.oim_names.specs.Bindings.{Binding, bound, is_refused_binding, uri_of}
+use Rattle.oim_names.proofs.Bytes.{bytes_not_eq, other_bytes, same_bytes}
 use Rattle.fact_base.specs.Body.{text_cmp}
 use Rattle.fact_base.specs.Passed.{IsSet, SpellsDimension, SpellsMeasures, SpellsName, SpellsValue}
 use Rattle.fact_base.proofs.Members.{first_or_later, first_there, later_there, none_there, each_by_there, in_flat_map, some_there}
@@ -115,13 +115,19 @@ module _ (label : List ℕ → List ℕ) where
 pub prefix_bound : (us : List (List ℕ)) (u : List ℕ) → IsSet text_cmp us → Contains us u → uri_of (map (binding (prefix us)) us) (prefix us u) ≡ Some u
 prefix_bound us u rises at = found_under (prefix us) us u (λ v there same. one_member nat_list_cmp_total 110 us rises v u there at same) at
 
+-- the prefix of a URI is not bound before the URI's turn
+pub prefix_free : (us : List (List ℕ)) (i : ℕ) (u : List ℕ) → IsSet text_cmp us → i < length us → u ≡ get_or us i u
+    → uri_of (map (binding (prefix us)) (take i us)) (prefix us u) ≡ None
+prefix_free us i u rises within is =
+    free_under (prefix us) (take i us) (prefix us u) (λ v there.
+    let lower : there.0 < i = omega (arith, there.1, length-take-le i us (omega (arith, within))) in
+    apart nat_list_cmp_total 110 us rises there.0 i v u lower within (sym (get_or-take i us there.0 v lower) ∙ there.2) (sym is))
+
 pub bound_more : (us : List (List ℕ)) (i : ℕ) (u : List ℕ) → IsSet text_cmp us → i < length us → u ≡ get_or us i u
     → bound (map (binding (prefix us)) (take i us)) (prefix us u) u ≡ map (binding (prefix us)) (take (i + 1) us)
 bound_more us i u rises within is =
     let so_far = map (binding (prefix us)) (take i us) in
-    let free : uri_of so_far (prefix us u) ≡ None = free_under (prefix us) (take i us) (prefix us u) (λ v there.
-    let lower : there.0 < i = omega (arith, there.1, length-take-le i us (omega (arith, within))) in
-    apart nat_list_cmp_total 110 us rises there.0 i v u lower within (sym (get_or-take i us there.0 v lower) ∙ there.2) (sym is)) in
+    let free = prefix_free us i u rises within is in
     ap (λ (a : Option (List ℕ)). cond (is_some a) so_far (so_far ++ binding (prefix us) u ∷ [])) free
     ∙ sym (ap (map (binding (prefix us))) (take_more us i u within ∙ ap (λ v. take i us ++ v ∷ []) (sym is)) ∙ map-append (binding (prefix us)) (take i us) (u ∷ []))
 
@@ -132,6 +138,10 @@ name_digit d h = grind (arith, nat_tests)
 
 pub prefix_is_part : (us : List (List ℕ)) (u : List ℕ) → is_part (prefix us u) ≡ true
 prefix_is_part us u = and_from _ _ (digits_pass is_name_byte name_digit (width (length us)) (rank text_cmp u us)) (filled_number _)
+
+pub prefix_allowed : (us : List (List ℕ)) (i : ℕ) (u : List ℕ) → IsSet text_cmp us → i < length us → u ≡ get_or us i u → u ≢ []
+    → is_refused_binding (map (binding (prefix us)) (take i us)) (prefix us u) u ≡ false
+prefix_allowed us i u rises within is filled = rw (prefix_is_part us u, bytes_not_eq u [] filled, prefix_free us i u rises within is) refl
 
 module _ (us : List (List ℕ)) (rises : IsSet text_cmp us) where
   spelled : (n : QName) → Contains us n.uri → SpellsName (bindings_of us) (name_text us) n

@@ -1,5 +1,5 @@
-ghost use Rattle.std.specs.Prelude.{◌≡◌, ◌++◌, length, map, IfOk, OnOk, string_bytes};
-ghost use Rattle.oim_names.specs.Bindings.{bound};
+ghost use Rattle.std.specs.Prelude.{◌≡◌, ◌++◌, false, length, map, IfOk, OnOk, string_bytes};
+ghost use Rattle.oim_names.specs.Bindings.{bound, is_refused_binding};
 ghost use Rattle.fact_base.specs.Body.{text_cmp};
 ghost use Rattle.fact_base.specs.Passed.{IsSet};
 ghost use Rattle.oim_write.specs.Prefixes.{bindings_of};
@@ -11,7 +11,7 @@ use crate::labels::{LABEL_CAPACITY, push_label, width_of};
 use crate::uri_set::UriSet;
 use fact_base::Base;
 use oim_dims::Spelling;
-use oim_names::{Aliases, Name, PositionCache, Text};
+use oim_names::{Aliases, Name, PositionCache, Reason, Text};
 use std::alloc::{AllocError, Global};
 use std::marker::Model;
 
@@ -134,6 +134,8 @@ fn indices_of(uris: &[Text]) -> PositionCache {
 pub fn prefixes(alloc: Global, base: &Base<'_>) -> Result<Aliases, AllocError>
     ensures { IfOk result (λ aliases. aliases ≡ bindings_of (uris base.now.body.facts)) }
 {
+    // the contract of `sheet` states that the facts fit the sheet, so no URI is empty
+    let _sheet = base.sheet();
     let table = PrefixTable::of(alloc, base)?;
     let mut aliases = Aliases::new(alloc);
     for uri in table.uris() {
@@ -142,16 +144,20 @@ pub fn prefixes(alloc: Global, base: &Base<'_>) -> Result<Aliases, AllocError>
     Ok(aliases)
 }
 
-// The prefix is well-formed and not bound yet, and the URI is not empty. So `add` fails only if
-// memory is refused.
 fn bind(
     alloc: Global,
     aliases: &mut Aliases,
     table: &PrefixTable,
     uri: &str,
 ) -> Result<(), AllocError>
+    requires { is_refused_binding aliases.old (prefix table.now uri.now) uri.now ≡ false }
     ensures { OnOk result (aliases.new ≡ bound aliases.old (prefix table.now uri.now) uri.now) }
 {
     let prefix = table.prefix(alloc, uri)?;
-    aliases.add(&prefix, uri).map_err(|_| AllocError)
+    match aliases.add(&prefix, uri) {
+        Ok(()) => Ok(()),
+        Err(Reason::OutOfMemory) => Err(AllocError),
+        // the binding is not refused
+        Err(_) => unreachable!(),
+    }
 }

@@ -57,8 +57,9 @@ impl SinkBuffer {
             bytes.now (written_of fault)) }
         ensures failures { S.failures sink.new ≡ failures_after_write result (S.failures sink.old) }
     {
-        if self.buffer.extend_from_slice(bytes).is_err() {
-            return Err(self.stop(sink));
+        match self.buffer.extend_from_slice(bytes) {
+            Ok(()) => {}
+            Err(refused) => return Err(self.stop(sink, refused)),
         }
         if self.buffer.len() < CHUNK {
             return Ok(());
@@ -89,7 +90,9 @@ impl SinkBuffer {
 
     /// Ends the text after memory was refused: writes the waiting bytes and returns `OutOfMemory`
     /// with the length of the text so far, or `Device` if the sink failed.
-    pub fn stop<S: Sink>(&mut self, sink: &mut S) -> WriteFault
+    ///
+    /// The error of the refused request must be passed, so that nothing else ends a text like this.
+    pub fn stop<S: Sink>(&mut self, sink: &mut S, _refused: AllocError) -> WriteFault
         requires { S.failures sink.old < 2 ^ 64 - 1 }
         ensures broken { Breaks (S.told sink.old) (S.told sink.new) self.old [] (written_of result) }
         ensures failures { S.failures sink.new ≡ failures_after_fault result (S.failures sink.old) }

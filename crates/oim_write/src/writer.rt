@@ -31,7 +31,8 @@ pub fn text(alloc: Global, base: &Base<'_>) -> Result<Encoded, AllocError>
     let mut sink = StdSink::new(Vec::new(alloc));
     match write_to(alloc, base, &mut sink) {
         Ok(()) => Ok(Encoded::from_vec(sink.into_inner())),
-        Err(_) => Err(AllocError),
+        // the sink is a list in memory, which fails only if memory is refused
+        Err(WriteFault::OutOfMemory(_) | WriteFault::Device(_)) => Err(AllocError),
     }
 }
 
@@ -51,15 +52,9 @@ pub fn write_to<S: Sink>(alloc: Global, base: &Base<'_>, out: &mut S) -> Result<
 {
     // the contract of `sheet` states that the facts fit the sheet, which the proof needs
     let _sheet = base.sheet();
-    let Ok(table) = PrefixTable::of(alloc, base) else {
-        return Err(WriteFault::OutOfMemory(0));
-    };
-    let Ok(head) = head(alloc, base.level(), &table) else {
-        return Err(WriteFault::OutOfMemory(0));
-    };
-    let Ok(mut buffer) = SinkBuffer::new(alloc) else {
-        return Err(WriteFault::OutOfMemory(0));
-    };
+    let table = PrefixTable::of(alloc, base)?;
+    let head = head(alloc, base.level(), &table)?;
+    let mut buffer = SinkBuffer::new(alloc)?;
     buffer.push(out, &head)?;
     write_references(alloc, &mut buffer, out, base.taxonomy())?;
     buffer.push(out, b"]},\"facts\":{")?;
@@ -86,9 +81,9 @@ fn write_references<S: Sink>(
     let mut later = false;
     for reference in references {
         part.clear();
-        let written = append_reference(alloc, &mut part, later, reference);
-        if written.is_err() {
-            return Err(buffer.stop(out));
+        match append_reference(alloc, &mut part, later, reference) {
+            Ok(()) => {}
+            Err(refused) => return Err(buffer.stop(out, refused)),
         }
         buffer.push(out, &part)?;
         later = true;
@@ -117,8 +112,9 @@ fn write_facts<S: Sink>(
     let mut before = 0;
     let mut rows = base.rows();
     while let Some(row) = rows.next() {
-        if concepts.spell(table, row, &rows).is_err() {
-            return Err(buffer.stop(out));
+        match concepts.spell(table, row, &rows) {
+            Ok(()) => {}
+            Err(refused) => return Err(buffer.stop(out, refused)),
         }
         let concept = concepts.text.as_str();
         let labels = Labels {
@@ -154,9 +150,9 @@ fn write_row<S: Sink>(
     for (i, value) in row.values.iter().enumerate() {
         part.clear();
         let before = before + i as u128;
-        let fact = append_fact(part, scratch, labels, before, row.dimensions, value);
-        if fact.is_err() {
-            return Err(buffer.stop(out));
+        match append_fact(part, scratch, labels, before, row.dimensions, value) {
+            Ok(()) => {}
+            Err(refused) => return Err(buffer.stop(out, refused)),
         }
         buffer.push(out, part)?;
     }

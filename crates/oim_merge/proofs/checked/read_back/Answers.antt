@@ -1,9 +1,12 @@
-use Rattle.std.proofs.Common.{◌≡◌, [], ◌∷◌, Ok, sym, ap, ◌∙◌}
+use Rattle.std.proofs.Common.{◌≡◌, ◌≢◌, [], ◌∷◌, Ok, ⊎_elim, rules, sym, ap, ◌∙◌}
+use Rattle.oim_names.specs.declared.reason.Reason.TheVariants.{OutOfMemory}
+use Rattle.oim_report.specs.declared.refusal.Refusal.{Refusal}
 use Rattle.oim_report.specs.Outcome.{outcome}
 use Rattle.fact_base.specs.Body.{body, union}
 use Rattle.fact_base.specs.Contents.{Contents}
 use Rattle.oim_write.specs.Bytes.{canonical}
 use Rattle.oim_merge.proofs.Histories.{taken_back}
+use Rattle.oim_merge.proofs.ReadsBack.{canonical_reads_back}
 use Rattle.oim_merge.proofs.checked.read_back.Goals as goal
 
 pub returns : goal.returns
@@ -16,3 +19,10 @@ returns c =
     let same_body : union new.body (body (document ∷ [])) ≡ base.body =
     ap (λ (x : Contents). union x.body (body (document ∷ []))) c.new-back.ensures ∙ taken_back base.sheet base.body document c.sheet-sheet.ensures.fits read in
     c.in_ok-take.ensures.ok ∙ (λ i. record { sheet = same_sheet i; body = same_body i })
+
+pub unreachable-requires : goal.unreachable-requires
+unreachable-requires c =
+    let base = c.args.base.now in
+    let accepted = (λ i. outcome (c.sheet-sheet.ensures.sheet i) ((c.as_bytes.ensures ∙ c.in_ok-text.ensures) i)) ∙ canonical_reads_back base.sheet base.body c.sheet-sheet.ensures.fits in
+    let other : c.in-Err.refusal.reason ≢ OutOfMemory = search rules in
+    ⊎_elim (λ memory. other (ap (λ (r : Refusal). r.reason) memory)) (λ refused. let no = sym accepted ∙ refused in cc) c.in-Err.ensures.errors

@@ -17,20 +17,20 @@ loop-filled-preserved g c =
     let told = g.S.Source.told in
     let before = c.loop-filled.invariant in
     let now = c.get_behind.new.bytes in
-    let kept = c.in-Ok.ensures.front ∙ ap (take c.loop-filled.filled) c.as_mut_slice.ensures.value ∙ c.make_room.ensures.front in
+    let kept = c.in-Ok-get_behind.ensures.front ∙ ap (take c.loop-filled.filled) c.as_mut_slice.ensures.value ∙ c.make_room.ensures.front in
     let items = with_items_is c.make_room.new.bytes now (search (rules, places)) in
     record {
-      given = rw items (Consumes-more (told c.args.source.now) (told c.loop-filled.source) (told c.get_behind.new.source) c.loop-filled.bytes.items now c.loop-filled.filled c.in-Ok.n kept before.given c.in-Ok.ensures.ok);
+      given = rw items (Consumes-more (told c.args.source.now) (told c.loop-filled.source) (told c.get_behind.new.source) c.loop-filled.bytes.items now c.loop-filled.filled c.in-Ok-get_behind.n kept before.given c.in-Ok-get_behind.ensures.ok);
       filled = search rules;
       within = search rules;
-      failures = c.in-Ok.ensures.failures ∙ before.failures;
+      failures = c.in-Ok-get_behind.ensures.failures ∙ before.failures;
     }
 
-pub returns-in-Err-clause-err : goal.returns-in-Err-clause-err
-returns-in-Err-clause-err g c =
+pub returns-in-Err-get_behind-clause-err : goal.returns-in-Err-get_behind-clause-err
+returns-in-Err-get_behind-clause-err g c =
     let told = g.S.Source.told in
     let given = take c.loop-filled.filled c.loop-filled.bytes.items in (
       given,
-      Consumes-kept (told c.args.source.now) (told c.loop-filled.source) (told c.get_behind.new.source) given c.loop-filled.invariant.given c.in-Err.ensures.err,
+      Consumes-kept (told c.args.source.now) (told c.loop-filled.source) (told c.get_behind.new.source) given c.loop-filled.invariant.given c.in-Err-get_behind.ensures.err,
       length-take-le c.loop-filled.filled c.loop-filled.bytes.items (search (rules, places)),
     )

@@ -11,8 +11,8 @@ use Rattle.oim_merge.proofs.traced_merge.push_mentions.Goals as goal
 pub loop-mention-init : goal.loop-mention-init
 loop-mention-init g c = record { passed = Passes-nil _ _; failures = refl }
 
-pub returns-in_default-clause-err : goal.returns-in_default-clause-err
-returns-in_default-clause-err g c =
+pub returns-in-Err-clause-err : goal.returns-in-Err-clause-err
+returns-in-Err-clause-err g c =
     let l = c.loop-mention in
     let line = indexed_text (g.F.SourceFormat.source_text c.args.format.now) c.args.count in
     let all = c.args.mentions.now in

@@ -35,8 +35,8 @@ row-requires g c =
       indices = indices_within c.in-Some.row.values.now c.evidence.result c.evidence.ensures;
     }
 
-pub returns-in_default-clause-err : goal.returns-in_default-clause-err
-returns-in_default-clause-err g c =
+pub returns-in-Err-clause-err : goal.returns-in-Err-clause-err
+returns-in-Err-clause-err g c =
     let l = c.loop-row in
     let base = c.args.base.now in
     let written = g.F.VerdictFormat.row_text c.args.format.now in

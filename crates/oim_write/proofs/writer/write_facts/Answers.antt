@@ -7,7 +7,7 @@ use Rattle.oim_write.specs.Rank.{width}
 use Rattle.oim_write.specs.Sink.{written_of}
 use Rattle.oim_write.specs.SinkBuffer.{Breaks, Passes}
 use Rattle.oim_write.proofs.NumberedFacts.{length-next_row, next_row, rows_facts, rows_facts_are}
-use Rattle.oim_write.proofs.Passing.{Breaks-more, Breaks-trans, Passes-nil, Passes-trans, holds_where_ok}
+use Rattle.oim_write.proofs.Passing.{Breaks-more, Breaks-trans, Passes-nil, Passes-trans}
 use Rattle.oim_write.proofs.writer.write_facts.Goals as goal
 
 pub loop-row-init : goal.loop-row-init
@@ -31,13 +31,13 @@ spell-requires g c =
     subst (SharePrefix c.args.table.now (string_bytes l.concepts.prefix) l.concepts.known) c.in-Some.ensures.steps l.invariant.known
 
 pub write_row-requires-clause-concept : goal.write_row-requires-clause-concept
-write_row-requires-clause-concept g c = c.as_str-concept.ensures.value ∙ holds_where_ok c.spell.result c.if-is_err.ensures.value c.spell.ensures.text
+write_row-requires-clause-concept g c = c.as_str-concept.ensures.value ∙ c.in-Ok.ensures.text
 
 pub write_row-requires-clause-room : goal.write_row-requires-clause-room
 write_row-requires-clause-room g c = omega (arith, length-next_row _ _ _ c.in-Some.ensures.steps, c.loop-row.invariant.count, c.fact_count.ensures, c.fact_count.type_inv)
 
-pub returns-then-is_err-clause-err : goal.returns-then-is_err-clause-err
-returns-then-is_err-clause-err g c =
+pub returns-in-Err-clause-err : goal.returns-in-Err-clause-err
+returns-in-Err-clause-err g c =
     let so_far = c.loop-row.invariant.passed in
     subst (λ text. Breaks (g.S.Sink.told c.args.out.now) (g.S.Sink.told c.stop.new.sink) c.args.buffer.now text (written_of c.stop.result)) so_far.2
     (Breaks-trans so_far.1 (Breaks-more _ c.stop.ensures.broken))
@@ -65,7 +65,7 @@ loop-row-preserved g c =
       passed = (_, Passes-trans so_far.1 c.in_ok-write_row.ensures.ok, append_assoc so_far.0 _ _ ∙ ap (λ t. so_far.0 ++ t) (sym (next_row _ _ _ c.in-Some.ensures.steps c.args.table.now c.width_of-digits.result l.before)) ∙ so_far.2);
       count = omega (arith, length-next_row _ _ _ c.in-Some.ensures.steps, l.invariant.count);
       failures = c.in_ok-write_row.ensures.failures ∙ l.invariant.failures;
-      known = holds_where_ok c.spell.result c.if-is_err.ensures.value c.spell.ensures.known;
+      known = c.in-Ok.ensures.known;
     }
 
 pub returns-clause-ok : goal.returns-clause-ok

@@ -5,14 +5,14 @@ use Rattle.oim_write.specs.code.TextPieces.{text_parts}
 use Rattle.oim_write.specs.Sink.{written_of}
 use Rattle.oim_write.specs.SinkBuffer.{Breaks, Passes}
 use Rattle.oim_write.proofs.PieceTexts.{behind_nothing, left_texts}
-use Rattle.oim_write.proofs.Passing.{Breaks-more, Breaks-trans, Passes-nil, Passes-trans, holds_where_ok}
+use Rattle.oim_write.proofs.Passing.{Breaks-more, Breaks-trans, Passes-nil, Passes-trans}
 use Rattle.oim_write.proofs.writer.write_references.Goals as goal
 
 pub loop-reference-init : goal.loop-reference-init
 loop-reference-init g c = record { passed = ([], Passes-nil _ _, refl); failures = refl }
 
-pub returns-then-is_err-clause-err : goal.returns-then-is_err-clause-err
-returns-then-is_err-clause-err g c =
+pub returns-in-Err-clause-err : goal.returns-in-Err-clause-err
+returns-in-Err-clause-err g c =
     let so_far = c.loop-reference.invariant.passed in
     subst (λ text. Breaks (g.S.Sink.told c.args.out.now) (g.S.Sink.told c.stop.new.sink) c.args.buffer.now text (written_of c.stop.result)) so_far.2
     (Breaks-trans so_far.1 (Breaks-more _ c.stop.ensures.broken))
@@ -20,7 +20,7 @@ returns-then-is_err-clause-err g c =
 pub returns-in_err-push-clause-err : goal.returns-in_err-push-clause-err
 returns-in_err-push-clause-err g c =
     let l = c.loop-reference in
-    let written = c.deref.ensures.value ∙ behind_nothing (holds_where_ok c.append_reference-written.result c.if-is_err.ensures.value c.append_reference-written.ensures) c.clear.ensures.items in
+    let written = c.deref.ensures.value ∙ behind_nothing c.in-Ok.ensures c.clear.ensures.items in
     let p = err_from_is_err_and c.from_residual.result c.from_residual.ensures.1 in rw (p.1, p.2)
     (subst (λ text. Breaks (g.S.Sink.told c.args.out.now) (g.S.Sink.told c.push.new.sink) c.args.buffer.now text (written_of c.in_err-push.field-0.0))
     (left_texts _ l.later c.args.references.now l.reference-index c.reference-item.result (omega arith) c.reference-item.is written l.invariant.passed.2)
@@ -29,7 +29,7 @@ returns-in_err-push-clause-err g c =
 pub loop-reference-preserved : goal.loop-reference-preserved
 loop-reference-preserved g c =
     let l = c.loop-reference in
-    let written = c.deref.ensures.value ∙ behind_nothing (holds_where_ok c.append_reference-written.result c.if-is_err.ensures.value c.append_reference-written.ensures) c.clear.ensures.items in
+    let written = c.deref.ensures.value ∙ behind_nothing c.in-Ok.ensures c.clear.ensures.items in
     record {
       passed = (
         _,

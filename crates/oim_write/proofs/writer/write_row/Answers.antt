@@ -7,7 +7,7 @@ use Rattle.oim_write.specs.Sink.{written_of}
 use Rattle.oim_write.specs.SinkBuffer.{Breaks, Passes}
 use Rattle.oim_write.proofs.NumberedFacts.{left_facts}
 use Rattle.oim_write.proofs.PieceTexts.{behind_nothing}
-use Rattle.oim_write.proofs.Passing.{Breaks-more, Breaks-trans, Passes-nil, Passes-trans, holds_where_ok}
+use Rattle.oim_write.proofs.Passing.{Breaks-more, Breaks-trans, Passes-nil, Passes-trans}
 use Rattle.oim_write.proofs.writer.write_row.Goals as goal
 
 pub loop-i-init : goal.loop-i-init
@@ -19,8 +19,8 @@ loop-i-init g c =
       failures = refl;
     }
 
-pub returns-then-is_err-clause-err : goal.returns-then-is_err-clause-err
-returns-then-is_err-clause-err g c =
+pub returns-in-Err-clause-err : goal.returns-in-Err-clause-err
+returns-in-Err-clause-err g c =
     let so_far = c.loop-i.invariant.passed in
     subst (λ text. Breaks (g.S.Sink.told c.args.out.now) (g.S.Sink.told c.stop.new.sink) c.args.buffer.now text (written_of c.stop.result)) so_far.2
     (Breaks-trans so_far.1 (Breaks-more _ c.stop.ensures.broken))
@@ -30,7 +30,7 @@ returns-in_err-push-clause-err g c =
     let l = c.loop-i in
     let labels = c.args.labels.now in
     let row = c.args.row in
-    let written = c.deref.ensures.value ∙ behind_nothing (holds_where_ok c.append_fact-fact.result c.if-is_err.ensures.value c.append_fact-fact.ensures) c.clear.ensures.items in
+    let written = c.deref.ensures.value ∙ behind_nothing c.in-Ok.ensures c.clear.ensures.items in
     let p = err_from_is_err_and c.from_residual.result c.from_residual.ensures.1 in rw (p.1, p.2)
     (subst (λ text. Breaks (g.S.Sink.told c.args.out.now) (g.S.Sink.told c.push.new.sink) c.args.buffer.now text (written_of c.in_err-push.field-0.0))
     (left_facts labels.table.now labels.digits _ row.dimensions.now row.values.now c.args.before l.i c.value-item.result (omega arith) c.value-item.is written l.invariant.passed.2)
@@ -41,7 +41,7 @@ loop-i-preserved g c =
     let l = c.loop-i in
     let labels = c.args.labels.now in
     let row = c.args.row in
-    let written = c.deref.ensures.value ∙ behind_nothing (holds_where_ok c.append_fact-fact.result c.if-is_err.ensures.value c.append_fact-fact.ensures) c.clear.ensures.items in
+    let written = c.deref.ensures.value ∙ behind_nothing c.in-Ok.ensures c.clear.ensures.items in
     record {
       passed = (
         _,

@@ -17,41 +17,41 @@ broken {a} {b} {written = written} new is breaks = subst (λ t. AppendsFront a b
 
 pub returns-in_err-push-clause-err : goal.returns-in_err-push-clause-err
 returns-in_err-push-clause-err g c =
-    let p = err_from_is_err_and c.from_residual.result c.from_residual.ensures.1 in rw (p.1, p.2)
-    (broken c.in-Ok-new.ensures (canonical_of _ _ _ _ _ _ c.sheet-sheet.ensures.fits (c.deref.ensures.value ∙ c.in-Ok-head.ensures) c.level.ensures.level c.in-Ok.ensures refl) (Breaks-more _ c.in_err-push.ensures.err))
+    let p = err_from_is_err_and c.from_residual-in_err-push.result c.from_residual-in_err-push.ensures.1 in rw (p.1, p.2)
+    (broken c.in_ok-buffer.ensures (canonical_of _ _ _ _ _ _ c.sheet-sheet.ensures.fits (c.deref.ensures.value ∙ c.in_ok-head.ensures) c.level.ensures.level c.in_ok-table.ensures refl) (Breaks-more _ c.in_err-push.ensures.err))
 
 pub returns-in_err-write_references-clause-err : goal.returns-in_err-write_references-clause-err
 returns-in_err-write_references-clause-err g c =
     let p = err_from_is_err_and c.from_residual-in_err-write_references.result c.from_residual-in_err-write_references.ensures.1 in rw (p.1, p.2)
-    (broken c.in-Ok-new.ensures (canonical_of _ _ _ _ _ _ c.sheet-sheet.ensures.fits (c.deref.ensures.value ∙ c.in-Ok-head.ensures) c.level.ensures.level c.in-Ok.ensures c.taxonomy.ensures) (Breaks-trans c.in_ok-push.ensures.ok (Breaks-more _ c.in_err-write_references.ensures.err)))
+    (broken c.in_ok-buffer.ensures (canonical_of _ _ _ _ _ _ c.sheet-sheet.ensures.fits (c.deref.ensures.value ∙ c.in_ok-head.ensures) c.level.ensures.level c.in_ok-table.ensures c.taxonomy.ensures) (Breaks-trans c.in_ok-push.ensures.ok (Breaks-more _ c.in_err-write_references.ensures.err)))
 
 pub returns-in_err-push-2-clause-err : goal.returns-in_err-push-2-clause-err
 returns-in_err-push-2-clause-err g c =
     let p = err_from_is_err_and c.from_residual-in_err-push-2.result c.from_residual-in_err-push-2.ensures.1 in rw (p.1, p.2)
-    (broken c.in-Ok-new.ensures (canonical_of _ _ _ _ _ _ c.sheet-sheet.ensures.fits (c.deref.ensures.value ∙ c.in-Ok-head.ensures) c.level.ensures.level c.in-Ok.ensures c.taxonomy.ensures) (Breaks-trans c.in_ok-push.ensures.ok (Breaks-trans c.in_ok-write_references.ensures.ok (Breaks-more _ c.in_err-push-2.ensures.err))))
+    (broken c.in_ok-buffer.ensures (canonical_of _ _ _ _ _ _ c.sheet-sheet.ensures.fits (c.deref.ensures.value ∙ c.in_ok-head.ensures) c.level.ensures.level c.in_ok-table.ensures c.taxonomy.ensures) (Breaks-trans c.in_ok-push.ensures.ok (Breaks-trans c.in_ok-write_references.ensures.ok (Breaks-more _ c.in_err-push-2.ensures.err))))
 
 pub returns-in_err-write_facts-clause-err : goal.returns-in_err-write_facts-clause-err
 returns-in_err-write_facts-clause-err g c =
     let p = err_from_is_err_and c.from_residual-in_err-write_facts.result c.from_residual-in_err-write_facts.ensures.1 in rw (p.1, p.2)
-    (broken c.in-Ok-new.ensures (canonical_of _ _ _ _ _ _ c.sheet-sheet.ensures.fits (c.deref.ensures.value ∙ c.in-Ok-head.ensures) c.level.ensures.level c.in-Ok.ensures c.taxonomy.ensures) (Breaks-trans c.in_ok-push.ensures.ok (Breaks-trans c.in_ok-write_references.ensures.ok (Breaks-trans c.in_ok-push-2.ensures.ok (Breaks-more _ c.in_err-write_facts.ensures.err)))))
+    (broken c.in_ok-buffer.ensures (canonical_of _ _ _ _ _ _ c.sheet-sheet.ensures.fits (c.deref.ensures.value ∙ c.in_ok-head.ensures) c.level.ensures.level c.in_ok-table.ensures c.taxonomy.ensures) (Breaks-trans c.in_ok-push.ensures.ok (Breaks-trans c.in_ok-write_references.ensures.ok (Breaks-trans c.in_ok-push-2.ensures.ok (Breaks-more _ c.in_err-write_facts.ensures.err)))))
 
 pub returns-in_err-push-3-clause-err : goal.returns-in_err-push-3-clause-err
 returns-in_err-push-3-clause-err g c =
     let p = err_from_is_err_and c.from_residual-in_err-push-3.result c.from_residual-in_err-push-3.ensures.1 in rw (p.1, p.2)
-    (broken c.in-Ok-new.ensures (canonical_of _ _ _ _ _ _ c.sheet-sheet.ensures.fits (c.deref.ensures.value ∙ c.in-Ok-head.ensures) c.level.ensures.level c.in-Ok.ensures c.taxonomy.ensures) (Breaks-trans c.in_ok-push.ensures.ok (Breaks-trans c.in_ok-write_references.ensures.ok (Breaks-trans c.in_ok-push-2.ensures.ok (Breaks-trans c.in_ok-write_facts.ensures.ok c.in_err-push-3.ensures.err)))))
+    (broken c.in_ok-buffer.ensures (canonical_of _ _ _ _ _ _ c.sheet-sheet.ensures.fits (c.deref.ensures.value ∙ c.in_ok-head.ensures) c.level.ensures.level c.in_ok-table.ensures c.taxonomy.ensures) (Breaks-trans c.in_ok-push.ensures.ok (Breaks-trans c.in_ok-write_references.ensures.ok (Breaks-trans c.in_ok-push-2.ensures.ok (Breaks-trans c.in_ok-write_facts.ensures.ok c.in_err-push-3.ensures.err)))))
 
 pub returns-clause-ok : goal.returns-clause-ok
 returns-clause-ok g c =
     let told = g.S.Sink.told in
     let pushed = Passes-trans c.in_ok-push.ensures.ok (Passes-trans c.in_ok-write_references.ensures.ok (Passes-trans c.in_ok-push-2.ensures.ok (Passes-trans c.in_ok-write_facts.ensures.ok c.in_ok-push-3.ensures.ok))) in
     both_ok c.flush.result
-    (λ flushed none. subst (Appends (told c.args.out.now) (told c.flush.new.sink)) (append-nil _ ∙ canonical_of _ _ _ _ _ _ c.sheet-sheet.ensures.fits (c.deref.ensures.value ∙ c.in-Ok-head.ensures) c.level.ensures.level c.in-Ok.ensures c.taxonomy.ensures)
-    (Appends-passed c.in-Ok-new.ensures (Passes-trans pushed flushed) none))
+    (λ flushed none. subst (Appends (told c.args.out.now) (told c.flush.new.sink)) (append-nil _ ∙ canonical_of _ _ _ _ _ _ c.sheet-sheet.ensures.fits (c.deref.ensures.value ∙ c.in_ok-head.ensures) c.level.ensures.level c.in_ok-table.ensures c.taxonomy.ensures)
+    (Appends-passed c.in_ok-buffer.ensures (Passes-trans pushed flushed) none))
     c.flush.ensures.ok c.flush.ensures.empty
 
 pub returns-clause-err : goal.returns-clause-err
 returns-clause-err g c =
     let told = g.S.Sink.told in
     let pushed = Passes-trans c.in_ok-push.ensures.ok (Passes-trans c.in_ok-write_references.ensures.ok (Passes-trans c.in_ok-push-2.ensures.ok (Passes-trans c.in_ok-write_facts.ensures.ok c.in_ok-push-3.ensures.ok))) in
-    subst (λ text. IfErr c.flush.result (λ fault. AppendsFront (told c.args.out.now) (told c.flush.new.sink) text (written_of fault))) (canonical_of _ _ _ _ _ _ c.sheet-sheet.ensures.fits (c.deref.ensures.value ∙ c.in-Ok-head.ensures) c.level.ensures.level c.in-Ok.ensures c.taxonomy.ensures)
-    (AppendsFront-flushed (told c.flush.new.sink) c.flush.result c.in-Ok-new.ensures pushed c.flush.ensures.err)
+    subst (λ text. IfErr c.flush.result (λ fault. AppendsFront (told c.args.out.now) (told c.flush.new.sink) text (written_of fault))) (canonical_of _ _ _ _ _ _ c.sheet-sheet.ensures.fits (c.deref.ensures.value ∙ c.in_ok-head.ensures) c.level.ensures.level c.in_ok-table.ensures c.taxonomy.ensures)
+    (AppendsFront-flushed (told c.flush.new.sink) c.flush.result c.in_ok-buffer.ensures pushed c.flush.ensures.err)

@@ -24,4 +24,4 @@ pub returns-clause-known : goal.returns-clause-known
 returns-clause-known c k d within =
     let us = c.args.table.now in
     let spelled = c.in_ok-push_prefix.ensures ∙ ap (λ t. t ++ prefix us c.uri-uri.result.now) c.clear.ensures.bytes in
-    ap (prefix us) (c.uri_run-self.ensures k d within) ∙ sym spelled
+    ap (prefix us) (c.uri_run-self.ensures.uris k d within) ∙ sym spelled

@@ -19,4 +19,4 @@ pub returns-clause-gains : goal.returns-clause-gains
 returns-clause-gains c = gains_last c.in_ok-add_others.ensures (subst (λ (n : QName). Gains c.add_others.new.self (n ∷ []) c.add.new.self) c.concept-concept.ensures c.in_ok-add.ensures)
 
 pub returns-clause-known : goal.returns-clause-known
-returns-clause-known c = known_by_run c.uri_run.result (rows_left c.args.rows.now) c.concept-concept.result.now c.uri.result.now c.in_ok-add.ensures c.uri.ensures c.uri_run.ensures
+returns-clause-known c = known_by_run c.uri_run.result (rows_left c.args.rows.now) c.concept-concept.result.now c.uri.result.now c.in_ok-add.ensures c.uri.ensures c.uri_run.ensures.uris
