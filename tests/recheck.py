@@ -3,10 +3,10 @@
 
     [CASES=10000] [SEED=1] [CASE=N] [JOBS=N] tests/recheck [PROGRAM]
 
-By default, PROGRAM is $XBRLMERGE or the built program. Each case draws a sheet and up to four reports. A third of the reports has a
-fault: one in a table of FAULTS, or broken bytes as in tests/malformed. One sheet in twenty has a fault. `merge`, `verdicts` and
-`sources` read them, and tools/recheck must agree with what they print. JOBS processes run in parallel, as many as there are
-processors by default. CASE runs only the case with this number.
+By default, PROGRAM is $XBRLMERGE or the built program. Each case draws a sheet and up to four reports. About a third of the
+reports have a fault: a member from a table of faults, or broken bytes as in tests/malformed. So has one sheet in ten. `merge`,
+`verdicts` and `sources` read them, and tools/recheck must agree with what they print. JOBS processes run in parallel, as many as
+there are processors by default. CASE runs only the case with this number.
 
 Status 0: all is as expected. 1: something is not, or a refusal is missing in a run of 10,000 cases or more. 2: there is no program.
 The first 20 faults are printed with the seed and the case, and their files are kept.
@@ -29,7 +29,7 @@ import time
 from unittest import mock
 
 import malformed
-from support import TOP, built_program
+from support import TOP, built_program, bytes_of
 
 CASES, SEED, CASE = (int(os.environ.get(name, usual)) for name, usual in (("CASES", 10000), ("SEED", 1), ("CASE", -1)))
 JOBS = int(os.environ.get("JOBS", len(os.sched_getaffinity(0))))
@@ -43,15 +43,15 @@ DAYS = ("2023-12-31T24:00:00", "2024-01-01T00:00:00", "2023-12-31T23:59:59", "20
         "0001-01-01T00:00:00", "9999-12-31T23:59:59", "1969-12-31T24:00:00")
 NO_DAYS = ("9999-12-31T24:00:00", "2023-02-28T24:00:01", "2023-02-29T00:00:00", "0000-12-31T24:00:00", "2023-12-31", "2023-12-31T24:00:00Z",
            "2023-12-31t00:00:00", "2023-12-31T00:60:00", "2023-12-31T25:00:00", "2023-12-31T00:00:00\n", " 2023-12-31T00:00:00", "", "/",
-           "2023-12-31T00:00:00/", "2023-12-31T00:00:00/2024-01-01T00:00:00/2025-01-01T00:00:00", "２023-12-31T00:00:00")
+           "2023-12-31T00:00:00/", "2023-12-31T00:00:00/2024-01-01T00:00:00/2025-01-01T00:00:00", "\uff12023-12-31T00:00:00")
 UNITS = ("x:b*x:a", "(x:a*x:b)/x:c", "x:c/(a:b*x:b)", "xbrli:pure", "(xbrli:pure)", "xbrli:pure/x:c", "xbrli:pure*xbrli:pure", "x:a/x:a",
          "made:a*m:a", "(x:a)/(x:b)")
 NO_UNITS = ("", "x:a/", "/x:a", "x:a/x:b/x:c", "(x:a", "x:a)", "((x:a))", "()", "x:a**x:b", "*", "(x:a)*(x:b)", "x:a*(x:b*x:c)")
 NUMBERS = ("0", "-0", "+0.00", ".5", "5.", "007", "0.1", "-12.50", "999999999999999999", "-999999999999999999", "0.000000000000000001",
            "000000000000000000000000012", "1.00000000000000000000000")
-NO_NUMBERS = ("", ".", "+", "-.", "1e2", "INF", "NaN", " 1", "1 ", "1\n", "+-1", "1.2.3", "１", "0x1", "1_0")
+NO_NUMBERS = ("", ".", "+", "-.", "1e2", "INF", "NaN", " 1", "1 ", "1\n", "+-1", "1.2.3", "\uff11", "0x1", "1_0")
 LONG_NUMBERS = ("1234567890123456789", "0.0000000000000000001", "1000000000000000000", "-123456789.1234567891")
-LANGUAGES, NO_LANGUAGES = ("en", "EN-gb", "sv-FI", "zh-Hant-1", "abcdefgh"), ("", "en_GB", "abcdefghi", "1a", "en-", "-en", "en-123456789", "é")
+LANGUAGES, NO_LANGUAGES = ("en", "EN-gb", "sv-FI", "zh-Hant-1", "abcdefgh"), ("", "en_GB", "abcdefghi", "1a", "en-", "-en", "en-123456789", "\u00e9")
 TEXTS = ("Blue", "blue", "", " ", "a\"b\\c", "\u0001\t\n\u007f", "\u00e9", "\u2028", "\U0001f40b", "\ue000")
 NAMES = ("m:North", "made:North", "x:South", "a:North", "m:\u00e9", "x:a/b", "x:\u00a0\u000b\u0085")
 ENTITIES = ("x:529900:A1", "x: a\n", "m:A", "made:A", "a:\u00e9")
@@ -61,7 +61,8 @@ WHOLE = (-18, 18, 0, 1, 2, -1)
 NO_WHOLE = (None, True, "0", 1.0, [], {}, 9223372036854775807 * 4, -9223372036854775809)
 FAR = (19, -19, 18446744073709551615, -9223372036854775808)
 REFERENCES = ("https://made.example/a.xsd", "http://example.org/u/", "http://example.org/b.xsd?c=d#e")
-DOUBTFUL = ("b.xsd", "urn:x:Y", "HTTP://X.org/b", "http://x.org", "http://x.org/a/../b", "http://x.org:80/", "http://[", "//[", "http://x.org/%2e/é")
+DOUBTFUL = ("b.xsd", "urn:x:Y", "HTTP://X.org/b", "http://x.org", "http://x.org/a/../b", "http://x.org:80/", "http://[", "//[",
+            "//x.org:99999/", "http://x.org/%2e/\u00e9")
 
 
 def recheck_module():
@@ -120,9 +121,9 @@ def drawn_fact(chance):
     name = chance.choice("AAAABTTQ")
     fact, kind = {"dimensions": drawn_dimensions(chance, name)}, KINDS[name]
     number, places = drawn_number(chance)
-    fact["value"] = number if kind == "numeric" else chance.choice(TEXTS[:3] if chance.random() < 0.6 else TEXTS) if kind == "text" else chance.choice(NAMES)
-    if chance.random() < 0.1:
-        fact["value"] = None
+    texts = TEXTS[:3] if chance.random() < 0.6 else TEXTS
+    value = {"numeric": number, "text": chance.choice(texts), "name": chance.choice(NAMES)}[kind]
+    fact["value"] = None if chance.random() < 0.1 else value
     if kind == "numeric" and places is not None:
         fact["decimals"] = places
     if chance.random() < 0.1:
@@ -135,13 +136,13 @@ def drawn_report(chance):
     if chance.random() < 0.4:
         info["taxonomy"] = chance.choices(REFERENCES if chance.random() < 0.6 else DOUBTFUL, k=chance.randint(0, 3))
     if chance.random() < 0.2:
-        info["baseURL"] = chance.choice(("http://x.org/d/r.json", "https://x.org", "HTTP://X.org/é"))
+        info["baseURL"] = chance.choice(("http://x.org/d/r.json", "https://x.org", "HTTP://X.org/\u00e9"))
     if chance.random() < 0.3:
         levels = ("none", "complete", "consistent", "all", "all", "all")
         info["features"] = {chance.choice(("xbrl:allowedDuplicates", "x:allowedDuplicates", "xbrl:other")): chance.choice(levels)}
     if chance.random() < 0.1:
         info.update(chance.choice(({"linkTypes": 5}, {"linkGroups": {"a": []}}, {"x:y": None})))
-    identifiers = chance.sample(("f1", "f10", "f2", "", "é", "\ue000", "\U0001f40b", "a b", "\"\\\n", "F"), chance.randint(0, 6))
+    identifiers = chance.sample(("f1", "f10", "f2", "", "\u00e9", "\ue000", "\U0001f40b", "a b", "\"\\\n", "F"), chance.randint(0, 6))
     facts = {own: drawn_fact(chance) for own in identifiers}
     more = {"x:deep": nested(chance.choice((125, 126, 127)))} if chance.random() < 0.03 else {}
     if facts and chance.random() < 0.2:
@@ -153,84 +154,86 @@ def nested(depth):
     return [nested(depth - 1)] if depth > 1 else []
 
 
-# ---- faults, by the number that they usually cause
+# ---- faults
 
-def put(tree, key, value):
-    tree[key] = value
-
-
-def without(tree, *keys):
-    for key in keys:
-        tree.pop(key, None)
-
-
-DOCUMENT_FAULTS = [
-    lambda c, r: put(r, "facts", c.choice((None, [], "facts"))), lambda c, r: put(r["documentInfo"], "taxonomy", c.choice((None, {}, "a"))),
-    lambda c, r: put(r["documentInfo"], c.choice(("namespaces", "features")), c.choice((None, [], 1))), lambda c, r: without(r, "documentInfo"),
-    lambda c, r: put(c.choice((r, r["documentInfo"])), c.choice(("more", "", "concepts")), 1),
-    lambda c, r: put(r["documentInfo"], "documentType", c.choice(("https://xbrl.org/2021/xbrl-csv", None, ["x"]))),
-    lambda c, r: without(r["documentInfo"], "documentType"),
-    lambda c, r: put(r["documentInfo"]["namespaces"], c.choice(("", "a b", "a:b", "\t", "q")), c.choice(("", None, 1, "http://a/"))),
-    lambda c, r: put(r["documentInfo"], "baseURL", c.choice((None, 1, "d/r.json", "urn:x", "ftp://x/", "http://[", "http:", "", " http://x.org/", "x" * 65537, "http://x.org/" + "a" * 65536))),
-    lambda c, r: put(r["documentInfo"], "taxonomy", [c.choice((*DOUBTFUL, *WRONG, "é" * 32769, "http://x.org/" + "a" * 65523, "http://x.org/" + "a" * 65524))]),
-    lambda c, r: (put(r["documentInfo"], "baseURL", "http://x.org/d/r.json"), put(r["documentInfo"], "taxonomy", [c.choice(("http://[", "//[", "//x.org:99999/", "a.xsd"))])),
-    lambda c, r: put(r["documentInfo"], "features", {"xbrl:allowedDuplicates": c.choice((*WRONG, "some", "None", ""))}),
-    lambda c, r: (put(r["documentInfo"]["namespaces"], "other", XBRL), put(r["documentInfo"], "features", {"xbrl:allowedDuplicates": "all", "other:allowedDuplicates": "all"})),
-    lambda c, r: put(r["documentInfo"], "features", {"xbrl:allowedDuplicates": c.choice(("none", "complete", "consistent"))}),
-]
-FACT_FAULTS = [
-    lambda c, f: without(f, "value"), lambda c, f: put(f, c.choice(("dimensions", "links")), c.choice((None, [], "x"))),
-    lambda c, f: put(f["dimensions"], c.choice(("concept", "entity", "period", "unit", "language")), c.choice(WRONG)),
-    lambda c, f: put(c.choice((f, f["dimensions"])), c.choice(("more", "", "id")), 1),
-    lambda c, f: put(f, "links", {"x:l": {}}), lambda c, f: put(f["dimensions"], "noteId", c.choice(("n", None))), lambda c, f: without(f, "dimensions"),
-    lambda c, f: put(f["dimensions"], "concept", c.choice(NO_NAMES)), lambda c, f: put(f["dimensions"], "entity", c.choice(NO_ENTITIES)),
-    lambda c, f: put(f["dimensions"], c.choice((*NO_NAMES[1:6], "m: x")), "a"), lambda c, f: put(f["dimensions"], "m:Reg", c.choice(NO_NAMES)),
-    lambda c, f: put(f["dimensions"], c.choice(("concept", "entity", "unit", "m:Reg")), c.choice(("q:A", "xbrl:note", "q:a*xbrl:b", "A"))),
-    lambda c, f: put(f["dimensions"], c.choice(("q:Reg", "xbrl:Reg")), "a"),
-    lambda c, f: without(f["dimensions"], "concept"), lambda c, f: put(f["dimensions"], "concept", c.choice(("m:Z", "x:A", "m:Reg"))),
-    lambda c, f: put(f["dimensions"], c.choice(("m:Colour", "x:Reg", "m:A")), "a"), lambda c, f: put(f["dimensions"], "m:Reg", c.choice(WRONG)),
-    lambda c, f: put(f["dimensions"], "m:Sku", c.choice(WRONG)), lambda c, f: f["dimensions"].update({"m:Sku": "a", "made:Sku": "b"}),
-    lambda c, f: put(f["dimensions"], "period", c.choice(NO_DAYS)), lambda c, f: put(f["dimensions"], "period", f"{c.choice(DAYS)}/{c.choice((*DAYS, *NO_DAYS))}"),
-    lambda c, f: put(f["dimensions"], "unit", c.choice((*NO_UNITS, *UNITS))), lambda c, f: put(f["dimensions"], "language", c.choice((*NO_LANGUAGES, *LANGUAGES))),
-    lambda c, f: put(f, "value", c.choice((True, 5, [], {}, 1.5))), lambda c, f: put(f, "value", c.choice(NO_NUMBERS)), lambda c, f: put(f, "value", c.choice(LONG_NUMBERS)),
-    lambda c, f: put(f, "decimals", c.choice(NO_WHOLE)), lambda c, f: put(f, "decimals", c.choice((*FAR, *WHOLE))),
-    lambda c, f: put(f, "value", c.choice((*NO_NAMES, "q:a", "xbrl:a", "m:a"))),
-]
-SHEET_FAULTS = [
-    lambda c, s: put(s, c.choice(("namespaces", "concepts", "dimensions")), c.choice((None, [], 1))), lambda c, s: put(s, c.choice(("more", "", "x:y")), 1),
-    lambda c, s: put(s["namespaces"], c.choice(("", "a b", "a:b", "q")), c.choice(("", None, 1, "http://a/"))),
-    lambda c, s: put(s[c.choice(("concepts", "dimensions"))], c.choice((*NO_NAMES, "q:A", "xbrl:A", "m:A")), c.choice(("numeric", "typed"))),
-    lambda c, s: put(s["concepts"], c.choice(("m:A", "made:A", "x:A")), c.choice((*WRONG, "number", "text", "numeric", "typed"))),
-    lambda c, s: put(s["dimensions"], c.choice(("m:Reg", "made:Reg", "x:A")), c.choice((*WRONG, "text", "typed", "explicit"))),
-    lambda c, s: without(s, "namespaces"), lambda c, s: without(s, "dimensions"),
-]
+ABSENT = "absent"  # removes a member
+LONG = "http://x.org/" + "a" * 65_523  # one byte less than a URL may have
+# where a member is, its key, and values of which most are faults
+DOCUMENT_FAULTS = (
+    ((), "facts", (None, [], "facts")),
+    ((), "documentInfo", (ABSENT, None, [])),
+    ((), "more", (1,)),
+    (("documentInfo",), "", (1,)),
+    (("documentInfo",), "documentType", (ABSENT, "https://xbrl.org/2021/xbrl-csv", None, ["x"])),
+    (("documentInfo",), "taxonomy", (None, {}, "a", *([it] for it in (*DOUBTFUL, *WRONG, "\u00e9" * 32_769, LONG, LONG + "a", LONG + "aa")))),
+    (("documentInfo",), "baseURL", (*WRONG, "d/r.json", "urn:x", "ftp://x/", "http:", "", " http://x.org/", "x" * 65_537, LONG + "a")),
+    (("documentInfo",), "namespaces", (None, [], 1)),
+    (("documentInfo",), "features", (None, [], 1, *({"xbrl:allowedDuplicates": it} for it in (*WRONG, "some", "None", "")))),
+    (("documentInfo",), "features", tuple({"xbrl:allowedDuplicates": it} for it in ("none", "complete", "consistent"))),
+    (("documentInfo", "namespaces"), "", ("http://a/",)),
+    (("documentInfo", "namespaces"), "a b", ("http://a/",)),
+    (("documentInfo", "namespaces"), "q", ("", None, 1, XBRL, "http://a/")),
+)
+FACT_FAULTS = (
+    ((), "value", (ABSENT, True, 5, [], {}, 1.5)),
+    ((), "value", (*NO_NUMBERS, *LONG_NUMBERS, *NO_NAMES, "q:a", "xbrl:a")),
+    ((), "dimensions", (ABSENT, None, [], "x")),
+    ((), "links", (None, [], "x", {"x:l": {}})),
+    ((), "decimals", (*NO_WHOLE, *FAR, *WHOLE)),
+    ((), "id", (1,)),
+    (("dimensions",), "more", (1,)),
+    (("dimensions",), "noteId", ("n", None)),
+    (("dimensions",), "concept", (ABSENT, *WRONG, *NO_NAMES, "q:A", "xbrl:note", "m:Z", "x:A", "m:Reg")),
+    (("dimensions",), "entity", (*WRONG, *NO_ENTITIES, "q:A", "xbrl:A")),
+    (("dimensions",), "period", (*WRONG, *NO_DAYS, *(f"{DAYS[0]}/{it}" for it in (*DAYS, *NO_DAYS)))),
+    (("dimensions",), "period", tuple(f"{it}/{DAYS[5]}" for it in DAYS)),
+    (("dimensions",), "unit", (*WRONG, *UNITS, *NO_UNITS, "A", "q:a*x:b", "x:a/xbrl:b", "q:a/")),
+    (("dimensions",), "language", (*WRONG, *LANGUAGES, *NO_LANGUAGES)),
+    (("dimensions",), "m:Reg", (*WRONG, *NO_NAMES, "q:A", "xbrl:note")),
+    (("dimensions",), "m:Sku", WRONG),
+    (("dimensions",), "made:Sku", ("a",)),
+    *((("dimensions",), it, ("a",)) for it in ("m:Colour", "x:Reg", "m:A", "q:Reg", "xbrl:Reg", "m: x", *NO_NAMES[1:6])),
+)
+SHEET_FAULTS = (
+    *(((), it, (ABSENT, None, [], 1)) for it in ("namespaces", "concepts", "dimensions")),
+    *(((), it, (1,)) for it in ("more", "", "x:y")),
+    *((("namespaces",), it, ("", None, 1, XBRL, "http://a/")) for it in ("", "a b", "a:b", "q")),
+    *(((it,), key, ("numeric", "typed")) for it in ("concepts", "dimensions") for key in (*NO_NAMES, "q:A", "xbrl:A", "m:A")),
+    *((("concepts",), it, (*WRONG, "number", "text", "numeric", "typed")) for it in ("m:A", "made:A", "x:A")),
+    *((("dimensions",), it, (*WRONG, "text", "typed", "explicit")) for it in ("m:Reg", "made:Reg", "x:A")),
+)
 
 
-def with_faults(chance, tree, faults, places):
-    """Applies up to two faults. A fault that no longer fits the tree is left out."""
-    for _ in range(chance.choice((1, 1, 2))):
-        with contextlib.suppress(TypeError, KeyError, AttributeError):
-            chance.choice(faults)(chance, chance.choice(places))
+def with_faults(chance, tree, faults):
+    """Sets one or two members of a tree, if their places are objects."""
+    for where, key, values in chance.sample(faults, chance.choice((1, 1, 2))):
+        place = tree
+        for each in where:
+            place = place.get(each) if isinstance(place, dict) else None
+        if isinstance(place, dict):
+            value = chance.choice(values)
+            place.pop(key, None)
+            place.update({} if value == ABSENT else {key: value})
     return tree
 
 
 def json_bytes(chance, tree):
     """Returns a text of a tree, perhaps with a byte order mark, a number `-0`, or a repeated member."""
-    ascii = chance.random() < 0.5
-    text = json.dumps(tree, ensure_ascii=ascii, indent=chance.choice((None, 1)))
-    text = re.sub(r'"decimals": 0', lambda it: chance.choice((it[0], '"decimals": -0', '"decimals": 0.0', '"decimals": 0e0')), text) if chance.random() < 0.05 else text
-    text = text.replace('"value"', chance.choice(('"value": "98", "value"', '"decimals": 3, "value"')), 1) if chance.random() < 0.05 else text
+    text = json.dumps(tree, ensure_ascii=chance.random() < 0.5, indent=chance.choice((None, 1)))
+    if chance.random() < 0.05:
+        text = text.replace('"decimals": 0', chance.choice(('"decimals": -0', '"decimals": 0.0', '"decimals": 0e0')))
+    if chance.random() < 0.05:
+        text = text.replace('"value"', chance.choice(('"value": "98", "value"', '"decimals": 3, "value"')), 1)
     return b"\xef\xbb\xbf" * (chance.random() < 0.05) + text.encode(errors="surrogatepass")
 
 
 def report_bytes(chance):
     tree, fault = drawn_report(chance), chance.random()
     if fault < 0.12:
-        tree = with_faults(chance, tree, DOCUMENT_FAULTS, [tree])
+        tree = with_faults(chance, tree, DOCUMENT_FAULTS)
     elif fault < 0.27 and tree["facts"]:
-        tree = with_faults(chance, tree, FACT_FAULTS, [*tree["facts"].values()])
-        if chance.random() < 0.1:
-            tree["facts"][chance.choice([*tree["facts"]])] = chance.choice(WRONG)
+        own = chance.choice([*tree["facts"]])
+        tree["facts"][own] = with_faults(chance, tree["facts"][own], FACT_FAULTS) if chance.random() < 0.9 else chance.choice(WRONG)
     content = json_bytes(chance, tree)
     return malformed.broken(chance, content, content) if fault > 0.93 else content
 
@@ -238,7 +241,7 @@ def report_bytes(chance):
 def sheet_bytes(chance):
     tree, fault = drawn_sheet(chance), chance.random()
     if fault < 0.07:
-        tree = with_faults(chance, tree, SHEET_FAULTS, [tree])
+        tree = with_faults(chance, tree, SHEET_FAULTS)
     content = json_bytes(chance, tree)
     return malformed.broken(chance, content, content) if fault > 0.98 else content
 
@@ -257,8 +260,9 @@ def run_program(program, names):
 
 
 def recheck(names):
-    words = ["recheck", "--sheet", "sheet", "--merged", "merge.out", "--verdicts", "verdicts.out", "--sources", "sources.out", "--refusals", "merge.err"]
-    with mock.patch.object(sys, "argv", words + names), contextlib.redirect_stdout(io.StringIO()) as told:
+    lines = ["--verdicts", "verdicts.out", "--sources", "sources.out", "--refusals", "merge.err"]
+    words = ["recheck", "--sheet", "sheet", "--merged", "merge.out", *lines, *names]
+    with mock.patch.object(sys, "argv", words), contextlib.redirect_stdout(io.StringIO()) as told:
         return RECHECK.main(), told.getvalue()
 
 
@@ -274,9 +278,8 @@ def play(task):
         malformed.write(name, report_bytes(chance))
     try:
         status, lines = run_program(program, names)
-        counts.update(f"sheet {number}" if place == "sheet" else f"report {number}" for place, number in re.findall(r"^(sheet|report \d+): (\d+)", lines, re.MULTILINE)
-                      for place in [place.split()[0]])
-        counts.update(verdict.split()[3] for verdict in open("verdicts.out", encoding="utf-8"))
+        counts.update(" ".join(it) for it in re.findall(r"^(sheet|report)(?: \d+)?: (\d+)", lines, re.MULTILINE))
+        counts.update(line.split()[3] for line in bytes_of("verdicts.out").decode().splitlines())
         checked, told = recheck(names)
         counts["references not checked"] += "references not checked" in told
         is_right = checked == 0 and status in (0, 1, 3) and told.endswith(": agree\n")
@@ -305,8 +308,9 @@ def main():
             counts += found
             wrong += told
     print(*wrong[:20], sep="\n", end="\n" * bool(wrong))
-    ends = ", ".join(f"{it} {counts[it]}" for it in sorted(counts, key=lambda it: [int(part) if part.isdigit() else part for part in it.split()]))
-    print(f"tests/recheck: {CASES if CASE < 0 else 1} cases with SEED={SEED}, {len(wrong)} not as expected, in {time.monotonic() - started:.0f} seconds: {ends}")
+    ends = ", ".join(f"{it} {counts[it]}" for it in sorted(counts, key=lambda it: (it.split()[0], len(it), it)))
+    cases = f"{CASES if CASE < 0 else 1} cases with SEED={SEED}, {len(wrong)} not as expected"
+    print(f"tests/recheck: {cases}, in {time.monotonic() - started:.0f} seconds: {ends}")
     for it in missing(counts):
         print(f"tests/recheck: no {it}")
     return 1 if wrong or missing(counts) else 0

@@ -10,7 +10,6 @@ their intervals, and each pair of them.
 
 URLs are not resolved. `references not checked: N` counts the taxonomy references and base URLs that are not plainly http or https
 URLs in standard form. Each may have given any one reference of the merged report, and causes a refusal only if --refusals says so.
-
 This program follows docs/FORMAT.md. Its parts are in the order of that page, and each rule has its sentence there.
 
 Status 0: all given texts agree. 1: something differs. 2: invalid arguments. 3: not done, and standard error shows why.
@@ -196,7 +195,8 @@ def has_unknown(tree: Tree, known: Sequence[str]) -> bool:
 
 # ---- Outside the facts
 DOCUMENT_TYPE, XBRL = "https://xbrl.org/2021/xbrl-json", "https://xbrl.org/2021"
-WEB = re.compile("[\x00-\x20]*" + "[\t\r\n]*".join("http") + "[\t\r\n]*(?:s[\t\r\n]*)?:", re.IGNORECASE | re.ASCII)  # URL parsers skip this white space
+# http: or https:, before and in which URL parsers skip white space and controls
+WEB = re.compile("[\x00-\x20]*" + "[\t\r\n]*".join("http") + "[\t\r\n]*(?:s[\t\r\n]*)?:", re.IGNORECASE | re.ASCII)
 # labels in lower case, the last of which begins with a letter; segments other than . and ..; a query; a fragment
 PLAIN_URL = re.compile(r"https?://(?:[a-z0-9]+(?:-[a-z0-9]+)*\.)*[a-z][a-z0-9]*(?:-[a-z0-9]+)*(?:/(?!\.\.?(?:[/?#]|$))"
                        r"[\w.~!$&()*+,;=:@-]*)+(?:\?[\w.~!$&()*+,;=:@/?-]*)?(?:#[\w.~!$&()*+,;=:@/?-]*)?", re.ASCII)
@@ -206,8 +206,8 @@ def binds_nothing(namespaces: Tree) -> bool:
 
 def declared_levels(info: Tree) -> list[Tree]:
     """Returns the values of the features `allowedDuplicates` with a prefix that is bound to xBRL's own namespace."""
-    uris, keys = members(at(info, "namespaces")), members(at(info, "features")).items()
-    return [level for key, level in keys for prefix, _, local in [key.partition(":")] if (uris.get(prefix), local) == (XBRL, "allowedDuplicates")]
+    keys = {f"{prefix}:allowedDuplicates" for prefix, uri in members(at(info, "namespaces")).items() if uri == XBRL}
+    return [level for key, level in members(at(info, "features")).items() if key in keys]
 
 def is_url_refused(url: Tree, is_told: bool) -> bool:
     """Returns whether a URL is no text or too long, or is not plain and --refusals tells its condition."""
@@ -233,8 +233,7 @@ FOREVER, PURE = (0,), ((("http://www.xbrl.org/2003/instance", "pure"),),)
 
 def read_period(text: str) -> tuple[tuple[Any, ...], int]:
     """Returns a period, and the condition that applies, or 0. Instants (1, moment) sort before durations (2, start, end)."""
-    first, *rest = text.split("/", 1)
-    start, end = read_moment(first), read_moment(rest[0] if rest else first)
+    start, end = (read_moment(part) for part in (text.split("/", 1) * 2)[:2])  # a single date-time is both ends
     if start is None or end is None:
         return FOREVER, 19
     return (1, start) if start == end else (2, start, end), 20 if end < start else 0
@@ -398,7 +397,8 @@ def differences(given: Mapping[str, bytes], run: Run) -> Iterator[str]:
             place = len(os.path.commonprefix([found, text]))
             start = max(found.rfind("\n", 0, place) + 1, place - 40)
             one, other = (each[start:place + 40].split("\n")[0] for each in (found, text))
-            yield f"{name}: line {text.count(chr(10), 0, place) + 1}, character {place - text.rfind(chr(10), 0, place)}: {one!r} should be {other!r}"
+            line, character = text.count("\n", 0, place) + 1, place - text.rfind("\n", 0, place)
+            yield f"{name}: line {line}, character {character}: {one!r} should be {other!r}"
 
 def explanation(number: int, row: Sequence[tuple[str, Value]]) -> Iterator[str]:
     yield f"row {number}: {evidence(row)}"
@@ -415,7 +415,8 @@ class Parser(argparse.ArgumentParser):
         self.exit(2, f"recheck: {json.dumps(message)[1:-1]}\n")
 
 def main() -> int:
-    parser, texts = Parser(prog="recheck", description=__doc__, formatter_class=argparse.RawDescriptionHelpFormatter), ("merged", "verdicts", "sources", "refusals")
+    texts = ("merged", "verdicts", "sources", "refusals")
+    parser = Parser(prog="recheck", description=__doc__, formatter_class=argparse.RawDescriptionHelpFormatter)
     for name in ("sheet", *texts):
         parser.add_argument(f"--{name}", required=name in ("sheet", "merged"), metavar="FILE")
     parser.add_argument("--explain", type=int, metavar="ROW")
@@ -430,7 +431,8 @@ def main() -> int:
         parser.error(f"there is no row {options.explain}")
     lines = [*explanation(options.explain, run.rows[options.explain - 1])] if options.explain else []
     found, contradictions = [*differences(given, run)], sum(" inconsistent " in line for line in run.lines["verdicts"])
-    counts = {"report": len(options.reports), "refused report": sum(line[0] == "r" for line in run.lines["refusals"]), "fact object": len(run.objects), "fact": len(run.facts),
+    refused = sum(line.startswith("report ") for line in run.lines["refusals"])
+    counts = {"report": len(options.reports), "refused report": refused, "fact object": len(run.objects), "fact": len(run.facts),
               "row": len(run.rows), "contradiction": contradictions}
     summary = ", ".join(f"{count} {word}{'s' * (count != 1)}" for word, count in counts.items() if count or word != "refused report")
     lines += [*found, *[f"references not checked: {len(run.others)}"] * bool(run.others), f"{summary}: {'differ' if found else 'agree'}"]

@@ -19,10 +19,21 @@ AGREE = "4 reports, 1 refused report, 149 fact objects, 120 facts, 64 rows, 3 co
 # references of the examples that are not plain, and their kept text
 KEPT = "https://norlake.example/taxonomy/2023/norlake-2023.xsd"
 NOT_PLAIN = ("../../taxonomy/2023/norlake-2023.xsd", "HTTPS://Norlake.example:443/taxonomy/2023/norlake-2023.xsd")
-GOODWILL = '"f066":{"decimals":-3,"dimensions":{"concept":"n6:Goodwill","entity":"n1:743700NORLAKEOYJ0017","period":"2024-01-01T00:00:00"'
-COST = '"f022":{"decimals":5,"dimensions":{"concept":"n5:TransportCost","entity":"n1:743700NORLAKEOYJ0017","period":"2023-01-01T00:00:00/2024-01-01T00:00:00"'
-FIRST = '"f001":{"dimensions":{"concept":"n5:AssuranceOfSustainabilityReport","entity":"n1:743700NORLAKEOYJ0017","period":"2023-01-01T00:00:00/2024-01-01T00:00:00"},"value":"n5:LimitedAssurance"}'
-LAST = content("examples/merged.json")[content("examples/merged.json").index(',"f120"'):-2]
+TEXT = content("examples/merged.json")
+LAST = TEXT[TEXT.index(',"f120"'):-2]
+PAIR = TEXT[TEXT.index('"f003"'):TEXT.index('"f005"')]
+GOODWILL = '"n6:Goodwill","entity":"n1:743700NORLAKEOYJ0017","period":"2024-01-01T00:00:00"'
+COST = '"unit":"n3:EUR/(n4:km*n4:t)"'
+# URLs that are not plain, and plain ones
+ODD_URLS = """http://x.org HTTP://x.org/ http://x.org/a/../b http://x.org:80/ http://1.2/ http://xn--a/ urn:x:y a.xsd http://x.org/. http://a@x.org/
+    http://x.org/%2e http://x.org/\u00e9 http://X.org/ http://-a/ http://a..b/""".split()
+PLAIN_URLS = ("http://x.org/", "https://a-b.c1.example/d/E_f.xsd?g=h&i#j", "http://x/..a/a..b/", KEPT)
+# texts that are not JSON, and the values of other texts
+NO_JSON = (b"", b"NaN", b"-Infinity", b"1e999", b"1" * 400, b"01", b"1.", b"1 1", b"[1,]", b"{'a':1}", b'"\t"', b"\xff", b'"\xed\xa0\x80"',
+           b'"\\ud800"', b'["\\udc00\\ud800"]', b'{"\\ud800":1,"a":2}', b"[" * 128 + b"]" * 128, b"[" * 100_000, b"\xef\xbb\xbf\xef\xbb\xbf1")
+JSON = {b"-0": -0.0, b'{"a":1,"a":2}': {"a": 2}, b"18446744073709551615": (1 << 64) - 1, b"18446744073709551616": 2.0 ** 64,
+        b"-9223372036854775809": -2.0 ** 63, b'"\\ud83d\\ude00"': "\U0001f600", b"\xef\xbb\xbf 1e-999": 0.0}
+HOSTILE = (b"[" * 1_000_000, b'{"a":' * 1_000_000, b'"' + b'\\"' * 1_000_000, b"1" * 1_000_000, b"\x00", b"null", b"\xff\n", b'{"concepts":{"a:b":{}}}')
 
 # single changes: what is replaced, once, and by what
 MERGED = {
@@ -41,7 +52,7 @@ MERGED = {
     "a fact more": (LAST, LAST + LAST.replace("f120", "f121").replace("70100000", "70100001")),
     "a fact twice": (LAST, LAST + LAST.replace("f120", "f121")),
     "two facts swapped": ('"value":"41260"},"f019"', '"value":"41906"},"f019"'),
-    "two identifiers swapped": (FIRST, FIRST.replace("f001", "f002")),
+    "two identifiers swapped": (PAIR, PAIR.replace("f003", "f00").replace("f004", "f003").replace("f00\"", "f004\"")),
     "an identifier without its zeros": ('"f001"', '"f1"'),
     "an identifier with a zero more": ('"f001"', '"f0001"'),
     "an identifier that is skipped": ('"f120"', '"f121"'),
@@ -69,10 +80,10 @@ MERGED = {
     "a second of a period": (GOODWILL, GOODWILL.replace("T00:00:00", "T00:00:01")),
     "the end of the day before": (GOODWILL, GOODWILL.replace("2024-01-01T00", "2023-12-31T24")),
     "an instant as a duration": (GOODWILL, GOODWILL.replace('"2024-01-01T00:00:00"', '"2024-01-01T00:00:00/2024-01-01T00:00:00"')),
-    "a unit without parentheses": (f'{COST},"unit":"n3:EUR/(n4:km*n4:t)"', f'{COST},"unit":"n3:EUR/n4:km*n4:t"'),
-    "measures in another order": (f'{COST},"unit":"n3:EUR/(n4:km*n4:t)"', f'{COST},"unit":"n3:EUR/(n4:t*n4:km)"'),
+    "a unit without parentheses": (COST, '"unit":"n3:EUR/n4:km*n4:t"'),
+    "measures in another order": (COST, '"unit":"n3:EUR/(n4:t*n4:km)"'),
     "pure as a unit": ('2024-01-01T00:00:00"},"value":"0.55"', '2024-01-01T00:00:00","unit":"n2:pure"},"value":"0.55"'),
-    "another unit": (f'{COST},"unit":"n3:EUR', f'{COST},"unit":"n3:SEK'),
+    "another unit": (COST, '"unit":"n3:SEK/(n4:km*n4:t)"'),
     "a language in upper case": ('"language":"fi"', '"language":"FI"'),
     "another language": ('"language":"fi"', '"language":"sv"'),
     "a dimension that is left out": ('"n5:MillAxis":"Kaarna",', ""),
@@ -230,11 +241,8 @@ class Others(Examples):
     def test_references_that_are_not_plain_are_counted(self):
         words = [f"--{name}={example(f'{name}.json')}" for name in ("sheet", "merged")]
         self.assertEqual(self.run_on(*words, *(example(f"{name}.json") for name in REPORTS))[1], f"references not checked: 2\n{AGREE}")
-        for url in ("http://x.org", "HTTP://x.org/", "http://x.org/a/../b", "http://x.org:80/", "http://1.2/", "http://xn--a/", "urn:x:y", "a.xsd",
-                    "http://x.org/a b", "http://x.org/é", "http://x.org/%2e", "http://x.org/.", "http://a@x.org/", "http://x.org/\n"):
-            self.assertIsNone(recheck.PLAIN_URL.fullmatch(url), url)
-        for url in ("http://x.org/", "https://a-b.c1.example/d/E_f.xsd?g=h&i#j", "http://x/..a/a..b/", KEPT):
-            self.assertIsNotNone(recheck.PLAIN_URL.fullmatch(url), url)
+        self.assertEqual([url for url in (*ODD_URLS, "http://x.org/a b", "http://x.org/\n") if recheck.PLAIN_URL.fullmatch(url)], [])
+        self.assertEqual([url for url in PLAIN_URLS if not recheck.PLAIN_URL.fullmatch(url)], [])
 
     def test_a_reference_more_is_found_if_all_are_plain(self):
         _, told = self.changed("merged", *MERGED["a reference more"])
@@ -258,18 +266,17 @@ class Others(Examples):
         self.assertEqual(self.run_on("--explain=34", *self.words())[1].splitlines()[1:4], [
             "f060: nil", "f061: 0 with no decimals, from 0 to 0", "f060 and f061: apart: their values differ"])
         self.assertIn("f018 and f019: apart: 41260.5 is less than 41905.5\n", self.run_on("--explain", "12", *self.words())[1])
-        self.assertEqual(self.run_on("--explain=1", *self.words())[1].splitlines()[1], "f001: {https://norlake.example/taxonomy/2023}LimitedAssurance")
+        name = "f001: {https://norlake.example/taxonomy/2023}LimitedAssurance"
+        self.assertEqual(self.run_on("--explain=1", *self.words())[1].splitlines()[1], name)
 
     def test_json_is_read_as_the_program_reads_it(self):
-        refused = (b"NaN", b"-Infinity", b"1e999", b"1" * 400, b'"\\ud800"', b'["\\udc00\\ud800"]', b'{"\\ud800":1,"a":2}', b"\xff", b'"\xed\xa0\x80"', b"[" * 128 + b"]" * 128,
-                   b"[" * 100_000, b"\xef\xbb\xbf\xef\xbb\xbf1", b'"\t"', b"01", b"1.", b"", b"[1,]", b"{'a':1}", b"1 1")
-        for text in refused:
+        for text in NO_JSON:
             with self.subTest(text[:40]), self.assertRaisesRegex(recheck.Refused, "^1 NotJson at document$"):
                 recheck.read_json(text, " at document")
-        for text, tree in ((b"-0", -0.0), (b'{"a":1,"a":2}', {"a": 2}), (b"18446744073709551615", (1 << 64) - 1), (b"18446744073709551616", 2.0 ** 64),
-                           (b'"\\ud83d\\ude00"', "\U0001f600"), (b"\xef\xbb\xbf 1e-999", 0.0), (b"[" * 127 + b"]" * 127, None), (b"-9223372036854775809", -2.0 ** 63)):
+        for text, value in JSON.items():
             found = recheck.read_json(text, "")
-            self.assertTrue(tree is None or (found == tree and type(found) is type(tree)), text)
+            self.assertEqual((type(found), found), (type(value), value))
+        recheck.read_json(b"[" * 127 + b"]" * 127, "")
 
     def test_printed_names_are_escaped(self):
         self.files["issuer"] = self.files["issuer"].replace('"f56"', '"\\u001b[31m\u202e\\n"').replace('"value":"41260"', '"value":"41261"')
@@ -278,7 +285,7 @@ class Others(Examples):
 
     def test_hostile_files_end_with_a_sentence(self):
         words = self.words()
-        for content_of in (b"[" * 1_000_000, b'{"a":' * 1_000_000, b'"' + b'\\"' * 1_000_000, b"1" * 1_000_000, b"\x00", b'{"concepts":{"a:b":{}}}', b"null", b"\xff\n"):
+        for content_of in HOSTILE:
             for name in ("sheet", "merged", "verdicts", "sources", "refusals", "issuer"):
                 before = self.files[name]
                 self.write(name, content_of)
