@@ -50,7 +50,8 @@ enum {
                                     `refusal` instead) */
     XBRLMERGE_NO_MEMORY = 5,     /* out of memory: nothing has changed */
     XBRLMERGE_BAD_ENDS = 6,      /* an end is less than the end before it, or beyond the reports: nothing has changed */
-    XBRLMERGE_BAD_LEVEL = 7      /* `allow` is not a level: nothing has changed */
+    XBRLMERGE_BAD_LEVEL = 7,     /* `allow` is not a level: nothing has changed */
+    XBRLMERGE_TOO_MUCH = 8       /* the text is longer than the bound: nothing has changed */
 };
 
 /* The levels of duplicates that a row may have, the strictest first. A row is all facts with the same dimensions. */
@@ -97,13 +98,15 @@ uint32_t xbrlmerge_sources(const uint8_t *sheet, size_t sheet_length, const uint
                            xbrlmerge_refusal *refusals, size_t refusals_length, size_t *refused);
 
 /* Two calls that do the same as xbrlmerge_verdicts and xbrlmerge_sources, but `out` gets the output of `--format json`: one
-   JSON object per line. */
+   JSON object per line. This text repeats URIs, so it has a bound, as with `--most-output`: if it has more than `most` bytes,
+   the call stops early and returns XBRLMERGE_TOO_MUCH. If `most` is 0, the bound is 1 MiB and 16 bytes for each byte of the
+   sheet and of `reports_length`. */
 uint32_t xbrlmerge_verdicts_json(const uint8_t *sheet, size_t sheet_length, const uint8_t *reports, size_t reports_length,
-                                 const size_t *ends, size_t ends_length, uint8_t *out, size_t out_length, size_t *needed,
-                                 xbrlmerge_refusal *refusals, size_t refusals_length, size_t *refused);
+                                 const size_t *ends, size_t ends_length, size_t most, uint8_t *out, size_t out_length,
+                                 size_t *needed, xbrlmerge_refusal *refusals, size_t refusals_length, size_t *refused);
 uint32_t xbrlmerge_sources_json(const uint8_t *sheet, size_t sheet_length, const uint8_t *reports, size_t reports_length,
-                                const size_t *ends, size_t ends_length, uint8_t *out, size_t out_length, size_t *needed,
-                                xbrlmerge_refusal *refusals, size_t refusals_length, size_t *refused);
+                                const size_t *ends, size_t ends_length, size_t most, uint8_t *out, size_t out_length,
+                                size_t *needed, xbrlmerge_refusal *refusals, size_t refusals_length, size_t *refused);
 
 /* Checks one report, as `check` does. If the report is accepted (XBRLMERGE_DONE), only `checked` is set. If the report is
    refused (XBRLMERGE_REFUSED), only `refusal` is set, with the report number 1. If the sheet is refused

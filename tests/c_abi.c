@@ -7,7 +7,7 @@
 
    The program prints the result, and the lines about refusals and a too loose row, as xbrlmerge does, and returns the status
    of the call. The line about a refused sheet has the number of the refusal, but not its name. All calls except `check` are
-   also made with buffers that are too short. With the static library, each request for memory is also refused in turn. The
+   also made with buffers that are too short, and the calls for JSON with bounds. With the static library, each request for memory is also refused in turn. The
    last line on standard error begins with `requests`, and contains the number of refused requests that made the call fail.
    `edges` instead makes calls with unusual arguments, prints nothing and returns 0. Status 90 means that a condition in this
    file does not hold; a line on standard error shows the condition. */
@@ -44,7 +44,7 @@ struct asked {
     const char *command;
     uint32_t allow;
     uint8_t *sheet, *reports;
-    size_t sheet_length, reports_length, ends[MOST], count;
+    size_t sheet_length, reports_length, ends[MOST], count, most;
 };
 
 /* The output of a call. Its buffers are filled with marks before the call; a byte that keeps its mark counts as unwritten. */
@@ -101,13 +101,14 @@ static uint32_t call(const struct asked *asked, struct buffers *to) {
                                     to->out, to->out_length, &to->needed, to->refusals, to->refusals_length, &to->refused);
     else if (strcmp(asked->command, "verdicts-json") == 0)
         status = xbrlmerge_verdicts_json(asked->sheet, asked->sheet_length, asked->reports, asked->reports_length, asked->ends,
-                                         asked->count, to->out, to->out_length, &to->needed, to->refusals, to->refusals_length, &to->refused);
+                                         asked->count, asked->most, to->out, to->out_length, &to->needed, to->refusals, to->refusals_length, &to->refused);
     else if (strcmp(asked->command, "sources") == 0)
         status = xbrlmerge_sources(asked->sheet, asked->sheet_length, asked->reports, asked->reports_length, asked->ends, asked->count,
                                    to->out, to->out_length, &to->needed, to->refusals, to->refusals_length, &to->refused);
     else if (strcmp(asked->command, "sources-json") == 0)
         status = xbrlmerge_sources_json(asked->sheet, asked->sheet_length, asked->reports, asked->reports_length, asked->ends,
-                                        asked->count, to->out, to->out_length, &to->needed, to->refusals, to->refusals_length, &to->refused);
+                                        asked->count, asked->most, to->out, to->out_length, &to->needed, to->refusals, to->refusals_length,
+                                        &to->refused);
     inside = 0;
     return status;
 }
@@ -151,6 +152,20 @@ static struct buffers short_buffers(const struct asked *asked) {
     return ample;
 }
 
+/* With a bound of the text's length the call must have the same result, and with a lower bound it must change nothing. */
+static void bounds(struct asked asked, const struct buffers *whole, uint32_t wanted) {
+    if (strstr(asked.command, "-json") == NULL || wanted > XBRLMERGE_REFUSED || whole->needed < 2) return;
+    for (asked.most = whole->needed; asked.most > whole->needed - 2; asked.most--) {
+        struct buffers to = make_buffers(whole->out_length, whole->refusals_length);
+        uint32_t status = call(&asked, &to);
+        if (asked.most == whole->needed)
+            EXPECT(status == wanted && to.needed == whole->needed && memcmp(to.out, whole->out, whole->needed) == 0);
+        else
+            EXPECT(status == XBRLMERGE_TOO_MUCH && to.needed == 77 && to.refused == 78 && is_kept(&to, 0, 0));
+        free_buffers(&to);
+    }
+}
+
 /* Refuses each request for memory in turn. The call must then change nothing or, if only a cache lacks the memory, have its
    usual result. Returns how many calls failed. */
 static long refuse_each(const struct asked *asked, const struct buffers *whole, uint32_t wanted) {
@@ -184,6 +199,7 @@ static int texts(struct asked *asked) {
     if (status == XBRLMERGE_TOO_LOOSE) fprintf(stderr, "too loose: row %zu\n", whole.needed);
     if (status <= XBRLMERGE_REFUSED) fwrite(whole.out, 1, whole.needed, stdout);
     EXPECT(status != XBRLMERGE_DONE || whole.refused == 0);
+    bounds(*asked, &whole, status);
     fprintf(stderr, "requests: %ld refused in turn\n", refuse_each(asked, &whole, status));
     free_buffers(&whole);
     return (int)status;

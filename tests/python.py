@@ -158,9 +158,17 @@ class Examples(unittest.TestCase):
                 columns = xbrlmerge.verdict_columns(SHEET, EXAMPLES)
                 self.assertEqual(getattr(module, table)(columns).shape, (len(columns["row"]), len(columns)))
 
+    def test_columns_have_a_bound(self):
+        for columns in (xbrlmerge.verdict_columns, xbrlmerge.source_columns):
+            most = len(columns(SHEET, EXAMPLES).text)
+            self.assertEqual(columns(SHEET, EXAMPLES, most), columns(SHEET, EXAMPLES, most_output=2**70))
+            self.assertRaises(xbrlmerge.TooMuch, columns, SHEET, EXAMPLES, most - 1)
+            for wrong in (0, -1):
+                self.assertRaises(ValueError, columns, SHEET, EXAMPLES, wrong)
+
     def test_exceptions_come_back_from_other_processes(self):
         refusals = xbrlmerge.merge(SHEET, EXAMPLES).refusals
-        for fault in (xbrlmerge.SheetRefused(13), xbrlmerge.TooLoose(12, refusals)):
+        for fault in (xbrlmerge.SheetRefused(13), xbrlmerge.TooLoose(12, refusals), xbrlmerge.TooMuch()):
             again = pickle.loads(pickle.dumps(fault))
             self.assertEqual((type(again), str(again), vars(again)), (type(fault), str(fault), vars(fault)))
 

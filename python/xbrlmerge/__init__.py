@@ -8,8 +8,8 @@
 
 A sheet or a report is given as bytes or as the path of a file. Each call has the same results as the program's command of
 the same name; verdict_columns and source_columns match verdicts and sources with --format json. Calls run in this
-process, and other threads continue to run. Refusals of reports are returned, not raised. Exceptions: SheetRefused and TooLoose,
-both subclasses of ValueError; MemoryError; OSError if a file cannot be read. TypeError is raised if `reports` is one file or
+process, and other threads continue to run. Refusals of reports are returned, not raised. Exceptions: SheetRefused, TooLoose and
+TooMuch, all subclasses of ValueError; MemoryError; OSError if a file cannot be read. TypeError is raised if `reports` is one file or
 one report's bytes instead of a list, or if a sheet or a report has another type. ValueError is raised if a path contains a
 null character, or if `allow` is not "none", "complete", "consistent" or "all".
 """
@@ -21,7 +21,7 @@ from typing import Any, Dict, Iterable, List, Optional, Tuple, Union
 
 from . import _library
 
-__all__ = ["Checked", "Columns", "Merged", "Refusal", "Row", "Rows", "SheetRefused", "Source", "Sources", "TooLoose",
+__all__ = ["Checked", "Columns", "Merged", "Refusal", "Row", "Rows", "SheetRefused", "Source", "Sources", "TooLoose", "TooMuch",
            "check", "merge", "source_columns", "sources", "verdict_columns", "verdicts"]
 
 Given = Union[bytes, bytearray, memoryview, str, "os.PathLike[str]"]
@@ -70,6 +70,16 @@ class TooLoose(ValueError):
 
     def __reduce__(self) -> Tuple[Any, ...]:
         return TooLoose, (self.row, self.refusals)
+
+
+class TooMuch(ValueError):
+    """The text of columns is longer than `most_output`."""
+
+    def __init__(self) -> None:
+        super().__init__("output: more bytes than most_output allows")
+
+    def __reduce__(self) -> Tuple[Any, ...]:
+        return TooMuch, ()
 
 
 @dataclasses.dataclass(frozen=True)
@@ -180,25 +190,27 @@ def sources(sheet: Given, reports: Iterable[Given]) -> Sources:
     return Sources(map(_source, _lines(text)), text, _refusals(answer))
 
 
-def verdict_columns(sheet: Given, reports: Iterable[Given]) -> Columns:
+def verdict_columns(sheet: Given, reports: Iterable[Given], most_output: Optional[int] = None) -> Columns:
     """Returns the verdicts as columns with an item for each fact.
 
     The columns are: the number and the verdict of the row, the canonical identifier of the fact, its dimensions, value and
     decimals, and the evidence of the row. Each core dimension has a column; `dimensions` is a JSON object of the other
     dimensions. Names are spelled {URI}local. Absent items, and the value of a nil fact, are None. Values of other facts,
-    `common_low` and `common_high` are texts, so that no digit is lost. Raises SheetRefused, MemoryError, OSError and TypeError.
+    `common_low` and `common_high` are texts, so that no digit is lost. The text repeats URIs; `most_output` is its greatest
+    length in bytes. None stands for 1 MiB and 16 bytes for each byte of the sheet and the reports. Raises TooMuch, SheetRefused,
+    MemoryError, OSError, TypeError, and ValueError if `most_output` is less than 1.
     """
-    answer = _library.verdicts_json(_bytes(sheet), _each(reports))
+    answer = _library.verdicts_json(_bytes(sheet), _each(reports), _most(most_output))
     text = _text(answer)
     return Columns(_VERDICT_COLUMNS, (fact for line in _lines(text) for fact in _facts(json.loads(line))), text, _refusals(answer))
 
 
-def source_columns(sheet: Given, reports: Iterable[Given]) -> Columns:
+def source_columns(sheet: Given, reports: Iterable[Given], most_output: Optional[int] = None) -> Columns:
     """Returns the sources as three columns: the canonical identifier of the fact, the number of the report, and the identifier
-    in that report. Each fact object in an accepted report has an item. Raises SheetRefused, MemoryError, OSError and
-    TypeError.
+    in that report. Each fact object in an accepted report has an item. `most_output` is as for verdict_columns. Raises TooMuch,
+    SheetRefused, MemoryError, OSError, TypeError, and ValueError if `most_output` is less than 1.
     """
-    answer = _library.sources_json(_bytes(sheet), _each(reports))
+    answer = _library.sources_json(_bytes(sheet), _each(reports), _most(most_output))
     text = _text(answer)
     return Columns(_SOURCE_COLUMNS, (tuple(map(json.loads(line).get, _SOURCE_COLUMNS)) for line in _lines(text)), text, _refusals(answer))
 
@@ -243,9 +255,20 @@ def _refusals(answer: _library.Answer) -> List[Refusal]:
     return [_refusal(row) for row in answer.rows]
 
 
+def _most(given: Optional[int]) -> int:
+    """Returns the bound for the library, for which 0 stands for the default and the greatest size for no bound."""
+    if given is None:
+        return 0
+    if given < 1:
+        raise ValueError("most_output must be at least 1")
+    return min(given, _library.LARGEST)
+
+
 def _text(answer: _library.Answer) -> bytes:
     if answer.status == _library.SHEET_REFUSED:
         raise SheetRefused(answer.number)
+    if answer.status == _library.TOO_MUCH:
+        raise TooMuch
     return answer.text
 
 

@@ -7,13 +7,14 @@ import struct
 import sys
 from typing import Any, Callable, List, NamedTuple, Sequence, Tuple
 
-DONE, REFUSED, TOO_LOOSE, TOO_SHORT, SHEET_REFUSED, NO_MEMORY, BAD_ENDS, BAD_LEVEL = range(8)
+DONE, REFUSED, TOO_LOOSE, TOO_SHORT, SHEET_REFUSED, NO_MEMORY, BAD_ENDS, BAD_LEVEL, TOO_MUCH = range(9)
 NAME = "libxbrlmerge.so"
 # the records for a refusal and for an accepted report in include/xbrlmerge.h
 ROW, CHECKED = struct.Struct("=QQI4x"), struct.Struct("=QII")
 # the first buffer is this many bytes longer than the reports: a text made from short reports can be longer than the reports
 MORE = 4096
 LONGEST_NAME = 64
+LARGEST = (1 << 64) - 1
 
 
 def _load() -> ctypes.CDLL:
@@ -50,8 +51,8 @@ def _call(name: str, result: Any, arguments: List[Any]) -> Callable[..., int]:
 _merge = _call("xbrlmerge_merge", _NUMBER, [*_GIVEN, _NUMBER, *_TAKEN])
 _verdicts = _call("xbrlmerge_verdicts", _NUMBER, [*_GIVEN, *_TAKEN])
 _sources = _call("xbrlmerge_sources", _NUMBER, [*_GIVEN, *_TAKEN])
-_verdicts_json = _call("xbrlmerge_verdicts_json", _NUMBER, [*_GIVEN, *_TAKEN])
-_sources_json = _call("xbrlmerge_sources_json", _NUMBER, [*_GIVEN, *_TAKEN])
+_verdicts_json = _call("xbrlmerge_verdicts_json", _NUMBER, [*_GIVEN, _SIZE, *_TAKEN])
+_sources_json = _call("xbrlmerge_sources_json", _NUMBER, [*_GIVEN, _SIZE, *_TAKEN])
 _check = _call("xbrlmerge_check", _NUMBER, [_POINTER, _SIZE, _POINTER, _SIZE, _POINTER, _POINTER])
 _refusal_name = _call("xbrlmerge_refusal_name", _SIZE, [_NUMBER, _POINTER, _SIZE])
 
@@ -99,9 +100,11 @@ def _answered(call: Callable[..., int], sheet: bytes, reports: Sequence[bytes], 
         room, rows_room = max(room, needed.value), max(rows_room, refused.value)
     if status == NO_MEMORY:
         raise MemoryError
-    if status > NO_MEMORY:
+    if status in (BAD_ENDS, BAD_LEVEL):
         raise ValueError(f"xbrlmerge: status {status}")
     text = bytes(memoryview(out)[: needed.value]) if status <= REFUSED else b""
+    if status == TOO_MUCH:
+        return Answer(status, b"", 0, [])
     told = [_row(fields) for fields in ROW.iter_unpack(memoryview(rows)[: refused.value * ROW.size])]
     return Answer(status, text, needed.value, told)
 
@@ -118,12 +121,12 @@ def sources(sheet: bytes, reports: Sequence[bytes]) -> Answer:
     return _answered(_sources, sheet, reports)
 
 
-def verdicts_json(sheet: bytes, reports: Sequence[bytes]) -> Answer:
-    return _answered(_verdicts_json, sheet, reports)
+def verdicts_json(sheet: bytes, reports: Sequence[bytes], most: int) -> Answer:
+    return _answered(_verdicts_json, sheet, reports, most)
 
 
-def sources_json(sheet: bytes, reports: Sequence[bytes]) -> Answer:
-    return _answered(_sources_json, sheet, reports)
+def sources_json(sheet: bytes, reports: Sequence[bytes], most: int) -> Answer:
+    return _answered(_sources_json, sheet, reports, most)
 
 
 def check(sheet: bytes, report: bytes) -> Tuple[int, Tuple[int, int, int], Row]:

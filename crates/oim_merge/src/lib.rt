@@ -35,7 +35,7 @@ pub use mentions::IndexedMention;
 pub use source_format::{SourceFormat, SourceLines};
 pub use traced_merge::{TracedMerge, source_lines};
 pub use verdict_format::{Identifiers, JudgedRow, VerdictFormat};
-pub use verdict_rows::verdict_lines;
+pub use verdict_rows::{verdict_lines, write_verdicts};
 // replicas
 pub use event::Event;
 pub use events::{Events, ReplayFault, read_events};

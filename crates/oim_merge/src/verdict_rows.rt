@@ -96,7 +96,7 @@ fn evidence_in_words(judged: &JudgedRow<'_>) -> Result<String, AllocError>
 /// unchanged.
 ///
 /// Errors: `Device` if the sink failed; `OutOfMemory`.
-pub(crate) fn write_verdicts<S: Sink, F: VerdictFormat>(
+pub fn write_verdicts<S: Sink, F: VerdictFormat>(
     alloc: Global,
     base: &Base<'_>,
     refusals: Refusals,

@@ -32,3 +32,7 @@ bad_ends = 6
 -- there is no level with this number
 abbrev pub bad_level : ℕ
 bad_level = 7
+
+-- the text is longer than the caller's bound; the caller's memory is unchanged
+abbrev pub too_much : ℕ
+too_much = 8

@@ -2,7 +2,7 @@ ghost use Rattle.std.specs.Prelude.{◌≡◌, slice_get, ◌⊎◌, ◌↔◌, 
 ghost use Rattle.oim_value.specs.Level.{levels};
 ghost use Rattle.oim_value.specs.declared.level.Level.{Level as Allowed};
 ghost use Rattle.xbrlmerge_c.specs.Answers.{StopsBy};
-ghost use Rattle.xbrlmerge_c.specs.Calls.{AnswersRowCall, IsLoose, IsSheetRefused, Merges};
+ghost use Rattle.xbrlmerge_c.specs.Calls.{AnswersRowCall, IsLoose, IsSheetRefused, Merges, bound_of};
 ghost use Rattle.xbrlmerge_c.specs.Ends.{AreEnds, reports_at};
 ghost use Rattle.xbrlmerge_c.specs.CallerMemory.{Asks, Hands, HasNoText, Rejects, TellsFirst, memory};
 ghost use Rattle.xbrlmerge_c.specs.Statuses.{bad_ends, bad_level, done, no_memory, refused_some, sheet_refused, too_loose, too_short};
@@ -10,7 +10,7 @@ ghost use Rattle.xbrlmerge_c.specs.declared.row_call.RowCall.TheVariants.{Source
 
 use crate::output::{BAD_ENDS, BAD_LEVEL, Made, RefusedReport, answer};
 use crate::reports::{add_reports, are_ends, read_sheet};
-use crate::row_call::RowCall;
+use crate::row_call::{RowCall, bound_of};
 use oim_merge::Fault;
 use oim_value::Level;
 use oim_write::StdSink;
@@ -121,10 +121,12 @@ pub extern "C" fn xbrlmerge_verdicts(
     refusals: &mut [RefusedReport],
     refused: &mut usize,
 ) -> u32
-    ensures { AnswersRowCall Verdicts sheet.now reports.now ends.now result
+    ensures { AnswersRowCall Verdicts None sheet.now reports.now ends.now result
         (memory out.old needed.old refusals.old refused.old) (memory out.new needed.new refusals.new refused.new) }
 {
-    RowCall::Verdicts.list(alloc, sheet, reports, ends, out, needed, refusals, refused)
+    RowCall::Verdicts.list(
+        None, alloc, sheet, reports, ends, out, needed, refusals, refused,
+    )
 }
 
 /// Writes a line for each source of a fact, as `oim_merge::source_lines` does. Otherwise the call
@@ -140,46 +142,60 @@ pub extern "C" fn xbrlmerge_sources(
     refusals: &mut [RefusedReport],
     refused: &mut usize,
 ) -> u32
-    ensures { AnswersRowCall Sources sheet.now reports.now ends.now result
+    ensures { AnswersRowCall Sources None sheet.now reports.now ends.now result
         (memory out.old needed.old refusals.old refused.old) (memory out.new needed.new refusals.new refused.new) }
 {
-    RowCall::Sources.list(alloc, sheet, reports, ends, out, needed, refusals, refused)
+    RowCall::Sources.list(
+        None, alloc, sheet, reports, ends, out, needed, refusals, refused,
+    )
 }
 
-/// Writes one JSON object for each row, one per line, as `verdicts --format json` does.
+/// Writes one JSON object for each row, one per line, as `verdicts --format json` does. The text has
+/// at most `most` bytes; 0 stands for 1 MiB and 16 bytes for each byte of the sheet and the reports.
 /// Otherwise the call is like `xbrlmerge_verdicts`.
+///
+/// Errors, by the status: as for `xbrlmerge_verdicts`; also `TOO_MUCH` if the text is longer than
+/// the bound, with nothing changed.
 #[unsafe(no_mangle)]
 pub extern "C" fn xbrlmerge_verdicts_json(
     alloc: Global,
     sheet: &[u8],
     reports: &[u8],
     ends: &[usize],
+    most: usize,
     out: &mut [u8],
     needed: &mut usize,
     refusals: &mut [RefusedReport],
     refused: &mut usize,
 ) -> u32
-    ensures { AnswersRowCall VerdictsJson sheet.now reports.now ends.now result
+    ensures { AnswersRowCall VerdictsJson (Some (bound_of most sheet.now reports.now)) sheet.now reports.now ends.now result
         (memory out.old needed.old refusals.old refused.old) (memory out.new needed.new refusals.new refused.new) }
 {
-    RowCall::VerdictsJson.list(alloc, sheet, reports, ends, out, needed, refusals, refused)
+    let bound = Some(bound_of(most, sheet, reports));
+    RowCall::VerdictsJson.list(
+        bound, alloc, sheet, reports, ends, out, needed, refusals, refused,
+    )
 }
 
 /// Writes a JSON object for each source of a fact, one per line, as `sources --format json` does.
-/// Otherwise the call is like `xbrlmerge_verdicts`.
+/// Otherwise the call is like `xbrlmerge_verdicts_json`.
 #[unsafe(no_mangle)]
 pub extern "C" fn xbrlmerge_sources_json(
     alloc: Global,
     sheet: &[u8],
     reports: &[u8],
     ends: &[usize],
+    most: usize,
     out: &mut [u8],
     needed: &mut usize,
     refusals: &mut [RefusedReport],
     refused: &mut usize,
 ) -> u32
-    ensures { AnswersRowCall SourcesJson sheet.now reports.now ends.now result
+    ensures { AnswersRowCall SourcesJson (Some (bound_of most sheet.now reports.now)) sheet.now reports.now ends.now result
         (memory out.old needed.old refusals.old refused.old) (memory out.new needed.new refusals.new refused.new) }
 {
-    RowCall::SourcesJson.list(alloc, sheet, reports, ends, out, needed, refusals, refused)
+    let bound = Some(bound_of(most, sheet, reports));
+    RowCall::SourcesJson.list(
+        bound, alloc, sheet, reports, ends, out, needed, refusals, refused,
+    )
 }

@@ -24,6 +24,8 @@ pub(crate) const BAD_ENDS: u32 = 6;
 
 pub(crate) const BAD_LEVEL: u32 = 7;
 
+pub(crate) const TOO_MUCH: u32 = 8;
+
 /// The refusal of a report or of the sheet, as numbers.
 #[repr(C)]
 #[derive(Clone, Copy, Debug, PartialEq, Eq)]

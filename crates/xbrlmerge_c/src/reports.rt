@@ -1,12 +1,13 @@
 ghost use Rattle.std.specs.Prelude.{◌↔◌, IsTrue, length, ◌≡◌, IfOk, Ok, IfErr};
 ghost use Rattle.oim_merge.specs.Added.{added};
+ghost use Rattle.oim_merge.specs.Reports.{merged, refused};
 ghost use Rattle.oim_merge.specs.Traced.{traced};
 ghost use Rattle.oim_report.specs.Sheet.{sheet_outcome};
 ghost use Rattle.xbrlmerge_c.specs.Answers.{NoRow, StopsBy};
 ghost use Rattle.xbrlmerge_c.specs.Calls.{IsSheetRefused};
 ghost use Rattle.xbrlmerge_c.specs.Ends.{AreEnds, reports_at};
 
-use oim_merge::{Consolidation, Fault, TracedMerge};
+use oim_merge::{Consolidation, Fault, Merged, TracedMerge};
 use oim_names::Reason;
 use oim_report::Sheet;
 use std::alloc::{AllocError, Global};
@@ -40,6 +41,19 @@ pub(crate) fn add_reports<'s>(
         from = *end;
     }
     Ok(consolidation)
+}
+
+pub(crate) fn merge_reports<'s>(
+    alloc: Global,
+    sheet: &'s Sheet,
+    reports: &[u8],
+    ends: &[usize],
+) -> Result<Merged<'s>, AllocError>
+    requires { AreEnds reports.now ends.now }
+    ensures base { IfOk result (λ made. made.base.body ≡ merged sheet.now (reports_at reports.now ends.now)) }
+    ensures refusals { IfOk result (λ made. made.refusals ≡ refused sheet.now (reports_at reports.now ends.now)) }
+{
+    add_reports(alloc, sheet, reports, ends)?.into_merged()
 }
 
 pub(crate) fn trace_reports<'s>(

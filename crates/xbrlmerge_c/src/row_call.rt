@@ -1,17 +1,19 @@
-ghost use Rattle.std.specs.Prelude.{◌-◌, ◌^◌, ◌<◌, IfErr, IfOk};
+ghost use Rattle.std.specs.Prelude.{◌≡◌, ◌-◌, ◌^◌, ◌<◌, None, IfErr, IfOk, IfSome, true, false};
 ghost use Rattle.xbrlmerge_c.specs.Answers.{NoReason, NoRow, StopsBy};
-ghost use Rattle.xbrlmerge_c.specs.Calls.{AnswersRowCall, IsSheetRefused, Lists};
+ghost use Rattle.xbrlmerge_c.specs.Calls.{AnswersRowCall, IsBeyond, IsSheetRefused, IsTooMuch, IsWithin, Lists, bound_of};
 ghost use Rattle.xbrlmerge_c.specs.Ends.{AreEnds, reports_at};
 ghost use Rattle.xbrlmerge_c.specs.CallerMemory.{memory};
-ghost use Rattle.xbrlmerge_c.specs.code.RowCall.{AppendsRowCall};
+ghost use Rattle.xbrlmerge_c.specs.code.RowCall.{AreLong, ListsRowCall, WritesRowCall};
+ghost use Rattle.xbrlmerge_c.specs.declared.row_call.RowCall.TheVariants.{Sources, SourcesJson, Verdicts, VerdictsJson};
 
-use crate::output::{BAD_ENDS, Made, RefusedReport, answer};
-use crate::reports::{add_reports, are_ends, read_sheet, trace_reports};
-use oim_merge::{Fault, Refusals, SourceLines};
+use crate::output::{BAD_ENDS, Made, RefusedReport, TOO_MUCH, answer};
+use crate::reports::{add_reports, are_ends, merge_reports, read_sheet, trace_reports};
+use fact_base::Base;
+use oim_merge::{Fault, Merged, Refusals, SourceLines, write_verdicts};
 use oim_report::Sheet;
-use oim_write::{Sink, StdSink};
-use row_formats::RowFormat;
-use std::alloc::Global;
+use oim_write::{BoundedSink, Sink, StdSink, default_bound};
+use row_formats::{RowFormat, has_long_row};
+use std::alloc::{AllocError, Global};
 
 /// What a call lists, and in which format: lines, or JSON objects.
 #[derive(Clone, Copy, Debug)]
@@ -27,6 +29,7 @@ impl RowCall {
     /// the call.
     pub(crate) fn list(
         self,
+        bound: Option<u64>,
         alloc: Global,
         sheet: &[u8],
         reports: &[u8],
@@ -36,43 +39,103 @@ impl RowCall {
         refusals: &mut [RefusedReport],
         refused: &mut usize,
     ) -> u32
-        ensures { AnswersRowCall self sheet.now reports.now ends.now result
+        ensures { AnswersRowCall self bound sheet.now reports.now ends.now result
             (memory out.old needed.old refusals.old refused.old) (memory out.new needed.new refusals.new refused.new) }
     {
         if !are_ends(reports, ends) {
             return BAD_ENDS;
         }
-        let made = listed(alloc, self, sheet, reports, ends);
-        answer(made, out, needed, refusals, refused)
+        match listed(alloc, self, bound, sheet, reports, ends) {
+            Some(made) => answer(made, out, needed, refusals, refused),
+            None => TOO_MUCH,
+        }
     }
 }
 
-/// A sink in memory fails only if memory is refused, so `Device` means the same as `OutOfMemory`.
+/// Returns the bound of a call with the argument `most`.
+pub(crate) fn bound_of(most: usize, sheet: &[u8], reports: &[u8]) -> u64
+    ensures { result ≡ bound_of most sheet.now reports.now }
+{
+    if most == 0 {
+        default_bound((sheet.len() as u64).saturating_add(reports.len() as u64))
+    } else {
+        most as u64
+    }
+}
+
+/// Returns the listing and the refusals, or None if the listing is longer than the bound.
+///
+/// A sink in memory fails only if memory is refused or the bound is reached. Within the bound,
+/// `Device` means the same as `OutOfMemory`.
 fn listed(
     alloc: Global,
     call: RowCall,
+    bound: Option<u64>,
     sheet: &[u8],
     reports: &[u8],
     ends: &[usize],
-) -> Result<Made, Fault>
+) -> Option<Result<Made, Fault>>
     requires { AreEnds reports.now ends.now }
-    ensures ok { IfOk result (λ made.
-        Lists call sheet.now (reports_at reports.now ends.now) made.text.items made.refusals) }
-    ensures err { IfErr result (StopsBy NoRow (IsSheetRefused sheet.now)) }
+    ensures ok { IfSome result (λ made. IfOk made (λ made.
+        Lists call bound sheet.now (reports_at reports.now ends.now) made.text.items made.refusals)) }
+    ensures err { IfSome result (λ made. IfErr made (StopsBy NoRow (IsSheetRefused sheet.now))) }
+    ensures beyond { result ≡ None → IsTooMuch call bound sheet.now (reports_at reports.now ends.now) }
 {
-    let sheet = read_sheet(alloc, sheet)?;
-    let mut sink = StdSink::new(Vec::new(alloc));
-    let refusals = write(alloc, call, &sheet, reports, ends, &mut sink)?;
-    Ok(Made {
-        text: sink.into_inner(),
-        refusals,
-    })
+    let sheet = match read_sheet(alloc, sheet) {
+        Ok(sheet) => sheet,
+        Err(fault) => return Some(Err(fault)),
+    };
+    // One byte above the bound shows that the listing is longer than the bound.
+    let most = bound.unwrap_or(u64::MAX).saturating_add(1);
+    let mut sink = BoundedSink::new(StdSink::new(Vec::new(alloc)), most);
+    let written = write(alloc, call, bound, &sheet, reports, ends, &mut sink);
+    let text = sink.into_inner().into_inner();
+    if is_beyond(bound, &text) {
+        return None;
+    }
+    match written {
+        Some(Ok(refusals)) => Some(Ok(Made { text, refusals })),
+        Some(Err(fault)) => Some(Err(fault)),
+        None => None,
+    }
 }
 
-// C passes the reports as one slice of bytes and the index after each report.
+fn is_beyond(bound: Option<u64>, text: &[u8]) -> bool
+    ensures beyond { result ≡ true → IsBeyond bound text.now }
+    ensures within { result ≡ false → IsWithin bound text.now }
+{
+    match bound {
+        Some(bound) => text.len() as u64 > bound,
+        None => false,
+    }
+}
+
+// In the functions below, C passes the reports as one slice of bytes and the index after each report.
+
+/// Writes the listing, or returns None without writing if one of its rows is longer than the bound.
 fn write<S: Sink>(
     alloc: Global,
     call: RowCall,
+    bound: Option<u64>,
+    sheet: &Sheet,
+    reports: &[u8],
+    ends: &[usize],
+    out: &mut S,
+) -> Option<Result<Refusals, Fault>>
+    requires sink { S.failures out.old < 2 ^ 64 - 1 }
+    requires ends { AreEnds reports.now ends.now }
+    ensures { WritesRowCall call bound sheet.now (reports_at reports.now ends.now) (S.told out.old) (S.told out.new) result }
+{
+    match call {
+        RowCall::Verdicts => Some(write_lines(alloc, sheet, reports, ends, out)),
+        RowCall::Sources => Some(write_sources(alloc, sheet, reports, ends, out)),
+        RowCall::VerdictsJson => write_rows(alloc, bound, sheet, reports, ends, out),
+        RowCall::SourcesJson => Some(write_json_sources(alloc, sheet, reports, ends, out)),
+    }
+}
+
+fn write_lines<S: Sink>(
+    alloc: Global,
     sheet: &Sheet,
     reports: &[u8],
     ends: &[usize],
@@ -80,18 +143,67 @@ fn write<S: Sink>(
 ) -> Result<Refusals, Fault>
     requires sink { S.failures out.old < 2 ^ 64 - 1 }
     requires ends { AreEnds reports.now ends.now }
-    ensures ok { IfOk result
-        (AppendsRowCall call sheet.now (reports_at reports.now ends.now) (S.told out.old) (S.told out.new)) }
-    ensures err { IfErr result (StopsBy NoRow NoReason) }
+    ensures { ListsRowCall Verdicts sheet.now (reports_at reports.now ends.now) (S.told out.old) (S.told out.new) result }
 {
-    match call {
-        RowCall::Verdicts => add_reports(alloc, sheet, reports, ends)?.finish_lines(out),
-        RowCall::Sources => trace_reports(alloc, sheet, reports, ends)?.finish(&SourceLines, out),
-        RowCall::VerdictsJson => {
-            add_reports(alloc, sheet, reports, ends)?.finish_verdicts(&RowFormat::Json, out)
-        }
-        RowCall::SourcesJson => {
-            trace_reports(alloc, sheet, reports, ends)?.finish(&RowFormat::Json, out)
-        }
+    add_reports(alloc, sheet, reports, ends)?.finish_lines(out)
+}
+
+fn write_sources<S: Sink>(
+    alloc: Global,
+    sheet: &Sheet,
+    reports: &[u8],
+    ends: &[usize],
+    out: &mut S,
+) -> Result<Refusals, Fault>
+    requires sink { S.failures out.old < 2 ^ 64 - 1 }
+    requires ends { AreEnds reports.now ends.now }
+    ensures { ListsRowCall Sources sheet.now (reports_at reports.now ends.now) (S.told out.old) (S.told out.new) result }
+{
+    trace_reports(alloc, sheet, reports, ends)?.finish(&SourceLines, out)
+}
+
+fn write_json_sources<S: Sink>(
+    alloc: Global,
+    sheet: &Sheet,
+    reports: &[u8],
+    ends: &[usize],
+    out: &mut S,
+) -> Result<Refusals, Fault>
+    requires sink { S.failures out.old < 2 ^ 64 - 1 }
+    requires ends { AreEnds reports.now ends.now }
+    ensures { ListsRowCall SourcesJson sheet.now (reports_at reports.now ends.now) (S.told out.old) (S.told out.new) result }
+{
+    trace_reports(alloc, sheet, reports, ends)?.finish(&RowFormat::Json, out)
+}
+
+fn write_rows<S: Sink>(
+    alloc: Global,
+    bound: Option<u64>,
+    sheet: &Sheet,
+    reports: &[u8],
+    ends: &[usize],
+    out: &mut S,
+) -> Option<Result<Refusals, Fault>>
+    requires sink { S.failures out.old < 2 ^ 64 - 1 }
+    requires ends { AreEnds reports.now ends.now }
+    ensures { WritesRowCall VerdictsJson bound sheet.now (reports_at reports.now ends.now) (S.told out.old) (S.told out.new) result }
+{
+    let merged = match merge_reports(alloc, sheet, reports, ends) {
+        Ok(merged) => merged,
+        Err(AllocError) => return Some(Err(Fault::OutOfMemory(0))),
+    };
+    let Merged { base, refusals } = merged;
+    if is_long(bound, &base) {
+        return None;
+    }
+    Some(write_verdicts(alloc, &base, refusals, &RowFormat::Json, out))
+}
+
+fn is_long(bound: Option<u64>, base: &Base<'_>) -> bool
+    ensures { result ≡ true → AreLong bound base.now.body }
+{
+    match bound {
+        Some(bound) => has_long_row(RowFormat::Json, base, bound),
+        None => false,
     }
 }

@@ -5,7 +5,7 @@ use crate::calls::{
 use crate::check::{CheckedReport, xbrlmerge_check};
 use crate::output::{
     BAD_ENDS, BAD_LEVEL, DONE, NO_MEMORY, REFUSED, RefusedReport, SHEET_REFUSED, TOO_LOOSE,
-    TOO_SHORT,
+    TOO_MUCH, TOO_SHORT,
 };
 use crate::refusal_name::xbrlmerge_refusal_name;
 use std::alloc::Global;
@@ -59,9 +59,9 @@ const UNBOUND: RefusedReport = RefusedReport {
 enum Call {
     Merge(u32),
     Verdicts,
-    VerdictsJson,
+    VerdictsJson(usize),
     Sources,
-    SourcesJson,
+    SourcesJson(usize),
 }
 
 /// The status and the caller's memory after a call.
@@ -108,12 +108,13 @@ fn called_once(alloc: Global, call: Call, sheet: &str, ends: &[usize], size: usi
                 &mut refused,
             )
         }
-        (Call::VerdictsJson, Some(out)) => {
+        (Call::VerdictsJson(most), Some(out)) => {
             xbrlmerge_verdicts_json(
                 alloc,
                 sheet,
                 reports,
                 ends,
+                most,
                 out,
                 &mut needed,
                 told,
@@ -132,12 +133,13 @@ fn called_once(alloc: Global, call: Call, sheet: &str, ends: &[usize], size: usi
                 &mut refused,
             )
         }
-        (Call::SourcesJson, Some(out)) => {
+        (Call::SourcesJson(most), Some(out)) => {
             xbrlmerge_sources_json(
                 alloc,
                 sheet,
                 reports,
                 ends,
+                most,
                 out,
                 &mut needed,
                 told,
@@ -180,14 +182,14 @@ fn texts_and_refusals_are_handed_over(rt: HostRuntime) -> Result<(), Fail> {
     assert!(rt; has_all(&called(&rt, Call::Verdicts, SHEET, ends, 400), VERDICTS));
     assert!(rt;
         has_all(
-            &called(&rt, Call::VerdictsJson, SHEET, ends, 400),
+            &called(&rt, Call::VerdictsJson(0), SHEET, ends, 400),
             VERDICTS_JSON
         )
     );
     assert!(rt; has_all(&called(&rt, Call::Sources, SHEET, ends, 400), SOURCES));
     assert!(rt;
         has_all(
-            &called(&rt, Call::SourcesJson, SHEET, ends, 400),
+            &called(&rt, Call::SourcesJson(SOURCES_JSON.len()), SHEET, ends, 400),
             SOURCES_JSON
         )
     );
@@ -213,6 +215,15 @@ fn a_short_buffer_is_told(rt: HostRuntime) -> Result<(), Fail> {
     );
     assert!(rt; left.status == TOO_SHORT && left.needed == SOURCES.len());
     assert!(rt; left.refused == 1 && left.refusals == [BEFORE, BEFORE] && left.out == [7; 400]);
+    Ok(())
+}
+
+#[test]
+fn a_long_text_is_told(rt: HostRuntime) -> Result<(), Fail> {
+    let most = VERDICTS_JSON.len() - 1;
+    let left = called(&rt, Call::VerdictsJson(most), SHEET, ENDS.as_slice(), 400);
+    assert!(rt; left.status == TOO_MUCH && left.needed == 7 && left.refused == 7);
+    assert!(rt; left.refusals == [BEFORE, BEFORE] && left.out == [7; 400]);
     Ok(())
 }
 
