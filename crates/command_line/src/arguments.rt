@@ -1,3 +1,4 @@
+use clap::builder::ValueParser;
 use clap::{Arg, ArgAction, Command};
 use std::alloc::{AllocError, Global};
 
@@ -22,6 +23,9 @@ pub(crate) const QUIET: &str = "quiet";
 
 pub(crate) const OUTPUT: &str = "output";
 
+/// The option that sets the bound of the output.
+pub(crate) const MOST: &str = "most-output";
+
 pub(crate) const FORMAT: &str = "format";
 
 /// Returns an option with a value.
@@ -40,14 +44,14 @@ pub(crate) fn flag<'w>(alloc: Global, name: &'w str, help: &'w str) -> Arg<'w> {
         .help(help)
 }
 
-pub(crate) fn output_argument<'w>(alloc: Global) -> Arg<'w> {
-    option(
-        alloc,
-        OUTPUT,
-        "FILE",
-        "Write the complete output to FILE, or nothing",
-    )
-    .short('o')
+/// Adds the arguments for the output file and for the bound of the output.
+pub(crate) fn with_output<'w>(alloc: Global, command: Building<'w>) -> Building<'w> {
+    let output_help = "Write the complete output to FILE, or nothing";
+    let most_help = "Stop with status 3 if the output is longer than BYTES";
+    let output = option(alloc, OUTPUT, "FILE", output_help).short('o');
+    let most = option(alloc, MOST, "BYTES", most_help);
+    let most = most.value_parser(ValueParser::Unsigned(1, u64::MAX));
+    with(with(command, output), most)
 }
 
 /// Returns a command with this name and help, and the option for a sheet.
@@ -79,13 +83,13 @@ pub(crate) fn with_flag_of<'w>(
     with(command, flag)
 }
 
-/// Adds the arguments for any number of reports, for the output file and for the progress line.
+/// Adds the arguments for any number of reports, for the output and for the progress line.
 pub(crate) fn with_reports<'w>(alloc: Global, command: Building<'w>) -> Building<'w> {
     let list_help = "Also read the reports named in FILE, one per line; - is standard input";
     let null_help = "Names in the file of --reports-from end with NUL, not with a line end";
     let command = with(command, option(alloc, LIST, "FILE", list_help));
     let command = with_flag_of(command, flag(alloc, NULL, null_help).short('0'), LIST);
-    let command = with(command, output_argument(alloc));
+    let command = with_output(alloc, command);
     let quiet = flag(alloc, QUIET, "Do not show progress on a terminal");
     let reports = Arg::new(alloc, REPORT)
         .num_args(0..)

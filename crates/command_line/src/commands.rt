@@ -1,6 +1,7 @@
 //! The commands, in the files of the folder `commands`.
 
 ghost use Rattle.std.specs.Prelude.{◌≡◌, ◌-◌, ◌^◌, ◌<◌, OnOk};
+ghost use Rattle.oim_write.specs.BoundedSink.{bounded_failures};
 
 pub(crate) mod check;
 pub(crate) mod explain;
@@ -13,7 +14,7 @@ use crate::inputs::Inputs;
 use crate::request::{Request, Subcommand};
 use oim_merge::{Refusals, consolidate_bundle};
 use oim_report::Sheet;
-use oim_write::{Sink, WriteFault, put_all};
+use oim_write::{BoundedSink, Sink, WriteFault, put_all};
 use std::io::Write;
 use std::rt::Files;
 
@@ -21,9 +22,9 @@ use std::rt::Files;
 pub(crate) fn execute<'n, F: Files, E: Write, S: Sink>(
     request: &Request<'n>,
     inputs: &mut Inputs<'n, F, E>,
-    out: &mut S,
+    out: &mut BoundedSink<S>,
 ) -> Result<Success, Error<'n>>
-    requires { S.failures out.old < 2 ^ 64 - 1 }
+    requires { bounded_failures (S.failures out.old.sink) out.old.overruns < 2 ^ 64 - 1 }
 {
     match request {
         Request::Bundle => {
@@ -48,16 +49,22 @@ fn execute_under<'n, F: Files, E: Write, S: Sink>(
     sheet: &Sheet,
     subcommand: Subcommand<'n>,
     inputs: &mut Inputs<'n, F, E>,
-    out: &mut S,
+    out: &mut BoundedSink<S>,
 ) -> Result<Refusals, Error<'n>>
-    requires { S.failures out.old < 2 ^ 64 - 1 }
+    requires { bounded_failures (S.failures out.old.sink) out.old.overruns < 2 ^ 64 - 1 }
 {
     match subcommand {
         Subcommand::Merge(allow) => Ok(inputs.consolidate(sheet)?.finish_last(allow, out)?),
         Subcommand::Verdicts(format) => {
-            Ok(rows::put_verdicts(inputs.consolidate(sheet)?, format, out)?)
+            let consolidation = inputs.consolidate(sheet)?;
+            out.raise(inputs.take_allowance());
+            rows::put_verdicts(inputs.alloc, consolidation, format, out)
         }
-        Subcommand::Sources(format) => Ok(rows::put_sources(inputs.trace(sheet)?, format, out)?),
+        Subcommand::Sources(format) => {
+            let merge = inputs.trace(sheet)?;
+            out.raise(inputs.take_allowance());
+            Ok(rows::put_sources(merge, format, out)?)
+        }
         Subcommand::Check(report) => check::run(report, sheet, inputs, out),
         Subcommand::Replay(replicas, events) => replay::run(replicas, events, sheet, inputs, out),
     }

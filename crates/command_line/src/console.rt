@@ -152,6 +152,12 @@ fn print_error<E: Write>(err: &mut E, is_terminal: bool, error: &Error<'_>) {
             writeln!(err, "too loose: row {row}")
         }
         Error::Device(written) => writeln!(err, "device: {written} bytes written"),
+        Error::TooMuch(most) => {
+            writeln!(
+                err,
+                "output: more than {most} bytes; --most-output BYTES sets the bound"
+            )
+        }
         Error::OutOfMemory => writeln!(err, "out of memory"),
     };
 }

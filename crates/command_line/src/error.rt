@@ -45,6 +45,8 @@ pub(crate) enum Error<'n> {
     TooLoose(u64, Refusals),
     /// The output failed after this many bytes.
     Device(u64),
+    /// The output is longer than this bound, and these bytes of it were written.
+    TooMuch(u64),
     OutOfMemory,
 }
 

@@ -8,6 +8,7 @@ use oim_write::Encoded;
 use std::alloc::Global;
 use std::fs::{self, File};
 use std::io::{ErrorKind, Read, Write};
+use std::mem;
 use std::rt::Files;
 
 const MOST_BYTES: u32 = 2_147_483_648;
@@ -24,16 +25,30 @@ pub(crate) struct Inputs<'n, F, E> {
     /// The bundle if there are no arguments; otherwise not used.
     pub bundle: &'n [u8],
     pub names: &'n [&'n str],
+    /// How many bytes of output each byte that is read allows.
+    pub output_per_byte: u64,
+    /// The bytes of output that the bytes read since the last call of `take_allowance` allow.
+    pub allowance: u64,
     pub console: &'n mut Console<E>,
 }
 
 impl<'n, F: Files, E: Write> Inputs<'n, F, E> {
-    pub(crate) fn read(&self, name: &'n str) -> Result<Encoded, Error<'n>> {
-        read_file(self.alloc, self.files, name)
+    /// Reads the file with this name, and allows output for its bytes.
+    pub(crate) fn read(&mut self, name: &'n str) -> Result<Encoded, Error<'n>> {
+        let bytes = read_file(self.alloc, self.files, name)?;
+        let read = bytes.as_bytes().len() as u64;
+        let allowed = read.saturating_mul(self.output_per_byte);
+        self.allowance = self.allowance.saturating_add(allowed);
+        Ok(bytes)
+    }
+
+    /// Returns the bytes of output that the bytes read since the last call allow.
+    pub(crate) fn take_allowance(&mut self) -> u64 {
+        mem::take(&mut self.allowance)
     }
 
     /// Errors: `Unread`; `TooLong`; `Sheet` if the sheet is refused; out of memory.
-    pub(crate) fn read_sheet(&self, name: &'n str) -> Result<Sheet, Error<'n>> {
+    pub(crate) fn read_sheet(&mut self, name: &'n str) -> Result<Sheet, Error<'n>> {
         let bytes = self.read(name)?;
         sheet_of(self.alloc, bytes.as_bytes())
     }

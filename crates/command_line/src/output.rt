@@ -1,8 +1,8 @@
 use crate::commands::execute;
 use crate::error::{Error, Success};
 use crate::inputs::Inputs;
-use crate::request::Request;
-use oim_write::StdSink;
+use crate::request::Args;
+use oim_write::{BoundedSink, StdSink};
 use std::alloc::{AllocError, Global};
 use std::fs::{self, OpenFile, OpenOptions, Permissions};
 use std::io::{self, ErrorKind, Write};
@@ -17,36 +17,57 @@ const KEPT_BITS: u32 = 0o777;
 const PRIVATE: u32 = 0o600;
 
 /// Runs the request and writes its output to standard output. Flushes standard output if the
-/// command ran to its end or a row was above the allowed level. If standard output fails, the error
-/// contains the number of bytes that standard output took in this run.
+/// command ran to its end, a row was above the allowed level, or the output was too long. If
+/// standard output fails, the error contains the number of bytes that standard output took in this
+/// run.
 pub(crate) fn write_out<'n, F: Files, E: Write, O: Write + Drop>(
-    request: &Request<'n>,
+    args: &Args<'n>,
     inputs: &mut Inputs<'n, F, E>,
     out: O,
 ) -> Result<Success, Error<'n>> {
-    let mut sink = StdSink::new(out);
-    let done = execute(request, inputs, &mut sink);
+    let mut sink = BoundedSink::new(StdSink::new(out), args.first_bound());
+    let done = execute(&args.request, inputs, &mut sink);
+    let is_too_much = sink.overruns() > 0;
+    let sink = sink.into_inner();
     let written = sink.taken();
-    match done {
+    match stopped_by(done, is_too_much, written) {
         Err(Error::Device(_)) => Err(Error::Device(written)),
-        Ok(_) | Err(Error::TooLoose(..)) => match sink.into_inner().flush() {
+        done @ (Ok(_) | Err(Error::TooLoose(..) | Error::TooMuch(_))) => match sink
+            .into_inner()
+            .flush()
+        {
             Ok(()) => done,
             Err(_) => Err(Error::Device(written)),
         },
-        Err(_) => done,
+        done => done,
+    }
+}
+
+/// Distinguishes an output that is longer than the bound from a failed device.
+fn stopped_by<'n>(
+    done: Result<Success, Error<'n>>,
+    is_too_much: bool,
+    written: u64,
+) -> Result<Success, Error<'n>> {
+    match done {
+        Err(Error::Device(_)) if is_too_much => Err(Error::TooMuch(written)),
+        done => done,
     }
 }
 
 /// Runs the request and writes its output to the file with this name, completely or not at all.
 pub(crate) fn write_file<'n, F: Files, E: Write>(
-    request: &Request<'n>,
+    args: &Args<'n>,
     inputs: &mut Inputs<'n, F, E>,
     name: &'n str,
 ) -> Result<Success, Error<'n>> {
     let files = inputs.files;
     let (beside, file) = new_beside(inputs.alloc, files, name)?;
-    let mut sink = StdSink::new(file);
-    let done = execute(request, inputs, &mut sink);
+    let mut sink = BoundedSink::new(StdSink::new(file), args.first_bound());
+    let done = execute(&args.request, inputs, &mut sink);
+    let is_too_much = sink.overruns() > 0;
+    let sink = sink.into_inner();
+    let done = stopped_by(done, is_too_much, sink.taken());
     let done = settle(files, done, sink.into_inner(), &beside, name);
     if done.is_err() {
         let _ = fs::remove_file(files, beside.as_str());

@@ -84,11 +84,14 @@ fn run_named<'n, F: Files, O: Write + Drop, E: Write>(
 ) -> u8 {
     match args.names(alloc, bytes) {
         Ok(names) => {
+            let output_per_byte = args.output_per_byte();
             let mut inputs = Inputs {
                 alloc,
                 files,
                 bundle: bytes,
                 names: names.as_slice(),
+                output_per_byte,
+                allowance: (bytes.len() as u64).saturating_mul(output_per_byte),
                 console,
             };
             run_inputs(args, &mut inputs, out)
@@ -103,8 +106,8 @@ fn run_inputs<'n, F: Files, O: Write + Drop, E: Write>(
     out: O,
 ) -> u8 {
     let done = match args.output {
-        Some(name) => write_file(&args.request, inputs, name),
-        None => write_out(&args.request, inputs, out),
+        Some(name) => write_file(args, inputs, name),
+        None => write_out(args, inputs, out),
     };
     inputs.console.tell(&done)
 }

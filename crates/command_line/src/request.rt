@@ -3,7 +3,7 @@ use crate::error::Error;
 use crate::inputs::{STANDARD_INPUT, read_bytes, read_file};
 use oim_explain::Format;
 use oim_value::Level;
-use oim_write::Encoded;
+use oim_write::{BOUND_PER_BYTE, Encoded, default_bound};
 use std::alloc::Global;
 use std::io::Read;
 use std::rt::Files;
@@ -20,11 +20,30 @@ pub(crate) struct Args<'w> {
     pub end: char,
     /// The name of the output file; None for standard output.
     pub output: Option<&'w str>,
+    /// The bound of the output; None for the default.
+    pub most: Option<u64>,
     /// True if the progress line is suppressed.
     pub is_quiet: bool,
 }
 
 impl<'w> Args<'w> {
+    /// The bound of the output before anything is read.
+    pub(crate) fn first_bound(&self) -> u64 {
+        match self.most {
+            Some(most) => most,
+            None if self.request.is_bounded() => default_bound(0),
+            None => u64::MAX,
+        }
+    }
+
+    /// How many bytes each byte that is read adds to the bound.
+    pub(crate) fn output_per_byte(&self) -> u64 {
+        match self.most {
+            Some(_) => 0,
+            None => BOUND_PER_BYTE,
+        }
+    }
+
     /// Returns the bytes of the bundle or of the file of names, or no bytes if neither is read.
     ///
     /// Errors: `Unread`, `TooLong`, and out of memory.
@@ -87,6 +106,18 @@ pub(crate) enum Request<'w> {
     Under(&'w str, Subcommand<'w>),
 }
 
+impl Request<'_> {
+    /// True if the output has a bound by default. The length of other output follows from the
+    /// merged report, or it is a line.
+    fn is_bounded(&self) -> bool {
+        match self {
+            Request::Explain(..) => true,
+            Request::Under(_, subcommand) => subcommand.prints_rows(),
+            Request::Bundle | Request::Help(_) => false,
+        }
+    }
+}
+
 /// A command with its own arguments. It runs only if the sheet is accepted.
 #[derive(Clone, Copy)]
 pub(crate) enum Subcommand<'w> {
@@ -97,4 +128,14 @@ pub(crate) enum Subcommand<'w> {
     Check(&'w str),
     /// Run the schedule in this file on this many replicas.
     Replay(usize, &'w str),
+}
+
+impl Subcommand<'_> {
+    /// True if the output repeats the names of the facts, as JSON and CSV do.
+    fn prints_rows(self) -> bool {
+        matches!(
+            self,
+            Subcommand::Verdicts(PrintFormat::Rows(_)) | Subcommand::Sources(PrintFormat::Rows(_))
+        )
+    }
 }

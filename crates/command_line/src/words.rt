@@ -1,4 +1,4 @@
-use crate::arguments::{Building, LIST, NULL, OUTPUT, QUIET, REPORT, SHEET};
+use crate::arguments::{Building, LIST, MOST, NULL, OUTPUT, QUIET, REPORT, SHEET};
 use crate::commands::rows::{self, print_format_of};
 use crate::commands::{check, explain, merge, replay};
 use crate::error::Error;
@@ -30,7 +30,7 @@ Status of each command; if several apply, the highest:
   1  a report was refused, and standard error shows why; or `explain` found a fault
   2  `merge` wrote nothing, because a row exceeds --allow
   3  not done, or not completed: invalid arguments, a refused sheet or event, a file or device
-     that failed, or out of memory";
+     that failed, output above a limit, or out of memory";
 
 /// Parses the arguments after the program's name.
 ///
@@ -78,6 +78,7 @@ fn alone(alloc: Global, request: Request<'_>) -> Args<'_> {
         list: None,
         end: '\n',
         output: None,
+        most: None,
         is_quiet: false,
     }
 }
@@ -107,6 +108,7 @@ fn args_of<'w>(alloc: Global, matches: &ArgMatches<'w>) -> Result<Option<Args<'w
         list: matches.get_str(LIST),
         end: if matches.get_flag(NULL) { '\0' } else { '\n' },
         output: matches.get_str(OUTPUT),
+        most: matches.get_one(MOST),
         is_quiet: matches.get_flag(QUIET),
     }))
 }

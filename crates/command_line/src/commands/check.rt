@@ -1,6 +1,6 @@
 ghost use Rattle.std.specs.Prelude.{◌-◌, ◌^◌, ◌<◌};
 
-use crate::arguments::{Building, REPORT, command, output_argument, with};
+use crate::arguments::{Building, REPORT, command, with, with_output};
 use crate::commands::put_text;
 use crate::error::Error;
 use crate::inputs::Inputs;
@@ -47,7 +47,7 @@ pub(crate) fn words<'w>(alloc: Global) -> Building<'w> {
     let report = Arg::new(alloc, REPORT)
         .required(true)
         .help("The report file");
-    let command = with(command(alloc, NAME, ABOUT, MORE), output_argument(alloc));
+    let command = with_output(alloc, command(alloc, NAME, ABOUT, MORE));
     with(command, report)
 }
 
@@ -58,7 +58,7 @@ pub(crate) fn words<'w>(alloc: Global) -> Building<'w> {
 pub(crate) fn run<'n, F: Files, E: Write, S: Sink>(
     report: &'n str,
     sheet: &Sheet,
-    inputs: &Inputs<'n, F, E>,
+    inputs: &mut Inputs<'n, F, E>,
     out: &mut S,
 ) -> Result<Refusals, Error<'n>>
     requires { S.failures out.old < 2 ^ 64 - 1 }

@@ -1,4 +1,5 @@
 ghost use Rattle.std.specs.Prelude.{◌≡◌, ◌-◌, ◌^◌, ◌<◌, OnOk};
+ghost use Rattle.oim_write.specs.BoundedSink.{bounded_failures};
 
 use crate::arguments::{Building, FORMAT, command, option, with, with_reports};
 use crate::commands::put_text;
@@ -8,7 +9,7 @@ use clap::ArgMatches;
 use clap::builder::ValueParser;
 use oim_explain::{Explained, Format, Input, SheetNames, explain, explain_repeated, explain_sheet};
 use oim_report::Sheet;
-use oim_write::Sink;
+use oim_write::{BoundedSink, Sink};
 use std::alloc::{AllocError, Global};
 use std::io::Write;
 use std::rt::Files;
@@ -54,6 +55,9 @@ printed. The members of an object:
   sentence    what is wrong, as in the text
 For a repeated member, place, number, name and identifier are null.
 
+The output may have 1 MiB and 16 bytes for each byte of the files that were read. --most-output sets
+another limit.
+
 Example:
   xbrlmerge explain --sheet examples/sheet.json examples/issuer.json examples/statfeed.json
 
@@ -87,9 +91,9 @@ pub(crate) fn run<'n, F: Files, E: Write, S: Sink>(
     name: &'n str,
     format: Format,
     inputs: &mut Inputs<'n, F, E>,
-    out: &mut S,
+    out: &mut BoundedSink<S>,
 ) -> Result<Success, Error<'n>>
-    requires { S.failures out.old < 2 ^ 64 - 1 }
+    requires { bounded_failures (S.failures out.old.sink) out.old.overruns < 2 ^ 64 - 1 }
 {
     let bytes = inputs.read(name)?;
     let Counts { faulty, faults } = put_under(name, format, bytes.as_bytes(), inputs, out)?;
@@ -108,10 +112,10 @@ fn put_under<'n, F: Files, E: Write, S: Sink>(
     format: Format,
     bytes: &[u8],
     inputs: &mut Inputs<'n, F, E>,
-    out: &mut S,
+    out: &mut BoundedSink<S>,
 ) -> Result<Counts, Error<'n>>
-    requires { S.failures out.old < 2 ^ 64 - 1 }
-    ensures { OnOk result (S.failures out.new ≡ S.failures out.old) }
+    requires { bounded_failures (S.failures out.old.sink) out.old.overruns < 2 ^ 64 - 1 }
+    ensures { OnOk result (bounded_failures (S.failures out.new.sink) out.new.overruns ≡ bounded_failures (S.failures out.old.sink) out.old.overruns) }
 {
     let sheet = read_sheet(inputs.alloc, name, bytes)?;
     let input = Input {
@@ -119,6 +123,7 @@ fn put_under<'n, F: Files, E: Write, S: Sink>(
         name,
         format,
     };
+    out.raise(inputs.take_allowance());
     let repeated = put_explained(out, explain_repeated(inputs.alloc, input, bytes))?;
     let names = SheetNames::read(inputs.alloc, &sheet, bytes)?;
     put_each(&names, format, inputs, out, repeated)
@@ -170,16 +175,17 @@ fn put_each<'n, F: Files, E: Write, S: Sink>(
     names_of_sheet: &SheetNames<'_>,
     format: Format,
     inputs: &mut Inputs<'n, F, E>,
-    out: &mut S,
+    out: &mut BoundedSink<S>,
     faults: u64,
 ) -> Result<Counts, Error<'n>>
-    requires { S.failures out.old < 2 ^ 64 - 1 }
-    ensures { OnOk result (S.failures out.new ≡ S.failures out.old) }
+    requires { bounded_failures (S.failures out.old.sink) out.old.overruns < 2 ^ 64 - 1 }
+    ensures { OnOk result (bounded_failures (S.failures out.new.sink) out.new.overruns ≡ bounded_failures (S.failures out.old.sink) out.old.overruns) }
 {
     let (alloc, names) = (inputs.alloc, inputs.names);
     let mut counts = Counts { faulty: 0, faults };
     for (index, name) in names.iter().enumerate() {
         let report = inputs.read_report(name)?;
+        out.raise(inputs.take_allowance());
         inputs.console.clear();
         let input = Input {
             report: Some((index as u64).saturating_add(1)),

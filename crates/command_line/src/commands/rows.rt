@@ -1,12 +1,15 @@
 ghost use Rattle.std.specs.Prelude.{◌-◌, ◌^◌, ◌<◌};
+ghost use Rattle.oim_write.specs.BoundedSink.{bounded_failures};
 
 use crate::arguments::{Building, FORMAT, command, flag, option, with, with_flag_of, with_reports};
+use crate::error::Error;
 use clap::ArgMatches;
 use clap::builder::ValueParser;
-use oim_merge::{Consolidation, Fault, Refusals, SourceLines, TracedMerge};
-use oim_write::Sink;
-use row_formats::RowFormat;
+use oim_merge::{Consolidation, Fault, Merged, Refusals, SourceLines, TracedMerge, write_verdicts};
+use oim_write::{BoundedSink, Sink};
+use row_formats::{RowFormat, has_long_row};
 use std::alloc::Global;
+use std::mem;
 
 // The commands that print rows.
 
@@ -23,7 +26,7 @@ pub(crate) enum PrintFormat {
     Rows(RowFormat),
 }
 
-/// The option that puts a `'` before each text in CSV that a spreadsheet may read as a formula.
+/// The option for CSV that a spreadsheet reads as UTF-8 and without formulas.
 const SPREADSHEET: &str = "spreadsheet";
 
 static FORMATS: [&str; 3] = ["lines", "json", "csv"];
@@ -50,6 +53,8 @@ FORMAT is one of:
   lines  as above
   json   a JSON object per line, with the dimensions and the facts of the row
   csv    a header and a record for each fact, quoted as in RFC 4180
+json and csv repeat the URI of each name. Their output may have 1 MiB and 16 bytes for each byte of
+the files that were read. --most-output sets another limit.
 
 Example:
   xbrlmerge verdicts --sheet examples/sheet.json examples/issuer.json examples/statfeed.json
@@ -80,6 +85,8 @@ FORMAT is one of:
   lines  as above
   json   a JSON object per line
   csv    a header and a record for each line, quoted as in RFC 4180
+The output of json and csv may have 1 MiB and 16 bytes for each byte of the files that were read.
+--most-output sets another limit.
 
 Example:
   xbrlmerge sources --sheet examples/sheet.json examples/issuer.json examples/statfeed.json
@@ -106,7 +113,7 @@ fn with_format<'w>(alloc: Global, command: Building<'w>) -> Building<'w> {
     let format = option(alloc, FORMAT, "FORMAT", "The output format")
         .value_parser(ValueParser::Names(FORMATS.as_slice()))
         .default_value("lines");
-    let help = "In CSV, put a ' before each text that a spreadsheet may read as a formula";
+    let help = "Write CSV with a byte order mark, and with a ' before all that may be a formula";
     let spreadsheet = flag(alloc, SPREADSHEET, help);
     let command = with_flag_of(with(command, format), spreadsheet, FORMAT);
     with_reports(alloc, command)
@@ -123,17 +130,36 @@ pub(crate) fn print_format_of(found: &ArgMatches<'_>) -> Option<PrintFormat> {
 }
 
 /// Writes the verdicts to `out`, and returns the refusals.
-pub(crate) fn put_verdicts<S: Sink>(
+pub(crate) fn put_verdicts<'n, S: Sink>(
+    alloc: Global,
     consolidation: Consolidation<'_>,
     format: PrintFormat,
-    out: &mut S,
-) -> Result<Refusals, Fault>
-    requires { S.failures out.old < 2 ^ 64 - 1 }
+    out: &mut BoundedSink<S>,
+) -> Result<Refusals, Error<'n>>
+    requires { bounded_failures (S.failures out.old.sink) out.old.overruns < 2 ^ 64 - 1 }
 {
     match format {
-        PrintFormat::Lines => consolidation.finish_lines_last(out),
-        PrintFormat::Rows(format) => consolidation.finish_verdicts_last(&format, out),
+        PrintFormat::Lines => Ok(consolidation.finish_lines_last(out)?),
+        PrintFormat::Rows(format) => put_rows(alloc, consolidation.into_merged()?, format, out),
     }
+}
+
+/// A row is made in memory before it is written, so a row above the bound is not made.
+fn put_rows<'n, S: Sink>(
+    alloc: Global,
+    merged: Merged<'_>,
+    format: RowFormat,
+    out: &mut BoundedSink<S>,
+) -> Result<Refusals, Error<'n>>
+    requires { bounded_failures (S.failures out.old.sink) out.old.overruns < 2 ^ 64 - 1 }
+{
+    let Merged { base, refusals } = merged;
+    if has_long_row(format, &base, out.left()) {
+        return Err(Error::TooMuch(out.left()));
+    }
+    let written = write_verdicts(alloc, &base, refusals, &format, out);
+    mem::forget(base);
+    Ok(written?)
 }
 
 /// Writes where each fact was reported to `out`, and returns the refusals.

@@ -9,8 +9,8 @@ use explained::{EXPLAINED, SAID};
 use made::{FOLDER, made};
 use replayed::REPLAYED;
 use rows::{
-    CHECKED, FULL, Full, JUDGED, LISTED, MERGED, ONE, Row, SHOWN, STOPPED, UNFLUSHED, UNHEARD,
-    WRITTEN,
+    BOUNDED, CHECKED, FULL, Full, JUDGED, LISTED, MERGED, ONE, Row, SHOWN, STOPPED, UNFLUSHED,
+    UNHEARD, WRITTEN,
 };
 use std::test::Fail;
 use std::{env, fs};
@@ -135,6 +135,7 @@ fn files_are_written(rt: &HostRuntime) -> Result<bool, Fail> {
     Ok(
         holds(rt, "said", SAID)?
             && are_met(rt, WRITTEN.as_slice())?
+            && are_met(rt, BOUNDED.as_slice())?
             && holds(rt, "out", ONE)?
             && are_met(rt, STOPPED.as_slice())?
             && are_met(rt, replayed::STOPPED.as_slice())?,

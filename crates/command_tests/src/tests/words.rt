@@ -18,7 +18,9 @@ fn is_answered(rt: &HostRuntime, words: &[&str], front: &str) -> bool {
     ends(rt, words, 0, out, Expecting::just(b""))
 }
 
-const WRONG: [&str; 54] = [
+const WRONG: [&str; 56] = [
+    "merge --sheet s --most-output",
+    "merge --sheet s --most-output 0",
     "merge --sheet s --reports-from",
     "merge --sheet s --reports-from f --reports-from g",
     "merge --sheet s -0 r",

@@ -212,6 +212,30 @@ pub(super) const WRITTEN: [Row; 6] = [
     ),
 ];
 
+/// The output may have this many bytes. If it has more, the first ones are printed, and an output
+/// file stays as it was.
+pub(super) const BOUNDED: [Row; 4] = [
+    ("merge --sheet sheet 100 --most-output 276", 0, ONE, ""),
+    (
+        "check --most-output 25 --sheet sheet twice",
+        3,
+        &["accepted 2 complete other"],
+        "output: more than 25 bytes; --most-output BYTES sets the bound\n",
+    ),
+    (
+        "explain --most-output 10 --sheet sheet 100",
+        3,
+        &["reports: 1"],
+        "output: more than 10 bytes; --most-output BYTES sets the bound\n",
+    ),
+    (
+        "merge --sheet sheet 101 100 --most-output=276 -o out",
+        3,
+        &[],
+        "output: more than 276 bytes; --most-output BYTES sets the bound\n",
+    ),
+];
+
 /// Arguments, and the progress that a terminal shows.
 pub(super) const SHOWN: [(&str, &str); 3] = [
     (
