@@ -5,9 +5,9 @@
 
 The script runs the program on the examples, on texts with quotes, line ends and formulas, and on SETS sets of drawn reports.
 It computes the output of `--format json` and `--format csv` from the lines and from the output of `merge`. The program's
-output must be the same, byte for byte. `--format lines` must print the same as no `--format`. `--spreadsheet` may add a ' only
-at the start of a value or an identifier. It must add a ' there if tools/contradictions does, unless the text is a number or
-begins with a '.
+output must be the same, byte for byte. `--format lines` must print the same as no `--format`. `--spreadsheet` must begin with a
+byte order mark, and may only add a ' to cells. It must guard a text as tools/contradictions does: exactly so if the text is ASCII,
+otherwise at least so. Last, it runs the program on reports whose output repeats a long URI, with and without `--most-output`.
 
 Status 0: all is as expected. 1: something is not. 2: there is no program.
 """
@@ -31,7 +31,8 @@ EXAMPLES = [f"{TOP}/examples/{name}.json" for name in ("issuer", "ledgerline", "
 CORE = ("concept", "entity", "period", "unit", "language")
 COLUMNS = ["row", "verdict", "fact", *CORE, "dimensions", "value", "nil", "decimals", "common_low", "common_high", "apart_first", "apart_second"]
 TEXTS = ["=1+1", "-2", "+3", "@SUM(A1)", "plain", 'a "word", and more', "two\nlines", "three\r\nlines", "", "'=1", "\t=1", "\u00a0=1", "\uff1d1", "\u3000-1",
-         "\ufeff=1", "\u00e9=1", "1=1", "a", "\u0001"]
+         "\ufeff=1", "\u00e9=1", "1=1", "a", "\u0001", "x;=cmd|'/C calc'!A0", "x;1", "x| -1", "x\t+1", "x\r\n@1", ";;=1", "x;\t'\"=1", "x,=1",
+         "\u00e9;\u00a0=1", "x;\uff1d1"]
 
 
 def printed(program, command, sheet, reports, *words):
@@ -95,6 +96,11 @@ class Merged:
                 made[axis] = self.name(text) if text is not None and self.axes[axis] == "explicit" else text
         return made
 
+    def numbers(self):
+        """Returns the values of all numeric facts."""
+        kinds = ((self.concepts[self.name(fact["dimensions"]["concept"])], fact["value"]) for fact in self.facts.values())
+        return {value for kind, value in kinds if kind == "numeric"}
+
     def value(self, fact):
         is_name = self.concepts[self.name(fact["dimensions"]["concept"])] == "name"
         return self.name(fact["value"]) if is_name and fact["value"] is not None else fact["value"]
@@ -134,22 +140,23 @@ def sources_of(lines):
         yield {"fact": fact, "report": int(report), "identifier": json.loads(identifier)}
 
 
-def is_guarded(plain, guarded):
-    """Returns whether the cells differ only by a ' at the start of values and identifiers. There must be a ' if
-    tools/contradictions adds one, unless the cell is a number or begins with a '."""
-    one, two = (list(csv.reader(io.StringIO(text, newline=""))) for text in (plain, guarded))
-    numeric = {"decimals", "common_low", "common_high"}
+def is_within(part, whole):
+    """Returns whether the characters of `part` are in `whole`, in this order."""
+    rest = iter(whole)
+    return all(character in rest for character in part)
+
+
+def is_guarded(plain, guarded, numbers):
+    """Returns whether the guarded table begins with a byte order mark, and each cell is guarded as tools/contradictions does.
+    `numbers` has the numbers among the values, which have no '."""
+    one, two = (list(csv.reader(io.StringIO(text, newline=""))) for text in (plain, guarded[1:]))
     for cells, others in zip(one, two):
         for column, cell, other in zip(one[0], cells, others):
-            if other not in (cell, f"'{cell}") or other != cell and column not in ("value", "identifier"):
+            is_number = column in ("decimals", "common_low", "common_high") or column == "value" and cell in numbers
+            wanted = cell if is_number else safe(cell)
+            if cell.isascii() and other != wanted or not is_within(wanted, other) or other.replace("'", "") != cell.replace("'", ""):
                 return False
-            is_number = column in numeric or column == "value" and dict(zip(one[0], cells))["decimals"] != ""
-            if not is_number and column in ("value", "identifier") and safe(cell).startswith("'") and not cell.startswith("'") and other == cell:
-                try:
-                    float(cell)
-                except ValueError:
-                    return False
-    return [len(cells) for cells in one] == [len(cells) for cells in two]
+    return guarded[0] == "\ufeff" and [len(cells) for cells in one] == [len(cells) for cells in two]
 
 
 def wrong_with(program, sheet, reports):
@@ -170,7 +177,7 @@ def wrong_with(program, sheet, reports):
     for command in ("verdicts", "sources"):
         if asked(command, "--format", "lines") != asked(command):
             wrong.append((command, "lines"))
-        if not is_guarded(wanted[command, "csv"], asked(command, "--format", "csv", "--spreadsheet")):
+        if not is_guarded(wanted[command, "csv"], asked(command, "--format", "csv", "--spreadsheet"), merged.numbers()):
             wrong.append((command, "--spreadsheet"))
     return wrong
 
@@ -182,6 +189,53 @@ def odd_report(prefix):
     facts = {f"{text}{prefix}{place}": {"value": f"{text}{prefix}", "dimensions": {"concept": "eg:T", "eg:Sku": text or "none"}}
              for place, text in enumerate(TEXTS)}
     return json.dumps({"documentInfo": info, "facts": facts})
+
+
+def generous(scratch, shape):
+    """Writes a sheet and a report whose rows repeat a long URI, and returns their paths and sizes."""
+    uri = "http://example.org/" + "u" * 20_000
+    names = [f"eg:n{number}" for number in range(400)]
+    one = {"concept": "eg:N"}
+    facts = {
+        "rows": {name: {"value": name, "dimensions": {**one, "eg:Sku": name}} for name in names},
+        "values": {name: {"value": name, "dimensions": one} for name in names},
+        "members": {"a": {"value": None, "dimensions": {**one, **{name: "eg:m" for name in names}}}},
+    }[shape]
+    sheet = {"namespaces": {"eg": uri}, "concepts": {"eg:N": "name"}, "dimensions": {"eg:Sku": "typed", **{name: "explicit" for name in names}}}
+    info = {"documentType": "https://xbrl.org/2021/xbrl-json", "namespaces": {"eg": uri}}
+    paths = f"{scratch}/long_sheet.json", f"{scratch}/long.json"
+    for path, tree in zip(paths, (sheet, {"documentInfo": info, "facts": facts})):
+        with open(path, "w", encoding="utf-8") as file:
+            json.dump(tree, file)
+    return paths, sum(map(os.path.getsize, paths))
+
+
+def wrong_bounds(program, scratch):
+    """Yields the outputs above a bound that are not as expected."""
+    old = f"{scratch}/old"
+    for shape in ("rows", "values", "members"):
+        (sheet, report), size = generous(scratch, shape)
+        for kind in ("json", "csv"):
+            words = [program, "verdicts", "--sheet", sheet, "--format", kind, report]
+
+            def ran(*more):
+                done = subprocess.run([*words, *more], capture_output=True)
+                return done.returncode, done.stdout, done.stderr.decode()
+
+            bound = 2**20 + 16 * size
+            whole = ran("--most-output", str(2**40))[1]
+            with open(old, "wb") as file:
+                file.write(b"old")
+            expected = [("whole", whole, len(whole), ran("--most-output", str(len(whole)))),
+                        ("shorter", whole, len(whole) - 1, ran("--most-output", str(len(whole) - 1))),
+                        ("default", whole, bound, ran()), ("-o", b"", bound, ran("-o", old))]
+            for name, text, most, (status, out, told) in expected:
+                line = f"output: more than {most} bytes; --most-output BYTES sets the bound\n"
+                fits = len(whole) <= most
+                if (status, told) != ((0, "") if fits else (3, line)) or not text.startswith(out) or fits != (out == whole):
+                    yield shape, kind, name
+            if len(whole) <= bound or content(old) != "old":
+                yield shape, kind, "default"
 
 
 def cases(scratch):
@@ -213,6 +267,9 @@ def main(words):
             for fault in wrong_with(program, sheet, reports):
                 faults += 1
                 print(f"case {ran}: {' '.join(fault)}")
+        for fault in wrong_bounds(program, scratch):
+            faults += 1
+            print(f"bound: {' '.join(fault)}")
     print(f"tests/formats: {ran} cases" + (", all as expected" if not faults else f", {faults} faults"))
     return 1 if faults else 0
 

@@ -29,7 +29,7 @@ BOUNDS = {
     ("docs/MAP.md",): 1200,
     ("CONTRIBUTING.md",): 900,
     ("docs/DECISIONS.md",): 2500,
-    ("docs/COSTS.md",): 700,
+    ("docs/COSTS.md",): 790,
     ("SECURITY.md",): 500,
     ("CHANGELOG.md",): 1200,
 }

@@ -136,6 +136,7 @@ def told_by_completions():
             names |= {"REPORT"} if completed(command, "--sheet", FILE, "") == {FILE} else set()
             names |= {"EVENTS"} if completed(command, "--events", "") == {FILE} and "--events" in options else set()
             names |= {"N"} if "--replicas" in options and not completed(command, "--replicas", "") else set()
+            names |= {"BYTES"} if "--most-output" in options and not completed(command, "--most-output", "") else set()
             names |= {"FILE"} if "-o" in options and completed(command, "-o", "") == {FILE} else set()
             names |= {name for option, name in CHOSEN.items() if option in options}
             names |= {"COMMAND"} if completed(command, "") == commands else set()
