@@ -336,7 +336,7 @@ def run_on_text(scratch, chance, files, words):
         words, owned = [*words, "--sources", "sources", "--names", chance.choice(PROVIDERS)], []
     near = ["near"] * chance.randint(0, 1)
     words += ["--near", "near"] * len(near)
-    tables = [os.path.join("out", name) for name in ("contradictions.csv", "rows.csv")] + near
+    tables = [os.path.join("out", name) for name in ("contradictions.csv", "table.csv")] + near
     words = [*words, "-o", "out", "--from", "merged", "sheet", "verdicts", *owned]
     with low_bound(scratch, chance, bounds_of_tables, ("LONGEST_ROW", "LONGEST_TABLE")):
         status, _ = scratch.run("contradictions", words, [os.path.join("out", "page.html"), *tables])

@@ -10,16 +10,25 @@ no merged.json:
 
     page.html           the contradictions: texts, names and nil values first, then the largest relative differences
     contradictions.csv  the facts of the contradictions as a table
-    rows.csv            all rows, with how many providers report each ("1 of 3")
+    table.csv           all rows, with the values of each provider in a column
     merged.json         the merged report
 
 The first two forms also write verdicts.txt, sources.txt, refusals.txt and, with --normalise, the normalised reports as
 reports/NUMBER.json. The foot of the page has a command that checks the run with these files and tools/recheck.
 
+The facts of a contradiction form groups: again and again, the largest set of facts that a common number fits. A fact counts
+once for each provider that reports it. The largest group comes first; the page shows the facts outside it in red. A hint names
+what may explain a difference: a factor of 100, 1,000, 1,000,000 or 1,000,000,000 at which the rounding intervals meet, opposite
+signs, nil, or a difference below 1 in the last place. --at-least 0.1% hides smaller differences between numbers from the page.
+
+In table.csv, provider: NAME and decimals: NAME contain the values of a provider and their decimals, joined by "; ", and files:
+NAME its files if it has several. With more than 100 providers, these columns are left out. nil_by lists who reports nil.
+
 Providers are named after their files: the provider of issuer.json is "issuer". NAME=REPORT sets another name. If a provider
 made several reports, repeat its NAME. After --, each argument is the whole name of a file. Write -- before a glob, as in
--- *.json, because files from others may be named like an option or like NAME=REPORT. A refused report is listed with the first 20 faults that `xbrlmerge explain` finds, and
-the other reports are used. --taxonomy makes the sheet first and writes it as sheet.json; the option may be repeated.
+-- *.json, because files from others may be named like an option or like NAME=REPORT. A refused report is listed with the
+first 20 faults that `xbrlmerge explain` finds, and the other reports are used. --taxonomy makes the sheet first and writes it
+as sheet.json; the option may be repeated.
 
 --normalise applies the rules of tools/normalise to each report first, and lists the changes in changes.csv. It permits the
 options of tools/normalise that lose something, such as --drop-notes. A report that cannot be normalised is used as it is.
@@ -47,25 +56,31 @@ from __future__ import annotations
 import argparse
 import contextlib
 import os
+import re
 import sys
 import tempfile
+from decimal import Decimal
 
 sys.dont_write_bytecode = True
 from arguments import Parser  # noqa: E402
 from contradicting.checking import FOLDER, LINES, report_file  # noqa: E402
+from contradicting.all_rows import AllRows  # noqa: E402
 from contradicting.inputs import Inputs, Run, counted, inputs_named, output_folder  # noqa: E402
 from contradicting.labels import read_labels  # noqa: E402
 from contradicting.near import Near  # noqa: E402
-from contradicting.page import page  # noqa: E402
+from contradicting.page import Found, page  # noqa: E402
 from contradicting.progress import Progress  # noqa: E402
+from contradicting.provider_counts import ProviderCounts  # noqa: E402
 from contradicting.reports import reports_named  # noqa: E402
 from contradicting.rows import Reader  # noqa: E402
-from contradicting.tables import lines_of, listed_table, table  # noqa: E402
+from contradicting.tables import lines_of, table  # noqa: E402
 from normalising.options import add_losses, loses  # noqa: E402
 from process import Status, print_lines, printable, run  # noqa: E402
 from program import add_program, program_at  # noqa: E402
 from text_files import STANDARD  # noqa: E402
 from whole_files import files_written  # noqa: E402
+
+SHARE = re.compile(r"(\d{1,9}(?:\.\d{1,9})?)(%?)", re.ASCII)
 
 
 def read_options() -> argparse.Namespace:
@@ -82,6 +97,8 @@ def read_options() -> argparse.Namespace:
                         help="show the standard labels of this package or folder; may be repeated")
     parser.add_argument("--language", default="en", help="the language of the labels, by default en")
     parser.add_argument("--near", metavar="NEAR.csv", help="write a table of pairs of rows that may differ only by mistake")
+    parser.add_argument("--at-least", type=share, metavar="SHARE",
+                        help="hide contradictions between numbers from the page whose difference is a smaller share, such as 0.1%%")
     parser.add_argument("--exit-zero", action="store_true", help="exit with status 0 instead of 1")
     parser.add_argument("--sources", metavar="SOURCES", help="with --from: the output of `xbrlmerge sources`")
     parser.add_argument("--names", metavar="NAME,..", help="with --sources: the providers, in the order of the reports")
@@ -91,6 +108,14 @@ def read_options() -> argparse.Namespace:
     options = parser.read()
     check(parser, options)
     return options
+
+
+def share(text: str) -> Decimal:
+    """Returns a share such as 0.1% or 0.001 as a number. Errors: ValueError."""
+    number = SHARE.fullmatch(text)
+    if not number:
+        raise ValueError
+    return Decimal(number[1]).scaleb(-2 if number[2] else 0)
 
 
 def check(parser: Parser, options: argparse.Namespace) -> None:
@@ -118,7 +143,7 @@ def check(parser: Parser, options: argparse.Namespace) -> None:
 
 
 def outputs_of(options: argparse.Namespace) -> list[str]:
-    names = ["page.html", "contradictions.csv", "rows.csv", *["merged.json"] * (not options.texts)]
+    names = ["page.html", "contradictions.csv", "table.csv", *["merged.json"] * (not options.texts)]
     names += ["sheet.json"] * bool(options.taxonomy) + ["changes.csv"] * options.normalise
     if not options.texts:
         names += [f"{name}.txt" for name in LINES]
@@ -138,29 +163,30 @@ def inputs_of(options: argparse.Namespace) -> list[str]:
 def main() -> Status:
     options = read_options()
     with output_folder(options.output), Progress() as progress:
-        if options.texts:
-            status = write(inputs_named(options), options, progress)
-        else:
-            status = run_program(options, progress)
-    return status
+        normalised = output_folder(os.path.join(options.output, FOLDER)) if options.normalise else contextlib.nullcontext()
+        with normalised, tempfile.TemporaryDirectory(prefix=".new-", dir=os.path.abspath(options.output)) as folder:
+            return write(inputs_for(options, folder, progress), options, folder, progress)
 
 
-def run_program(options: argparse.Namespace, progress: Progress) -> Status:
+def inputs_for(options: argparse.Namespace, folder: str, progress: Progress) -> Inputs:
+    """Returns the named inputs, or the program's output for the named reports."""
+    if options.texts:
+        return inputs_named(options)
     program, reports = program_at(options.program), reports_named(options)
-    normalised = output_folder(os.path.join(options.output, FOLDER)) if options.normalise else contextlib.nullcontext()
-    with normalised, tempfile.TemporaryDirectory(prefix=".new-", dir=os.path.abspath(options.output)) as folder:
-        return write(Run(program, options, reports, folder, progress).inputs(), options, progress)
+    return Run(program, options, reports, folder, progress).inputs()
 
 
-def write(inputs: Inputs, options: argparse.Namespace, progress: Progress) -> Status:
-    """Writes all output files, prints the notes and the summary, and returns the status."""
+def write(inputs: Inputs, options: argparse.Namespace, folder: str, progress: Progress) -> Status:
+    """Writes all output files, prints the notes and the summary, and returns the status. `folder` is for temporary files."""
     progress.show("reading the rows")
-    near = Near(inputs.sources.names) if options.near else None
-    reader = Reader(inputs.text, inputs.sheet, inputs.sources, near, [])
+    labels, names = read_labels(options.labels, options.language), inputs.sources.names
+    near, counts, all_rows = Near(names) if options.near else None, ProviderCounts(names), AllRows(folder, names, labels)
+    reader = Reader(inputs.text, inputs.sheet, inputs.sources, [counts, all_rows, *[near] * bool(near)])
     rows = reader.rows(inputs.verdicts)
-    labels = read_labels(options.labels, options.language)
-    files = [("page.html", page(rows, reader, labels, inputs.refusals, inputs.check)), ("contradictions.csv", lines_of(table(rows, labels, reader))),
-             ("rows.csv", lines_of(listed_table(reader.listed))), *inputs.files]
+    all_rows.finish()
+    found = Found(rows, reader, labels, inputs.refusals, all_rows, counts, options.at_least, inputs.check)
+    files = [("page.html", page(found)), ("contradictions.csv", lines_of(table(rows, labels, reader))),
+             ("table.csv", all_rows.table_pieces()), *inputs.files]
     texts = [(os.path.join(options.output, name), pieces) for name, pieces in files]
     if near:
         texts.append((options.near, lines_of(near.table(near.pairs(), labels))))

@@ -46,7 +46,7 @@ class ToolTest(in_process.RoomTest):
 
     def set_output(self, folder):
         self.output = folder
-        self.page, self.table, self.listed = (os.path.join(folder, name) for name in ("page.html", "contradictions.csv", "rows.csv"))
+        self.page, self.table, self.listed = (os.path.join(folder, name) for name in ("page.html", "contradictions.csv", "table.csv"))
 
     def run_tool(self, *inputs):
         words = ["--from", *inputs[:3], "-o", self.output, *inputs[3:]]
@@ -117,7 +117,7 @@ class Pages(ToolTest):
         self.assertIn("EY <script>alert(1)</script> AS", self.seen.texts)
         self.assertIn("pulp & <b>paper</b>", self.seen.texts)
         self.assertFalse({"img", "iframe", "object", "link", "form"} & set(self.seen.tags))
-        self.assertEqual(self.seen.tags.count("script"), 1)
+        self.assertEqual(self.seen.tags.count("script"), 2)  # its own, and the data block with all rows
         self.assertIn("default-src 'none'", self.text)
 
     def test_the_script_that_may_run_is_that_of_the_page(self):
@@ -197,7 +197,7 @@ class Texts(ToolTest):
 
     def test_a_nil_behind_a_number(self):
         page, cells = self.table_of(self.number("7", 0), self.number(None))
-        self.assertEqual([cell["value"] for cell in cells], ["7", "nil"])
+        self.assertEqual([(cell["value"], cell["nil"]) for cell in cells], [("7", "false"), ("", "true")])
         self.assertIn("A nil value contradicts every number.", page)
 
     def test_numbers_of_eighteen_digits_are_exact(self):

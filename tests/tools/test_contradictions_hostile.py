@@ -145,7 +145,7 @@ class Hostile(ToolTest):
         facts = [text(f"</script><!--<script>{sign}", entity=f"e:{row:03}") for row in range(102) for sign in "ab"]
         self.assertEqual(in_process.run(contradictions, *self.words(facts)), (1, ""))
         page = content(self.page)
-        self.assertEqual([page.count(part) for part in ("<script", "</script>", "<!--", '<section class="row')], [2, 2, 0, 102])
+        self.assertEqual([page.count(part) for part in ("<script", "</script>", "<!--", '<section class="row')], [3, 3, 0, 102])
         self.assertIn("<b><abbr title=\"http://e.example/t\"><bdi>T</bdi></abbr></b> 2 rows</summary>", page)
 
     def test_a_table_that_would_be_too_long_is_refused_before_it_is_written(self):

@@ -160,16 +160,19 @@ class Large(test_contradictions.ToolTest):
         self.check_order(page, cells)
 
     def check_order(self, page, cells):
-        """Checks the order of the page. The 100 rows with the largest relative differences come first; a row with a text or nil
-        ranks highest. The index follows, and then each other row once, as the text of a data block."""
-        first, index, rest = re.split(r'<h2>By concept</h2>|<h2>The other rows</h2>', page)
-        rows = [re.findall(r'<section class="row \w+" id="row(\d+)">', each) for each in (first, index, rest)]
-        self.assertEqual([len(each) for each in rows], [100, 0, self.COUNT - 100])
-        self.assertEqual({*rows[0], *rows[2]}, {cell["row"] for cell in cells})
+        """Checks the order of the page. The rows that share a hint come first, as the text of data blocks, and then the 100 other
+        rows with the largest relative differences; a row with a text or nil ranks highest. The index follows, and then each other
+        row once, as the text of a data block."""
+        headings = "The 100 largest differences|The other rows|All rows"
+        hinted, first, index, rest, every = re.split(f"<h2>(?:{headings})</h2>\n|<h2>By concept</h2>", page)
+        of_hints, *rows = [re.findall(r'<section class="row \w+" id="row(\d+)">', each) for each in (hinted, first, index, rest)]
+        self.assertEqual([len(each) for each in rows], [100, 0, self.COUNT - 100 - len(of_hints)])
+        self.assertEqual({*of_hints, *rows[0], *rows[2]}, {cell["row"] for cell in cells})
+        self.assertEqual(re.findall(r"<tr[^>]*><td>(\d+)<td>", every), [str(row) for row in range(1, 2 * self.COUNT + 1)])
         sizes = {}
         for cell in (cell for cell in cells if cell["evidence"]):
             sizes.setdefault(cell["row"], []).append(cell)
-        self.assertFalse("<section" in re.sub("<script.*?</script>", "", rest, flags=re.DOTALL))
+        self.assertFalse("<section" in re.sub("<script.*?</script>", "", hinted + rest, flags=re.DOTALL))
         shares = [self.share(sizes[row]) for row in rows[0]]
         self.assertEqual(shares, sorted(shares, reverse=True))
         self.assertGreaterEqual(shares[-1], max(self.share(sizes[row]) for row in rows[2]))

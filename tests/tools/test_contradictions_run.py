@@ -93,9 +93,9 @@ class Files(Stubbed):
         self.assertEqual((done.returncode, done.stderr), (1, ""))
         self.assertEqual(done.stdout, f"{SUMMARY}; page: {self.page}\n")
         self.assertEqual(sorted(os.listdir(self.output)),
-                         ["contradictions.csv", "merged.json", "page.html", "refusals.txt", "rows.csv", "sources.txt", "verdicts.txt"])
+                         ["contradictions.csv", "merged.json", "page.html", "refusals.txt", "sources.txt", "table.csv", "verdicts.txt"])
         self.assertEqual(content(os.path.join(self.output, "merged.json")), content(example("merged.json")))
-        self.assertEqual(len(self.cells("rows.csv")), 64)
+        self.assertEqual(len(self.cells("table.csv")), 64)
         told = {cell["fact"]: (cell["identifiers"], cell["reported_by"]) for cell in self.cells("contradictions.csv")}
         self.assertEqual(told["f066"], ("issuer: f33; statfeed: TS08474", "2 of 3"))
         self.assertEqual(self.log(), [(command, REPORTS) for command in ("merge", "verdicts", "sources")])
@@ -135,7 +135,11 @@ class Files(Stubbed):
     def test_names_are_those_of_the_files_or_are_given(self):
         self.run_on(f"A={REPORTS[0]}", f"B; \u00e4={REPORTS[1]}", f"A={REPORTS[2]}")
         told = {cell["fact"]: (cell["identifiers"], cell["reported_by"]) for cell in self.cells("contradictions.csv")}
-        self.assertEqual((told["f066"], told["f065"][0][:6]), (("A: f33, TS08474", "1 of 2"), "B; \u00e4: "))
+        self.assertEqual((told["f066"], told["f065"][0][:6]), (("A: issuer.json, f33; A: statfeed.json, TS08474", "1 of 2"), "B; \u00e4: "))
+        page, row = content(self.page), self.cells("table.csv")[36]
+        self.assertIn(f'<bdi>A: <bdi>issuer.json</bdi>, <span title="{REPORTS[0][:80]}', page)
+        self.assertIn(f'<bdi>B; \u00e4 <span title="{REPORTS[1][:80]}', page)
+        self.assertEqual((row["provider: A"], row["files: A"]), ("212640000", "issuer.json, statfeed.json"))
 
     def test_a_path_may_have_an_equals_sign(self):
         odd = self.write("a=b.json", "{}")

@@ -36,7 +36,22 @@ class Sources(ToolTest):
         self.assertEqual(len(listed), 64)
         self.assertEqual((listed["10"]["verdict"], listed["10"]["reported_by"]), ("complete", "2 of 3"))
         self.assertEqual((listed["11"]["verdict"], listed["11"]["reported_by"]), ("complete", "1 of 3"))
-        self.assertEqual((listed["11"]["first"], listed["11"]["providers"]), ("f017", "statfeed"))
+        self.assertEqual(listed["11"]["not_reported_by"], "issuer, ledgerline")
+
+    def test_each_provider_has_columns_for_all_rows(self):
+        page, _ = self.written(*self.inputs, *self.words())
+        with open(self.listed, encoding="utf-8-sig", newline="") as file:
+            listed = {row["row"]: row for row in csv.DictReader(file)}
+        told = {"issuer": ("41260", "0"), "ledgerline": ("", ""), "statfeed": ("41906", "0")}
+        for name, cells in told.items():
+            self.assertEqual((listed["12"][f"provider: {name}"], listed["12"][f"decimals: {name}"]), cells)
+        self.assertEqual([listed["34"][key] for key in ("nil_by", "provider: issuer", "provider: statfeed", "verdict")],
+                         ["issuer", "", "0", "inconsistent"])
+        self.assertEqual([listed["37"][f"provider: {name}"] for name in told], ["212640000", "211000000", "212640000"])
+        self.assertIn("<th>issuer<th>ledgerline<th>statfeed\n<tr><td>1<td>", page)
+        row = next(part for part in page.split("<tr") if part.startswith(" class=apart><td>37<td>"))
+        self.assertIn("<td>212\u202f640\u202f000&nbsp;<small>(\u22123)</small><td><span class=odd>211\u202f000\u202f000&nbsp;<small>(\u22126)", row)
+        self.assertEqual(page.split("<h2>All rows</h2>\n")[1].split("<script>")[0].count("<tr"), 65)
 
     def test_a_provider_may_have_several_reports(self):
         _, cells = self.written(*self.inputs, *self.words(names="A,B,A"))

@@ -46,7 +46,7 @@ def inputs_named(options: argparse.Namespace) -> Inputs:
     (merged, listed, verdicts), sources = options.texts, None
     sheet, text = sheet_at(listed), Text(merged)
     if options.sources:
-        sources = Sources(options.sources, options.names.split(","))
+        sources = Sources(options.sources, [Report(name, "") for name in options.names.split(",")])
     owned = [Provider(*report, text, sheet) for report in reports_named(options)]
     return Inputs(text, sheet, verdicts, sources or OwnTexts(owned))
 
@@ -68,11 +68,10 @@ class Run:
         if found[1:] != found[:-1]:
             raise NotDone("a report or the sheet changed while it was read")
         merged, verdicts, sources = map(self.program.place, ("merge", "verdicts", "sources"))
-        names = [report.provider for report in self.reports]
         check, refused = self.check(paths), (f"report {number}: {refusal}\n" for number, refusal in sorted(found[0].items()))
         lines = zip((f"{name}.txt" for name in LINES), (pieces_of_file(verdicts), pieces_of_file(sources), refused))
         files = [("merged.json", pieces_of_file(merged)), *self.files, *lines]
-        return Inputs(Text(merged), sheet_at(self.program.sheet), verdicts, Sources(sources, names, found[0]),
+        return Inputs(Text(merged), sheet_at(self.program.sheet), verdicts, Sources(sources, self.reports, found[0]),
                       self.refusals(found[0], paths), files, self.losses, self.notes, check)
 
     def sheet(self) -> str:
@@ -118,9 +117,9 @@ class Run:
     def refusals(self, found: dict[int, str], paths: list[str]) -> Refusals:
         refusals = Refusals("" if self.options.taxonomy else ADVICE)
         for number, refusal in sorted(found.items()):
-            path = self.reports[number - 1].path
+            provider, path = self.reports[number - 1]
             self.progress.show(f"explaining why {path} is refused")
-            refusals.add(path, refusal, self.program.faults(os.path.abspath(paths[number - 1])))
+            refusals.add(provider, path, refusal, self.program.faults(os.path.abspath(paths[number - 1])))
         return refusals
 
 

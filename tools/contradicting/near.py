@@ -5,12 +5,13 @@ import datetime
 import itertools
 from typing import Iterator, Mapping, NamedTuple, Optional, Sequence, Union
 
-from contradicting.rows import Dimensions, Fact
+from contradicting.facts import Dimensions, Fact
+from contradicting.rows import Row
 from contradicting.sources import Holders, names_of, providers
-from contradicting.tables import DIMENSIONS, Cell, cell, check_lengths, dimension_cells
+from contradicting.tables import DIMENSIONS, Cell, cell, check_lengths, dimension_cells, value_cells
 from names import Name
 
-COLUMNS = ["pair", "differs", "row", "fact", *DIMENSIONS, *"value decimals low high providers label".split()]
+COLUMNS = ["pair", "differs", "row", "fact", *DIMENSIONS, *"value nil decimals low high providers label".split()]
 MOST_PAIRS = 1_000  # the most pairs compared in a group of `Near`
 MOST_FACTS = 10_000  # if the pairs found in a group have more facts, no other pair of the group is compared
 WORD = (1 << 64) - 1
@@ -43,13 +44,11 @@ class Near:
         self.kept: dict[int, Kept] = {}
         self.items: dict[int, Items] = {}
 
-    def wants(self, holders: Mapping[str, Holders]) -> bool:
-        """Returns whether a row can belong to a pair: some providers report it, and some do not."""
-        who = names_of(holders)
-        return bool(who) and who < self.everybody
-
-    def add(self, number: int, dimensions: Dimensions, facts: Mapping[str, Fact], holders: Mapping[str, Holders]) -> None:
-        self.kept[number] = Kept(dimensions, facts, holders, frozenset(names_of(holders)))
+    def add(self, row: Row) -> None:
+        """Keeps a row that can belong to a pair: some providers report it, and some do not."""
+        who = frozenset(names_of(row.holders))
+        if who and who < self.everybody:
+            self.kept[row.number] = Kept(row.dimensions, row.facts, row.holders, who)
 
     def pairs(self) -> list[tuple[int, int, Axis]]:
         """Returns the pairs in order: the numbers of two rows, and the dimension in which they differ."""
@@ -119,7 +118,7 @@ class Near:
                 kept = self.kept[number]
                 dimensions, label = dimension_cells(kept.dimensions), labels.get(kept.dimensions.concept, "")
                 for name, fact in kept.facts.items():
-                    cells: list[Cell] = [fact.value, *fact.precision(), providers(kept.holders[name]), label]
+                    cells: list[Cell] = [*value_cells(fact), *fact.precision(), providers(kept.holders[name]), label]
                     yield [cell(rank), cell(axis), cell(number), cell(name), *dimensions, *map(cell, cells)]
 
 

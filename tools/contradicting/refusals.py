@@ -12,8 +12,9 @@ LACKING = {"UnknownConcept": "concept", "UnknownDimension": "dimension"}  # refu
 
 
 class Refused(NamedTuple):
-    """A refused report, its first faults as lines, and the number of its faults."""
+    """A refused report of a provider, its first faults as lines, and the number of its faults."""
 
+    provider: str
     path: str
     lines: tuple[str, ...]
     faults: int
@@ -32,7 +33,7 @@ class Refusals:
         self.reports: list[Refused] = []
         self.lacking: dict[str, dict[str, None]] = {"concept": {}, "dimension": {}}
 
-    def add(self, path: str, refusal: str, faults: Iterable[Mapping[str, Any]]) -> None:
+    def add(self, provider: str, path: str, refusal: str, faults: Iterable[Mapping[str, Any]]) -> None:
         """Adds a report with its faults. If it has no faults, the refusal is shown instead."""
         first, count = [], 0
         for count, fault in enumerate(faults, 1):
@@ -41,7 +42,7 @@ class Refusals:
             names = self.lacking.get(LACKING.get(fault["name"], ""))
             if names is not None and len(names) < MOST_NAMES:
                 names[shortened(fault["part"])] = None
-        self.reports.append(Refused(path, tuple(first or [refusal]), count or 1))
+        self.reports.append(Refused(provider, path, tuple(first or [refusal]), count or 1))
 
     def lacking_lines(self, most: int = MOST_NAMES) -> Iterator[str]:
         """Yields a line with the concepts that the sheet lacks, and one with the dimensions. Each shows up to `most` names.

@@ -6,69 +6,45 @@ import datetime
 import functools
 import itertools
 import re
-from decimal import Decimal, getcontext
-from typing import Any, Iterable, Iterator, Mapping, NamedTuple, Optional, Protocol, Union
+from decimal import Decimal
+from typing import Any, Iterable, Iterator, Mapping, NamedTuple, Optional, Protocol, Sequence
 
+from contradicting.facts import Dimensions, Fact, Interval
+from contradicting.groups import Group, groups_of, odd_facts, weights_of
+from contradicting.hints import Hint, hints_of
 from contradicting.sources import Holders, names_of
 from contradicting.texts import CORE, Text, Tree, using
 from names import Name
 from process import shortened
 from sheets import Sheet
 
-getcontext().prec = 100  # more digits than the end of an interval has, so sums are exact
 NUMBER = re.compile(r"-?(?:0|[1-9]\d{0,39})(?:\.\d{1,39})?", re.ASCII)
 MOMENT = re.compile(r"\d{4}-\d\d-\d\dT\d\d:\d\d:\d\d", re.ASCII)
 EVIDENCE = re.compile(r"complete|consistent common (?P<low>\S+) (?P<high>\S+)|inconsistent apart (?P<one>\S+) (?P<two>\S+)")
 LONGEST_LINE = 1_000  # characters; each line of `verdicts` has fewer
 
-Interval = tuple[Decimal, Decimal]
-Value = Union[Decimal, Name, str, None]
-
-
-class Dimensions(NamedTuple):
-    """The dimensions of a row with expanded names; an absent dimension is empty or None. A unit has a tuple of numerators and, if
-    there are any, a tuple of denominators."""
-
-    concept: Name
-    entity: Optional[Name]
-    period: str
-    unit: tuple[tuple[Name, ...], ...]
-    language: str
-    members: tuple[tuple[Name, Union[Name, str, None]], ...]
-
-
-class Fact(NamedTuple):
-    """A fact without its dimensions, which its row contains."""
-
-    value: Value
-    decimals: Optional[int]
-
-    def interval(self) -> Interval:
-        """Returns the least and the greatest number that the value represents."""
-        if not isinstance(self.value, Decimal):
-            raise TypeError(f"{self.value} is not a number")
-        return interval_of(self.value, self.decimals)
-
-    def precision(self) -> tuple[Union[int, str], Union[Decimal, str], Union[Decimal, str]]:
-        """Returns the decimals of a number (or "exact") and the ends of its interval. Other values give three empty texts."""
-        if not isinstance(self.value, Decimal):
-            return "", "", ""
-        low, high = self.interval()
-        return "exact" if self.decimals is None else self.decimals, low, high
-
 
 class Row(NamedTuple):
-    """A row with its verdict and the providers of each fact. A contradiction also has its dimensions and its facts.
+    """A row with its verdict, its facts and the providers of each fact.
 
-    `gap` lies between the intervals of the two facts that contradict each other. `gap` is None unless both facts are numbers.
+    A contradiction also has groups of facts that agree, the facts that are not in the largest group, and hints at why the groups
+    differ. Its `gap` lies between the intervals of the two facts that contradict each other. `gap` is None unless both facts are
+    numbers.
     """
 
     number: int
-    dimensions: Optional[Dimensions]  # None if the row is not a contradiction; `facts` is then empty
+    dimensions: Dimensions
     facts: Mapping[str, Fact]
     said: re.Match[str]
     holders: Mapping[str, Holders]
-    gap: Optional[Interval]
+    gap: Optional[Interval] = None
+    groups: tuple[Group, ...] = ()
+    odd: frozenset[str] = frozenset()
+    hints: tuple[Hint, ...] = ()
+
+    @property
+    def verdict(self) -> str:
+        return self.said[0].partition(" ")[0]
 
     @property
     def pair(self) -> tuple[str, str]:
@@ -84,11 +60,9 @@ class Row(NamedTuple):
 
 
 class RowObserver(Protocol):
-    """Receives each row whose providers `wants` accepts, whatever the verdict on the row."""
+    """Receives each row, in order."""
 
-    def wants(self, holders: Mapping[str, Holders]) -> bool: ...
-
-    def add(self, number: int, dimensions: Dimensions, facts: Mapping[str, Fact], holders: Mapping[str, Holders]) -> None: ...
+    def add(self, row: Row) -> None: ...
 
 
 class FactSources(Protocol):
@@ -106,30 +80,33 @@ def dimensions_given(fact: tuple[str, Tree]) -> Any:
 
 
 def contradiction(row: Row) -> Optional[Row]:
-    """Returns a row, with the gap if its pair is two numbers. Returns None if the pair is not two facts of the row, or if both
-    are numbers and the first interval does not end before the second begins."""
+    """Returns a row with its groups and hints, and with the gap if its pair is two numbers. Returns None if the pair is not two
+    facts of the row, or if both are numbers and the first interval does not end before the second begins."""
     one, two = (row.facts.get(name) for name in row.pair)
     if not one or not two or one is two:
         return None
-    if not isinstance(one.value, Decimal) or not isinstance(two.value, Decimal):
-        return row
-    gap = one.interval()[1], two.interval()[0]
-    return row._replace(gap=gap) if gap[0] < gap[1] else None
+    gap = None
+    if isinstance(one.value, Decimal) and isinstance(two.value, Decimal):
+        gap = one.interval()[1], two.interval()[0]
+        if gap[0] >= gap[1]:
+            return None
+    weights = weights_of(row.holders)
+    groups = groups_of(row.facts, weights)
+    odd, hints = frozenset(odd_facts(groups, weights)), tuple(hints_of(row.facts, groups, weights))
+    return row._replace(gap=gap, groups=groups, odd=odd, hints=hints)
 
 
 class Reader:
     """Reads the rows of a merged report, and the verdict and the providers for each row."""
 
-    def __init__(
-        self, text: Text, sheet: Sheet, sources: FactSources, near: Optional[RowObserver], listed: list[Any]
-    ) -> None:
-        self.text, self.sheet, self.sources, self.near, self.listed = text, sheet, sources, near, listed
+    def __init__(self, text: Text, sheet: Sheet, sources: FactSources, observers: Sequence[RowObserver]) -> None:
+        self.text, self.sheet, self.sources, self.observers = text, sheet, sources, observers
         self.counts: collections.Counter[str] = collections.Counter()
         self.kinds: dict[str, str] = {}
         self.providers = len(set(sources.names))
 
     def rows(self, path: str) -> list[Row]:
-        """Returns the rows that are contradictions, and counts and lists all rows.
+        """Returns the rows that are contradictions, counts all rows, and passes each to the observers.
 
         Errors: NotDone if an input cannot be read or is malformed, or if a verdict or a source does not match the facts.
         """
@@ -140,40 +117,33 @@ class Reader:
                 row = self.row(number, dict(group[1]), line)
                 if row is None:
                     raise ValueError(f"line {number} does not match the merged report")
-                self.count(row)
+                self.counts[row.verdict] += 1
+                self.counts["alone"] += row.verdict == "complete" and len(names_of(row.holders)) == 1
+                for observer in self.observers:
+                    observer.add(row)
                 if row.said["one"]:
                     kept.append(row)
         self.sources.finish()
         return kept
-
-    def count(self, row: Row) -> None:
-        verdict, who = row.said[0].split(" ")[0], names_of(row.holders)
-        self.counts[verdict] += 1
-        self.counts["alone"] += verdict == "complete" and len(who) == 1
-        names = [*row.holders]
-        self.listed.append((row.number, verdict, names[0], names[-1], self.reported_by(len(who)), ", ".join(sorted(who))))
 
     def reported_by(self, count: int) -> str:
         """Returns a text such as "2 of 3" if 2 of 3 providers report a row or a fact; an empty text if no provider is known."""
         return f"{count} of {self.providers}" if self.providers else ""
 
     def row(self, number: int, facts: dict[str, Tree], line: str) -> Optional[Row]:
-        """Returns a row, or None if its line does not match. The row has its facts only if it is a contradiction. A row that
-        `near` wants is passed to `near`.
-        """
+        """Returns a row, or None if its line does not match."""
         with using(self.text.path):
             is_numeric = [self.kind(tree) == "numeric" for tree in facts.values()][0]
         names = [*facts]
         said = said_of(line, f"{number} {names[0]} {names[-1]} ")
         holders = {name: self.sources.holders(name, tree) for name, tree in facts.items()}
-        if self.near and self.near.wants(holders):
-            self.near.add(number, *self.expanded(facts), holders)
         if said is None:
             return None
+        row = Row(number, *self.expanded(facts), said, holders)
         if said["one"]:
-            return contradiction(Row(number, *self.expanded(facts), said, holders, None))
-        is_shown = is_common(said, facts) if said["low"] and is_numeric else len(facts) == 1 and not said["low"]
-        return Row(number, None, {}, said, holders, None) if is_shown else None
+            return contradiction(row)
+        is_shown = is_common(said, row.facts) if said["low"] and is_numeric else len(facts) == 1 and not said["low"]
+        return row if is_shown else None
 
     def kind(self, tree: Tree) -> str:
         """Returns the kind of a fact, after checking its value and decimals."""
@@ -241,28 +211,9 @@ def said_of(line: str, start: str) -> Optional[re.Match[str]]:
     return EVIDENCE.fullmatch(line, len(start), len(line) - 1) if line.startswith(start) else None
 
 
-def interval_of(value: Decimal, decimals: Optional[int]) -> Interval:
-    half = Decimal(0) if decimals is None else Decimal(5).scaleb(-decimals - 1)
-    return value - half, value + half
-
-
-def is_common(said: re.Match[str], facts: Mapping[str, Tree]) -> bool:
+def is_common(said: re.Match[str], facts: Mapping[str, Fact]) -> bool:
     """Returns whether a line shows the common interval of the facts of its row. A row with a nil fact has none."""
-    if any(fact["value"] is None for fact in facts.values()):
+    if any(fact.value is None for fact in facts.values()):
         return False
-    lows, highs = zip(*(interval_of(Decimal(fact["value"]), fact.get("decimals")) for fact in facts.values()))
+    lows, highs = zip(*(fact.interval() for fact in facts.values()))
     return (max(lows), min(highs)) == (Decimal(said["low"]), Decimal(said["high"]))
-
-
-def day(moment: str, is_end: bool) -> str:
-    """Returns a moment with a space instead of T. Midnight is shown as the day that begins or, if `is_end`, the day that ends."""
-    read = datetime.datetime.fromisoformat(moment)
-    is_midnight = read.time() == datetime.time() and (not is_end or read > datetime.datetime.min)
-    return str(read.date() - datetime.timedelta(days=is_end)) if is_midnight else moment.replace("T", " ")
-
-
-def plain(number: Union[int, Decimal], minus: str = "-", groups: str = "") -> str:
-    """Returns the exact text of a number, without an exponent and without zeros at the end of the fraction."""
-    text = f"{abs(number):,f}".replace(",", groups) if groups else f"{abs(number):f}"
-    text = text.rstrip("0").rstrip(".") if "." in text else text
-    return minus + text if number < 0 else text

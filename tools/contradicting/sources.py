@@ -1,37 +1,54 @@
 """Finds the providers of each fact of a merged report."""
 from __future__ import annotations
 
+import collections
+import itertools
 import json
+import os
 import re
-from typing import Container, Mapping, NamedTuple, Optional
+from typing import Container, Iterator, Mapping, NamedTuple, Optional
 
+from contradicting.reports import Report, written
 from contradicting.texts import Provider, Tree, using
-from process import shortened
 
 LINE = re.compile(r'(f\d+) ([1-9]\d{0,17}) (".*")\n', re.ASCII)
 LONGEST_LINE = 1 << 26  # characters
+
+
+class Identifier(NamedTuple):
+    """The identifier of a fact in a report. `path` is empty if the report is not known. `file` is empty unless the provider has
+    several reports."""
+
+    text: str
+    path: str
+    file: str
 
 
 class Holder(NamedTuple):
     """A provider that reported a fact, and the fact's identifiers in the provider's reports, if these are known."""
 
     name: str
-    identifiers: tuple[str, ...]
+    identifiers: tuple[Identifier, ...]
+
+    def by_file(self) -> Iterator[tuple[str, list[Identifier]]]:
+        """Yields the identifiers in each file. The name of the file is empty if the provider has one report."""
+        for file, identifiers in itertools.groupby(self.identifiers, lambda each: each.file):
+            yield file, [*identifiers]
 
 
 Holders = tuple[Holder, ...]  # of one fact
 
 
 class Sources:
-    """The output of `xbrlmerge sources`, which is in the order of the facts. `reports` contains the provider of each report.
+    """The output of `xbrlmerge sources`, which is in the order of the facts. `reports` contains all reports, in order.
 
     `names` contains the provider of each report that is not refused.
     """
 
-    def __init__(self, path: str, reports: list[str], refused: Container[int] = ()) -> None:
-        self.path, self.reports = path, reports
-        self.names = [name for number, name in enumerate(reports, 1) if number not in refused]
-        self.head: Optional[tuple[str, str, str]] = None  # the fact, the provider of a report, and the identifier in that report
+    def __init__(self, path: str, reports: list[Report], refused: Container[int] = ()) -> None:
+        self.path, self.reports, self.files = path, reports, files_of(reports)
+        self.names = [report.provider for number, report in enumerate(reports, 1) if number not in refused]
+        self.head: Optional[tuple[str, int, str]] = None  # the fact, the place of a report, and the identifier in that report
         with using(path):
             self.file = open(path, encoding="utf-8", newline="\n")
             self.advance()
@@ -47,14 +64,16 @@ class Sources:
         else:
             identifier = json.loads(found[3])
             identifier.encode()  # fails for unpaired surrogates
-            self.head = found[1], self.reports[int(found[2]) - 1], identifier
+            self.head = found[1], int(found[2]) - 1, identifier
 
     def holders(self, name: str, _: Tree) -> Holders:
         """Returns the providers of a fact, with its identifiers. Ask for each fact once, in order."""
-        found: dict[str, list[str]] = {}
+        found: dict[str, list[Identifier]] = {}
         with using(self.path):
             while self.head and self.head[0] == name:
-                found.setdefault(self.head[1], []).append(self.head[2])
+                _, place, identifier = self.head
+                report = self.reports[place]
+                found.setdefault(report.provider, []).append(Identifier(identifier, report.path, self.files[place]))
                 self.advance()
             if not found:
                 raise ValueError(f"the source of {name} is missing, or is in the wrong place")
@@ -65,6 +84,15 @@ class Sources:
         with using(self.path):
             if self.head:
                 raise ValueError(f"the source of {self.head[0]} is in the wrong place, or there is no such fact")
+
+
+def files_of(reports: list[Report]) -> list[str]:
+    """Returns the name of the file for each report whose provider has several, and an empty text for the others. A name that the
+    provider's files share is replaced by the path."""
+    counts = collections.Counter(report.provider for report in reports)
+    names = collections.Counter((report.provider, os.path.basename(report.path)) for report in reports)
+    files = (os.path.basename(path) if names[provider, os.path.basename(path)] == 1 else path for provider, path in reports)
+    return [written(file) if counts[report.provider] > 1 else "" for report, file in zip(reports, files)]
 
 
 class OwnTexts:
@@ -93,11 +121,7 @@ def providers(holders: Holders) -> str:
 
 
 def identifiers(holders: Holders) -> str:
-    """Returns a text: each provider of a fact, with the fact's known identifiers. Providers without any are left out."""
-    return "; ".join(f"{holder.name}: {', '.join(holder.identifiers)}" for holder in holders if holder.identifiers)
-
-
-def told(holders: Holders) -> str:
-    """Returns a text: each provider of a fact, with the fact's known identifiers. Each name and identifier is shortened."""
-    brief = ((shortened(holder.name), ", ".join(map(shortened, holder.identifiers))) for holder in holders)
-    return "; ".join(" ".join(each).strip() for each in brief)
+    """Returns a text: each provider of a fact, with the fact's known identifiers, and with the name of the file if the provider
+    has several reports. Providers without any identifier are left out."""
+    parts = ((holder.name, file, identifiers) for holder in holders for file, identifiers in holder.by_file())
+    return "; ".join(f"{name}: {f'{file}, ' if file else ''}{', '.join(each.text for each in found)}" for name, file, found in parts)

@@ -1,4 +1,4 @@
-"""The tables of contradictions and of all rows. Names are written as {URI}local. A ' precedes anything that a
+"""The cells of tables, and the table of contradictions. Names are written as {URI}local. A ' precedes anything that a
 spreadsheet might read as a formula.
 """
 from __future__ import annotations
@@ -9,7 +9,8 @@ import re
 from decimal import Decimal
 from typing import Iterable, Iterator, Mapping, Sequence, Union
 
-from contradicting.rows import Dimensions, Reader, Row, Value, plain
+from contradicting.facts import Dimensions, Fact, Value, plain
+from contradicting.rows import Reader, Row
 from contradicting.sources import identifiers, providers
 from names import Name
 from process import NotDone
@@ -25,8 +26,7 @@ SKIPPED = "[\\s\x00-\x20\ufeff'\"]+"  # characters that a spreadsheet may skip b
 BEFORE_FORMULA = re.compile(f"{SKIPPED}|(?<![^;|])(?=[{re.escape(SIGNS)}])")
 SEPARATOR = re.compile("[\t\r\n]")
 DIMENSIONS = "concept entity period unit language dimensions".split()
-COLUMNS = ["row", "fact", *DIMENSIONS, *"value decimals low high evidence providers identifiers reported_by label".split()]
-LISTED = "row verdict first last reported_by providers".split()
+COLUMNS = ["row", "fact", *DIMENSIONS, *"value nil decimals low high group evidence hint providers identifiers reported_by label".split()]
 LONGEST_ROW, LONGEST_TABLE = 1 << 24, 1 << 30  # the most characters of the dimensions in one row, and in a whole table
 
 Cell = Union[Value, int]
@@ -48,10 +48,11 @@ def lines_of(table: Iterable[Sequence[str]]) -> Iterator[str]:
 
 
 def cell(value: Cell) -> str:
-    if isinstance(value, (int, Decimal)):
-        return plain(value)
-    text = "nil" if value is None else f"{{{value.uri}}}{value.local}" if isinstance(value, Name) else value
-    return safe(text) if len(text) > 200 else safe_again(text)
+    if isinstance(value, str):
+        return safe(value) if len(value) > 200 else safe_again(value)
+    if isinstance(value, Name):
+        return cell(f"{{{value.uri}}}{value.local}")
+    return "" if value is None else plain(value)
 
 
 def safe(text: str) -> str:
@@ -93,26 +94,27 @@ def length_of(dimensions: Dimensions) -> int:
 
 
 def dimension_cells(of: Dimensions) -> list[str]:
+    """Returns the cells of dimensions. An axis whose member is nil has no `=`."""
     unit = "/".join("*".join(map(cell, side)) for side in of.unit)
-    members = "; ".join(f"{cell(axis)}={cell(member)}" for axis, member in of.members)
+    members = "; ".join(cell(axis) + (f"={cell(member)}" if member is not None else "") for axis, member in of.members)
     return [*map(cell, (of.concept, of.entity or "", of.period, unit, of.language, members))]
 
 
 def table(rows: Sequence[Row], labels: Mapping[Name, str], reader: Reader) -> Iterator[Sequence[str]]:
     """Yields the lines of the table of contradictions: the headings, then one line for each fact."""
-    check_lengths((row.dimensions, len(row.facts)) for row in rows if row.dimensions)
+    check_lengths((row.dimensions, len(row.facts)) for row in rows)
     yield COLUMNS
     for row in rows:
-        if row.dimensions:
-            dimensions, label = dimension_cells(row.dimensions), labels.get(row.dimensions.concept, "")
-            for name, fact in row.facts.items():
-                who = row.holders[name]
-                value: list[Cell] = [fact.value, *fact.precision(), "pair" * (name in row.pair)]
-                told = providers(who), identifiers(who), reader.reported_by(len(who)), label
-                yield [cell(row.number), cell(name), *dimensions, *map(cell, [*value, *told])]
+        dimensions, label = dimension_cells(row.dimensions), labels.get(row.dimensions.concept, "")
+        groups = {name: place for place, group in enumerate(row.groups, 1) for name in group}
+        hints = {name: hint.phrase for hint in row.hints for name in hint.group}
+        for name, fact in row.facts.items():
+            who = row.holders[name]
+            value: list[Cell] = [*value_cells(fact), *fact.precision(), groups[name], "pair" * (name in row.pair), hints.get(name, "")]
+            told = providers(who), identifiers(who), reader.reported_by(len(who)), label
+            yield [cell(row.number), cell(name), *dimensions, *map(cell, [*value, *told])]
 
 
-def listed_table(listed: Iterable[Sequence[Cell]]) -> Iterator[Sequence[str]]:
-    """Yields the lines of the table of all rows: the headings, then one line for each row."""
-    yield LISTED
-    yield from ([*map(cell, line)] for line in listed)
+def value_cells(fact: Fact) -> tuple[Cell, Cell]:
+    """Returns the cells for a value, and for whether it is nil. The cell of a nil value is empty."""
+    return ("", "true") if fact.value is None else (fact.value, "false")

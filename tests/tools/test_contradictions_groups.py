@@ -1,0 +1,175 @@
+"""Tests of the groups, the hints, the counts of providers and the files of tools/contradictions, on small merged reports."""
+import csv
+import json
+import os
+import re
+import subprocess
+import sys
+import unittest
+from decimal import Decimal
+
+import lines_of_verdicts
+from test_contradictions import TOOL, ToolTest
+from support import content
+
+from contradicting import groups, hints
+from contradicting.facts import Fact
+
+URIS = {"n1": "http://example.org/t"}
+SHEET = {"namespaces": URIS, "concepts": {"n1:A": "numeric", "n1:T": "text"}, "dimensions": {"n1:Reg": "typed"}}
+
+
+def number(value, decimals=None):
+    return Fact(None if value is None else Decimal(value), decimals)
+
+
+def grouped(*facts, **weights):
+    """Returns the groups of facts that are named a, b, c .., each as a text, and the facts outside the largest group."""
+    named = dict(zip("abcdefghijklmnopqrstuvwxyz", facts))
+    of = {name: weights.get(name, 1) for name in named}
+    found = groups.groups_of(named, of)
+    return " ".join("".join(group) for group in found), "".join(sorted(groups.odd_facts(found, of)))
+
+
+def hinted(first, second, **weights):
+    """Returns the hint for two facts, as the name of the fact and the phrase, or None."""
+    facts = {"a": first, "b": second}
+    of = {"a": 1, "b": 1, **weights}
+    (*found,) = hints.hints_of(facts, groups.groups_of(facts, of), of)
+    return (found[0].group[0], found[0].phrase) if found else None
+
+
+class Groups(unittest.TestCase):
+    def test_the_largest_set_with_a_common_number_comes_first(self):
+        self.assertEqual(grouped(number(1, 0), number(5, 0), number(5, 1)), ("bc a", "a"))
+        self.assertEqual(grouped(number(1, 0), number(2, 0), number(3, 0)), ("ab c", "c"))  # 1 and 2 meet at 1.5
+        self.assertEqual(grouped(number(1), number(2, 0), number(2, -1), number(9)), ("ac b d", "bd"))
+
+    def test_ties_go_to_the_lowest_fact(self):
+        self.assertEqual(grouped(number(1), number(2)), ("a b", "ab"))
+        self.assertEqual(grouped(number(1), number(1, 0), number(9), number(9, 0)), ("ab cd", "abcd"))
+        self.assertEqual(grouped(number(-3, -1), number(10, 0), number(20, 0)), ("a b c", "abc"))
+
+    def test_a_fact_counts_for_each_provider_that_reports_it(self):
+        self.assertEqual(grouped(number(1), number(2), b=2), ("b a", "a"))
+        self.assertEqual(grouped(number(1, 0), number(2, 0), number(3, 0), c=2), ("bc a", "a"))
+
+    def test_other_values_never_agree(self):
+        self.assertEqual(grouped(number(None), number(7), number(7, 0)), ("bc a", "a"))
+        self.assertEqual(grouped(Fact("x", None), Fact("y", None), b=3), ("b a", "a"))
+
+    def test_again_and_again(self):
+        facts = [number(low + each, 0) for low in (0, 100, 200) for each in (0, 1)]
+        self.assertEqual(grouped(*facts, number(300)), ("ab cd ef g", "abcdefg"))
+
+
+class Hints(unittest.TestCase):
+    def test_a_factor_at_which_the_intervals_meet(self):
+        self.assertEqual(hinted(number(4321, 0), number(4321000, -3)), ("a", "1,000 times smaller"))
+        self.assertEqual(hinted(number(-4321000, -3), number(-4321, 0)), ("b", "1,000 times smaller"))
+        self.assertEqual(hinted(number(4321, 0), number(4321000, -3), a=2), ("b", "1,000 times larger"))
+        for factor, phrase in ((10**6, "1,000,000"), (10**9, "1,000,000,000"), (100, "100")):
+            self.assertEqual(hinted(number("1.25"), number(Decimal("1.25") * factor)), ("a", f"{phrase} times smaller"))
+        self.assertIsNone(hinted(number(4321, 0), number(4400000, -3)))  # about 1,000 is no hint
+        self.assertIsNone(hinted(number(0, 0), number(300000000, 0)))  # an interval with zero meets any number once it is scaled
+        self.assertIsNone(hinted(number(2), number(20)))
+
+    def test_signs_nil_and_the_last_place(self):
+        self.assertEqual(hinted(number(-454, 0), number(454, 0)), ("b", "opposite sign"))
+        self.assertEqual(hinted(number(None), number(454, 0)), ("a", "nil"))
+        self.assertEqual(hinted(number(None), number(454, 0), b=2), ("a", "nil"))
+        self.assertEqual(hinted(number(None), number(454, 0), a=2), ("b", "not nil"))
+        self.assertEqual(hinted(number(57, 0), number("57.6", 1)), ("a", "less than 1 away in the last place"))
+        self.assertIsNone(hinted(number(57, 0), number("58.1", 1)))
+        self.assertIsNone(hinted(number(57), number("57.6")))
+        self.assertIsNone(hinted(Fact("a", None), Fact("b", None)))
+
+    def test_every_fact_of_a_group_must_meet(self):
+        facts = {"a": number(1000, 0), "b": number("1.0", 1), "c": number("1.2", 1), "d": number(1000, 0)}
+        self.assertEqual([*hints.hints_of(facts, (("a", "d"), ("b", "c")), dict.fromkeys("abcd", 1))], [])
+        facts["c"] = number("1.04", 1)
+        self.assertEqual([hint.phrase for hint in hints.hints_of(facts, (("a", "d"), ("b", "c")), {**dict.fromkeys("abcd", 1), "a": 3})], ["1,000 times smaller"])
+
+
+class Told(ToolTest):
+    """Runs the tool on facts that say who reports them. The providers are Alpha, Beta with two reports, and Gamma."""
+
+    FILES = ("alpha.json", "half.json", "annual.json", "gamma.json")
+    NAMES = ("Alpha", "Beta", "Beta", "Gamma")
+
+    def run_on(self, rows, *options):
+        """Runs the tool on rows. Each row is a list of pairs: a value with its decimals, and the numbers of its reports."""
+        facts, sources = {}, []
+        count = sum(map(len, rows))
+        for place, row in enumerate(rows):
+            for fact, reports in row:
+                name = f"f{len(facts) + 1:0{len(str(count))}}"
+                concept = "T" if isinstance(fact, str) else "A"
+                members = {"value": fact} if concept == "T" else {"value": fact[0], **({} if fact[1] is None else {"decimals": fact[1]})}
+                facts[name] = {**members, "dimensions": {"concept": f"n1:{concept}", "n1:Reg": f"{place:03}"}}
+                sources += [f'{name} {report} "i{report}{name}"\n' for report in reports]
+        merged = self.write("merged.json", json.dumps({"documentInfo": {"namespaces": URIS}, "facts": facts}))
+        lines = self.write("lines", lines_of_verdicts.lines(content(merged)))
+        words = ["--from", merged, self.write("sheet.json", json.dumps(SHEET)), lines, "--sources", self.write("sources", "".join(sources))]
+        done = subprocess.run([sys.executable, TOOL, *words, "--names", ",".join(self.NAMES), "-o", self.output, *options], capture_output=True)
+        self.assertEqual((done.returncode, done.stderr), (1, b""))
+        return content(self.page), self.cells("contradictions.csv"), self.cells("table.csv")
+
+    def cells(self, name):
+        with open(os.path.join(self.output, name), encoding="utf-8-sig", newline="") as file:
+            return list(csv.DictReader(file))
+
+    def test_groups_and_hints_are_in_the_tables_and_on_the_page(self):
+        page, cells, rows = self.run_on([[(("4321", 0), (2,)), (("4321000", -3), (1, 4))], [(("5", 0), (1, 2)), (("7", 0), (4,))]])
+        self.assertEqual([(cell["fact"], cell["group"], cell["evidence"], cell["hint"]) for cell in cells],
+                         [("f1", "2", "pair", "1,000 times smaller"), ("f2", "1", "pair", ""), ("f3", "1", "pair", ""), ("f4", "2", "pair", "")])
+        self.assertEqual([row["hint"] for row in rows], ["Beta: 1,000 times smaller", ""])
+        section = page.split('id="row1"')[1].split("</section>")[0]
+        self.assertEqual(re.findall(r"<tr( class=odd)?><td>(\w)<td><bdi>(f\d)</bdi>", section), [("", "A", "f2"), (" class=odd", "B", "f1")])
+        self.assertIn("<dt>Hint<dd><bdi>Beta: 1,000 times smaller</bdi>", section)
+
+    def test_rows_with_the_same_hint_are_one_part(self):
+        scaled = [[((f"{4321 + row}", 0), (2,)), ((f"{4321 + row}000", -3), (1, 4))] for row in range(20)]
+        page, *_ = self.run_on([*scaled, [(("5", 0), (1,)), (("7", 0), (4,))]])
+        hints_shown, rest = page.split("<h2>By concept</h2>")
+        self.assertIn('<details class="group" id="h1"><summary><b><bdi>Beta</bdi></b>: 1,000 times smaller 20 rows</summary>', hints_shown)
+        self.assertEqual(page.count('<section class="row'), 21)
+        self.assertIn('href="#h1"', rest)
+        block = hints_shown.split('<script type="text/html">')[1].split("</script>")[0]
+        self.assertEqual(block.count("<section"), 20)
+
+    def test_providers_are_counted(self):
+        page, *_ = self.run_on([[(("1", 0), (1, 2)), (("9", 0), (4,))], [(("5", 0), (1,)), (("7", 0), (2, 3))], [("x", (2,))]])
+        table = page.split('<table class="providers"')[1].split("</table>")[0]
+        rows = [re.findall(r"<bdi>(\w+)</bdi>|>(\d+)(?=<|\n)", row) for row in table.split("<tr>")[2:]]
+        told = [[name or count for name, count in row] for row in rows]
+        self.assertEqual(told, [["Alpha", "2", "1", "1", "0"], ["Beta", "3", "1", "0", "0"], ["Gamma", "1", "1", "2", "0"]])
+
+    def test_the_file_of_a_restatement_is_told(self):
+        page, cells, rows = self.run_on([[(("1", 0), (2,)), (("9", 0), (1, 3))]])
+        self.assertEqual([cell["identifiers"] for cell in cells], ["Beta: i2f1", "Alpha: i1f2; Beta: i3f2"])
+        self.assertEqual(rows[0]["provider: Beta"], "1; 9")
+        self.assertEqual(rows[0]["decimals: Beta"], "0; 0")
+        self.assertIn("<bdi>Beta i2f1</bdi>", page)
+
+    def test_small_differences_are_hidden_on_the_page(self):
+        rows = [[(("1000", 0), (1,)), (("1002", 0), (2,))], [(("1000", 0), (1,)), (("2000", 0), (2,))], [("x", (1,)), ("y", (2,))]]
+        for share, shown in (("0.3%", "23"), ("0.003", "23"), ("0.1%", "123"), ("60%", "3")):
+            page, cells, listed = self.run_on(rows, "--at-least", share)
+            self.assertEqual("".join(sorted(re.findall(r'<section class="row \w+" id="row(\d)"', page))), shown)
+            hidden = 3 - len(shown)
+            self.assertEqual(f"<p>{hidden} contradictions with smaller differences are not shown" in page, hidden > 0)
+            self.assertEqual((len(cells), len(listed)), (6, 3))
+        for share in ("x", "-1", "1e3", "", "%", "\u0661%"):
+            words = ["--sheet", "s", "-o", self.output, "a.json", f"--at-least={share}"]
+            self.assertEqual(subprocess.run([sys.executable, TOOL, *words], capture_output=True).returncode, 2)
+
+    def test_nil_is_not_the_text_nil(self):
+        _, cells, rows = self.run_on([[((None, None), (1,)), (("9", 0), (2,))], [("nil", (1,)), ("x", (2,))], [("", (1,)), ("x", (2,))]])
+        self.assertEqual([(cell["value"], cell["nil"]) for cell in cells[::2]], [("", "true"), ("nil", "false"), ("", "false")])
+        told = [(row["provider: Alpha"], row["nil_by"], row["not_reported_by"]) for row in rows]
+        self.assertEqual(told, [("", "Alpha", "Gamma"), ("nil", "", "Gamma"), ("", "", "Gamma")])
+
+
+if __name__ == "__main__":
+    unittest.main()

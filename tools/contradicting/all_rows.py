@@ -1,0 +1,156 @@
+"""All rows: a line for each in table.csv and on the page, with columns for each provider.
+
+The lines are written to temporary files while the rows are read, so that only contradictions are kept in memory.
+"""
+from __future__ import annotations
+
+import collections
+import csv
+import os
+from typing import Iterator, NamedTuple, Sequence
+
+from contradicting.facts import Fact
+from contradicting.rows import Row
+from contradicting.sections import hints
+from contradicting.shown import Labels, escaped, other_dimensions, period, shown, shown_label, unit
+from contradicting.sources import Holder
+from contradicting.tables import DIMENSIONS, LONGEST_ROW, LONGEST_TABLE, Line, cell, dimension_cells, length_of
+from names import Name
+from process import NotDone
+from text_files import PIECE
+
+COLUMNS = [DIMENSIONS[0], "label", *DIMENSIONS[1:], *"verdict hint reported_by not_reported_by nil_by".split()]
+MOST_PROVIDERS = 100  # if there are more, they have no columns
+CHUNK = 200  # rows that the page loads together
+WORDS = {"inconsistent": "contradiction", "consistent": "consistent", "complete": "one fact"}
+HEAD = "<tr><th>Row<th>Concept<th>Period<th>Unit<th>Other dimensions<th>Verdict"
+
+
+class Given(NamedTuple):
+    """A fact of a provider."""
+
+    name: str
+    fact: Fact
+    holder: Holder
+
+
+Own = dict[str, list[Given]]  # the facts of a row by provider
+
+
+class AllRows:
+    """Receives all rows, and yields the table and the part of the page. Call `finish` between the two."""
+
+    def __init__(self, folder: str, names: Sequence[str], labels: Labels) -> None:
+        counts = collections.Counter(names)
+        self.everybody = [*counts]
+        self.providers = self.everybody if len(counts) <= MOST_PROVIDERS else []
+        self.several = {name for name in self.providers if counts[name] > 1}  # reports
+        self.labels, self.length = labels, 0
+        self.places = [os.path.join(folder, f"all_rows.{ending}") for ending in ("csv", "html")]
+        self.table, self.page = (open(place, "w", encoding="utf-8", newline="") for place in self.places)
+        self.line = Line()
+        self.writer = csv.writer(self.line)
+        self.chunk: list[str] = []  # the waiting rows of the page; `ends` has the number and the concept of the first and the last
+        self.ends: list[tuple[int, str]] = []
+        self.head = HEAD + "".join(f"<th>{escaped(name)}" for name in self.providers)
+        self.write_line(["row", *COLUMNS, *(f"{kind}: {name}" for name in self.providers for kind in self.kinds(name))])
+
+    def kinds(self, name: str) -> list[str]:
+        return ["provider", "decimals", *["files"] * (name in self.several)]
+
+    def add(self, row: Row) -> None:
+        """Writes the lines of a row. Errors: NotDone if a line or the table is too long; OSError."""
+        self.check_length(row)
+        own: Own = {}
+        for name, fact in row.facts.items():
+            for holder in row.holders[name]:
+                own.setdefault(holder.name, []).append(Given(name, fact, holder))
+        self.write_line([cell(row.number), *self.cells(row, own)])
+        self.write_page(row, own)
+
+    def check_length(self, row: Row) -> None:
+        names = (len(fact.value.uri) * len(row.holders[name]) for name, fact in row.facts.items() if isinstance(fact.value, Name))
+        if length_of(row.dimensions) + sum(names) > LONGEST_ROW:
+            raise NotDone(f"the names in one row, with the URI of each, have more than {LONGEST_ROW} characters")
+
+    def write_line(self, cells: list[str]) -> None:
+        self.writer.writerow(cells)
+        text = self.line.pop()
+        self.length += len(text)
+        if self.length > LONGEST_TABLE:
+            raise NotDone(f"the table of all rows has more than {LONGEST_TABLE} characters")
+        self.table.write(text)
+
+    def cells(self, row: Row, own: Own) -> Iterator[str]:
+        concept, *others = dimension_cells(row.dimensions)
+        yield from (concept, cell(self.labels.get(row.dimensions.concept, "")), *others, row.verdict, cell(hints(row)))
+        lacking = [name for name in self.providers if name not in own]
+        nil = [name for name, given in own.items() if any(each.fact.value is None for each in given)]
+        yield f"{len(own)} of {len(self.everybody)}" if self.everybody else ""
+        yield from (cell(", ".join(lacking)), cell(", ".join(nil)))
+        for name in self.providers:
+            yield from self.provider_cells(name, own.get(name, []))
+
+    def provider_cells(self, name: str, given: list[Given]) -> Iterator[str]:
+        """Yields the values of a provider and their decimals, and its files if it has several. A single value is a whole cell, so
+        that a number stays one."""
+        values = [each.fact for each in given if each.fact.value is not None]
+        if len(values) == 1:
+            yield cell(values[0].value)
+            yield cell(values[0].precision()[0])
+        else:
+            yield cell("; ".join(written(fact) for fact in values))
+            yield cell("; ".join(str(fact.precision()[0]) for fact in values))
+        if name in self.several:
+            yield cell("; ".join(", ".join(file for file, _ in each.holder.by_file()) for each in given))
+
+    def write_page(self, row: Row, own: Own) -> None:
+        others = "; ".join(f"{axis}: {member}" for axis, member in other_dimensions(row, self.labels))
+        cells = [str(row.number), shown_label(row.dimensions.concept, self.labels), period(row), unit(row), others, WORDS[row.verdict]]
+        cells += ["; ".join(shown_given(row, each) for each in own.get(name, ())) for name in self.providers]
+        kind = " class=apart" * (row.verdict == "inconsistent")
+        self.chunk.append(f"<tr{kind}>" + "".join(f"<td>{each}" for each in cells) + "\n")
+        self.ends = [*self.ends[:1], (row.number, cells[1])]
+        if len(self.chunk) == CHUNK:
+            self.write_chunk()
+
+    def write_chunk(self) -> None:
+        """Writes the waiting rows of the page as the text of a data block, which is loaded when the reader opens it."""
+        (first, start), (last, end) = self.ends[0], self.ends[-1]
+        rows = f"Row {first}" if first == last else f"Rows {first} to {last}"
+        names = start if start == end else f"{start} to {end}"
+        self.page.write(f'<details class="group"><summary><b>{rows}</b> {names}</summary><script type="text/html">')
+        self.page.write(f'<div class="all"><table cellspacing="0">{self.head}\n')
+        self.page.writelines(self.chunk)
+        self.page.write("</table></div></script></details>\n")
+        self.chunk, self.ends = [], []
+
+    def finish(self) -> None:
+        if self.chunk:
+            self.write_chunk()
+        self.table.close()
+        self.page.close()
+
+    def table_pieces(self) -> Iterator[str]:
+        yield "\ufeff"
+        yield from pieces_of_file(self.places[0])
+
+    def page_pieces(self) -> Iterator[str]:
+        yield from pieces_of_file(self.places[1])
+
+
+def written(fact: Fact) -> str:
+    """Returns a value as it is written beside others. The whole cell is guarded later."""
+    return fact.value if isinstance(fact.value, str) else cell(fact.value)
+
+
+def shown_given(row: Row, given: Given) -> str:
+    """Returns the HTML for a value of a provider, with its decimals in brackets."""
+    decimals = given.fact.precision()[0]
+    text = shown(given.fact.value) + (f"&nbsp;<small>({shown(decimals)})</small>" if decimals != "" else "")
+    return f"<span class=odd>{text}</span>" if given.name in row.odd else text
+
+
+def pieces_of_file(path: str) -> Iterator[str]:
+    with open(path, encoding="utf-8", newline="") as file:
+        yield from iter(lambda: file.read(PIECE), "")
