@@ -66,7 +66,8 @@ from arguments import Parser  # noqa: E402
 from contradicting.checking import FOLDER, LINES, report_file  # noqa: E402
 from contradicting.all_rows import AllRows  # noqa: E402
 from contradicting.inputs import Inputs, Run, counted, inputs_named, output_folder  # noqa: E402
-from contradicting.labels import read_labels  # noqa: E402
+from contradicting.labels import Labels, read_labels  # noqa: E402
+from contradicting.made_from import MadeFrom, read_files  # noqa: E402
 from contradicting.near import Near  # noqa: E402
 from contradicting.page import Found, page  # noqa: E402
 from contradicting.progress import Progress  # noqa: E402
@@ -75,7 +76,7 @@ from contradicting.reports import reports_named  # noqa: E402
 from contradicting.rows import Reader  # noqa: E402
 from contradicting.tables import lines_of, table  # noqa: E402
 from normalising.options import add_losses, loses  # noqa: E402
-from process import Status, print_lines, printable, run  # noqa: E402
+from process import NotDone, Status, print_lines, printable, run  # noqa: E402
 from program import add_program, program_at  # noqa: E402
 from text_files import STANDARD  # noqa: E402
 from whole_files import files_written  # noqa: E402
@@ -94,7 +95,7 @@ def read_options() -> argparse.Namespace:
     add_program(parser)
     parser.add_argument("--normalise", action="store_true", help="normalise the reports first")
     parser.add_argument("--labels", action="append", default=[], metavar="TAXONOMY",
-                        help="show the standard labels of this package or folder; may be repeated")
+                        help="show the standard labels of this package or folder; may be repeated; by default, those of --taxonomy")
     parser.add_argument("--language", default="en", help="the language of the labels, by default en")
     parser.add_argument("--near", metavar="NEAR.csv", help="write a table of pairs of rows that may differ only by mistake")
     parser.add_argument("--at-least", type=share, metavar="SHARE",
@@ -179,12 +180,13 @@ def inputs_for(options: argparse.Namespace, folder: str, progress: Progress) -> 
 def write(inputs: Inputs, options: argparse.Namespace, folder: str, progress: Progress) -> Status:
     """Writes all output files, prints the notes and the summary, and returns the status. `folder` is for temporary files."""
     progress.show("reading the rows")
-    labels, names = read_labels(options.labels, options.language), inputs.sources.names
+    labels, names = labels_for(options, inputs), inputs.sources.names
     near, counts, all_rows = Near(names) if options.near else None, ProviderCounts(names), AllRows(folder, names, labels)
     reader = Reader(inputs.text, inputs.sheet, inputs.sources, [counts, all_rows, *[near] * bool(near)])
     rows = reader.rows(inputs.verdicts)
     all_rows.finish()
-    found = Found(rows, reader, labels, inputs.refusals, all_rows, counts, options.at_least, inputs.check)
+    made_from = MadeFrom(inputs.version, read_files(inputs_of(options)))
+    found = Found(rows, reader, labels, inputs.refusals, all_rows, counts, options.at_least, inputs.check, made_from)
     files = [("page.html", page(found)), ("contradictions.csv", lines_of(table(rows, labels, reader))),
              ("table.csv", all_rows.table_pieces()), *inputs.files]
     texts = [(os.path.join(options.output, name), pieces) for name, pieces in files]
@@ -200,6 +202,17 @@ def write(inputs: Inputs, options: argparse.Namespace, folder: str, progress: Pr
         print("; ".join([*parts, f"page: {printable(os.path.join(options.output, 'page.html'))}"]), flush=True)
     is_to_look_at = rows or refused or inputs.losses or near and near.cut
     return Status.LOOK if is_to_look_at and not options.exit_zero else Status.DONE
+
+
+def labels_for(options: argparse.Namespace, inputs: Inputs) -> Labels:
+    """Returns the labels in the taxonomies of --labels or, by default, of --taxonomy. If the latter cannot be read, adds a note."""
+    try:
+        return read_labels(options.labels or options.taxonomy or [], options.language)
+    except NotDone as fault:
+        if options.labels:
+            raise
+        inputs.notes += [f"the page has no labels: {line}" for line in fault.args]
+        return Labels({}, options.language)
 
 
 def summary(reader: Reader) -> str:

@@ -49,6 +49,12 @@ class Program:
             done = subprocess.run(run, stdin=subprocess.DEVNULL, stdout=out, stderr=subprocess.PIPE, cwd=self.folder)  # nosec B603
         return done.returncode, done.stderr.decode(errors="replace").splitlines()
 
+    def version(self) -> str:
+        """Returns the first line that `--version` prints, or an empty text if the program does not print one."""
+        done = subprocess.run([self.path, "--version"], stdin=subprocess.DEVNULL, capture_output=True, cwd=self.folder)  # nosec B603
+        lines = done.stdout.decode(errors="replace").splitlines()
+        return lines[0] if lines and done.returncode == 0 else ""
+
     def read_reports(self, command: str, paths: Iterable[str]) -> dict[int, str]:
         """Runs a command on reports. Returns the refusals by the number of the report, from 1. Errors: NotDone,
         OSError."""

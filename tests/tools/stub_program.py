@@ -1,7 +1,7 @@
 """A program in place of `xbrlmerge`. Each command prints the output prepared in the program's folder. The program also
 records each command with the names of its reports in the file `log`, and copies the sheet to the file `sheet`.
 
-If they exist, COMMAND.out goes to standard output, and COMMAND.err to standard error. The status is the number in
+--version prints a line and records nothing. If they exist, COMMAND.out goes to standard output, and COMMAND.err to standard error. The status is the number in
 COMMAND.status, or 0 without this file. If COMMAND.waits exists, the command first prints `waiting` on standard error, and
 waits for a minute. For a report named `normalised`, `explain` prints only the faults of the document and of facts in the
 report.
@@ -23,6 +23,9 @@ def read(name):
 
 
 def main(command, *words):
+    if command == "--version":
+        print("xbrlmerge of the tests")
+        return 0
     reports = b""
     if "--reports-from" in words:
         with open(words[words.index("--reports-from") + 1], "rb") as file:

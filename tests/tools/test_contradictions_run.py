@@ -1,5 +1,6 @@
 """Tests of tools/contradictions on reports, with a program that prints prepared lines."""
 import csv
+import hashlib
 import json
 import os
 import pty
@@ -20,9 +21,14 @@ REPORTS = [os.path.realpath(example(f"{name}.json")) for name in ("issuer", "led
 SHEET = example("sheet.json")
 SUMMARY = "64 rows: 3 contradictions, 45 consistent, 16 with one fact"
 SCHEMA = """<xs:schema xmlns:xs="http://www.w3.org/2001/XMLSchema" xmlns:xbrli="http://www.xbrl.org/2003/instance"
-    targetNamespace="http://made.example/t">
-    <xs:element name="Sales" type="xbrli:monetaryItemType" substitutionGroup="xbrli:item"/>%s</xs:schema>"""
+    xmlns:xbrldt="http://xbrl.org/2005/xbrldt" targetNamespace="http://made.example/t">
+    <xs:element id="m_Sales" name="Sales" type="xbrli:monetaryItemType" substitutionGroup="xbrli:item"/>%s</xs:schema>"""
 FRACTION = '<xs:element name="Share" type="xbrli:fractionItemType" substitutionGroup="xbrli:item"/>'
+PART = '<xs:element id="m_{0}" name="{0}" abstract="true" type="xbrli:stringItemType" substitutionGroup="{1}"/>'
+LINKBASE = """<link:linkbase xmlns:link="http://www.xbrl.org/2003/linkbase" xmlns:xlink="http://www.w3.org/1999/xlink">
+    <link:labelLink>%s</link:labelLink></link:linkbase>"""
+LABEL = """<link:loc xlink:href="t.xsd#m_{0}" xlink:label="{0}"/><link:labelArc xlink:from="{0}" xlink:to="{0}_label"/>
+    <link:label xlink:label="{0}_label" xml:lang="{2}"><![CDATA[{1}]]></link:label>"""
 NONE = '{"documentInfo":{"namespaces":{}},"facts":{}}'
 OTHER_TOOLS = """{"documentInfo":{"documentType":"https://xbrl.org/2021/xbrl-json","namespaces":{"m":"http://made.example/t"}},
     "facts":{"a":{"value":1e3,"decimals":"INF","links":{"x":{"y":["a"]}},"dimensions":{"concept":"m:Sales"}}}}"""
@@ -228,6 +234,43 @@ class Prepared(Stubbed):
             sheet = json.loads(content(os.path.join(self.output, "sheet.json")))
             self.assertEqual(sheet["concepts"], {"n1:Sales": "numeric"})
             self.assertEqual(content(os.path.join(self.bin, "sheet")), content(os.path.join(self.output, "sheet.json")))
+
+    def labelled(self, language="en"):
+        """Makes a taxonomy with labels of a concept, a dimension and a member, and a merged report that uses them."""
+        parts = "".join(PART.format(name, kind) for name, kind in (("RegionAxis", "xbrldt:dimensionItem"), ("NorthMember", "xbrli:item")))
+        words = self.package(parts)
+        labels = "".join(LABEL.format(name, f"{name} & label", language) for name in ("Sales", "RegionAxis", "NorthMember"))
+        self.write("package/labels.xml", LINKBASE % labels)
+        dimensions = {"concept": "n1:Sales", "n1:RegionAxis": "n1:NorthMember"}
+        facts = {f"f{value}": {"value": f"{value}", "dimensions": dimensions} for value in (1, 2)}
+        self.prints("merge", json.dumps({"documentInfo": {"namespaces": {"n1": "http://made.example/t"}}, "facts": facts}))
+        self.prints("verdicts", "1 f1 f2 inconsistent apart f1 f2\n")
+        self.prints("sources", 'f1 1 "a"\nf2 2 "b"\n')
+        return words
+
+    def test_labels_come_from_the_taxonomy(self):
+        for language, attribute in (("en", ""), ("fi", ' lang="fi"')):
+            done = self.run_on(*REPORTS, "--language", language, sheet=self.labelled(language))
+            self.assertEqual((done.returncode, done.stderr), (1, ""))
+            page = content(self.page)
+            for name in ("Sales", "RegionAxis", "NorthMember"):
+                self.assertIn(f"<bdi{attribute}>{name} &amp; label</bdi>", page)
+            self.assertIn(f'<a href="#row1" aria-label="1 of Sales &amp; label">', page)
+            self.assertEqual(self.cells("table.csv")[0]["label"], "Sales & label")
+        self.write("package/labels.xml", "no XML")
+        done = self.run_on(*REPORTS, sheet=["--taxonomy", self.place("package")])
+        self.assertEqual((done.returncode, done.stderr.count("\n")), (1, 1))
+        self.assertIn("the page has no labels: ", done.stderr)
+
+    def test_the_page_lists_the_version_and_the_files(self):
+        self.run_on(*REPORTS)
+        page = content(self.page)
+        self.assertIn("<summary>Made by xbrlmerge of the tests from 4 inputs</summary>", page)
+        for path in (SHEET, *REPORTS):
+            data = content(path).encode()
+            self.assertIn(f"<bdi>{path}</bdi><td data-name=\"Bytes\">{len(data)}<td data-name=\"SHA-256\">{hashlib.sha256(data).hexdigest()}", page)
+        self.run_on(*REPORTS)
+        self.assertEqual(content(self.page), page)
 
     def test_reports_are_normalised_first(self):
         self.prints_nothing()

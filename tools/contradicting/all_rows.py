@@ -10,9 +10,10 @@ import os
 from typing import Iterator, NamedTuple, Sequence
 
 from contradicting.facts import Fact
+from contradicting.labels import Labels
 from contradicting.rows import Row
 from contradicting.sections import hints
-from contradicting.shown import Labels, escaped, other_dimensions, period, shown, shown_label, unit
+from contradicting.shown import escaped, other_dimensions, period, shown, shown_label, unit
 from contradicting.sources import Holder
 from contradicting.tables import DIMENSIONS, LONGEST_ROW, LONGEST_TABLE, Line, cell, dimension_cells, length_of
 from names import Name

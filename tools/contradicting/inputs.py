@@ -40,6 +40,7 @@ class Inputs:
     losses: list[str] = field(default_factory=list)  # for the summary
     notes: list[str] = field(default_factory=list)  # lines for standard error
     check: str = ""  # the command that checks the run, for a shell
+    version: str = ""  # of the program, if it was run
 
 
 def inputs_named(options: argparse.Namespace) -> Inputs:
@@ -72,7 +73,8 @@ class Run:
         lines = zip((f"{name}.txt" for name in LINES), (pieces_of_file(verdicts), pieces_of_file(sources), refused))
         files = [("merged.json", pieces_of_file(merged)), *self.files, *lines]
         return Inputs(Text(merged), sheet_at(self.program.sheet), verdicts, Sources(sources, self.reports, found[0]),
-                      self.refusals(found[0], paths), files, self.losses, self.notes, check)
+                      self.refusals(found[0], paths), files, self.losses, self.notes, check,
+                      self.program.version())
 
     def sheet(self) -> str:
         """Returns the path of the sheet, which is made first if taxonomies are named."""

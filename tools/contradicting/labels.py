@@ -1,7 +1,7 @@
 """Reads the standard labels in taxonomies, with the reader of tools/make_sheet."""
 from __future__ import annotations
 
-from typing import NamedTuple, Optional, Sequence
+from typing import Dict, Mapping, NamedTuple, Optional, Sequence
 
 from names import Name
 from sheet_making.files import Files
@@ -114,7 +114,15 @@ class Linkbase(Visitor):
                 self.taxonomy.keep(name, label)
 
 
-def read_labels(words: Sequence[str], language: str) -> dict[Name, str]:
-    """Returns the standard labels by the names of their elements. Elements with an empty label are left out."""
+class Labels(Dict[Name, str]):
+    """The labels by the names of their elements, and their language."""
+
+    def __init__(self, labels: Mapping[Name, str], language: str) -> None:
+        super().__init__(labels)
+        self.language = language
+
+
+def read_labels(words: Sequence[str], language: str) -> Labels:
+    """Returns the standard labels in taxonomies. Elements with an empty label are left out. Errors: NotDone."""
     labels = Labelled(Files(words, Limits()), language).labels if words else {}
-    return {name: label.text for name, label in labels.items() if label.text}
+    return Labels({name: label.text for name, label in labels.items() if label.text}, language)

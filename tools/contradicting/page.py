@@ -14,11 +14,13 @@ from decimal import Decimal
 from typing import Iterable, Iterator, Optional
 
 from contradicting.all_rows import AllRows
+from contradicting.labels import Labels
+from contradicting.made_from import MadeFrom
 from contradicting.provider_counts import ProviderCounts
 from contradicting.refusals import Refusals
 from contradicting.rows import Reader, Row
 from contradicting.sections import heading, section, who
-from contradicting.shown import Labels, escaped, shown_label
+from contradicting.shown import escaped, shown_label
 from names import Name
 from process import MOST_CHARACTERS, printable
 
@@ -40,6 +42,7 @@ class Found:
     counts: ProviderCounts
     at_least: Optional[Decimal] = None  # the least share of a difference that is shown
     check: str = ""  # the command that checks the run, if there is one
+    made_from: MadeFrom = MadeFrom()
 
 
 def part(name: str) -> str:
@@ -69,6 +72,7 @@ first difference; contradictions.csv has them whole.</p>
     yield '<h2>All rows</h2>\n<p>Decimals are in brackets. Facts that are not in the largest group are red.</p><noscript><p>These rows need JavaScript. table.csv has them too.</p></noscript><div class="every">'
     yield from found.all_rows.page_pieces()
     yield "</div></div>"
+    yield from found.made_from.html()
     if found.check:
         yield '<details class="check"><summary>Check this run with a second program</summary>\n'
         yield f"<p>Run this command in the folder where the page was made:</p><pre>{html.escape(found.check)}</pre></details>\n"

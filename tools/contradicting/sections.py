@@ -7,7 +7,8 @@ from typing import Iterator, NamedTuple, Optional
 
 from contradicting.facts import Fact, Interval
 from contradicting.rows import Reader, Row
-from contradicting.shown import Labels, escaped, other_dimensions, period, shown, start_of_cut, told, unit
+from contradicting.labels import Labels
+from contradicting.shown import escaped, in_language, other_dimensions, period, shown, start_of_cut, told, unit
 from contradicting.sources import names_of
 from names import Name
 
@@ -17,7 +18,7 @@ HEAD = '<table cellspacing="0"><tr><th>Group<th>Fact<th>Reported by<th>Value<th>
 def heading(concept: Name, labels: Labels, tag: str) -> str:
     """Returns an element with the label or name of a concept. Opening the element, also by keyboard, shows the namespace."""
     label, local = labels.get(concept), escaped(concept.local)
-    first = f"<bdi>{escaped(label)}</bdi>" if label else f"<bdi>{local}</bdi>"
+    first = in_language(label, labels) if label else f"<bdi>{local}</bdi>"
     rest = f"<p>{escaped(concept.uri)}" + f" {local}" * bool(label)
     return f'<details class="name"><summary><{tag}>{first}</{tag}></summary>{rest}</details>'
 

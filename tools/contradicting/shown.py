@@ -6,15 +6,16 @@ import functools
 import html
 import os
 from decimal import Decimal
-from typing import Iterable, Iterator, Mapping, Union
+from typing import Iterable, Iterator, Union
 
 from contradicting.facts import Value, day, plain
+from contradicting.labels import Labels
 from contradicting.rows import Row
 from contradicting.sources import Holder, Holders, Identifier
 from names import Name
 from process import MOST_CHARACTERS, printable, shortened
 
-Labels = Mapping[Name, str]
+PAGE_LANGUAGE = "en"
 
 
 def escaped(text: str) -> str:
@@ -40,7 +41,13 @@ def shown_label(name: Name, labels: Labels) -> str:
     """Returns the HTML for the label of a name, with its namespace and local part as a title; without a label, for the name."""
     if name not in labels:
         return shown_name(name)
-    return f'<abbr title="{escaped(name.uri)} {escaped(name.local)}"><bdi>{escaped(labels[name])}</bdi></abbr>'
+    return f'<abbr title="{escaped(name.uri)} {escaped(name.local)}">{in_language(labels[name], labels)}</abbr>'
+
+
+def in_language(label: str, labels: Labels) -> str:
+    """Returns the HTML for a label, which names its language if it differs from that of the page."""
+    language = f' lang="{escaped(labels.language)}"' * (labels.language != PAGE_LANGUAGE)
+    return f"<bdi{language}>{escaped(label)}</bdi>"
 
 
 def start_of_cut(values: Iterable[Value]) -> int:
