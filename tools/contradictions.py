@@ -26,9 +26,11 @@ NAME its files if it has several. With more than 100 providers, these columns ar
 
 Providers are named after their files: the provider of issuer.json is "issuer". NAME=REPORT sets another name. If a provider
 made several reports, repeat its NAME. After --, each argument is the whole name of a file. Write -- before a glob, as in
--- *.json, because files from others may be named like an option or like NAME=REPORT. A refused report is listed with the
-first 20 faults that `xbrlmerge explain` finds, and the other reports are used. --taxonomy makes the sheet first and writes it
-as sheet.json; the option may be repeated.
+-- *.json, because files from others may be named like an option or like NAME=REPORT. --taxonomy makes the sheet first and
+writes it as sheet.json; the option may be repeated.
+
+The page lists a refused report with the first 20 faults that `xbrlmerge explain` finds. Standard error has a line for each kind
+of fault, with the option that mends it, if there is one. The other reports are used. Repeated members are listed, too.
 
 --normalise applies the rules of tools/normalise to each report first, and lists the changes in changes.csv. It permits the
 options of tools/normalise that lose something, such as --drop-notes. A report that cannot be normalised is used as it is.
@@ -47,7 +49,7 @@ The page and changes.csv show at most 80 characters of an identifier, a URI or a
 In the tables, a ' precedes anything that a spreadsheet might read as a formula.
 
 Status 0: the files are written, and there is nothing to look at. 1: the files are written, and there is something to look at:
-a contradiction, a refused report, a loss of --normalise, a report that cannot be normalised, a part that --taxonomy leaves
+a contradiction, a refused report or one with repeated members, a loss of --normalise, a report that cannot be normalised, a part that --taxonomy leaves
 out, or pairs that --near did not compare (0 with --exit-zero). 2: invalid arguments. 3: not done, and standard error shows why.
 After status 2 or 3, no output has changed, unless a replaced file could not be restored.
 """

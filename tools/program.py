@@ -9,6 +9,7 @@ import shutil
 import subprocess  # nosec B404: it runs the program that the user names, without a shell
 from typing import Any, Iterable, Iterator, Optional, Sequence
 
+from normalising.json_text import Number
 from process import NotDone
 
 NAME = "xbrlmerge"
@@ -58,14 +59,17 @@ class Program:
     def read_reports(self, command: str, paths: Iterable[str]) -> dict[int, str]:
         """Runs a command on reports. Returns the refusals by the number of the report, from 1. Errors: NotDone,
         OSError."""
-        with open(self.place("reports"), "wb") as file:
-            file.writelines(os.fsencode(os.path.abspath(path)) + b"\0" for path in paths)
+        self.write_names(paths)
         status, lines = self.run(command, ["--reports-from", "reports", "--null"])
         found = [REFUSAL.fullmatch(line) for line in lines]
         refusals = {int(each[1]): each[2] for each in found if each}
         if status not in (0, 1) or len(refusals) < len(lines) or bool(refusals) != bool(status):
             raise NotDone(*self.reasons(command, status, lines))
         return refusals
+
+    def write_names(self, paths: Iterable[str]) -> None:
+        with open(self.place("reports"), "wb") as file:
+            file.writelines(os.fsencode(os.path.abspath(path)) + b"\0" for path in paths)
 
     def reasons(self, command: str, status: int, lines: list[str]) -> list[str]:
         """Returns lines that show why a command failed. If the sheet is refused, the lines come from `explain`."""
@@ -78,8 +82,19 @@ class Program:
 
     def faults(self, path: str) -> Iterator[dict[str, Any]]:
         """Yields the faults of a report, as `explain --format json` prints them. Errors: NotDone, OSError."""
-        status, lines = self.run("explain", ["--format", "json", "--", path])
+        yield from self.explained(["--", path])
+
+    def faults_by_report(self, paths: Iterable[str]) -> Iterator[tuple[int, dict[str, Any]]]:
+        """Yields the faults of several reports, each with the place of its report, from 0. Errors: NotDone, OSError."""
+        self.write_names(paths)
+        for fault in self.explained(["--reports-from", "reports", "--null"]):
+            yield int(fault["report"]) - 1, fault
+
+    def explained(self, words: Sequence[str]) -> Iterator[dict[str, Any]]:
+        """Yields the faults that `explain` prints. Numbers keep their spelling."""
+        status, lines = self.run("explain", ["--format", "json", *words])
         if status not in (0, 1) or lines:
             raise NotDone(*self.reasons("explain", status, lines))
         with open(self.place("explain"), encoding="utf-8") as file:
-            yield from map(json.loads, file)
+            for line in file:
+                yield json.loads(line, parse_int=Number, parse_float=Number)

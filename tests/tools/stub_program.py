@@ -3,7 +3,7 @@ records each command with the names of its reports in the file `log`, and copies
 
 --version prints a line and records nothing. If they exist, COMMAND.out goes to standard output, and COMMAND.err to standard error. The status is the number in
 COMMAND.status, or 0 without this file. If COMMAND.waits exists, the command first prints `waiting` on standard error, and
-waits for a minute. For a report named `normalised`, `explain` prints only the faults of the document and of facts in the
+waits for a minute. The output of `explain` for a list of reports is in explain_all.out. For a report named `normalised`, `explain` prints only the faults of the document and of facts in the
 report.
 """
 import json
@@ -39,8 +39,10 @@ def main(command, *words):
     if os.path.exists(os.path.join(FOLDER, f"{command}.waits")):
         print("waiting", file=sys.stderr, flush=True)
         time.sleep(60)
+    if command == "explain" and "--reports-from" in words:
+        command = "explain_all"
     out = read(f"{command}.out")
-    if words[-1] == "normalised":
+    if words[-1:] == ("normalised",):
         with open(words[-1], encoding="utf-8") as file:
             facts = json.load(file)["facts"]
         out = b"".join(line for line in out.splitlines(True) if json.loads(line)["identifier"] in (None, *facts))

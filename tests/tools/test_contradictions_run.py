@@ -104,7 +104,7 @@ class Files(Stubbed):
         self.assertEqual(len(self.cells("table.csv")), 64)
         told = {cell["fact"]: (cell["identifiers"], cell["reported_by"]) for cell in self.cells("contradictions.csv")}
         self.assertEqual(told["f066"], ("issuer: f33; statfeed: TS08474", "2 of 3"))
-        self.assertEqual(self.log(), [(command, REPORTS) for command in ("merge", "verdicts", "sources")])
+        self.assertEqual(self.log(), [(command, REPORTS) for command in ("merge", "verdicts", "sources", "explain")])
         for text in ("<title>Contradictions</title>", "<h1>Contradictions</h1>", "<b>3</b>contradictions",
                      "<b>45</b>consistent within rounding", "<b>16</b>with one fact", "<dt>Reported by<dd>2 of 3"):
             self.assertIn(text, content(self.page))
@@ -199,9 +199,36 @@ class Refused(Stubbed):
         faults = [("it is not bound", {**more, "identifier": f'"{number}' + "f" * 100}) for number in range(5_000)]
         self.refuses("report 1: 13 UnboundPrefix at fact 1\n", *faults)
         done = self.run_on(*REPORTS)
-        self.assertIn(f': fact "\\"0{"f" * 78}..": 13 UnboundPrefix: it is not bound\n', done.stderr)
-        self.assertEqual(len(done.stderr.splitlines()), 21)
-        self.assertIn("and 4980 more", done.stderr)
+        self.assertEqual(done.stderr, f'contradictions: {REPORTS[0]}: fact "\\"0{"f" * 78}..": 13 UnboundPrefix: it is not bound'
+                         " (and 4999 more of this kind)\n")
+        self.assertIn("<li><bdi>and 4980 more</bdi>", content(self.page))
+
+    def test_faults_are_grouped_with_the_option_that_mends_them(self):
+        kinds = ((19, "PeriodForm", "2023-12-31", "dates without a time", ' as in "2023-12-31": ', " --dates=xbrl21"),
+                 (19, "PeriodForm", "2023-12-31T00:00:00Z", "moments with a time zone", ' as in "2023-12-31T00:00:00Z": ', " --zones=utc"),
+                 (10, "Notes", "n1", "footnotes", ' as in "n1": ', " --drop-notes"),
+                 (25, "ValueForm", 1.5, "values that are JSON numbers", "", ""),
+                 (28, "DecimalsForm", "INF", "texts as decimals", ' as in "INF": ', ""),
+                 (9, "Links", {}, "facts with links", "", " --drop-links"))
+        faults = [("told", {"number": number, "name": name, "part": part, "identifier": f"{place}"})
+                  for place in range(12) for number, name, part, *_ in kinds]
+        self.refuses("report 1: 19 PeriodForm at fact 1\n", *faults)
+        told = self.run_on(*REPORTS).stderr.splitlines()
+        wanted = [f"contradictions: {REPORTS[0]}: 12 {words}{',' * bool(example)}{example or ': '}--normalise{option}"
+                  for *_, words, example, option in kinds]
+        self.assertEqual(told, wanted)
+        self.assertIn('<li><bdi>12 dates without a time, as in &quot;2023-12-31&quot;: --normalise --dates=xbrl21 mends this</bdi>', content(self.page))
+        told = self.run_on(*REPORTS, "--normalise", "--drop-notes").stderr.splitlines()
+        self.assertEqual([line.rpartition(": ")[2] for line in told if ": 12 " in line], ["--dates=xbrl21", "--zones=utc", "--drop-links"])
+        self.assertEqual(sum("told (and 11 more of this kind)" in line for line in told), 3)
+
+    def test_repeated_members_of_accepted_reports_are_told(self):
+        fault = {"report": 2, "number": None, "name": None, "identifier": "a", "part": "value", "sentence": '"value" is repeated'}
+        self.prints("explain_all", (json.dumps(fault) + "\n") * 3, status=1)
+        done = self.run_on(*REPORTS)
+        self.assertEqual((done.returncode, done.stderr),
+                         (1, f'contradictions: {REPORTS[1]}: fact "a": "value" is repeated (and 2 more of this kind)\n'))
+        self.assertIn("; 1 report with repeated members; page: ", done.stdout)
 
     def test_a_refusal_that_explain_does_not_know_is_told(self):
         self.refuses("report 2: 31 DisallowedDuplicates at document\n")

@@ -51,7 +51,7 @@ class Sources(ToolTest):
         self.assertIn("<th>issuer<th>ledgerline<th>statfeed\n<tr><td>1<td>", page)
         row = next(part for part in page.split("<tr") if part.startswith(" class=apart><td>37<td>"))
         self.assertIn("<td>212\u202f640\u202f000&nbsp;<small>(\u22123)</small><td><span class=odd>211\u202f000\u202f000&nbsp;<small>(\u22126)", row)
-        self.assertEqual(page.split("<h2>All rows</h2>\n")[1].split("<script>")[0].count("<tr"), 65)
+        self.assertEqual(page.split("<h2>All rows</h2>\n")[1].split('<details class="files">')[0].count("<tr"), 65)
 
     def test_a_provider_may_have_several_reports(self):
         _, cells = self.written(*self.inputs, *self.words(names="A,B,A"))

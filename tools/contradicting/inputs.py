@@ -10,7 +10,7 @@ from typing import Iterator, Optional
 from contradicting.checking import LINES, command, report_file
 from contradicting.normalised import Normalised, pieces_of_file
 from contradicting.progress import Progress
-from contradicting.refusals import Refusals
+from contradicting.refusals import Refusals, line_of
 from contradicting.reports import Report, check_files, reports_named
 from contradicting.rows import FactSources
 from contradicting.sources import OwnTexts, Sources
@@ -72,9 +72,10 @@ class Run:
         check, refused = self.check(paths), (f"report {number}: {refusal}\n" for number, refusal in sorted(found[0].items()))
         lines = zip((f"{name}.txt" for name in LINES), (pieces_of_file(verdicts), pieces_of_file(sources), refused))
         files = [("merged.json", pieces_of_file(merged)), *self.files, *lines]
+        refusals = self.refusals(found[0], paths)
+        self.note_repeated(found[0], paths)
         return Inputs(Text(merged), sheet_at(self.program.sheet), verdicts, Sources(sources, self.reports, found[0]),
-                      self.refusals(found[0], paths), files, self.losses, self.notes, check,
-                      self.program.version())
+                      refusals, files, self.losses, self.notes, check, self.program.version())
 
     def sheet(self) -> str:
         """Returns the path of the sheet, which is made first if taxonomies are named."""
@@ -112,12 +113,25 @@ class Run:
         sheet = os.path.join(self.options.output, "sheet.json") if self.options.taxonomy else self.options.sheet
         return command(self.options.output, sheet, reports)
 
+    def note_repeated(self, found: dict[int, str], paths: list[str]) -> None:
+        """Adds notes about the accepted reports in which an object repeats a member: only the last one is read."""
+        accepted = [place for place in range(len(paths)) if place + 1 not in found]
+        if not accepted:
+            return
+        self.progress.show("looking for repeated members")
+        repeated: dict[int, list[str]] = {}
+        for place, fault in self.program.faults_by_report([paths[place] for place in accepted]):
+            repeated.setdefault(accepted[place], []).append(line_of(fault))
+        for place, lines in repeated.items():
+            self.notes.append(f"{self.reports[place].path}: {lines[0]}" + f" (and {len(lines) - 1} more of this kind)" * (len(lines) > 1))
+        self.losses += [f"{counted(len(repeated), 'report')} with repeated members"] * bool(repeated)
+
     def read(self, command: str, paths: list[str]) -> dict[int, str]:
         self.progress.show(f"running {command} on {counted(len(paths), 'report')}")
         return self.program.read_reports(command, paths)
 
     def refusals(self, found: dict[int, str], paths: list[str]) -> Refusals:
-        refusals = Refusals("" if self.options.taxonomy else ADVICE)
+        refusals = Refusals("" if self.options.taxonomy else ADVICE, self.options)
         for number, refusal in sorted(found.items()):
             provider, path = self.reports[number - 1]
             self.progress.show(f"explaining why {path} is refused")

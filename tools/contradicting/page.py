@@ -95,7 +95,8 @@ def refused(refusals: Refusals) -> Iterator[str]:
         yield '<section class="refused"><h2>Refused reports</h2><p>The page has no figures from these reports.</p>'
         yield "".join(f"<p>{html.escape(printable(line))}</p>" for line in refusals.lacking_lines())
         for report in refusals.reports:
-            lines = "".join(f"<li><bdi>{html.escape(printable(line))}</bdi>" for line in report.shown())
+            told = [*(f"{line} mends this" for line in report.remedies), *report.shown()]
+            lines = "".join(f"<li><bdi>{html.escape(printable(line))}</bdi>" for line in told)
             yield f"<h3><bdi>{html.escape(printable(report.path))}</bdi></h3><ul>{lines}</ul>\n"
         yield "</section>\n"
 

@@ -1,9 +1,11 @@
 """The reports that the program refuses, and their faults."""
 from __future__ import annotations
 
+import argparse
 import json
-from typing import Any, Iterable, Iterator, Mapping, NamedTuple
+from typing import Any, Iterable, Iterator, Mapping, NamedTuple, Optional
 
+from contradicting.remedies import FaultGroup, remedy_for
 from process import shortened
 
 MOST_LINES = 20  # the most faults of one report that are shown
@@ -12,12 +14,15 @@ LACKING = {"UnknownConcept": "concept", "UnknownDimension": "dimension"}  # refu
 
 
 class Refused(NamedTuple):
-    """A refused report of a provider, its first faults as lines, and the number of its faults."""
+    """A refused report of a provider, its first faults as lines, and the number of its faults. `groups` has a line for each kind
+    of fault, and `remedies` those that name an option."""
 
     provider: str
     path: str
     lines: tuple[str, ...]
     faults: int
+    groups: tuple[str, ...]
+    remedies: tuple[str, ...]
 
     def shown(self) -> Iterator[str]:
         yield from self.lines
@@ -28,21 +33,27 @@ class Refused(NamedTuple):
 class Refusals:
     """The refused reports, and the concepts and dimensions in them that the sheet lacks."""
 
-    def __init__(self, advice: str = "") -> None:
-        self.advice = advice
+    def __init__(self, advice: str = "", options: Optional[argparse.Namespace] = None) -> None:
+        self.advice, self.options = advice, options
         self.reports: list[Refused] = []
         self.lacking: dict[str, dict[str, None]] = {"concept": {}, "dimension": {}}
 
     def add(self, provider: str, path: str, refusal: str, faults: Iterable[Mapping[str, Any]]) -> None:
         """Adds a report with its faults. If it has no faults, the refusal is shown instead."""
-        first, count = [], 0
+        first, count, groups = [], 0, {}
         for count, fault in enumerate(faults, 1):
             if count <= MOST_LINES:
                 first.append(line_of(fault))
+            remedy = remedy_for(fault)
+            group = groups.setdefault(remedy or fault["name"], FaultGroup(remedy, fault, line_of(fault)))
+            group.add(fault)
             names = self.lacking.get(LACKING.get(fault["name"], ""))
             if names is not None and len(names) < MOST_NAMES:
                 names[shortened(fault["part"])] = None
-        self.reports.append(Refused(provider, path, tuple(first or [refusal]), count or 1))
+        told = [group.told(self.options) for group in groups.values()] if self.options else []
+        lines = tuple(line for line, _ in told) or (refusal,)
+        remedies = tuple(line for line, has_option in told if has_option)
+        self.reports.append(Refused(provider, path, tuple(first or [refusal]), count or 1, lines, remedies))
 
     def lacking_lines(self, most: int = MOST_NAMES) -> Iterator[str]:
         """Yields a line with the concepts that the sheet lacks, and one with the dimensions. Each shows up to `most` names.
@@ -60,7 +71,7 @@ class Refusals:
     def lines(self) -> Iterator[str]:
         """Yields the lines to print about all refused reports."""
         for report in self.reports:
-            yield from (f"{report.path}: {line}" for line in report.shown())
+            yield from (f"{report.path}: {line}" for line in report.groups)
         yield from self.lacking_lines(MOST_PRINTED)
 
 

@@ -1,0 +1,138 @@
+"""Finds the option that mends a fault, if there is one."""
+from __future__ import annotations
+
+import argparse
+import json
+import re
+from typing import Any, Callable, Mapping, NamedTuple, Optional
+
+from names import SPACE
+from normalising import moments
+from normalising.json_text import Number
+from normalising.rules import CORE, SCIENTIFIC, plain_number, whole_number
+from process import shortened
+
+Fault = Mapping[str, Any]  # as `explain --format json` prints it
+CORE_NAME = re.compile(f"[^:]+:(?:{'|'.join(CORE)})")
+
+
+class Remedy(NamedTuple):
+    """The name of a fault and of several, and the option that mends it. Without an option, --normalise alone mends it."""
+
+    one: str
+    several: str
+    option: str = ""
+
+    def missing(self, options: argparse.Namespace) -> str:
+        """Returns the options that mend the fault. The text is empty if they are given, so that they do not mend it here."""
+        name, _, value = self.option.removeprefix("--").replace("-", "_").partition("=")
+        is_given = options.normalise and (not name or vars(options)[name] in (True, value or True))
+        return "" if is_given else " ".join(["--normalise"] * (not options.normalise) + [self.option] * bool(self.option))
+
+
+class FaultGroup:
+    """The faults of a report that have one remedy or, without a remedy, one name: the first fault, and how many there are."""
+
+    def __init__(self, remedy: Optional[Remedy], first: Fault, line: str) -> None:
+        self.remedy, self.first, self.line, self.count = remedy, first, line, 0
+        self.last = first
+
+    def add(self, fault: Fault) -> None:
+        """Counts a fault, unless it is the last one under another name: a footnote has two."""
+        is_other_name = fault["name"] != self.last["name"]
+        self.count += not (is_other_name and fault["identifier"] is not None and fault["identifier"] == self.last["identifier"])
+        self.last = fault
+
+    def told(self, options: argparse.Namespace) -> tuple[str, bool]:
+        """Returns a line about the group, and whether it names an option. A group without an option shows its first fault."""
+        missing = self.remedy.missing(options) if self.remedy else ""
+        if not self.remedy or not missing:
+            return self.line + f" (and {self.count - 1} more of this kind)" * (self.count > 1), False
+        part = self.first["part"]
+        example = f", as in {json.dumps(shortened(part), ensure_ascii=False)}" if isinstance(part, str) and not is_number(part) else ""
+        return f"{self.count} {self.remedy.one if self.count == 1 else self.remedy.several}{example}: {missing}", True
+
+
+DATE = Remedy("date without a time", "dates without a time", "--dates=xbrl21")
+ZONE = Remedy("moment with a time zone", "moments with a time zone", "--zones=utc")
+FRACTION = Remedy("moment with a zero fraction", "moments with a zero fraction")
+NUMBER = Remedy("value that is a JSON number", "values that are JSON numbers")
+MEMBER = Remedy("member that is a JSON number", "members that are JSON numbers")
+NULL_MEMBER = Remedy("null member of an explicit dimension", "null members of explicit dimensions", "--drop-null")
+NULL_DECIMALS = Remedy("null as decimals", "nulls as decimals", "--drop-null")
+DECIMALS = Remedy("text as decimals", "texts as decimals")
+EXPONENT = Remedy("number with an exponent", "numbers with an exponent")
+WHITE = Remedy("text with white space around it", "texts with white space around them")
+LINKS = Remedy("fact with links", "facts with links", "--drop-links")
+NOTE = Remedy("footnote", "footnotes", "--drop-notes")
+CORE_PREFIX = Remedy("core dimension with a prefix", "core dimensions with a prefix")
+UNKNOWN = Remedy("member that the format does not have", "members that the format does not have")
+CONCEPT = Remedy("concept that the sheet lacks", "concepts that the sheet lacks", "--drop-unknown")
+DIMENSION = Remedy("dimension that the sheet lacks", "dimensions that the sheet lacks", "--drop-unknown")
+
+
+def remedy_for(fault: Fault) -> Optional[Remedy]:
+    """Returns the remedy for a fault, or None if no option is known to mend it."""
+    found = FOR_NAMES.get(fault["name"])
+    return found(fault["part"]) if found else None
+
+
+def for_period(part: Any) -> Optional[Remedy]:
+    """Returns the remedy for a period, if its moments are valid apart from the fault."""
+    found = [moments.MOMENT.fullmatch(text.strip(SPACE)) for text in part.split("/")] if isinstance(part, str) else []
+    if not found or len(found) > 2 or not all(found):
+        return None
+    if any(moment and not moment["time"] for moment in found):
+        return DATE
+    if any(moment and moment["part"] and moment["part"].strip(".0") for moment in found):
+        return None
+    if any(moment and moment["zone"] for moment in found):
+        return ZONE
+    return FRACTION if any(moment and moment["part"] for moment in found) else WHITE
+
+
+def for_value(part: Any) -> Optional[Remedy]:
+    return NUMBER if is_number(part) else None
+
+
+def for_member(part: Any) -> Optional[Remedy]:
+    members = [*part.values()] if isinstance(part, dict) else []
+    if len(members) != 1:
+        return None
+    return MEMBER if is_number(members[0]) else NULL_MEMBER if members[0] is None else None
+
+
+def for_decimals(part: Any) -> Optional[Remedy]:
+    if part is None:
+        return NULL_DECIMALS
+    return DECIMALS if isinstance(part, str) and (part.strip(SPACE) == "INF" or whole_number(part) is not None) else None
+
+
+def for_number(part: Any) -> Optional[Remedy]:
+    if not isinstance(part, str):
+        return None
+    scientific = SCIENTIFIC.fullmatch(part.strip(SPACE))
+    if scientific:
+        return EXPONENT if plain_number(scientific) is not None else None
+    return for_white(part)
+
+
+def for_white(part: Any) -> Optional[Remedy]:
+    return WHITE if isinstance(part, str) and part != part.strip(SPACE) and part.strip(SPACE) else None
+
+
+def for_reserved(part: Any) -> Optional[Remedy]:
+    if not isinstance(part, str):
+        return None
+    return NOTE if part.endswith(":note") else CORE_PREFIX if CORE_NAME.fullmatch(part) else None
+
+
+def is_number(part: Any) -> bool:
+    return isinstance(part, Number)
+
+
+FOR_NAMES: Mapping[str, Callable[[Any], Optional[Remedy]]] = {
+    "PeriodForm": for_period, "ValueForm": for_value, "DimensionValue": for_member, "DecimalsForm": for_decimals,
+    "NumberForm": for_number, "NameForm": for_white, "ReservedNamespace": for_reserved, "Links": lambda _: LINKS, "Notes": lambda _: NOTE,
+    "UnknownMember": lambda _: UNKNOWN, "UnknownConcept": lambda _: CONCEPT, "UnknownDimension": lambda _: DIMENSION,
+}
