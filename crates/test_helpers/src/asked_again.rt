@@ -1,10 +1,10 @@
 use oim_names::Reason;
 use oim_report::{Place, Refusal, Report, Sheet, read_report};
 use std::alloc::{AllocError, Global};
+use std::env::Env;
 
-// Functions that repeat a call if a request for memory was refused. The functions report the
-// refusal to `tests/refused_memory` in a line on standard error: `refused here` if the request was
-// for the test's own data, otherwise `refused`.
+// Functions that repeat a call if a request for memory was refused. Each test that repeats a call
+// asks `may_repeat` first.
 
 /// A sheet with every kind of concept and dimension.
 pub const SHEET: &str =
@@ -16,20 +16,35 @@ pub const INFO: &str =
 /// The beginning of a report, up to and including its document type.
 pub const OPEN_INFO: &str = r#"{"documentInfo":{"documentType":"https://xbrl.org/2021/xbrl-json""#;
 
-pub fn tell_refused(rt: &HostRuntime) {
+/// Returns whether a call that returned want of memory may be repeated, and prints `refused` on
+/// standard error.
+///
+/// Only `tests/refused_memory` refuses requests for memory. It sets the environment variable
+/// `REFUSE` to the number of the request that it refuses, or to 0. In any other run, no request is
+/// refused. Then a call that returns want of memory has no reason, and its test must fail.
+pub fn may_repeat(rt: &HostRuntime) -> bool {
     let _ = eprintln!(rt; "refused");
+    is_request_refused(rt)
 }
 
-pub fn tell_refused_here(rt: &HostRuntime) {
+/// Does the same as `may_repeat` for a request for the test's own data, and prints `refused here`.
+pub fn may_repeat_here(rt: &HostRuntime) -> bool {
     let _ = eprintln!(rt; "refused here");
+    is_request_refused(rt)
+}
+
+// A buffer on the stack, because reading the variable must not request memory.
+fn is_request_refused(rt: &HostRuntime) -> bool {
+    let mut number = [0; 20];
+    match rt.var("REFUSE", &mut number) {
+        Ok(length) => number.get(..length) != Some(b"0".as_slice()),
+        Err(_) => false,
+    }
 }
 
 pub fn read_sheet(rt: &HostRuntime, text: &str) -> Result<Sheet, Reason> {
     match Sheet::read(rt.alloc(), text.as_bytes()) {
-        Err(Reason::OutOfMemory) => {
-            tell_refused(rt);
-            Sheet::read(rt.alloc(), text.as_bytes())
-        }
+        Err(Reason::OutOfMemory) if may_repeat(rt) => Sheet::read(rt.alloc(), text.as_bytes()),
         answer => answer,
     }
 }
@@ -37,10 +52,11 @@ pub fn read_sheet(rt: &HostRuntime, text: &str) -> Result<Sheet, Reason> {
 /// Reads a report. If memory is refused, the call is repeated once.
 pub fn read<'s>(rt: &HostRuntime, sheet: &'s Sheet, bytes: &[u8]) -> Result<Report<'s>, Refusal> {
     match read_once(rt.alloc(), sheet, bytes) {
-        Err(refusal) if is_want_of_memory(refusal) => {
-            tell_refused(rt);
-            read_once(rt.alloc(), sheet, bytes)
-        }
+        Err(refusal) if is_want_of_memory(refusal) && may_repeat(rt) => read_once(
+            rt.alloc(),
+            sheet,
+            bytes,
+        ),
         answer => answer,
     }
 }
@@ -65,8 +81,7 @@ pub fn holds<F: Fn(Global) -> Result<bool, AllocError>>(rt: &HostRuntime, call: 
     requires { F.IsAlwaysCallable call }
 {
     let mut answer = call(rt.alloc());
-    if answer.is_err() {
-        tell_refused(rt);
+    if answer.is_err() && may_repeat(rt) {
         answer = call(rt.alloc());
     }
     answer == Ok(true)
@@ -90,14 +105,11 @@ pub fn joined(rt: &HostRuntime, parts: &[&str]) -> Result<Vec<u8>, AllocError> {
     Ok(all)
 }
 
-/// Returns a text that repeats the piece `count` times. If memory is refused, prints `refused here`
-/// and tries once more.
+/// Returns a text that repeats the piece `count` times. If memory is refused, asks
+/// `may_repeat_here` and tries once more.
 pub fn repeated(rt: &HostRuntime, piece: &str, count: usize) -> Result<String, AllocError> {
     match piece.repeat(rt.alloc(), count) {
-        Err(_) => {
-            tell_refused_here(rt);
-            piece.repeat(rt.alloc(), count)
-        }
+        Err(_) if may_repeat_here(rt) => piece.repeat(rt.alloc(), count),
         made => made,
     }
 }
@@ -110,14 +122,11 @@ fn length_of(parts: &[&str]) -> usize {
     length
 }
 
-/// Returns an empty list with space for this many bytes. If memory is refused, prints `refused here`
-/// and tries once more.
+/// Returns an empty list with space for this many bytes. If memory is refused, asks
+/// `may_repeat_here` and tries once more.
 pub fn space_for(rt: &HostRuntime, bytes: usize) -> Result<Vec<u8>, AllocError> {
     match Vec::with_capacity(rt.alloc(), bytes) {
-        Err(_) => {
-            tell_refused_here(rt);
-            Vec::with_capacity(rt.alloc(), bytes)
-        }
+        Err(_) if may_repeat_here(rt) => Vec::with_capacity(rt.alloc(), bytes),
         made => made,
     }
 }

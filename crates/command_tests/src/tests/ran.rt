@@ -1,12 +1,12 @@
 use command_line::{Streams, run};
 use std::alloc::AllocError;
 use std::io::Write;
-use test_helpers::asked_again::{tell_refused, tell_refused_here};
+use test_helpers::asked_again::{may_repeat, may_repeat_here};
 use test_helpers::devices::{Step, TestReader, Then};
 use test_helpers::expecting::{Either, Expecting};
 
 // Runs the program on arguments. If memory is refused, the program must report the refusal; the
-// test then prints a line on standard error and runs the program again.
+// test then runs the program again.
 
 /// No arguments, for a bundle on standard input.
 pub(crate) const NO_WORDS: &[&str] = &[];
@@ -26,11 +26,8 @@ pub(crate) fn piped<R, O, E>(input: R, out: O, err: E) -> Streams<R, O, E> {
 /// Splits a line into arguments at each space.
 pub(crate) fn words_of<'t>(rt: &HostRuntime, line: &'t str) -> Result<Vec<&'t str>, AllocError> {
     let mut words = match Vec::with_capacity(rt.alloc(), MOST_WORDS) {
-        Ok(made) => made,
-        Err(_) => {
-            tell_refused_here(rt);
-            Vec::with_capacity(rt.alloc(), MOST_WORDS)?
-        }
+        Err(_) if may_repeat_here(rt) => Vec::with_capacity(rt.alloc(), MOST_WORDS)?,
+        made => made?,
     };
     for word in line.split(' ') {
         words.push(word)?;
@@ -48,11 +45,8 @@ pub(crate) fn ends(
     err: Expecting<'_>,
 ) -> bool {
     match ends_once(rt, words, status, out, err) {
-        None => {
-            tell_refused(rt);
-            ends_once(rt, words, status, out, err) == Some(true)
-        }
-        Some(same) => same,
+        None if may_repeat(rt) => ends_once(rt, words, status, out, err) == Some(true),
+        same => same == Some(true),
     }
 }
 
@@ -87,11 +81,8 @@ pub(crate) fn stops<O: Write + Copy + Drop>(
     line: &str,
 ) -> bool {
     match stops_once(rt, words, out, line) {
-        None => {
-            tell_refused(rt);
-            stops_once(rt, words, out, line) == Some(true)
-        }
-        Some(same) => same,
+        None if may_repeat(rt) => stops_once(rt, words, out, line) == Some(true),
+        same => same == Some(true),
     }
 }
 

@@ -3,13 +3,12 @@ use command_line::run;
 use std::alloc::AllocError;
 use std::io::Write;
 use std::test::Fail;
-use test_helpers::asked_again::{INFO, SHEET, joined, tell_refused};
+use test_helpers::asked_again::{INFO, SHEET, joined, may_repeat};
 use test_helpers::canonical_parts::{END, HEAD, MIDDLE, MIDDLE_ALONE, ONE_URI, WRITTEN_HUNDRED};
 use test_helpers::devices::{FullAfter, NeverFlushed, STEPS, Step, TestReader, TestWriter, Then};
 use test_helpers::expecting::{Either, Expecting};
 
-// If memory is refused, the program must report the refusal; the test then prints a line on
-// standard error and runs the program again.
+// If memory is refused, the program must report the refusal; the test then runs the program again.
 
 const ROOM: usize = 1 << 16;
 
@@ -17,10 +16,7 @@ const HUNDRED: &str = r#""a":{"value":"100","decimals":0,"dimensions":{"concept"
 
 fn writer(rt: &HostRuntime, room: usize) -> Result<TestWriter, AllocError> {
     match TestWriter::new(rt.alloc(), Step::All, room, Then::Fails) {
-        Err(_) => {
-            tell_refused(rt);
-            TestWriter::new(rt.alloc(), Step::All, room, Then::Fails)
-        }
+        Err(_) if may_repeat(rt) => TestWriter::new(rt.alloc(), Step::All, room, Then::Fails),
         made => made,
     }
 }
@@ -42,8 +38,7 @@ fn run_once(rt: &HostRuntime, input: TestReader<'_>, room: usize) -> Result<Ran,
 /// Runs the program on this standard input, with room for this many bytes on standard output.
 fn run_in(rt: &HostRuntime, input: TestReader<'_>, room: usize) -> Result<Ran, AllocError> {
     let ran = run_once(rt, input, room)?;
-    if ran.status == 3 && ran.err.held() == b"out of memory\n".as_slice() {
-        tell_refused(rt);
+    if ran.status == 3 && ran.err.held() == b"out of memory\n".as_slice() && may_repeat(rt) {
         return run_once(rt, input, room);
     }
     Ok(ran)
@@ -186,8 +181,7 @@ fn are_unread(rt: &HostRuntime, front: &[u8]) -> bool {
         for then in [Then::Fails, Then::IsInterrupted] {
             let input = TestReader::new(front, step, then);
             let mut answer = is_unread(rt, input);
-            if answer.is_none() {
-                tell_refused(rt);
+            if answer.is_none() && may_repeat(rt) {
                 answer = is_unread(rt, input);
             }
             if answer != Some(true) {
@@ -219,8 +213,7 @@ fn a_text_that_is_not_flushed_is_a_fault(rt: HostRuntime) -> Result<(), Fail> {
     let bundle = joined(&rt, &refused)?;
     let mut err = writer(&rt, ROOM)?;
     let mut status = status_of(&rt, &bundle, NeverFlushed, &mut err);
-    if err.held() == b"out of memory\n".as_slice() {
-        tell_refused(&rt);
+    if err.held() == b"out of memory\n".as_slice() && may_repeat(&rt) {
         err = writer(&rt, ROOM)?;
         status = status_of(&rt, &bundle, NeverFlushed, &mut err);
     }
@@ -247,8 +240,7 @@ fn an_output_that_failed_is_not_flushed(rt: HostRuntime) -> Result<(), Fail> {
     let bundle = joined(&rt, &[SHEET, "\n", INFO, HUNDRED, END])?;
     for (room, expected) in [(0, (3, 0)), (275, (3, 0)), (276, (0, 1))] {
         let mut answer = flushed(&rt, &bundle, room);
-        if answer.is_none() {
-            tell_refused(&rt);
+        if answer.is_none() && may_repeat(&rt) {
             answer = flushed(&rt, &bundle, room);
         }
         assert!(rt; answer == Some(expected), "room for {room} bytes");
@@ -262,8 +254,7 @@ fn a_failing_standard_error_is_passed_over(rt: HostRuntime) -> Result<(), Fail> 
     let mut out = writer(&rt, ROOM)?;
     let mut err = writer(&rt, 3)?;
     let status = status_of(&rt, &bundle, &mut out, &mut err);
-    if err.held() == b"out".as_slice() {
-        tell_refused(&rt);
+    if err.held() == b"out".as_slice() && may_repeat(&rt) {
         return Ok(());
     }
     assert_eq!(rt; status, 1);

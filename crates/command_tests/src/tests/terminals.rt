@@ -1,7 +1,7 @@
 use crate::tests::ran::NO_WORDS;
 use command_line::{Streams, run};
 use std::test::Fail;
-use test_helpers::asked_again::tell_refused;
+use test_helpers::asked_again::may_repeat;
 use test_helpers::devices::{FullAfter, Step, TestReader, Then};
 use test_helpers::expecting::Expecting;
 
@@ -22,11 +22,7 @@ fn shows_once(rt: &HostRuntime, words: &[&str], input: &str, lines: &str) -> boo
 
 // Runs the program again if the status or the lines differ: memory may have been refused.
 fn shows(rt: &HostRuntime, words: &[&str], input: &str, lines: &str) -> bool {
-    if shows_once(rt, words, input, lines) {
-        return true;
-    }
-    tell_refused(rt);
-    shows_once(rt, words, input, lines)
+    shows_once(rt, words, input, lines) || may_repeat(rt) && shows_once(rt, words, input, lines)
 }
 
 #[test]

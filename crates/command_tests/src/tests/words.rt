@@ -18,19 +18,7 @@ fn is_answered(rt: &HostRuntime, words: &[&str], front: &str) -> bool {
     ends(rt, words, 0, out, Expecting::just(b""))
 }
 
-const WRONG: [&str; 56] = [
-    "merge --sheet s --most-output",
-    "merge --sheet s --most-output 0",
-    "merge --sheet s --reports-from",
-    "merge --sheet s --reports-from f --reports-from g",
-    "merge --sheet s -0 r",
-    "check --sheet s r --reports-from f",
-    "explain",
-    "explain r",
-    "explain --sheet s --allow all",
-    "-o f",
-    "merge --sheet s -o",
-    "merge --sheet s -o f --output g",
+const WRONG_REPLAYS: [&str; 19] = [
     "replay",
     "replay --sheet s",
     "replay --sheet s --replicas 2",
@@ -50,15 +38,17 @@ const WRONG: [&str; 56] = [
     "replay --sheet s --replicas 2 --events e --events e",
     "replay --sheet s --sheet s --replicas 2 --events e",
     "replay --sheet s --replicas 2 --events e --allow all",
-    "Replay --sheet s --replicas 2 --events e",
+];
+
+const WRONG_MERGES: [&str; 17] = [
+    "merge --sheet s --most-output",
+    "merge --sheet s --most-output 0",
+    "merge --sheet s --reports-from",
+    "merge --sheet s --reports-from f --reports-from g",
+    "merge --sheet s -0 r",
+    "merge --sheet s -o",
+    "merge --sheet s -o f --output g",
     "merge --sheet s --events e",
-    "Merge --sheet s",
-    "s",
-    "",
-    "-",
-    "--",
-    "--sheet s",
-    "help replays",
     "merge",
     "merge r",
     "merge --sheet",
@@ -68,13 +58,29 @@ const WRONG: [&str; 56] = [
     "merge --sheet s --allow ALL",
     "merge --sheet s --replicas 2",
     "merge --version",
+];
+
+const WRONG_OTHERS: [&str; 20] = [
+    "check --sheet s r --reports-from f",
+    "explain",
+    "explain r",
+    "explain --sheet s --allow all",
+    "-o f",
+    "Replay --sheet s --replicas 2 --events e",
+    "Merge --sheet s",
+    "s",
+    "",
+    "-",
+    "--",
+    "--sheet s",
+    "help replays",
+    "check --sheet s",
+    "check r",
+    "check --sheet s r r",
     "verdicts",
     "verdicts --sheet s --allow all",
     "sources",
     "sources --sheet s --allow all",
-    "check --sheet s",
-    "check r",
-    "check --sheet s r r",
 ];
 
 fn are_usage(rt: &HostRuntime, lines: &[&str]) -> Result<bool, Fail> {
@@ -88,7 +94,19 @@ fn are_usage(rt: &HostRuntime, lines: &[&str]) -> Result<bool, Fail> {
 
 #[test]
 fn other_words_are_usage(rt: HostRuntime) -> Result<(), Fail> {
-    assert!(rt; are_usage(&rt, WRONG.as_slice())?);
+    assert!(rt; are_usage(&rt, WRONG_OTHERS.as_slice())?);
+    Ok(())
+}
+
+#[test]
+fn other_words_of_merges_are_usage(rt: HostRuntime) -> Result<(), Fail> {
+    assert!(rt; are_usage(&rt, WRONG_MERGES.as_slice())?);
+    Ok(())
+}
+
+#[test]
+fn other_words_of_replays_are_usage(rt: HostRuntime) -> Result<(), Fail> {
+    assert!(rt; are_usage(&rt, WRONG_REPLAYS.as_slice())?);
     Ok(())
 }
 

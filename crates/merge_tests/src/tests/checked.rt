@@ -3,7 +3,7 @@ use oim_report::{Refusal, Sheet};
 use oim_value::Level;
 use std::alloc::AllocError;
 use std::test::Fail;
-use test_helpers::asked_again::{INFO, SHEET, is_want_of_memory, joined, read_sheet, tell_refused};
+use test_helpers::asked_again::{INFO, SHEET, is_want_of_memory, joined, may_repeat, read_sheet};
 use test_helpers::canonical_parts::{
     CONSISTENT_HEAD, CONTRADICTING_HEAD, EARLIER_HEAD, EARLIER_MIDDLE, END, HEAD, MIDDLE,
     MIDDLE_ALONE, ONE_URI, WRITTEN_BOTH, WRITTEN_HUNDRED,
@@ -149,10 +149,9 @@ fn check_once(rt: &HostRuntime, sheet: &Sheet, report: &[u8]) -> Result<Checked,
 
 fn check(rt: &HostRuntime, sheet: &Sheet, report: &[u8]) -> Result<Checked, Refusal> {
     match check_once(rt, sheet, report) {
-        Err(refusal) if is_want_of_memory(refusal) => {
-            tell_refused(rt);
-            check_once(rt, sheet, report)
-        }
+        Err(refusal) if is_want_of_memory(refusal) && may_repeat(rt) => check_once(
+            rt, sheet, report,
+        ),
         answer => answer,
     }
 }

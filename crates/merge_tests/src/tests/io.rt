@@ -1,14 +1,11 @@
-use crate::tests::calls::HUNDRED;
 use oim_merge::{ReadFault, Source, StdSource, read_all};
 use oim_write::Encoded;
 use std::io::{self, Read};
 use std::test::Fail;
-use test_helpers::asked_again::{INFO, SHEET, joined, tell_refused};
-use test_helpers::canonical_parts::END;
+use test_helpers::asked_again::{SHEET, may_repeat};
 use test_helpers::devices::{STEPS, Step, TestReader, Then};
 
-// After a refused request for memory, the call is repeated on a new device. A line on standard
-// error reports the refused request.
+// After a refused request for memory, the call is repeated on a new device.
 
 /// Returns the result of `read_all`, the number of reads, and the number of the source's failures.
 fn read(
@@ -18,8 +15,7 @@ fn read(
 ) -> (Result<Encoded, ReadFault>, u64, u64) {
     let mut source = StdSource::new(reader);
     let mut answer = read_all(rt.alloc(), &mut source, limit);
-    if let Err(ReadFault::OutOfMemory) = answer {
-        tell_refused(rt);
+    if matches!(answer, Err(ReadFault::OutOfMemory)) && may_repeat(rt) {
         source = StdSource::new(reader);
         answer = read_all(rt.alloc(), &mut source, limit);
     }
@@ -77,13 +73,11 @@ fn stops_behind(rt: &HostRuntime, front: &[u8], limit: u32) -> bool {
 }
 
 #[test]
-fn sources_stop_at_each_place_of_a_bundle(rt: HostRuntime) -> Result<(), Fail> {
-    let bundle = joined(&rt, &[SHEET, "\n", INFO, HUNDRED, END])?;
-    for length in 0..=bundle.len() {
-        let front = bundle.get(..length).unwrap_or_default();
+fn sources_stop_at_each_place_of_a_sheet(rt: HostRuntime) {
+    for length in 0..=SHEET.len() {
+        let front = SHEET.as_bytes().get(..length).unwrap_or_default();
         assert!(rt; stops_behind(&rt, front, 1000), "at {length}");
     }
-    Ok(())
 }
 
 /// The bytes of a source, and a limit that is not less than their number.
@@ -145,8 +139,7 @@ fn calls_of_endless(rt: &HostRuntime) -> Option<u64> {
 fn read_repeated(rt: &HostRuntime) -> (Result<Encoded, ReadFault>, u64) {
     let mut source = StdSource::new(io::repeat(7).take(u64::from(LONG)));
     let mut answer = read_all(rt.alloc(), &mut source, LONG);
-    if let Err(ReadFault::OutOfMemory) = answer {
-        tell_refused(rt);
+    if matches!(answer, Err(ReadFault::OutOfMemory)) && may_repeat(rt) {
         source = StdSource::new(io::repeat(7).take(u64::from(LONG)));
         answer = read_all(rt.alloc(), &mut source, LONG);
     }

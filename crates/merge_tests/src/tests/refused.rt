@@ -8,23 +8,19 @@ use oim_report::{Report, Sheet};
 use oim_write::{Encoded, Sink, StdSink, WriteFault, text, write_to};
 use std::alloc::AllocError;
 use std::test::Fail;
-use test_helpers::asked_again::{INFO, SHEET, joined, read, read_sheet, repeated, tell_refused};
+use test_helpers::asked_again::{INFO, SHEET, joined, may_repeat, read, read_sheet, repeated};
 use test_helpers::canonical_parts::{CONSISTENT_HEAD, END, MIDDLE, ONE_URI, WRITTEN_BOTH};
 use test_helpers::expecting::Expecting;
 
 // Each call is repeated after a refused request for memory. If the call writes to a sink, the sink
-// must contain as many bytes of the text as the fault reports. A line on standard error reports
-// each refused request to `tests/refused_memory`.
+// must contain as many bytes of the text as the fault reports.
 
 fn take(rt: &HostRuntime, base: &mut Base<'_>, report: &Report<'_>) -> bool {
     if !base.same_sheet(report.sheet()) {
         return false;
     }
-    if base.take(report).is_ok() {
-        return true;
-    }
-    tell_refused(rt);
-    base.fact_count() == 0 && base.take(report).is_ok()
+    base.take(report).is_ok()
+        || base.fact_count() == 0 && may_repeat(rt) && base.take(report).is_ok()
 }
 
 fn take_first<'s>(rt: &HostRuntime, report: &Report<'s>) -> Option<Base<'s>> {
@@ -46,8 +42,8 @@ fn holds(sink: &StdSink<Expecting<'_>>, text: &[u8], written: u64) -> bool {
     sink.taken() == written && sink.failures() == 0 && written <= text.len() as u64
 }
 
-/// If the sink took exactly the first `written` bytes of the text without a failure, reports the
-/// refused request on standard error and returns None. Otherwise returns `Some(false)`.
+/// Returns None if the sink took exactly the first `written` bytes of the text without a failure
+/// and the call may be repeated. Otherwise returns `Some(false)`.
 fn wanted_memory(
     rt: &HostRuntime,
     sink: StdSink<Expecting<'_>>,
@@ -59,10 +55,10 @@ fn wanted_memory(
     if !is_told
         || !out.is_front()
         || (out.left() as u64).saturating_add(written) != text.len() as u64
+        || !may_repeat(rt)
     {
         return Some(false);
     }
-    tell_refused(rt);
     let _ = eprintln!(rt; "written {written}");
     None
 }
@@ -86,10 +82,7 @@ fn writes(rt: &HostRuntime, base: &Base<'_>, text: &[u8]) -> bool {
 
 fn text_of(rt: &HostRuntime, base: &Base<'_>) -> Result<Encoded, AllocError> {
     match text(rt.alloc(), base) {
-        Err(_) => {
-            tell_refused(rt);
-            text(rt.alloc(), base)
-        }
+        Err(_) if may_repeat(rt) => text(rt.alloc(), base),
         answer => answer,
     }
 }
@@ -103,10 +96,7 @@ fn has_text(rt: &HostRuntime, base: &Base<'_>, bytes: &[u8]) -> bool {
 
 fn back_of<'s>(rt: &HostRuntime, base: &Base<'s>) -> Result<Base<'s>, AllocError> {
     match read_back(rt.alloc(), base) {
-        Err(_) => {
-            tell_refused(rt);
-            read_back(rt.alloc(), base)
-        }
+        Err(_) if may_repeat(rt) => read_back(rt.alloc(), base),
         answer => answer,
     }
 }

@@ -5,7 +5,7 @@ use oim_report::Sheet;
 use oim_write::{Encoded, Sink, StdSink};
 use row_formats::RowFormat;
 use std::alloc::{AllocError, Global};
-use test_helpers::asked_again::{SHEET, tell_refused};
+use test_helpers::asked_again::{SHEET, may_repeat};
 
 // Compares rows in the formats of `row_formats` with rows written by hand. The rows have
 // every verdict and every kind of value. After a refused request for memory, the call is repeated.
@@ -133,8 +133,7 @@ fn writes(alloc: Global, call: Call, format: RowFormat, wanted: &[u8]) -> Result
 
 fn holds(rt: &HostRuntime, call: Call, format: RowFormat, wanted: &[u8]) -> bool {
     let mut answer = writes(rt.alloc(), call, format, wanted);
-    if answer.is_err() {
-        tell_refused(rt);
+    if answer.is_err() && may_repeat(rt) {
         answer = writes(rt.alloc(), call, format, wanted);
     }
     answer == Ok(true)

@@ -8,7 +8,7 @@ use oim_merge::{Fault, consolidate_bundle};
 use oim_write::StdSink;
 use std::alloc::AllocError;
 use std::test::Fail;
-use test_helpers::asked_again::{SHEET, joined, tell_refused};
+use test_helpers::asked_again::{SHEET, joined, may_repeat};
 use test_helpers::expecting::Expecting;
 
 // After a refused request for memory, the call is repeated. A line on standard error reports the
@@ -42,11 +42,8 @@ fn gives(rt: &HostRuntime, bundle: &[&str], text: &[&str]) -> Result<bool, Alloc
 fn merges_to(rt: &HostRuntime, bundle: &[u8], text: &[&str]) -> Result<bool, AllocError> {
     let text = joined(rt, text)?;
     Ok(match merges(rt, bundle, &text) {
-        None => {
-            tell_refused(rt);
-            merges(rt, bundle, &text) == Some(true)
-        }
-        Some(same) => same,
+        None if may_repeat(rt) => merges(rt, bundle, &text) == Some(true),
+        same => same == Some(true),
     })
 }
 

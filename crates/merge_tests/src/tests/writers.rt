@@ -7,14 +7,14 @@ use oim_value::Level;
 use oim_write::{Encoded, Sink, StdSink, write_to};
 use std::alloc::{AllocError, Global};
 use std::test::Fail;
-use test_helpers::asked_again::{OPEN_INFO, joined, tell_refused};
+use test_helpers::asked_again::{OPEN_INFO, joined, may_repeat};
 use test_helpers::canonical_parts::{
     CONSISTENT_HEAD, END, HEAD, MIDDLE, ONE_URI, WRITTEN_BOTH, WRITTEN_HUNDRED,
 };
 use test_helpers::devices::{ComparingWriter, STEPS, Step, Then};
 
-// Tests calls that write a merged text or verdict lines. Writers stop after each number of bytes,
-// from 0 to the length of the output. After a refused request for memory, the row is tested again.
+// Tests calls that write a merged text or verdict lines. Writers stop before, in and after the
+// output. After a refused request for memory, the row is tested again.
 
 /// A call that writes a merged text or verdict lines, with its input.
 #[derive(Clone, Copy)]
@@ -93,8 +93,11 @@ fn holds_the_front(
     Ok(left == (Outcome::Whole, 0, true))
 }
 
-fn holds_each_front(alloc: Global, call: Call<'_, '_>, text: &[u8]) -> Result<bool, AllocError> {
-    for room in 0..=text.len() {
+// The contracts of the calls state what a writer took before it stopped, for each place. So a few
+// places show that `StdSink` passes on what the writer returned.
+fn holds_fronts(alloc: Global, call: Call<'_, '_>, text: &[u8]) -> Result<bool, AllocError> {
+    let last = text.len().saturating_sub(1);
+    for room in [0, 1, last / 2, last, text.len()] {
         for step in STEPS {
             for then in [Then::Ends, Then::Fails, Then::IsInterrupted] {
                 if !holds_the_front(alloc, call, text, room, step, then)? {
@@ -122,13 +125,13 @@ fn base_holds(alloc: Global, facts: &str, text: &[u8]) -> Result<bool, AllocErro
     let sheet = sheet_of(alloc, SHORT_SHEET)?;
     let report = report(alloc, facts)?;
     let base = base_of(alloc, &sheet, report.as_str())?;
-    holds_each_front(alloc, Call::Base(&base), text)
+    holds_fronts(alloc, Call::Base(&base), text)
 }
 
 fn bundle_holds(alloc: Global, facts: &str, text: &[u8]) -> Result<bool, AllocError> {
     let report = report(alloc, facts)?;
     let bundle = format!(in alloc; "{SHORT_SHEET}\n{report}")?;
-    holds_each_front(alloc, Call::Bundle(bundle.as_bytes()), text)
+    holds_fronts(alloc, Call::Bundle(bundle.as_bytes()), text)
 }
 
 fn reports_hold(
@@ -145,7 +148,7 @@ fn reports_hold(
     } else {
         Call::Reports(&sheet, reports.as_slice())
     };
-    holds_each_front(alloc, call, text)
+    holds_fronts(alloc, call, text)
 }
 
 /// A kind of `Call`. The row supplies the input.
@@ -187,46 +190,33 @@ fn holds(rt: &HostRuntime, kind: Kind, row: &Row) -> Result<bool, Fail> {
     let (facts, parts, length) = row;
     let text = joined(rt, parts)?;
     let mut answer = kind_holds(rt.alloc(), kind, facts, &text);
-    if answer.is_err() {
-        tell_refused(rt);
+    if answer.is_err() && may_repeat(rt) {
         answer = kind_holds(rt.alloc(), kind, facts, &text);
     }
     Ok(answer? && text.len() == *length)
 }
 
 #[test]
-fn a_base_is_written_up_to_each_place(rt: HostRuntime) -> Result<(), Fail> {
+fn a_base_is_written_up_to_a_place(rt: HostRuntime) -> Result<(), Fail> {
     assert!(rt; holds(&rt, Kind::Base, &NUMBER)?);
     assert!(rt; holds(&rt, Kind::Base, &TOUCHING)?);
     Ok(())
 }
 
 #[test]
-fn a_number_is_merged_up_to_each_place(rt: HostRuntime) -> Result<(), Fail> {
-    assert!(rt; holds(&rt, Kind::Reports, &NUMBER)?);
-    Ok(())
-}
-
-#[test]
-fn numbers_are_merged_up_to_each_place(rt: HostRuntime) -> Result<(), Fail> {
+fn numbers_are_merged_up_to_a_place(rt: HostRuntime) -> Result<(), Fail> {
     assert!(rt; holds(&rt, Kind::Reports, &TOUCHING)?);
     Ok(())
 }
 
 #[test]
-fn a_bundle_of_a_number_is_merged_up_to_each_place(rt: HostRuntime) -> Result<(), Fail> {
-    assert!(rt; holds(&rt, Kind::Bundle, &NUMBER)?);
-    Ok(())
-}
-
-#[test]
-fn a_bundle_of_numbers_is_merged_up_to_each_place(rt: HostRuntime) -> Result<(), Fail> {
+fn a_bundle_is_merged_up_to_a_place(rt: HostRuntime) -> Result<(), Fail> {
     assert!(rt; holds(&rt, Kind::Bundle, &TOUCHING)?);
     Ok(())
 }
 
 #[test]
-fn a_verdict_is_written_up_to_each_place(rt: HostRuntime) -> Result<(), Fail> {
+fn a_verdict_is_written_up_to_a_place(rt: HostRuntime) -> Result<(), Fail> {
     assert!(rt; holds(&rt, Kind::Verdicts, &APART)?);
     Ok(())
 }

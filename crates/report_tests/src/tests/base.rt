@@ -6,7 +6,7 @@ mod verdicts;
 
 use fact_base::Base;
 use oim_report::{Report, Sheet};
-use test_helpers::asked_again::{joined, read, tell_refused};
+use test_helpers::asked_again::{joined, may_repeat, read};
 
 // The text of a report with one fact, up to the value.
 const FACT: &str =
@@ -28,11 +28,8 @@ fn take_once(base: &mut Base<'_>, report: &Report<'_>) -> bool {
 // repeated.
 fn take(rt: &HostRuntime, base: &mut Base<'_>, report: &Report<'_>) -> bool {
     let count = base.fact_count();
-    if take_once(base, report) {
-        return true;
-    }
-    tell_refused(rt);
-    base.fact_count() == count && take_once(base, report)
+    take_once(base, report)
+        || base.fact_count() == count && may_repeat(rt) && take_once(base, report)
 }
 
 // Takes a report with this text, or returns false if the report is refused.

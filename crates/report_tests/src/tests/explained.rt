@@ -2,7 +2,7 @@ use oim_explain::{Format, Input, SheetNames, explain, explain_sheet};
 use oim_report::Sheet;
 use std::alloc::AllocError;
 use std::test::Fail;
-use test_helpers::asked_again::{OPEN_INFO, joined, read_sheet, tell_refused};
+use test_helpers::asked_again::{OPEN_INFO, joined, may_repeat, read_sheet};
 
 // Tests the sentences about faults. If memory is refused, a call is repeated once.
 
@@ -299,10 +299,7 @@ const SHEETS: [(&str, &str); 8] = [
 
 fn read_names<'s>(rt: &HostRuntime, sheet: &'s Sheet) -> Result<SheetNames<'s>, AllocError> {
     match SheetNames::read(rt.alloc(), sheet, SHEET.as_bytes()) {
-        Err(_) => {
-            tell_refused(rt);
-            SheetNames::read(rt.alloc(), sheet, SHEET.as_bytes())
-        }
+        Err(_) if may_repeat(rt) => SheetNames::read(rt.alloc(), sheet, SHEET.as_bytes()),
         read => read,
     }
 }
@@ -338,10 +335,7 @@ fn is_said(
     lines: &str,
 ) -> Result<bool, AllocError> {
     match is_said_once(rt, names, bytes, lines) {
-        Err(_) => {
-            tell_refused(rt);
-            is_said_once(rt, names, bytes, lines)
-        }
+        Err(_) if may_repeat(rt) => is_said_once(rt, names, bytes, lines),
         said => said,
     }
 }
@@ -379,21 +373,26 @@ fn is_said_of_sheet_once(rt: &HostRuntime, text: &str, line: &str) -> Result<boo
 
 fn is_said_of_sheet(rt: &HostRuntime, text: &str, line: &str) -> Result<bool, AllocError> {
     match is_said_of_sheet_once(rt, text, line) {
-        Err(_) => {
-            tell_refused(rt);
-            is_said_of_sheet_once(rt, text, line)
-        }
+        Err(_) if may_repeat(rt) => is_said_of_sheet_once(rt, text, line),
         said => said,
     }
 }
 
 #[test]
-fn faults_of_reports_are_said(rt: HostRuntime) -> Result<(), Fail> {
+fn faults_of_documents_are_said(rt: HostRuntime) -> Result<(), Fail> {
     let sheet = read_sheet(&rt, SHEET)?;
     let names = read_names(&rt, &sheet)?;
-    for table in &TABLES {
+    for table in &TABLES[..2] {
         assert!(rt; is_table_said(&rt, &names, table)?);
     }
+    Ok(())
+}
+
+#[test]
+fn faults_of_facts_are_said(rt: HostRuntime) -> Result<(), Fail> {
+    let sheet = read_sheet(&rt, SHEET)?;
+    let names = read_names(&rt, &sheet)?;
+    assert!(rt; is_table_said(&rt, &names, &TABLES[2])?);
     Ok(())
 }
 

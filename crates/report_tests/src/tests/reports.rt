@@ -19,8 +19,8 @@ use oim_names::Text;
 use oim_report::{Place, Refusal, Report, Sheet};
 use oim_value::Level;
 use test_helpers::asked_again::{
-    INFO, OPEN_INFO, SHEET, holds_under_sheet, joined, read, read_sheet, repeated, tell_refused,
-    tell_refused_here,
+    INFO, OPEN_INFO, SHEET, holds_under_sheet, joined, may_repeat, may_repeat_here, read,
+    read_sheet, repeated,
 };
 use test_helpers::canonical_parts::END;
 

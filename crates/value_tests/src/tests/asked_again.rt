@@ -1,19 +1,12 @@
-//! Calls that are repeated if a request for memory is refused: `tests/refused_memory` refuses one
-//! request in a run. `refused` is printed before the call is repeated.
+//! Calls that are repeated if `tests/refused_memory` refuses a request for memory.
 
 use oim_names::{Aliases, Copied, Name, Reason, Text};
 use std::alloc::AllocError;
-
-pub(crate) fn tell_refused(rt: &HostRuntime) {
-    let _ = eprintln!(rt; "refused");
-}
+use test_helpers::asked_again::may_repeat;
 
 pub(crate) fn text(rt: &HostRuntime, bytes: &str) -> Result<Text, AllocError> {
     match Text::new(rt.alloc(), bytes) {
-        Err(_) => {
-            tell_refused(rt);
-            Text::new(rt.alloc(), bytes)
-        }
+        Err(_) if may_repeat(rt) => Text::new(rt.alloc(), bytes),
         made => made,
     }
 }
@@ -27,10 +20,7 @@ pub(crate) fn is_text(made: Result<Text, AllocError>, plain: &str) -> bool {
 
 pub(crate) fn copied<T: Copied>(rt: &HostRuntime, value: &T) -> Result<T, AllocError> {
     match value.copied(rt.alloc()) {
-        Err(_) => {
-            tell_refused(rt);
-            value.copied(rt.alloc())
-        }
+        Err(_) if may_repeat(rt) => value.copied(rt.alloc()),
         copy => copy,
     }
 }
@@ -50,10 +40,9 @@ pub(crate) fn bind(
 ) -> Result<(), Reason> {
     match aliases.add(prefix, uri) {
         // a refused call must not bind the prefix
-        Err(Reason::OutOfMemory) if aliases.uri(prefix).is_none() => {
-            tell_refused(rt);
-            aliases.add(prefix, uri)
-        }
+        Err(Reason::OutOfMemory) if aliases.uri(prefix).is_none() && may_repeat(rt) => aliases.add(
+            prefix, uri,
+        ),
         answer => answer,
     }
 }
@@ -77,10 +66,7 @@ pub(crate) fn aliases_of(rt: &HostRuntime, bindings: &[(&str, &str)]) -> Result<
 
 pub(crate) fn expand(rt: &HostRuntime, aliases: &Aliases, text: &str) -> Result<Name, Reason> {
     match aliases.expand(text) {
-        Err(Reason::OutOfMemory) => {
-            tell_refused(rt);
-            aliases.expand(text)
-        }
+        Err(Reason::OutOfMemory) if may_repeat(rt) => aliases.expand(text),
         answer => answer,
     }
 }

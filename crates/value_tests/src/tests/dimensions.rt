@@ -2,12 +2,10 @@ mod periods;
 mod sets;
 mod units;
 
-use super::asked_again::{aliases_of, expand, tell_refused};
+use super::asked_again::{aliases_of, expand};
 use oim_dims::{Unit, read_unit};
 use oim_names::{Aliases, Reason};
-
-// `tests/refused_memory` refuses one request for memory in a run. The test then prints `refused
-// here` for its own request, or `refused` for a request of the library, and repeats the call.
+use test_helpers::asked_again::may_repeat;
 
 fn example(rt: &HostRuntime) -> Result<Aliases, Reason> {
     aliases_of(
@@ -23,10 +21,7 @@ fn example(rt: &HostRuntime) -> Result<Aliases, Reason> {
 
 fn unit(rt: &HostRuntime, aliases: &Aliases, spelled: &str) -> Result<Option<Unit>, Reason> {
     match read_unit(rt.alloc(), aliases, spelled) {
-        Err(Reason::OutOfMemory) => {
-            tell_refused(rt);
-            read_unit(rt.alloc(), aliases, spelled)
-        }
+        Err(Reason::OutOfMemory) if may_repeat(rt) => read_unit(rt.alloc(), aliases, spelled),
         answer => answer,
     }
 }

@@ -3,15 +3,14 @@ mod summaries;
 
 ghost use Rattle.std.specs.Prelude.{◌≡◌, ◌≤◌, [], vec_capacity, IfOk};
 
-use super::asked_again::{copied, tell_refused, text};
+use super::asked_again::{copied, text};
 use merge_laws::{Merge, SortedSet, laws};
 use oim_names::{Copied, Text};
 use std::alloc::AllocError;
 use std::test::Fail;
+use test_helpers::asked_again::{may_repeat, may_repeat_here};
 
-// `tests/refused_memory` refuses one request for memory in a run. The test then prints `refused
-// here` for its own request, or `refused` for a request of the library, and repeats the call. A
-// call is repeated only if the refused call did not change the number of items.
+// A call is repeated only if the refused call did not change the number of items.
 
 type Items = SortedSet<Text>;
 
@@ -29,10 +28,7 @@ fn merge<M: Merge + Counted>(rt: &HostRuntime, value: &mut M, other: &M) -> Resu
     other.known();
     let count = value.item_count();
     match value.merge(rt.alloc(), other) {
-        Err(_) if value.item_count() == count => {
-            tell_refused(rt);
-            value.merge(rt.alloc(), other)
-        }
+        Err(_) if value.item_count() == count && may_repeat(rt) => value.merge(rt.alloc(), other),
         merged => merged,
     }
 }
@@ -41,10 +37,7 @@ fn insert(rt: &HostRuntime, set: &mut Items, item: &str) -> Result<bool, AllocEr
     let item = text(rt, item)?;
     let count = set.item_count();
     match set.insert(&item) {
-        Err(_) if set.item_count() == count => {
-            tell_refused(rt);
-            set.insert(&item)
-        }
+        Err(_) if set.item_count() == count && may_repeat(rt) => set.insert(&item),
         new => new,
     }
 }
@@ -75,10 +68,7 @@ fn room<T: Drop>(rt: &HostRuntime) -> Result<Vec<T>, AllocError>
     ensures room { IfOk result (λ room. 2 ≤ vec_capacity room) }
 {
     match Vec::with_capacity(rt.alloc(), 2) {
-        Err(_) => {
-            let _ = eprintln!(rt; "refused here");
-            Vec::with_capacity(rt.alloc(), 2)
-        }
+        Err(_) if may_repeat_here(rt) => Vec::with_capacity(rt.alloc(), 2),
         room => room,
     }
 }
@@ -90,10 +80,7 @@ fn merge_items(rt: &HostRuntime, set: &mut Items, items: &[&str]) -> Result<(), 
 
 fn absorb_items(rt: &HostRuntime, set: &mut Items, items: &[&str]) -> Result<(), AllocError> {
     match set.absorb(set_of(rt, items)?) {
-        Err(_) => {
-            tell_refused(rt);
-            set.absorb(set_of(rt, items)?)
-        }
+        Err(_) if may_repeat(rt) => set.absorb(set_of(rt, items)?),
         absorbed => absorbed,
     }
 }

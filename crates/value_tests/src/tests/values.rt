@@ -1,11 +1,10 @@
 mod intervals;
 
-use super::asked_again::{
-    aliases_of, equals_its_copy, expand, is_text, tell_refused, text as text_of,
-};
+use super::asked_again::{aliases_of, equals_its_copy, expand, is_text, text as text_of};
 use oim_names::{Name, Reason, Text};
 use oim_value::{Decimals, Fixed, Level, Value, read_fixed, value_meets, write_fixed, write_units};
 use std::alloc::AllocError;
+use test_helpers::asked_again::may_repeat;
 
 pub(crate) const UNIT: i128 = 10_000_000_000_000_000_000;
 
@@ -14,20 +13,14 @@ const GREATEST: i128 = 999_999_999_999_999_999 * UNIT;
 
 fn written(rt: &HostRuntime, number: Fixed) -> Result<Text, AllocError> {
     match write_fixed(rt.alloc(), number) {
-        Err(_) => {
-            tell_refused(rt);
-            write_fixed(rt.alloc(), number)
-        }
+        Err(_) if may_repeat(rt) => write_fixed(rt.alloc(), number),
         text => text,
     }
 }
 
 fn are_written(rt: &HostRuntime, units: i128, plain: &str) -> bool {
     match write_units(rt.alloc(), units) {
-        Err(_) => {
-            tell_refused(rt);
-            is_text(write_units(rt.alloc(), units), plain)
-        }
+        Err(_) if may_repeat(rt) => is_text(write_units(rt.alloc(), units), plain),
         text => is_text(text, plain),
     }
 }

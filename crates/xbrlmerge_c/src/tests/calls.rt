@@ -8,11 +8,9 @@ use crate::output::{
     TOO_MUCH, TOO_SHORT,
 };
 use crate::refusal_name::xbrlmerge_refusal_name;
-use std::alloc::Global;
 use std::test::Fail;
 
-// The tests make each call, and cause each status except `NO_MEMORY`. If memory is refused, the
-// call is repeated.
+// The tests make each call, and cause each status except `NO_MEMORY`, which `tests/c_abi` causes.
 
 const SHEET: &str = r#"{"namespaces":{"eg":"http://example.org/t"},"concepts":{"eg:A":"numeric"}}"#;
 
@@ -75,7 +73,8 @@ struct Left {
 }
 
 /// Makes a call with an output buffer of `size` bytes, at most 400.
-fn called_once(alloc: Global, call: Call, sheet: &str, ends: &[usize], size: usize) -> Left {
+fn called(rt: &HostRuntime, call: Call, sheet: &str, ends: &[usize], size: usize) -> Left {
+    let alloc = rt.alloc();
     let (mut out, mut refusals) = ([7; 400], [BEFORE; 2]);
     let (mut needed, mut refused) = (7, 7);
     let (sheet, reports, told) = (
@@ -154,16 +153,6 @@ fn called_once(alloc: Global, call: Call, sheet: &str, ends: &[usize], size: usi
         refusals,
         refused,
     }
-}
-
-/// Does the same as `called_once`, and repeats the call if memory was refused.
-fn called(rt: &HostRuntime, call: Call, sheet: &str, ends: &[usize], size: usize) -> Left {
-    let left = called_once(rt.alloc(), call, sheet, ends, size);
-    if left.status != NO_MEMORY {
-        return left;
-    }
-    let _ = eprintln!(rt; "refused");
-    called_once(rt.alloc(), call, sheet, ends, size)
 }
 
 fn has_all(left: &Left, text: &[u8]) -> bool {
@@ -258,7 +247,6 @@ fn no_report_is_done(rt: HostRuntime) -> Result<(), Fail> {
     Ok(())
 }
 
-/// Checks a report, and repeats the call if memory was refused.
 fn checked(rt: &HostRuntime, report: &[u8]) -> (u32, CheckedReport, RefusedReport) {
     let mut checked = CheckedReport {
         facts: 7,
@@ -267,11 +255,7 @@ fn checked(rt: &HostRuntime, report: &[u8]) -> (u32, CheckedReport, RefusedRepor
     };
     let mut refusal = BEFORE;
     let sheet = SHEET.as_bytes();
-    let mut status = xbrlmerge_check(rt.alloc(), sheet, report, &mut checked, &mut refusal);
-    if status == NO_MEMORY {
-        let _ = eprintln!(rt; "refused");
-        status = xbrlmerge_check(rt.alloc(), sheet, report, &mut checked, &mut refusal);
-    }
+    let status = xbrlmerge_check(rt.alloc(), sheet, report, &mut checked, &mut refusal);
     (status, checked, refusal)
 }
 

@@ -7,9 +7,6 @@ use test_helpers::canonical_parts::HEAD;
 /// Two reports with this many spaces each are together larger than a megabyte.
 const SPACES: usize = 600_000;
 
-/// The folder for the files, which is not under version control.
-pub(super) const FOLDER: &str = "out/made";
-
 const OTHER_INFO: &str =
     r#"{"documentInfo":{"documentType":"https://xbrl.org/2021/xbrl-json","namespaces":{"zz":"http://example.org/t"}},"facts":{"#;
 
@@ -120,10 +117,19 @@ fn make_all(rt: &HostRuntime, files: &[(&str, &str, &str)]) -> Result<(), Fail> 
     Ok(())
 }
 
-pub(super) fn made(rt: &HostRuntime) -> Result<(), Fail> {
-    fs::create_dir_all(rt, FOLDER)?;
-    env::set_current_dir(rt, FOLDER)?;
+/// Makes the files in this folder, which is below `out`, and goes there. `out` is not under version
+/// control.
+pub(super) fn made(rt: &HostRuntime, folder: &str) -> Result<(), Fail> {
+    fs::create_dir_all(rt, folder)?;
+    env::set_current_dir(rt, folder)?;
     make_all(rt, FILES.as_slice())?;
     let spaces = repeated(rt, " ", SPACES)?;
     make(rt, "long", &[INFO, "}}", spaces.as_str()])
+}
+
+/// Goes back, and removes the folder.
+pub(super) fn removed(rt: &HostRuntime, folder: &str) -> Result<(), Fail> {
+    env::set_current_dir(rt, "../..")?;
+    let _ = fs::remove_dir_all(rt, folder);
+    Ok(())
 }

@@ -35,7 +35,7 @@ const BOTH: &[&str] = &[CONSISTENT_HEAD, ONE_URI, MIDDLE, FIRST, r#""101"}"#, EN
 /// The merged text of two facts, with the values 100 and 102.
 const WIDE: &[&str] = &[CONTRADICTING_HEAD, ONE_URI, MIDDLE, FIRST, r#""102"}"#, END];
 
-pub(super) const MERGED: [Row; 17] = [
+pub(super) const MERGED: [Row; 15] = [
     ("merge --sheet sheet", 0, EMPTY, ""),
     ("merge --sheet sheet 100", 0, ONE, ""),
     ("merge --sheet sheet zz 100 zz zz", 0, ONE, ""),
@@ -61,7 +61,6 @@ pub(super) const MERGED: [Row; 17] = [
         BOTH,
         "",
     ),
-    ("merge 100 --sheet sheet 101", 0, BOTH, ""),
     (
         "merge --allow=consistent --sheet=sheet -- 100 101",
         0,
@@ -76,12 +75,6 @@ pub(super) const MERGED: [Row; 17] = [
     ),
     (
         "merge --sheet sheet --allow none 100 101",
-        2,
-        &[],
-        TOO_LOOSE,
-    ),
-    (
-        "merge --sheet sheet --allow consistent 100 102",
         2,
         &[],
         TOO_LOOSE,

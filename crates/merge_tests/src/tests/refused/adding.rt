@@ -9,7 +9,7 @@ use oim_value::Level;
 use oim_write::StdSink;
 use std::alloc::AllocError;
 use std::test::Fail;
-use test_helpers::asked_again::{SHEET, joined, read_sheet, tell_refused};
+use test_helpers::asked_again::{SHEET, joined, may_repeat, read_sheet};
 use test_helpers::expecting::Expecting;
 
 // Tests reports that are added one at a time. After a refused request for memory, the report is
@@ -32,10 +32,7 @@ fn add(
     ensures { OnOk result (consolidation.new.reports ≡ consolidation.old.reports + 1) }
 {
     match consolidation.add(report.as_bytes()) {
-        Err(_) => {
-            tell_refused(rt);
-            consolidation.add(report.as_bytes())
-        }
+        Err(_) if may_repeat(rt) => consolidation.add(report.as_bytes()),
         added => added,
     }
 }
@@ -99,10 +96,7 @@ fn trace(rt: &HostRuntime, merge: &mut TracedMerge<'_>, report: &str) -> Result<
     ensures { OnOk result (merge.new.added.reports ≡ merge.old.added.reports + 1) }
 {
     match merge.add(report.as_bytes()) {
-        Err(_) => {
-            tell_refused(rt);
-            merge.add(report.as_bytes())
-        }
+        Err(_) if may_repeat(rt) => merge.add(report.as_bytes()),
         added => added,
     }
 }

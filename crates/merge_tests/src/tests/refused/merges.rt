@@ -7,7 +7,7 @@ use oim_value::Level;
 use oim_write::{Encoded, StdSink};
 use std::alloc::AllocError;
 use std::test::Fail;
-use test_helpers::asked_again::{SHEET, joined, read_sheet, tell_refused, tell_refused_here};
+use test_helpers::asked_again::{SHEET, joined, may_repeat, may_repeat_here, read_sheet};
 use test_helpers::expecting::Expecting;
 
 // Tests `consolidate`, `verdict_lines`, `source_lines` and `consolidate_bundle`. After a refused
@@ -15,20 +15,14 @@ use test_helpers::expecting::Expecting;
 
 fn encoded(rt: &HostRuntime, bytes: &[u8]) -> Result<Encoded, AllocError> {
     match Encoded::new(rt.alloc(), bytes) {
-        Err(_) => {
-            tell_refused(rt);
-            Encoded::new(rt.alloc(), bytes)
-        }
+        Err(_) if may_repeat(rt) => Encoded::new(rt.alloc(), bytes),
         made => made,
     }
 }
 
 fn room_for_reports(rt: &HostRuntime) -> Result<Vec<Encoded>, AllocError> {
     match Vec::with_capacity(rt.alloc(), 4) {
-        Err(_) => {
-            tell_refused_here(rt);
-            Vec::with_capacity(rt.alloc(), 4)
-        }
+        Err(_) if may_repeat_here(rt) => Vec::with_capacity(rt.alloc(), 4),
         room => room,
     }
 }

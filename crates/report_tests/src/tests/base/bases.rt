@@ -3,7 +3,7 @@ use crate::tests::reports::are_spelled;
 use fact_base::Base;
 use oim_report::Sheet;
 use oim_value::Level;
-use test_helpers::asked_again::{holds_under_sheet, joined, read, tell_refused};
+use test_helpers::asked_again::{holds_under_sheet, joined, may_repeat, read};
 
 const ONE: &str = r#""value":"1","decimals":0"#;
 
@@ -28,11 +28,7 @@ pub(super) fn join_once(base: &mut Base<'_>, other: &Base<'_>) -> bool {
 // is repeated.
 pub(super) fn join(rt: &HostRuntime, base: &mut Base<'_>, other: &Base<'_>) -> bool {
     let count = base.fact_count();
-    if join_once(base, other) {
-        return true;
-    }
-    tell_refused(rt);
-    base.fact_count() == count && join_once(base, other)
+    join_once(base, other) || base.fact_count() == count && may_repeat(rt) && join_once(base, other)
 }
 
 fn joins_two(rt: &HostRuntime, base: &mut Base<'_>) -> bool {
@@ -82,10 +78,7 @@ fn calls_once(rt: &HostRuntime, base: &mut Base<'_>, call: Call) -> Option<bool>
 
 fn calls(rt: &HostRuntime, base: &mut Base<'_>, call: Call) -> bool {
     match calls_once(rt, base, call) {
-        Some(false) => {
-            tell_refused(rt);
-            calls_once(rt, base, call) == Some(true)
-        }
+        Some(false) if may_repeat(rt) => calls_once(rt, base, call) == Some(true),
         done => done == Some(true),
     }
 }

@@ -1,13 +1,19 @@
 use super::bases::{join, join_once};
+use super::small_reports::add_once;
 use super::verdicts::judged;
 use super::{take_once, take_text};
-use fact_base::{Base, Evidence, Verdict};
+use fact_base::{Base, BaseBuilder, Evidence, Verdict};
 use oim_report::{Report, Sheet};
 use std::alloc::AllocError;
-use test_helpers::asked_again::{INFO, holds_under_sheet, read, space_for, tell_refused};
+use test_helpers::asked_again::{INFO, holds_under_sheet, may_repeat, read, space_for};
 
-// The facts have the numbers from 1 to `COUNT`, and one dimension set.
-const COUNT: usize = 400;
+// The facts have the numbers from 1 on, and one dimension set.
+
+// The number of facts that a base gets at once.
+const MANY: usize = 400;
+
+// The number of reports with one fact each.
+const SMALL: usize = 32;
 
 // More bytes than a report with all facts has.
 const LENGTH: usize = 40_000;
@@ -78,14 +84,14 @@ fn joined_in_pairs<'s>(
 
 fn are_all_apart(base: &Base<'_>) -> bool {
     base.row_count() == 1
-        && base.fact_count() == 400
-        && judged(base) == Some((Verdict::Inconsistent, Evidence::Apart(0, 399)))
+        && base.fact_count() == 32
+        && judged(base) == Some((Verdict::Inconsistent, Evidence::Apart(0, 31)))
 }
 
 fn is_taken_singly(rt: &HostRuntime, all: &Base<'_>) -> bool {
     let mut each = Base::new(rt.alloc(), all.sheet());
-    for taken in 0..COUNT {
-        if !take_report(rt, &mut each, COUNT - taken, 1) {
+    for taken in 0..SMALL {
+        if !take_report(rt, &mut each, SMALL - taken, 1) {
             return false;
         }
     }
@@ -93,25 +99,82 @@ fn is_taken_singly(rt: &HostRuntime, all: &Base<'_>) -> bool {
 }
 
 fn is_joined(rt: &HostRuntime, all: &Base<'_>) -> bool {
-    match joined_in_pairs(rt, all.sheet(), 1, COUNT) {
+    match joined_in_pairs(rt, all.sheet(), 1, SMALL) {
         Some(joined) => joined.same_as(all),
         None => false,
     }
 }
 
-fn are_many_one_base(rt: &HostRuntime, sheet: &Sheet) -> bool {
-    match base_of(rt, sheet, 1, COUNT) {
+fn are_all_one_base(rt: &HostRuntime, sheet: &Sheet) -> bool {
+    match base_of(rt, sheet, 1, SMALL) {
         Some(all) => are_all_apart(&all) && is_taken_singly(rt, &all) && is_joined(rt, &all),
         None => false,
     }
 }
 
 #[test]
-fn many_facts_of_one_dimension_set_are_one_base(rt: HostRuntime) {
-    assert!(rt; holds_under_sheet(&rt, are_many_one_base));
+fn facts_of_one_dimension_set_are_one_base(rt: HostRuntime) {
+    assert!(rt; holds_under_sheet(&rt, are_all_one_base));
 }
 
-// Many facts that a base gets at once.
+// Adds a report. Returns `Some(false)` if memory for `add` is refused; the report is then lost.
+fn adds_once(
+    rt: &HostRuntime,
+    builder: &mut BaseBuilder<'_>,
+    first: usize,
+    count: usize,
+) -> Option<bool> {
+    let text = report_of(rt, first, count).ok()?;
+    let report = read(rt, builder.sheet(), &text).ok()?;
+    add_once(builder, report)
+}
+
+fn adds(rt: &HostRuntime, builder: &mut BaseBuilder<'_>, first: usize, count: usize) -> bool {
+    match adds_once(rt, builder, first, count) {
+        Some(false) if may_repeat(rt) => adds_once(rt, builder, first, count) == Some(true),
+        added => added == Some(true),
+    }
+}
+
+// Adds each fact after the first `MANY` in its own report.
+fn adds_small(rt: &HostRuntime, builder: &mut BaseBuilder<'_>) -> bool {
+    for added in 0..SMALL {
+        if !adds(rt, builder, MANY + SMALL - added, 1) {
+            return false;
+        }
+    }
+    true
+}
+
+fn gather<'s>(rt: &HostRuntime, sheet: &'s Sheet) -> Option<Result<Base<'s>, AllocError>> {
+    let mut builder = BaseBuilder::new(rt.alloc(), sheet);
+    if !adds(rt, &mut builder, 1, MANY) || !adds_small(rt, &mut builder) {
+        return None;
+    }
+    Some(builder.into_base())
+}
+
+// If memory for the base is refused, all reports are added again.
+fn gathered<'s>(rt: &HostRuntime, sheet: &'s Sheet) -> Option<Base<'s>> {
+    match gather(rt, sheet)? {
+        Err(_) if may_repeat(rt) => gather(rt, sheet)?.ok(),
+        base => base.ok(),
+    }
+}
+
+fn are_small_reports_added(rt: &HostRuntime, sheet: &Sheet) -> bool {
+    match (gathered(rt, sheet), base_of(rt, sheet, 1, MANY + SMALL)) {
+        (Some(base), Some(all)) => base.same_as(&all),
+        _ => false,
+    }
+}
+
+#[test]
+fn many_small_reports_are_added_to_a_large_base(rt: HostRuntime) {
+    assert!(rt; holds_under_sheet(&rt, are_small_reports_added));
+}
+
+// How a base gets many facts at once.
 #[derive(Clone, Copy)]
 enum Many<'a, 's> {
     Report(&'a Report<'s>),
@@ -131,23 +194,22 @@ fn gets(rt: &HostRuntime, two: &Base<'_>, many: Many<'_, '_>) -> bool {
     let Some(mut base) = base_of(rt, two.sheet(), 100, 2) else {
         return false;
     };
-    if !gets_once(&mut base, many) {
-        tell_refused(rt);
-        if !base.same_as(two) || !gets_once(&mut base, many) {
-            return false;
-        }
+    if !gets_once(&mut base, many)
+        && (!base.same_as(two) || !may_repeat(rt) || !gets_once(&mut base, many))
+    {
+        return false;
     }
     base.fact_count() == 400
 }
 
 fn takes_report(rt: &HostRuntime, two: &Base<'_>) -> Option<bool> {
-    let text = report_of(rt, 1, COUNT).ok()?;
+    let text = report_of(rt, 1, MANY).ok()?;
     let many = read(rt, two.sheet(), &text).ok()?;
     Some(gets(rt, two, Many::Report(&many)))
 }
 
 fn joins_base(rt: &HostRuntime, two: &Base<'_>) -> bool {
-    match base_of(rt, two.sheet(), 1, COUNT) {
+    match base_of(rt, two.sheet(), 1, MANY) {
         Some(many) => gets(rt, two, Many::Base(&many)),
         None => false,
     }

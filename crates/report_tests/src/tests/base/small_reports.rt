@@ -6,7 +6,7 @@ use super::{OF_A, base_between};
 use fact_base::{Base, BaseBuilder};
 use oim_report::{Report, Sheet};
 use std::alloc::AllocError;
-use test_helpers::asked_again::{holds_under_sheet, joined, read, tell_refused};
+use test_helpers::asked_again::{holds_under_sheet, joined, may_repeat, read};
 
 // The text of a report, up to its reference.
 const START: &str =
@@ -32,7 +32,7 @@ const PARTS: [&str; 9] = [
     r#"10.xsd"]},"facts":{"a":{"value":"10","decimals":0"#,
 ];
 
-fn add_once<'s>(builder: &mut BaseBuilder<'s>, report: Report<'s>) -> Option<bool> {
+pub(super) fn add_once<'s>(builder: &mut BaseBuilder<'s>, report: Report<'s>) -> Option<bool> {
     if !builder.sheet().same_as(report.sheet()) {
         return None;
     }
@@ -48,10 +48,7 @@ fn add(rt: &HostRuntime, builder: &mut BaseBuilder<'_>, part: &str, end: &str) -
 
 fn adds(rt: &HostRuntime, builder: &mut BaseBuilder<'_>, part: &str, end: &str) -> bool {
     match add(rt, builder, part, end) {
-        Some(false) => {
-            tell_refused(rt);
-            add(rt, builder, part, end) == Some(true)
-        }
+        Some(false) if may_repeat(rt) => add(rt, builder, part, end) == Some(true),
         added => added == Some(true),
     }
 }
@@ -73,11 +70,8 @@ fn gather<'s>(
 // If memory for the base is refused, all reports are added again.
 fn gathered_of<'s>(rt: &HostRuntime, sheet: &'s Sheet, end: &str) -> Option<Base<'s>> {
     match gather(rt, sheet, end)? {
-        Ok(base) => Some(base),
-        Err(_) => {
-            tell_refused(rt);
-            gather(rt, sheet, end)?.ok()
-        }
+        Err(_) if may_repeat(rt) => gather(rt, sheet, end)?.ok(),
+        base => base.ok(),
     }
 }
 

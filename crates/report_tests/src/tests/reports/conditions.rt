@@ -1,6 +1,7 @@
 use super::{END, FACT, Outcome, Table};
 
-pub(super) const TABLES: &[Table<Outcome>] = &[Table {
+/// Conditions on the form, the names and the taxonomy-defined dimensions of a fact.
+pub(super) const NAMES: &[Table<Outcome>] = &[Table {
     start: FACT,
     rows: &[
         // the form of a fact
@@ -91,7 +92,14 @@ pub(super) const TABLES: &[Table<Outcome>] = &[Table {
                 r#"{"value":"1","dimensions":{"concept":"eg:A","eg:Sku":"a","zz:Sku":"a"}}"#,
             ],
         ),
-        // the period, the unit and the language of a fact
+    ],
+    end: END,
+}];
+
+/// Conditions on the period, the unit, the language, the value and the decimals of a fact.
+pub(super) const VALUES: &[Table<Outcome>] = &[Table {
+    start: FACT,
+    rows: &[
         (
             (19, 1), // PeriodForm
             &[r#"{"value":"1","dimensions":{"concept":"eg:A","period":"2020-12-31"}}"#],
@@ -121,7 +129,6 @@ pub(super) const TABLES: &[Table<Outcome>] = &[Table {
             (24, 1), // LanguageOnNumeric
             &[r#"{"value":"1","dimensions":{"concept":"eg:A","language":"en"}}"#],
         ),
-        // the value and the decimals of a fact
         (
             (25, 1), // ValueForm
             &[

@@ -227,8 +227,13 @@ fn values_and_dimensions_have_their_forms(rt: HostRuntime) {
 }
 
 #[test]
-fn each_condition_on_a_fact_is_answered(rt: HostRuntime) {
-    assert!(rt; hold(&rt, conditions::TABLES));
+fn each_condition_on_a_name_is_answered(rt: HostRuntime) {
+    assert!(rt; hold(&rt, conditions::NAMES));
+}
+
+#[test]
+fn each_condition_on_a_value_is_answered(rt: HostRuntime) {
+    assert!(rt; hold(&rt, conditions::VALUES));
 }
 
 #[test]

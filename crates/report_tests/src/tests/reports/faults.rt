@@ -1,4 +1,4 @@
-use super::{END, Outcome, SHEET, is_outcome, joined, read_sheet, tell_refused, told};
+use super::{END, Outcome, SHEET, is_outcome, joined, may_repeat, read_sheet, told};
 use oim_report::{Faults, Refusal, Sheet, faults};
 use std::alloc::AllocError;
 use std::test::Fail;
@@ -107,10 +107,7 @@ const FACTS: Rows<'static> = &[
 
 fn faults_of(rt: &HostRuntime, sheet: &Sheet, bytes: &[u8]) -> Result<Faults, AllocError> {
     match faults(rt.alloc(), sheet, bytes) {
-        Err(_) => {
-            tell_refused(rt);
-            faults(rt.alloc(), sheet, bytes)
-        }
+        Err(_) if may_repeat(rt) => faults(rt.alloc(), sheet, bytes),
         found => found,
     }
 }

@@ -1,4 +1,4 @@
-use super::{are_spelled, tell_refused};
+use super::{are_spelled, may_repeat};
 use oim_names::{Reason, Text};
 use oim_report::{Refusal, Report, ReportReader, Sheet, fact_identifiers};
 use oim_value::Value;
@@ -6,10 +6,7 @@ use test_helpers::asked_again::{holds_under_sheet, is_want_of_memory};
 
 fn identifiers(rt: &HostRuntime, text: &str) -> Result<Vec<Text>, Reason> {
     match fact_identifiers(rt.alloc(), text.as_bytes()) {
-        Err(Reason::OutOfMemory) => {
-            tell_refused(rt);
-            fact_identifiers(rt.alloc(), text.as_bytes())
-        }
+        Err(Reason::OutOfMemory) if may_repeat(rt) => fact_identifiers(rt.alloc(), text.as_bytes()),
         answer => answer,
     }
 }
@@ -59,10 +56,9 @@ fn identified<'s>(
     text: &str,
 ) -> Result<Identified<'s>, Refusal> {
     match identified_once(reader, text) {
-        Err(refusal) if is_want_of_memory(refusal) => {
-            tell_refused(rt);
-            identified_once(reader, text)
-        }
+        Err(refusal) if is_want_of_memory(refusal) && may_repeat(rt) => identified_once(
+            reader, text,
+        ),
         answer => answer,
     }
 }

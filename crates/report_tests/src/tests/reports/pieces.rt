@@ -1,5 +1,5 @@
 use super::{
-    Answer, Comes, HasLevel, Outcome, SHEET, is_answer, read_sheet, repeated, tell_refused_here,
+    Answer, Comes, HasLevel, Outcome, SHEET, is_answer, may_repeat_here, read_sheet, repeated,
 };
 use oim_report::Sheet;
 use oim_value::Level;
@@ -49,10 +49,7 @@ const REFUSED: [(Outcome, &str); 3] = [
 
 fn replaced(rt: &HostRuntime, text: &str, letters: &str) -> Result<String, AllocError> {
     match text.replace(rt.alloc(), "@", letters) {
-        Err(_) => {
-            tell_refused_here(rt);
-            text.replace(rt.alloc(), "@", letters)
-        }
+        Err(_) if may_repeat_here(rt) => text.replace(rt.alloc(), "@", letters),
         made => made,
     }
 }

@@ -2,7 +2,7 @@
 
 use oim_names::Name;
 use oim_report::{Refusal, Report, ReportReader, Sheet};
-use test_helpers::asked_again::{holds_under_sheet, is_want_of_memory, joined, tell_refused};
+use test_helpers::asked_again::{holds_under_sheet, is_want_of_memory, joined, may_repeat};
 
 // The parts of a report with one fact, before and after the URI that `x` is bound to.
 const START: &str =
@@ -22,10 +22,7 @@ fn read<'s>(
     bytes: &[u8],
 ) -> Result<Report<'s>, Refusal> {
     match read_once(reader, bytes) {
-        Err(refusal) if is_want_of_memory(refusal) => {
-            tell_refused(rt);
-            read_once(reader, bytes)
-        }
+        Err(refusal) if is_want_of_memory(refusal) && may_repeat(rt) => read_once(reader, bytes),
         answer => answer,
     }
 }

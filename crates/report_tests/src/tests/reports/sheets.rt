@@ -1,4 +1,4 @@
-use super::{read_sheet, tell_refused, told};
+use super::{may_repeat, read_sheet, told};
 use oim_names::{Aliases, Name, Reason};
 use oim_report::{ConceptKind, DimensionKind, Sheet};
 use std::test::Fail;
@@ -103,10 +103,7 @@ const SHEET: &str =
 
 fn bind(rt: &HostRuntime, aliases: &mut Aliases, prefix: &str, uri: &str) -> Result<(), Reason> {
     match aliases.add(prefix, uri) {
-        Err(Reason::OutOfMemory) => {
-            tell_refused(rt);
-            aliases.add(prefix, uri)
-        }
+        Err(Reason::OutOfMemory) if may_repeat(rt) => aliases.add(prefix, uri),
         answer => answer,
     }
 }
@@ -120,10 +117,7 @@ fn aliases_of(rt: &HostRuntime) -> Result<Aliases, Reason> {
 
 fn read_name(rt: &HostRuntime, aliases: &Aliases, text: &str) -> Result<Name, Reason> {
     match aliases.expand(text) {
-        Err(Reason::OutOfMemory) => {
-            tell_refused(rt);
-            aliases.expand(text)
-        }
+        Err(Reason::OutOfMemory) if may_repeat(rt) => aliases.expand(text),
         answer => answer,
     }
 }

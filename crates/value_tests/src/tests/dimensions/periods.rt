@@ -1,35 +1,26 @@
-use crate::tests::asked_again::tell_refused;
 use oim_dims::{Period, read_language, read_period, write_period};
 use oim_names::{Reason, Text};
 use std::alloc::AllocError;
+use test_helpers::asked_again::may_repeat;
 
 // The call is repeated if memory is refused.
 pub(super) fn period(rt: &HostRuntime, spelled: &str) -> Result<Period, Reason> {
     match read_period(rt.alloc(), spelled) {
-        Err(Reason::OutOfMemory) => {
-            tell_refused(rt);
-            read_period(rt.alloc(), spelled)
-        }
+        Err(Reason::OutOfMemory) if may_repeat(rt) => read_period(rt.alloc(), spelled),
         answer => answer,
     }
 }
 
 fn period_text(rt: &HostRuntime, period: &Period) -> Result<Option<Text>, AllocError> {
     match write_period(rt.alloc(), period) {
-        Err(_) => {
-            tell_refused(rt);
-            write_period(rt.alloc(), period)
-        }
+        Err(_) if may_repeat(rt) => write_period(rt.alloc(), period),
         answer => answer,
     }
 }
 
 pub(super) fn language(rt: &HostRuntime, spelled: &str) -> Result<Text, Reason> {
     match read_language(rt.alloc(), spelled) {
-        Err(Reason::OutOfMemory) => {
-            tell_refused(rt);
-            read_language(rt.alloc(), spelled)
-        }
+        Err(Reason::OutOfMemory) if may_repeat(rt) => read_language(rt.alloc(), spelled),
         answer => answer,
     }
 }

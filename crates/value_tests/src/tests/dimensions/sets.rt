@@ -1,11 +1,12 @@
 use super::periods::{language, period};
 use super::{example, unit};
-use crate::tests::asked_again::{equals_its_copy, expand, tell_refused, text};
+use crate::tests::asked_again::{equals_its_copy, expand, text};
 use oim_dims::{Dimensions, Fact, Member, Period};
 use oim_names::{Aliases, Name, Reason};
 use oim_value::Value;
 use std::alloc::AllocError;
 use std::test::Fail;
+use test_helpers::asked_again::{may_repeat, may_repeat_here};
 
 enum Kind {
     Name,
@@ -53,10 +54,9 @@ fn add(
 ) -> Result<(), Reason> {
     let count = set.members().len();
     match add_once(rt, set, aliases, spelled, kind) {
-        Err(Reason::OutOfMemory) if set.members().len() == count => {
-            tell_refused(rt);
-            add_once(rt, set, aliases, spelled, kind)
-        }
+        Err(Reason::OutOfMemory) if set.members().len() == count && may_repeat(rt) => add_once(
+            rt, set, aliases, spelled, kind,
+        ),
         answer => answer,
     }
 }
@@ -214,10 +214,7 @@ const ROOM: usize = 4;
 
 fn room(rt: &HostRuntime) -> Result<Vec<(Name, Member)>, AllocError> {
     match Vec::with_capacity(rt.alloc(), ROOM) {
-        Err(_) => {
-            let _ = eprintln!(rt; "refused here");
-            Vec::with_capacity(rt.alloc(), ROOM)
-        }
+        Err(_) if may_repeat_here(rt) => Vec::with_capacity(rt.alloc(), ROOM),
         room => room,
     }
 }

@@ -1,20 +1,18 @@
 use super::{example, unit};
-use crate::tests::asked_again::{aliases_of, tell_refused};
+use crate::tests::asked_again::aliases_of;
 use oim_dims::{Unit, can_write_unit, unit_refusal, write_unit};
 use oim_names::{Aliases, Name, Reason, Text};
 use std::alloc::AllocError;
 use std::test::Fail;
+use test_helpers::asked_again::may_repeat;
 
 fn unit_text(rt: &HostRuntime, aliases: &Aliases, unit: &Unit) -> Result<Option<Text>, AllocError> {
     if !can_write_unit(aliases, unit) {
         return Ok(None);
     }
     match write_unit(rt.alloc(), aliases, unit) {
-        Err(_) => {
-            tell_refused(rt);
-            Ok(Some(write_unit(rt.alloc(), aliases, unit)?))
-        }
-        Ok(text) => Ok(Some(text)),
+        Err(_) if may_repeat(rt) => Ok(Some(write_unit(rt.alloc(), aliases, unit)?)),
+        written => Ok(Some(written?)),
     }
 }
 

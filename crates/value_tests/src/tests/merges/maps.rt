@@ -1,8 +1,9 @@
-use super::{Counted, Items, copied, has_just, merge, room, set_of, tell_refused, text};
+use super::{Counted, Items, copied, has_just, merge, room, set_of, text};
 use merge_laws::SortedMap;
 use oim_names::Text;
 use std::alloc::AllocError;
 use std::test::Fail;
+use test_helpers::asked_again::may_repeat;
 
 type ItemsAt = SortedMap<Text, Items>;
 
@@ -21,10 +22,7 @@ impl Counted for ItemsAt {
 fn put(rt: &HostRuntime, map: &mut ItemsAt, key: &Text, items: &Items) -> Result<(), AllocError> {
     let count = map.item_count();
     match map.put(key, items) {
-        Err(_) if map.item_count() == count => {
-            tell_refused(rt);
-            map.put(key, items)
-        }
+        Err(_) if map.item_count() == count && may_repeat(rt) => map.put(key, items),
         done => done,
     }
 }
@@ -80,10 +78,7 @@ fn merge_rows(rt: &HostRuntime, map: &mut ItemsAt, rows: &[Row]) -> Result<(), A
 
 fn absorb_rows(rt: &HostRuntime, map: &mut ItemsAt, rows: &[Row]) -> Result<(), AllocError> {
     match map.absorb(map_of(rt, rows)?) {
-        Err(_) => {
-            tell_refused(rt);
-            map.absorb(map_of(rt, rows)?)
-        }
+        Err(_) if may_repeat(rt) => map.absorb(map_of(rt, rows)?),
         absorbed => absorbed,
     }
 }

@@ -1,9 +1,10 @@
-use super::{Counted, copied, merge, tell_refused, text};
+use super::{Counted, copied, merge, text};
 use crate::tests::values::{UNIT, finite};
 use merge_laws::{SortedMap, Summary};
 use oim_value::{Decimals, Interval, Value, read_fixed};
 use std::alloc::AllocError;
 use std::test::Fail;
+use test_helpers::asked_again::may_repeat;
 
 // A summary has one item if it has ends.
 impl Counted for Summary {
@@ -102,10 +103,7 @@ fn put(
     summary: &Summary,
 ) -> Result<(), AllocError> {
     match map.put(&finite(key), summary) {
-        Err(_) => {
-            tell_refused(rt);
-            map.put(&finite(key), summary)
-        }
+        Err(_) if may_repeat(rt) => map.put(&finite(key), summary),
         done => done,
     }
 }
