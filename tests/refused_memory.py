@@ -4,24 +4,23 @@
     [JOBS=N] tests/refused_memory [CRATE | program ..]
 
 The tests of a crate are crates/NAME/out/NAME_tests, which `rt test` makes. The program is ./xbrlmerge, or
-crates/xbrlmerge/out/xbrlmerge if that does not exist. Without arguments, the script tests all crates with tests, and the
-program. A first run of each test counts the requests. A second run, set to refuse the request after the last one, must refuse
-none. Each later run refuses one request. A test must pass and print that a call got no memory (`refused`) or that its own
-setup got none (`refused here`). If the test prints neither, the request counts as passed over. The program runs on each
-command line in LINES. The program must print the line `out of memory` and end with status 3. Before this line, the program may
-write a first part of its text. Two kinds of requests may be refused without harm, and then the program may end as if nothing
-was refused: those for a smaller block, which returns unused memory, and those of clap, which searches for similar words on the
-lines in ASKS_CLAP. If a test in DOES_WITHOUT prints neither line, the request counts as a whole answer;
-a line reports how many there are. In the tests in DEVICE_FAILS_TOO, no request counts as passed over. JOBS processes run in
-parallel, as many as there are processors by default. If a test makes more than 5,000 requests, only each 7th is refused from
-request 2,001 on. Fewer are refused if a test makes more than 50,000 requests, or if its runs are long. A line reports which.
+crates/xbrlmerge/out/xbrlmerge if that does not exist. Without arguments, the script tests all crates that use `test_helpers`,
+and the program. A first run of each test counts the requests and refuses none; it must pass, and no call may return want of
+memory. A second run, set to refuse the request after the last one, must do the same. Then each request is refused in a run of
+its own. A test must pass and print that a call got no memory (`refused`) or that its own setup got none (`refused here`). The
+program runs on each command line in LINES. The program must print the line `out of memory` and end with status 3. Before this
+line, the program may write a first part of its text. Two kinds of requests may be refused without harm, and then a test may
+print neither line, and the program may end as if nothing was refused: those for a smaller block, which returns unused memory,
+and those of clap, which searches for similar words in the tests and on the lines in ASKS_CLAP. Any other request counts as
+passed over, except in the tests in DEVICE_FAILS_TOO. JOBS processes run in parallel, as many as there are processors by
+default. The last line is the commit.
 
-Status 0: nothing failed and nothing was passed over. 1: something failed or was passed over, or no run of a crate in
-WRITES_FRONTS had written a first part. 2: a name is unknown, there is no cc, or a built file is missing or out of date.
+Status 0: nothing failed and nothing was passed over. 1: something failed or was passed over, a call returned want of memory
+with nothing refused, or no run of a crate in WRITES_FRONTS had written a first part. 2: a name is unknown, there is no cc, or a
+built file is missing or out of date.
 """
 import argparse
 import collections
-import itertools
 import json
 import multiprocessing
 import os
@@ -36,20 +35,15 @@ from support import BUILT, TOP, bytes_of, content
 
 PROGRAM = "program"
 JOBS = int(os.environ.get("JOBS", len(os.sched_getaffinity(0))))
-# if a test makes more than MANY requests, the first ALL are refused, and then each EVERY-th
-MANY, ALL, EVERY = 5000, 2000, 7
-# if a test makes more than MOST requests, at most FEW are refused, spread evenly; such tests let a device fail at each byte.
-# Otherwise, if the runs would take more than SECONDS one after another, fewer requests are refused, so that the runs fit into
-# SECONDS; at least 50 are refused
-MOST, FEW, SECONDS = 50_000, 1000, 240
 # how many requests a task refuses at most, and the time limit of a run in seconds
 SHARE, LIMIT = 40, 60
 # a sink takes at least this many bytes at a time, except the last time
 CHUNK = 1 << 16
 SHOWN = 20
-CALL, HERE, WHOLE, DEVICE, PASSED, FAILED = "refused calls", "refused here", "whole answers", "device first", "passed over", "failed"
+CALL, HERE, SMALLER, CLAP = "refused calls", "refused here", "memory kept", "clap searched less"
+DEVICE, PASSED, FAILED = "device first", "passed over", "failed"
 CLOCK, PROCESSOR = "seconds", "of a processor"
-COLUMNS = ("tests", "requests", "refused in turn", CALL, HERE, WHOLE, DEVICE, PASSED, FAILED, CLOCK, PROCESSOR)
+COLUMNS = ("tests", "requests", "refused in turn", CALL, HERE, SMALLER, CLAP, DEVICE, PASSED, FAILED, CLOCK, PROCESSOR)
 
 
 def labels(names_of_crates):
@@ -62,14 +56,8 @@ def labels(names_of_crates):
 DEVICE_FAILS_TOO = labels({
     "merge_tests": "sources::sources_are_written_up_to_a_place writers:: written::writers::a_writer_may_stop",
     "command_tests": "files:: run::a_full_device run::an_output_that_failed"})
-# these tests read an accepted report, read a source to its end, or give clap a wrong word
-DOES_WITHOUT = labels({
-    "report_tests": "base:: explained::faults_of_reports reports::accepted:: reports::documents:: reports::facts:: reports::faults:: "
-                    "reports::identifiers::a_report reports::limits:: reports::pieces:: reports::readers:: reports::said::",
-    "merge_tests": "calls:: checked:: io::long_sources io::sources refused:: replay::by_hand:: replay::schedules:: rows:: "
-                   "sinks::prefixes sources::each_fact_object texts::levels::a_text_is_held texts::parts:: texts::texts",
-    "command_tests": "run::a_failing_standard_error run::a_refused run::a_text_that_is_not_flushed run::no_report "
-                     "terminals::standard_input words::other_words words::usage"})
+# in these tests and on these command lines, a word is wrong, so clap searches for similar words
+ASKS_CLAP = (*labels({"command_tests": "words::other_words words::usage"}), f"{PROGRAM} merge --sheet s --allow some", f"{PROGRAM} report")
 # the tests of these crates print how much of a text was written before a call got no memory
 WRITES_FRONTS = {"merge_tests"}
 
@@ -77,8 +65,8 @@ WRITES_FRONTS = {"merge_tests"}
 Subject = collections.namedtuple("Subject", "label command given whole")
 # `came` and `smaller`: whether a request was refused, and whether it was for a smaller block
 Ran = collections.namedtuple("Ran", "status out err came smaller requests")
-# a subject with nothing refused: its requests, the seconds of a run, and its faults
-Counted = collections.namedtuple("Counted", "requests seconds wrong")
+# a subject with nothing refused: its requests and its faults
+Counted = collections.namedtuple("Counted", "requests wrong")
 
 
 class NotBuilt(Exception):
@@ -95,8 +83,18 @@ def sources_of(crate):
             for name in names if name.endswith(".rt")]
 
 
-def has_tests(crate):
-    return any("#[test]" in content(it) for it in sources_of(crate))
+def crates_with_tests():
+    """Returns the crates of tests that repeat a call after a refused request."""
+    return re.findall(r"^(\w+):.*\btest_helpers\b", content("crates.txt"), re.MULTILINE)
+
+
+def with_dependencies(crate):
+    """Returns the crate and all crates of this repository that it depends on."""
+    lines = dict(re.findall(r"^(\w+)[^:#\n]*:(.*)", content("crates.txt"), re.MULTILINE))
+    found = [crate]
+    for name in found:
+        found += [it for it in lines[name].split() if it in lines and it not in found]
+    return found
 
 
 def is_older(built, crates):
@@ -145,12 +143,23 @@ def run(library, subject, number):
     return Ran(status, out, err, "refused" in told, "smaller" in told, int(told[-1]) if counted else None)
 
 
+def refusals_told(ran):
+    """Returns the lines in which a test reports that a call, or its own setup, got no memory."""
+    return set(re.findall(rb"^ *(refused(?: here)?)$", ran.out + b"\n" + ran.err, re.MULTILINE))
+
+
+def ending_without_harm(subject, ran):
+    """Classifies the result of a run that ended as if nothing was refused."""
+    return SMALLER if ran.smaller else CLAP if subject.label.startswith(ASKS_CLAP) else PASSED
+
+
 def ending_of_test(subject, ran):
     if ran.status != 0:
         return FAILED
-    said = set(re.findall(rb"^ *(refused(?: here)?)$", ran.out + b"\n" + ran.err, re.MULTILINE))
-    untold = DEVICE if subject.label.startswith(DEVICE_FAILS_TOO) else WHOLE if subject.label.startswith(DOES_WITHOUT) else PASSED
-    return CALL if b"refused" in said else HERE if said else untold
+    said = refusals_told(ran)
+    if said:
+        return CALL if b"refused" in said else HERE
+    return DEVICE if subject.label.startswith(DEVICE_FAILS_TOO) else ending_without_harm(subject, ran)
 
 
 def ending_of_program(subject, ran):
@@ -158,7 +167,7 @@ def ending_of_program(subject, ran):
     if (ran.status, ran.err) == (3, b"out of memory\n") and whole.out.startswith(ran.out):
         return CALL
     if (ran.status, ran.out, ran.err) == (whole.status, whole.out, whole.err):
-        return WHOLE if ran.smaller or subject.label in ASKS_CLAP else PASSED
+        return ending_without_harm(subject, ran)
     return FAILED
 
 
@@ -192,82 +201,65 @@ def spent():
 
 
 def refuse(task):
-    """Refuses these requests in turn. Returns the counts of the results, and of the subject's whole answers, and all faults."""
+    """Refuses these requests in turn. Returns the counts of the results and all faults."""
     library, subject, numbers = task
     counts, wrong, before = collections.Counter(), [], spent()
     for number in numbers:
         ran = run(library, subject, number)
         ends = ending(subject, ran)
         counts.update(("refused in turn", ends))
-        counts.update(fronts_of(subject, ran) if ends == CALL else [subject] if ends == WHOLE else ())
+        counts.update(fronts_of(subject, ran) if ends == CALL else ())
         if ends in (PASSED, FAILED):
             wrong.append(f"{subject.label}, request {number}: {ends}: {told_of(subject, ran)}")
     counts[PROCESSOR] = spent() - before
     return counts, wrong
 
 
+def is_whole(subject, ran):
+    """Returns whether a run with nothing refused ended well, and no call returned want of memory."""
+    if ran.requests is None or ran.came:
+        return False
+    return ran.err != b"out of memory\n" if subject.whole else ran.status == 0 and not refusals_told(ran)
+
+
 def count_requests(task):
     """Counts the requests of a subject with nothing refused. A second run, set to refuse the request after the last one, must
-    make the same number of requests and refuse none."""
+    make the same number of requests and end in the same way."""
     library, subject = task
-    started = time.monotonic()
     ran = run(library, subject, 0)
-    if ran.requests is None or (subject.whole is None and ran.status != 0):
-        return Counted(0, 0, [f"{subject.label}, with nothing refused: {told_of(subject, ran)}"])
+    if not is_whole(subject, ran):
+        return Counted(0, [f"{subject.label}, with nothing refused: {told_of(subject, ran)}"])
     behind = run(library, subject, ran.requests + 1)
-    seconds = (time.monotonic() - started) / 2
-    is_end = (behind.status, behind.came, behind.requests) == (ran.status, False, ran.requests)
-    wrong = [] if is_end else [f"{subject.label}: the first run made {ran.requests} requests, the second {behind.requests}"]
-    return Counted(ran.requests, seconds, wrong)
+    if not is_whole(subject, behind) or (behind.status, behind.requests) != (ran.status, ran.requests):
+        return Counted(ran.requests, [f"{subject.label}: the first run made {ran.requests} requests, the second {behind.requests}: "
+                                      f"{told_of(subject, behind)}"])
+    return Counted(ran.requests, [])
 
 
-def numbers_of(counted):
-    """Returns the numbers of the requests to refuse in turn, and a line that describes them if some requests are left out."""
-    requests = counted.requests
-    if requests > MOST:
-        return spread(requests, FEW)
-    numbers, said = range(1, requests + 1), None
-    if requests > MANY:
-        numbers = [*range(1, ALL + 1), *range(ALL + 1, requests + 1, EVERY)]
-        said = f"of {requests:,} requests, only each {EVERY}th was refused from request {ALL + 1:,} on"
-    scratch = int(SECONDS / max(counted.seconds, 0.001))
-    return spread(requests, max(scratch, 100)) if len(numbers) > max(scratch, 100) else (numbers, said)
-
-
-def spread(requests, many):
-    """Returns at most this many request numbers, spread evenly from the first on, and a line that describes them."""
-    step = -(-requests // many)
-    return range(1, requests + 1, step), f"of {requests:,} requests, each {step:,}th was refused from the first on"
-
-
-def shared_out(library, subject, numbers):
+def shared_out(library, subject, requests):
     """Returns the tasks of a subject, each with at most SHARE request numbers."""
-    numbers = iter(numbers)
-    return [(library, subject, part) for part in iter(lambda: list(itertools.islice(numbers, SHARE)), [])]
+    return [(library, subject, range(first, min(first + SHARE, requests + 1))) for first in range(1, requests + 1, SHARE)]
 
 
 def sweep(pool, library, subjects):
-    """Refuses the requests of each subject. Returns the row of the table, the faults, a line for each subject whose requests were
-    not all refused, and a line for each test in DOES_WITHOUT."""
+    """Refuses the requests of each subject. Returns the row of the table and the faults."""
     started = time.monotonic()
     all_counted = pool.map(count_requests, [(library, subject) for subject in subjects], 1)
     wrong = [line for counted in all_counted for line in counted.wrong]
     row = collections.Counter({"tests": len(subjects), FAILED: len(wrong)})
-    tasks, thinned = [], []
+    tasks = []
     for subject, counted in zip(subjects, all_counted):
-        numbers, said = numbers_of(counted)
-        tasks += shared_out(library, subject, numbers)
+        tasks += shared_out(library, subject, counted.requests)
         row["requests"] += counted.requests
-        thinned += [f"{subject.label}: {said}"] if said else []
     for counts, lines in pool.imap_unordered(refuse, tasks):
         row += counts
         wrong += lines
     row[CLOCK] = round(time.monotonic() - started)
-    return row, wrong, thinned + [f"{it.label}: {row[it]:,} whole answers" for it in subjects if it.label.startswith(DOES_WITHOUT)]
+    return row, wrong
 
 
 def tests_of(crate):
-    built = newest([f"{TOP}/crates/{crate}/out/{crate}_tests"], [crate])
+    built = newest([f"{TOP}/crates/{crate}/out/{crate}_tests"], with_dependencies(crate))
     listed = subprocess.run([built, "--list"], capture_output=True, text=True, check=True).stdout
     names = re.findall(r"^(.+): test$", listed, re.MULTILINE)
     if not names:
@@ -345,8 +337,6 @@ replay --replicas 65 --sheet s --events e
 merge --sheet s --allow some
 report
 """
-# on these lines, a word is wrong, so clap searches for similar words
-ASKS_CLAP = {f"{PROGRAM} {line}" for line in ("merge --sheet s --allow some", "report")}
 
 
 def lines_of_program(library, scratch):
@@ -371,8 +361,14 @@ def table(rows):
     return "\n".join(f"| {' | '.join(line)} |" for line in lines)
 
 
+def commit():
+    """Returns the commit of the working tree, with a mark if a file under version control was changed since."""
+    words = ["git", "-C", TOP, "describe", "--always", "--abbrev=12", "--match=", "--dirty=, with changes"]
+    return subprocess.run(words, capture_output=True, text=True, check=True).stdout.strip()
+
+
 def main():
-    names = [*filter(has_tests, crate_names()), PROGRAM]
+    names = [*crates_with_tests(), PROGRAM]
     parser = argparse.ArgumentParser(description=__doc__, formatter_class=argparse.RawDescriptionHelpFormatter)
     parser.add_argument("CRATE", nargs="*")
     asked = parser.parse_args().CRATE or names
@@ -387,18 +383,17 @@ def main():
             print(f"tests/refused_memory: {missing} (`rt all test` makes the tests, and ./build makes the program)", file=sys.stderr)
             return 2
         for name, found in subjects.items():
-            row, wrong, lines = sweep(pool, library, found)
+            row, wrong = sweep(pool, library, found)
             if name in WRITES_FRONTS and not row["fronts"]:
                 wrong.append(f"{name}: no run had written a first part of a text when it got no memory")
             rows.append((name, row))
-            said += lines
             failed = failed or bool(wrong)
             print(f"{name}: {row['refused in turn']:,} requests refused in {row[CLOCK]} seconds", *wrong[:SHOWN],
                   *[f"and {len(wrong) - SHOWN} more"] * (len(wrong) > SHOWN), sep="\n    ", flush=True)
             if row["fronts"]:
                 said.append(f"{name}: {row['fronts']:,} runs had written a first part of their text, {row['long fronts']:,} of them at least "
                             f"{CHUNK:,} bytes")
-    print(table(rows), *said, sep="\n")
+    print(table(rows), *said, f"commit {commit()}", sep="\n")
     return 1 if failed else 0
 
 

@@ -1,0 +1,55 @@
+"""Tests what `tests/refused_memory` makes of the runs in which no request is refused."""
+import os
+import stat
+import sys
+import tempfile
+import unittest
+
+TOP = os.path.dirname(os.path.dirname(os.path.dirname(os.path.abspath(__file__))))
+sys.path.insert(0, f"{TOP}/tests")
+
+import refused_memory  # noqa: E402
+
+
+class FirstRuns(unittest.TestCase):
+    def setUp(self):
+        self.room = tempfile.TemporaryDirectory()
+        self.addCleanup(self.room.cleanup)
+
+    def counted(self, lines, is_program=False):
+        """Counts the requests of a stand-in that runs these lines of sh. It tells that it made three requests."""
+        stand_in = f"{self.room.name}/stand_in"
+        with open(stand_in, "w", encoding="utf-8") as file:
+            file.write(f'#!/bin/sh\n{lines}\nstatus=$?\necho 3 >>"$REFUSE_TOLD"\nexit $status\n')
+        os.chmod(stand_in, stat.S_IRWXU)
+        subject = refused_memory.Subject("crate name", (stand_in,), os.devnull, None)
+        if is_program:
+            subject = subject._replace(whole=refused_memory.run("", subject, 0))
+        return refused_memory.count_requests(("", subject))
+
+    def test_a_run_without_want_of_memory_is_counted(self):
+        self.assertEqual(self.counted("true"), refused_memory.Counted(3, []))
+        self.assertEqual(self.counted("echo 'file none: cannot be read' >&2; (exit 3)", is_program=True).wrong, [])
+
+    def test_a_test_that_reports_want_of_memory_is_wrong(self):
+        for line in ("refused", "  refused here"):
+            self.assertEqual(len(self.counted(f"echo '{line}' >&2").wrong), 1)
+
+    def test_a_test_that_reports_want_of_memory_in_the_second_run_only_is_wrong(self):
+        self.assertEqual(len(self.counted('test "$REFUSE" = 0 || echo refused >&2').wrong), 1)
+
+    def test_a_program_that_prints_out_of_memory_is_wrong(self):
+        self.assertEqual(len(self.counted("echo 'out of memory' >&2; (exit 3)", is_program=True).wrong), 1)
+
+    def test_a_test_that_fails_is_wrong(self):
+        self.assertEqual(len(self.counted("false").wrong), 1)
+
+
+class Tasks(unittest.TestCase):
+    def test_each_request_is_refused_once(self):
+        tasks = refused_memory.shared_out("", None, 2 * refused_memory.SHARE + 1)
+        self.assertEqual([number for _, _, numbers in tasks for number in numbers], list(range(1, 2 * refused_memory.SHARE + 2)))
+
+
+if __name__ == "__main__":
+    unittest.main()
