@@ -60,7 +60,7 @@ MERGED, EARLIER = "merged.json", "earlier.json"
 # contradictions
 DECLARED = ('"features":{"xbrl:allowedDuplicates":"all"},', ',"xbrl":"https://xbrl.org/2021"')
 # the faults of odd_units.json that only lossy options of tools/normalise remove
-ODD_UNITS = ('fact "TS1": 12 NameForm', 'fact "TS2": 26 NumberForm', 'fact "TS3": 19 PeriodForm')
+ODD_UNITS = ('fact "TS1": 12 NameForm', 'fact "TS2": 26 NumberForm', '1 date without a time, as in "2023-12-31": --dates=xbrl21')
 # the merged text if there are no facts
 EMPTY = ('{"documentInfo":{"documentType":"https://xbrl.org/2021/xbrl-json","features":{"xbrl:allowedDuplicates":"none"},'
          '"namespaces":{"xbrl":"https://xbrl.org/2021"},"taxonomy":[]},"facts":{}}')

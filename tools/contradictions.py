@@ -34,6 +34,7 @@ of fault, with the option that mends it, if there is one. The other reports are 
 
 --normalise applies the rules of tools/normalise to each report first, and lists the changes in changes.csv. It permits the
 options of tools/normalise that lose something, such as --drop-notes. A report that cannot be normalised is used as it is.
+--map PROVIDER=MAP applies a map of tools/normalise to the reports of a provider; repeat it for each provider.
 
 --near NEAR.csv writes a table of pairs of rows that differ in one dimension only, perhaps by mistake: the same name or
 identifier in another namespace or scheme, other letter case or white space, dates at most a day apart, another unit or
@@ -74,7 +75,7 @@ from contradicting.near import Near  # noqa: E402
 from contradicting.page import Found, page  # noqa: E402
 from contradicting.progress import Progress  # noqa: E402
 from contradicting.provider_counts import ProviderCounts  # noqa: E402
-from contradicting.reports import reports_named  # noqa: E402
+from contradicting.reports import maps_named, reports_named  # noqa: E402
 from contradicting.rows import Reader  # noqa: E402
 from contradicting.tables import lines_of, table  # noqa: E402
 from normalising.options import add_losses, loses  # noqa: E402
@@ -107,7 +108,8 @@ def read_options() -> argparse.Namespace:
     parser.add_argument("--names", metavar="NAME,..", help="with --sources: the providers, in the order of the reports")
     parser.add_argument("words", nargs="*", metavar="[NAME=]REPORT",
                         help="the reports; with --from, PROVIDER=MERGED for each provider")
-    add_losses(parser, "options of --normalise that lose something")
+    lossy = add_losses(parser, "options of --normalise that lose something")
+    lossy.add_argument("--map", action="append", default=[], metavar="PROVIDER=MAP", help="replace names in the reports of a provider")
     options = parser.read()
     check(parser, options)
     return options
@@ -134,7 +136,7 @@ def check(parser: Parser, options: argparse.Namespace) -> None:
         parser.error("name the reports; --sources and --names need --from")
     if STANDARD in (options.output, options.near):
         parser.error("standard output has the summary: write ./- for a folder or a file with the name -")
-    if loses(options) and not options.normalise:
+    if (loses(options) or options.map) and not options.normalise:
         parser.error("options that lose something need --normalise")
     try:
         inputs = inputs_of(options)
@@ -156,10 +158,11 @@ def outputs_of(options: argparse.Namespace) -> list[str]:
 
 
 def inputs_of(options: argparse.Namespace) -> list[str]:
-    """Returns the paths of the input files and folders. Errors: ValueError, as in `reports_named`."""
+    """Returns the paths of the input files and folders. Errors: ValueError, as in `reports_named` and `maps_named`."""
     inputs = [*options.labels, *(options.taxonomy or []), *[options.sheet] * bool(options.sheet)]
     if options.texts:
         inputs += [*options.texts, *[options.sources] * bool(options.sources)]
+    inputs += [path for _, path in maps_named(options)]
     return [*inputs, *(report.path for report in reports_named(options))]
 
 

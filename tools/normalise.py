@@ -11,6 +11,15 @@ concept or dimension, and act only on names that SHEET lists. If a rule has to l
 standard error shows where and why. For example, a time zone stays without --zones. docs/GUIDE.md describes the rules and
 the list of changes.
 
+--map MAP.json replaces names that are assumed to mean the same. MAP.json is an object with any of these members:
+    namespaces  an object with a new URI for each old one
+    entities, concepts, members
+                objects with a new name for each old one, spelled {URI}local
+    units       an object with an object for each old measure, such as {"unit":"{URI}EUR","scale":3}: a value in the old measure
+                is multiplied by 10^3, exactly, and 3 is subtracted from its decimals
+The other tables precede namespaces. A report in which two names would become equal is refused, unless one is a scaled unit, and so
+is a value that would have more than 18 digits. Each change is listed as a loss, because it is an assumption.
+
 --drop-unreadable runs the program `xbrlmerge` and drops the facts that the program refuses. If the document itself is
 refused, no fact is dropped, and standard error shows why. The program should have the same version as this tool.
 
@@ -29,6 +38,7 @@ from typing import Iterator, Optional
 sys.dont_write_bytecode = True
 from arguments import Parser  # noqa: E402
 from normalising.json_text import pieces_of, read_json_of_length  # noqa: E402
+from normalising.mapping import read_map  # noqa: E402
 from normalising.names import sheet_at  # noqa: E402
 from normalising.options import add_losses  # noqa: E402
 from normalising.rules import Normaliser  # noqa: E402
@@ -43,7 +53,8 @@ def read_options() -> argparse.Namespace:
     parser.add_argument("words", nargs="*", metavar="REPORT OUT CHANGES", help="the report, and the two files to write")
     parser.add_argument("--sheet", help="the sheet with the kinds of concepts and dimensions")
     add_program(parser)
-    add_losses(parser, "options that lose something")
+    lossy = add_losses(parser, "options that lose something")
+    lossy.add_argument("--map", metavar="MAP", help="replace names by this map, which is an assumption: see docs/GUIDE.md")
     options = parser.read()
     names = [*options.words, *options.files]
     if len(names) != 3:
@@ -53,10 +64,11 @@ def read_options() -> argparse.Namespace:
         parser.error("--drop-unknown and --drop-unreadable need --sheet")
     if options.sheet == STANDARD and options.drop_unreadable:
         parser.error("--drop-unreadable needs a sheet in a file")
-    inputs, outputs = [options.REPORT, *[options.sheet] * bool(options.sheet)], [options.OUT, options.CHANGES]
+    inputs = [options.REPORT, *(path for path in (options.sheet, options.map) if path)]
+    outputs = [options.OUT, options.CHANGES]
     files = [*map(os.path.realpath, (path for path in (*inputs, *outputs) if path != STANDARD))]
     if len({*files}) < len(files) or inputs.count(STANDARD) > 1 or outputs.count(STANDARD) > 1:
-        parser.error("REPORT, OUT, CHANGES and SHEET must be different files")
+        parser.error("REPORT, OUT, CHANGES, SHEET and MAP must be different files")
     return options
 
 
@@ -73,10 +85,11 @@ def program_asked(options: argparse.Namespace) -> Iterator[Optional[Program]]:
 
 def main() -> Status:
     options = read_options()
-    sheet, (tree, length) = sheet_at(options.sheet), read_json_of_length(options.REPORT)
+    sheet, names = sheet_at(options.sheet), read_map(options.map) if options.map else None
+    tree, length = read_json_of_length(options.REPORT)
     try:
         with program_asked(options) as program:
-            log = Normaliser(sheet, options, program).normalise(tree, length)
+            log = Normaliser(sheet, options, program).normalise(tree, length, names)
     except NotDone as fault:
         raise NotDone(f"{shown_path(options.REPORT)}: {fault}") from None
     print_lines(log.left)

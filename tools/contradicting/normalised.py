@@ -7,10 +7,11 @@ import json
 import os
 from typing import Iterator
 
-from contradicting.reports import Report, written
+from contradicting.reports import Report, maps_named, written
 from contradicting.tables import cell, lines_of
 from normalising.changes import Log
 from normalising.json_text import Number, Tree, pieces_of, read_json_of_length, text_of
+from normalising.mapping import read_map
 from normalising.names import sheet_at
 from normalising.rules import Normaliser
 from process import NotDone, sentence
@@ -25,6 +26,7 @@ class Normalised:
 
     def __init__(self, program: Program, options: argparse.Namespace, folder: str) -> None:
         self.normaliser, self.folder = Normaliser(sheet_at(program.sheet), options, program), folder
+        self.maps = {provider: read_map(path) for provider, path in maps_named(options)}
         self.table = os.path.join(folder, "changes")
         self.paths: list[str] = []
         self.losses = 0
@@ -34,7 +36,7 @@ class Normalised:
         """Normalises the next report. If that fails, keeps the original file and adds a note."""
         try:
             tree, length = read_json_of_length(report.path)
-            log = self.normaliser.normalise(tree, length)
+            log = self.normaliser.normalise(tree, length, self.maps.get(report.provider))
         except (NotDone, ValueError, RecursionError) as fault:
             why = "; ".join(map(str, fault.args)) if isinstance(fault, NotDone) else sentence(fault)
             self.notes.append(f"{report.path} is not normalised: {why.removeprefix(f'{report.path}: ')}")

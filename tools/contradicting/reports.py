@@ -26,6 +26,19 @@ def reports_named(options: argparse.Namespace) -> list[Report]:
     return [report for _, report in reports] if options.texts else checked(reports)
 
 
+def maps_named(options: argparse.Namespace) -> list[tuple[str, str]]:
+    """Returns the providers of --map and their maps. Errors: ValueError if a part of PROVIDER=MAP is empty, if a provider has two
+    maps, or if it has no report."""
+    maps = [word.partition("=")[::2] for word in options.map]
+    providers = [written(provider) for provider, _ in maps]
+    if not all(provider and path for provider, path in maps) or len({*providers}) < len(providers):
+        raise ValueError("--map takes PROVIDER=MAP, once for each provider")
+    lacking = {*providers} - {report.provider for report in reports_named(options)}
+    if lacking:
+        raise ValueError(f"--map names {min(lacking)}, which has no report")
+    return [(provider, path) for provider, (_, path) in zip(providers, maps)]
+
+
 def checked(named: Iterable[tuple[bool, Report]]) -> list[Report]:
     """Returns the reports, and a file that is repeated under one name once. Errors: ValueError if a file gets two names, or if
     two files get the same name and NAME= does not precede both."""

@@ -10,7 +10,8 @@ from file_kinds import kind_of_report, looks_like
 from names import SPACE, XBRL, Name, Uris, expanded, uris_of
 from normalising import moments
 from normalising.changes import Log, Part, Reason
-from normalising.json_text import Number, Tree, text_of
+from normalising.json_text import Number, Tree, pointer_of, text_of
+from normalising.mapping import NameMap, ReportMap
 from normalising.names import core_spelling, is_text
 from normalising.unreadable import refused_in
 from process import NotDone
@@ -25,6 +26,7 @@ KNOWN = {
 CORE = ("concept", "entity", "period", "unit", "language", "noteId")
 SCIENTIFIC = re.compile(r"[+-]?(?P<mantissa>\d+(\.\d*)?|\.\d+)[eE][+-]?\d+", re.ASCII)
 WHOLE = re.compile(r"[+-]?\d{1,18}", re.ASCII)
+PLACES = range(-18, 19)  # the decimals that the program reads
 DIGITS = 18  # the most digits of a number written without its exponent, counted as in refusal 27
 
 GROWTH, SMALL = 16, 1_000_000  # the names of sets add at most GROWTH times the report's length plus SMALL bytes
@@ -36,9 +38,9 @@ class Normaliser:
     def __init__(self, sheet: Sheet, options: argparse.Namespace, program: Optional[Program] = None) -> None:
         self.sheet, self.options, self.program = sheet, options, program
 
-    def normalise(self, tree: Tree, length: int = 0) -> Log:
-        """Changes the tree of a report. Returns a log of the changes, and of the parts that a rule left unchanged: first
-        the document's, then each fact's, in order.
+    def normalise(self, tree: Tree, length: int = 0, names: Optional[NameMap] = None) -> Log:
+        """Changes the tree of a report, and replaces its names by a map if there is one. Returns a log of the changes, and of the
+        parts that a rule left unchanged: first the document's, then each fact's, in order.
 
         Errors: NotDone, OSError.
         """
@@ -54,14 +56,17 @@ class Normaliser:
         if isinstance(information, dict):
             drop_unknown_members(Part(information, ("documentInfo",), whole), "documentInfo")
             uris = uris_of(information.get("namespaces"))
+        mapped = ReportMap(names, information.get("namespaces"), uris) if names and isinstance(information, dict) else None
         logs: dict[str, Log] = {}
         facts: dict[str, Tree] = {}
         if isinstance(tree.get("facts"), dict):
             facts, tree["facts"] = tree["facts"], {}
-            reader = FactReader(self.sheet, self.options, uris, GROWTH * length + SMALL)
+            reader = FactReader(self.sheet, self.options, mapped.uris if mapped else uris, GROWTH * length + SMALL, mapped)
             for number, (name, fact) in enumerate(facts.items(), 1):
                 logs[name] = Log(name, number)
                 reader.read(name, fact, logs[name], tree["facts"])
+        if mapped and "namespaces" in information:
+            Part(information, ("documentInfo",), whole).change("namespaces", mapped.namespaces, "map", True)
         if self.program and self.options.drop_unreadable:
             refused = refused_in(tree, self.program)
             for name, why in refused.facts.items():
@@ -82,8 +87,8 @@ def drop_unknown_members(part: Part, kind: str) -> None:
 class FactReader:
     """The rules for the facts of one report. `left` is the number of bytes that the names of sets may still add."""
 
-    def __init__(self, sheet: Sheet, options: argparse.Namespace, uris: Uris, left: int) -> None:
-        self.sheet, self.options, self.uris, self.left = sheet, options, uris, left
+    def __init__(self, sheet: Sheet, options: argparse.Namespace, uris: Uris, left: int, mapped: Optional[ReportMap] = None) -> None:
+        self.sheet, self.options, self.uris, self.left, self.mapped = sheet, options, uris, left, mapped
 
     def read(self, name: str, fact: Tree, log: Log, kept: dict[str, Tree]) -> None:
         """Adds the changed fact to `kept`, or drops it. The log of a dropped fact contains only the drop."""
@@ -98,17 +103,20 @@ class FactReader:
             kept[name] = changed
 
     def change(self, members: dict[str, Tree], log: Log) -> None:
-        fact = Part(members, ("facts", log.fact or ""), log)
+        fact, scale = Part(members, ("facts", log.fact or ""), log), 0
         drop_unknown_members(fact, "fact")
         if isinstance(members.get("dimensions"), dict):
             members["dimensions"] = {**members["dimensions"]}
-            self.change_dimensions(Part(members["dimensions"], (*fact.path, "dimensions"), log))
+            scale = self.change_dimensions(Part(members["dimensions"], (*fact.path, "dimensions"), log))
         self.change_decimals(fact)
         self.change_value(fact)
+        if scale:
+            scale_value(fact, scale)
         if "links" in members and members["links"] != {} and (self.options.drop_links or self.options.drop_notes):
             fact.remove("links", "drop-links", True)
 
-    def change_dimensions(self, part: Part) -> None:
+    def change_dimensions(self, part: Part) -> int:
+        """Changes the dimensions of a fact. Returns the scale of its unit: its value is to be multiplied by ten to this power."""
         for key in list(part.members):
             name = core_spelling(key, self.uris)
             if name in CORE:
@@ -118,8 +126,22 @@ class FactReader:
                 part.change(key, trimmed(key, part.get(key)), "white-space")
         if is_text(part.get("period")):
             self.change_period(part)
+        scale = self.map_dimensions(part, self.mapped) if self.mapped else 0
         for key in [key for key in part.members if ":" in key]:
             self.change_member(part, key, kind_of(expanded(key, self.uris), self.sheet.dimensions))
+        return scale
+
+    @staticmethod
+    def map_dimensions(part: Part, mapped: ReportMap) -> int:
+        for key, table in (("concept", "concepts"), ("entity", "entities")):
+            if is_text(part.get(key)):
+                part.change(key, mapped.renamed(table, part.get(key)), "map", True)
+        for key in [key for key in part.members if ":" in key]:
+            mapped.renamed("axes", key)
+        unit, scale = mapped.unit(part.get("unit")) if is_text(part.get("unit")) else (None, 0)
+        if unit is not None:
+            part.change("unit", unit, "map", True)
+        return scale
 
     def change_period(self, part: Part) -> None:
         steps: list[tuple[str, moments.Rewriting, bool]] = [("period-fraction", moments.without_zero_fraction, False)]
@@ -134,6 +156,8 @@ class FactReader:
         member = part.get(key)
         if kind == "explicit" and is_text(member):
             part.change(key, member.strip(SPACE), "white-space")
+            if self.mapped:
+                part.change(key, self.mapped.renamed("members", part.get(key)), "map", True)
         elif kind == "explicit" and member is None and self.options.drop_null:
             part.remove(key, "drop-null", True)
         elif kind == "typed" and isinstance(member, (Number, bool)):
@@ -159,6 +183,8 @@ class FactReader:
         kind = kind_of(concept, self.sheet.concepts)
         if kind in ("numeric", "name"):
             fact.change("value", fact.get("value").strip(SPACE), "white-space")
+        if kind == "name" and self.mapped:
+            self.mapped.renamed("values", fact.get("value"))  # its prefix may be bound to another namespace
         scientific = SCIENTIFIC.fullmatch(fact.get("value")) if kind == "numeric" else None
         if scientific:
             plain = plain_number(scientific)
@@ -171,7 +197,8 @@ class FactReader:
 
     def change_set(self, fact: Part) -> None:
         given = fact.get("value")
-        found = [full_name(item, self.uris) for item in re.findall(rf"[^{SPACE}]+", given)]
+        spelled = [full_name(item, self.uris) for item in re.findall(rf"[^{SPACE}]+", given)]
+        found = [name and self.in_namespace(name) for name in spelled]  # an item may spell its namespace
         names = {name for name in found if name}
         if len(names) < len(found):
             fact.leave("value", "the set repeats a name, or has an item that cannot be written as URI#LOCAL")
@@ -180,7 +207,10 @@ class FactReader:
         self.left -= sum(lengths[uri] + len(local.encode()) + 2 for uri, local in names) - len(given.encode())
         if self.left < 0:
             raise NotDone(f"the names of its sets, with their URIs, add more than {GROWTH} times its length plus {SMALL} bytes")
-        fact.change("value", " ".join(sorted(map("#".join, names))), "set")
+        fact.change("value", " ".join(sorted(map("#".join, names))), *(("set", False) if found == spelled else ("map", True)))
+
+    def in_namespace(self, name: tuple[str, str]) -> tuple[str, str]:
+        return (self.mapped.given.namespaces.get(name[0], name[0]), name[1]) if self.mapped else name
 
     def concept_of(self, members: dict[str, Tree]) -> Optional[Name]:
         dimensions = members.get("dimensions")
@@ -198,6 +228,24 @@ class FactReader:
                 if name and name not in listed:
                     return Reason("drop-unknown", "the sheet does not list {{{}}}{}", name)
         return None
+
+
+def scale_value(fact: Part, scale: int) -> None:
+    """Multiplies a value by ten to the power of `scale`, exactly. Errors: NotDone if that is not possible within the digits and
+    decimals that the program reads."""
+    value, decimals = fact.get("value"), fact.get("decimals")
+    if value is None:
+        return
+    number = SCIENTIFIC.fullmatch(f"{value}e{scale}") if is_text(value) else None
+    scaled = plain_number(number) if number else None
+    places = int(decimals) - scale if isinstance(decimals, Number) and whole_number(decimals) == decimals else None
+    if scaled is None or "decimals" in fact.members and (places is None or places not in PLACES):
+        where = pointer_of((*fact.path, "value"))
+        raise NotDone(f"{where} cannot be scaled by 10^{scale}: it is not a number of at most {DIGITS} digits with decimals from"
+                      f" {PLACES[0]} to {PLACES[-1]} then")
+    fact.change("value", scaled, "map", True)
+    if places is not None:
+        fact.change("decimals", Number(places), "map", True)
 
 
 def kind_of(name: Optional[Name], kinds: Kinds) -> Optional[str]:

@@ -1,0 +1,133 @@
+"""Replaces names by a map: the assumption that names of two taxonomies, schemes or units mean the same."""
+from __future__ import annotations
+
+import re
+from typing import Any, Mapping, NamedTuple, Optional
+
+from names import SPACE, Name, Uris, expanded
+from normalising.json_text import Number, Tree, read_json
+from process import NotDone, shortened
+from text_files import shown_path
+
+TABLES = ("entities", "concepts", "members")
+PARTS = ("namespaces", *TABLES, "units")
+SCALES = range(-18, 19)
+
+
+class Measure(NamedTuple):
+    """What replaces a measure. A value in the old measure, times ten to the power of `scale`, is the value in this one."""
+
+    name: Name
+    scale: int
+
+
+class NameMap:
+    """The tables of a map. A name that no table lists is replaced by the table of namespaces. Errors: ValueError."""
+
+    def __init__(self, tree: Tree) -> None:
+        if not isinstance(tree, dict) or not all(key in PARTS and isinstance(part, dict) for key, part in tree.items()):
+            raise ValueError(f"it is not a map, which is an object with the members {', '.join(PARTS)}, each an object")
+        self.namespaces: dict[str, str] = dict(tree.get("namespaces", {}))
+        if not all(type(uri) is str and uri for pair in self.namespaces.items() for uri in pair):
+            raise ValueError("a namespace is empty, or not a text")
+        self.tables = {table: {name_of(old): name_of(new) for old, new in tree.get(table, {}).items()} for table in TABLES}
+        self.units = {name_of(old): measure_of(new) for old, new in tree.get("units", {}).items()}
+        units = {old: measure.name for old, measure in self.units.items()}
+        check_ends(self.namespaces, {})
+        for table in (*self.tables.values(), units):
+            check_ends(table, self.namespaces)
+
+
+def check_ends(table: Mapping[Any, Any], namespaces: Mapping[str, str]) -> None:
+    """Raises ValueError if what replaces a name would itself be replaced: a second run would change the report again."""
+    for new in table.values():
+        uri = new.uri if isinstance(new, Name) else ""
+        if table.get(new, new) != new or namespaces.get(uri, uri) != uri:
+            raise ValueError(f"{new.shown() if isinstance(new, Name) else shortened(new)} replaces a name, and is replaced itself")
+
+
+def name_of(text: Tree) -> Name:
+    """Returns the name that a text such as {URI}local spells. Errors: ValueError."""
+    uri, sign, local = text[1:].partition("}") if type(text) is str and text.startswith("{") else ("", "", "")
+    if not uri or not sign or not local or any(space in uri + local for space in SPACE):
+        raise ValueError(f"{shortened(str(text))} is not a name such as {{URI}}local")
+    return Name(uri, local)
+
+
+def measure_of(tree: Tree) -> Measure:
+    members = {"unit": None, "scale": Number("0"), **tree} if isinstance(tree, dict) else {}
+    scale = members.get("scale")
+    if members.keys() != {"unit", "scale"} or not isinstance(scale, Number) or not re.fullmatch(r"-?\d{1,2}", scale) or int(scale) not in SCALES:
+        raise ValueError('a unit is not replaced by an object such as {"unit":"{URI}EUR","scale":3}, with a scale from -18 to 18')
+    return Measure(name_of(members["unit"]), int(scale))
+
+
+def read_map(path: str) -> NameMap:
+    """Returns the map in a file. Errors: NotDone."""
+    try:
+        return NameMap(read_json(path))
+    except ValueError as fault:
+        raise NotDone(f"{shown_path(path)}: {fault}") from None
+
+
+class ReportMap:
+    """Applies a map to the names of one report. `uris` and `namespaces` are those of the changed report.
+
+    Errors of all methods: NotDone if two names of the report would become equal. A measure that is scaled may become equal to
+    another one.
+    """
+
+    def __init__(self, given: NameMap, namespaces: Tree, uris: Uris) -> None:
+        self.given, self.before = given, uris
+        self.uris = {prefix: given.namespaces.get(uri, uri) for prefix, uri in uris.items()}
+        self.namespaces = {**namespaces, **self.uris} if isinstance(namespaces, dict) else namespaces
+        self.prefixes = {uri: prefix for prefix, uri in self.uris.items() if prefix}
+        self.seen: dict[tuple[str, Name], Name] = {}
+
+    def renamed(self, kind: str, spelled: str) -> str:
+        """Returns the new spelling of a name. `kind` is one of TABLES or, for names without a table, another text."""
+        old = self.entity(spelled) if kind == "entities" else expanded(spelled, self.before)
+        if not old:
+            return spelled
+        new = self.given.tables.get(kind, {}).get(old)
+        self.note(kind, old, new or self.in_namespace(old))
+        return spelled if new is None or new == old else self.spelled(new)
+
+    def entity(self, spelled: str) -> Optional[Name]:
+        prefix, sign, identifier = spelled.partition(":")
+        uri = self.before.get(prefix)
+        return Name(uri, identifier) if sign and uri else None
+
+    def measure(self, spelled: str) -> tuple[str, int]:
+        """Returns the new spelling of a measure, and its scale."""
+        old = expanded(spelled, self.before)
+        found = self.given.units.get(old) if old else None
+        if old and (not found or not found.scale):
+            self.note("units", old, found.name if found else self.in_namespace(old))
+        return (self.spelled(found.name), found.scale) if found and found.name != old else (spelled, 0)
+
+    def unit(self, text: str) -> tuple[str, int]:
+        """Returns a unit with the new spellings of its measures, and its scale."""
+        made, total, sign = [], 0, 1
+        for token in re.split("([*/()])", text):
+            sign = -1 if token == "/" else sign
+            spelled, scale = (token, 0) if token in ("*", "/", "(", ")", "") else self.measure(token)
+            made.append(spelled)
+            total += sign * scale
+        return "".join(made), total
+
+    def in_namespace(self, name: Name) -> Name:
+        return Name(self.given.namespaces.get(name.uri, name.uri), name.local)
+
+    def note(self, kind: str, old: Name, new: Name) -> None:
+        before = self.seen.setdefault((kind, new), old)
+        if before != old:
+            raise NotDone(f"the map makes {before.shown()} and {old.shown()} equal: both become {new.shown()}")
+
+    def spelled(self, name: Name) -> str:
+        """Returns a name with a prefix, which is bound if its namespace has none yet."""
+        if name.uri not in self.prefixes:
+            prefix = next(each for each in (f"map{number}" for number in range(1, len(self.namespaces) + 2)) if each not in self.namespaces)
+            self.prefixes[name.uri] = prefix
+            self.uris[prefix] = self.namespaces[prefix] = name.uri
+        return f"{self.prefixes[name.uri]}:{name.local}"
