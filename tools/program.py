@@ -15,6 +15,7 @@ from process import NotDone
 NAME = "xbrlmerge"
 HERE = os.path.dirname(os.path.abspath(__file__))
 BESIDE = [os.path.join(folder, NAME) for folder in (os.path.dirname(HERE), HERE)]
+MOST_EXPLAINED = 1 << 30  # bytes
 REFUSAL = re.compile(r"report ([1-9]\d{0,17}): (\d+ \w+ at .*)")
 
 
@@ -91,8 +92,9 @@ class Program:
             yield int(fault["report"]) - 1, fault
 
     def explained(self, words: Sequence[str]) -> Iterator[dict[str, Any]]:
-        """Yields the faults that `explain` prints. Numbers keep their spelling."""
-        status, lines = self.run("explain", ["--format", "json", *words])
+        """Yields the faults that `explain` prints. Numbers keep their spelling. Errors: NotDone, also if it prints more than
+        MOST_EXPLAINED bytes; OSError."""
+        status, lines = self.run("explain", ["--format", "json", "--most-output", str(MOST_EXPLAINED), *words])
         if status not in (0, 1) or lines:
             raise NotDone(*self.reasons("explain", status, lines))
         with open(self.place("explain"), encoding="utf-8") as file:

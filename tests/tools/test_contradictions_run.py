@@ -222,6 +222,16 @@ class Refused(Stubbed):
         self.assertEqual([line.rpartition(": ")[2] for line in told if ": 12 " in line], ["--dates=xbrl21", "--zones=utc", "--drop-links"])
         self.assertEqual(sum("told (and 11 more of this kind)" in line for line in told), 3)
 
+    def test_a_report_that_cannot_be_explained_does_not_stop_the_run(self):
+        self.refuses("report 1: 13 UnboundPrefix at fact 1\n")
+        told = "output: more than 1073741824 bytes; --most-output BYTES sets the bound\n"
+        self.prints("explain", "{", told, 3)
+        self.prints("explain_all", "{", told, 3)
+        done = self.run_on(*REPORTS)
+        self.assertEqual((done.returncode, done.stderr.splitlines()), (1, [
+            f"contradictions: repeated members are not listed: xbrlmerge explain: {told.strip()}",
+            f"contradictions: {REPORTS[0]}: 13 UnboundPrefix at fact 1 (xbrlmerge explain: {told.strip()})"]))
+
     def test_repeated_members_of_accepted_reports_are_told(self):
         fault = {"report": 2, "number": None, "name": None, "identifier": "a", "part": "value", "sentence": '"value" is repeated'}
         self.prints("explain_all", (json.dumps(fault) + "\n") * 3, status=1)

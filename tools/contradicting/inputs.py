@@ -11,6 +11,7 @@ from contradicting.checking import LINES, command, report_file
 from contradicting.normalised import Normalised, pieces_of_file
 from contradicting.progress import Progress
 from contradicting.refusals import Refusals, line_of
+from contradicting.remedies import FaultGroup
 from contradicting.reports import Report, check_files, reports_named
 from contradicting.rows import FactSources
 from contradicting.sources import OwnTexts, Sources
@@ -119,11 +120,13 @@ class Run:
         if not accepted:
             return
         self.progress.show("looking for repeated members")
-        repeated: dict[int, list[str]] = {}
-        for place, fault in self.program.faults_by_report([paths[place] for place in accepted]):
-            repeated.setdefault(accepted[place], []).append(line_of(fault))
-        for place, lines in repeated.items():
-            self.notes.append(f"{self.reports[place].path}: {lines[0]}" + f" (and {len(lines) - 1} more of this kind)" * (len(lines) > 1))
+        repeated: dict[int, FaultGroup] = {}
+        try:
+            for place, fault in self.program.faults_by_report([paths[place] for place in accepted]):
+                repeated.setdefault(accepted[place], FaultGroup(None, fault, line_of(fault))).add(fault)
+        except NotDone as fault:
+            self.notes += [f"repeated members are not listed: {line}" for line in fault.args]
+        self.notes += [f"{self.reports[place].path}: {group.told(self.options)[0]}" for place, group in repeated.items()]
         self.losses += [f"{counted(len(repeated), 'report')} with repeated members"] * bool(repeated)
 
     def read(self, command: str, paths: list[str]) -> dict[int, str]:
@@ -135,7 +138,10 @@ class Run:
         for number, refusal in sorted(found.items()):
             provider, path = self.reports[number - 1]
             self.progress.show(f"explaining why {path} is refused")
-            refusals.add(provider, path, refusal, self.program.faults(os.path.abspath(paths[number - 1])))
+            try:
+                refusals.add(provider, path, refusal, self.program.faults(os.path.abspath(paths[number - 1])))
+            except NotDone as fault:
+                refusals.add(provider, path, f"{refusal} ({'; '.join(fault.args)})", ())
         return refusals
 
 
