@@ -295,7 +295,7 @@ class Code:
         text, before = self.text(at), self.start_of_path(at)
         if text in REQUESTS and self.text(at + 1) == "(":
             self.request(at + 1, scope)
-        if text in LIMITS and self.text(at - 1) == "::" and self.text(at - 2) in ("usize", "u64", "isize", "i64", "u128"):
+        if self.is_limit(at, "usize", "isize"):
             self.add(at, f"{self.text(at - 2)}::", scope)
         elif text == "Error" and self.text(at - 2) == "fmt" and self.text(at + 1) not in (">", "::"):
             self.add(at, "fmt::", scope)
@@ -309,8 +309,12 @@ class Code:
         for index in range(at, self.past(at)):
             number = re.sub(r"_|(?:usize|u64|u128)$", "", self.text(index))
             shift = int(self.text(index + 1)) if self.text(index) == "<<" and self.text(index + 1).isdigit() else 0
-            if shift >= 32 or number.isdigit() and int(number) >= LEAST_REFUSED or self.text(index) == "!":
+            is_large = shift >= 32 or number.isdigit() and int(number) >= LEAST_REFUSED or self.text(index) == "!"
+            if is_large or self.is_limit(index, "u64", "i64", "u128"):
                 self.add(index, "a request of ", scope)
+
+    def is_limit(self, at, *types):
+        return self.text(at) in LIMITS and self.text(at - 1) == "::" and self.text(at - 2) in types
 
     def start_of_path(self, at):
         while self.text(at - 1) == "::":

@@ -124,6 +124,7 @@ class MemorySources(unittest.TestCase):
             ("if failed.is_memory() { Ok(1) } else { Err(AllocError) }", "AllocError"),
             ("if failed != Error::OutOfMemory { return Err(AllocError); }", "AllocError"),
             ("let list = Vec::<u8>::with_capacity(alloc, usize::MAX)?;", "usize::MAX"),
+            ("list.reserve(u64::MAX as usize)?;", "a request of MAX"),
             ("list.reserve(1 << 60)?;", "a request of <<"),
             ("list.reserve(1_000_000_000_000)?;", "a request of 1_000_000_000_000"),
             ("Err(fmt::Error)", "fmt::Error"),
@@ -134,6 +135,9 @@ class MemorySources(unittest.TestCase):
 
     def test_another_name(self):
         self.assertEqual(lines_of("use std::alloc::AllocError as Late;\n"), ["a.rt:1: use makes another name for AllocError from nothing"])
+
+    def test_the_largest_number_is_no_request(self):
+        self.assertEqual(lines_of(body("Ok(bound.unwrap_or(u64::MAX))")), [])
 
     def test_what_is_listed_stays(self):
         other = body("read().map_err(|_| AllocError)")
