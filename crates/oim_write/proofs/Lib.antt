@@ -1,6 +1,7 @@
 pub mod BoundedRuns
 pub mod Ranks
 pub mod UriSets
+pub mod Measures
 pub mod Passing
 pub mod Tokens
 pub mod WrittenOrder

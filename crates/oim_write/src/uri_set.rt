@@ -1,11 +1,13 @@
-ghost use Rattle.std.specs.Prelude.{◌≡◌, [], ◌∷◌, ◌++◌, Contains, flat_map, IfOk, OnOk};
+ghost use Rattle.std.specs.Prelude.{◌≡◌, [], ◌∷◌, ◌++◌, Contains, flat_map, IfOk, IfSome, OnOk};
 ghost use Rattle.std.specs.Bool.{OnTrue};
+ghost use Rattle.std.specs.List.Sorted.{IsSorted};
+ghost use Rattle.oim_value.specs.ValueOrder.{name_cmp};
 ghost use Rattle.fact_base.specs.Body.{text_cmp};
 ghost use Rattle.fact_base.specs.Passed.{IsSet};
 ghost use Rattle.fact_base.specs.Sets.{set_of};
 ghost use Rattle.fact_base.specs.Shown.{HoldForUris, rows_left, shown};
 ghost use Rattle.oim_write.specs.Uris.{defined_names, entity_names, unit_names, value_names};
-ghost use Rattle.oim_write.specs.code.Table.{Gains, row_names};
+ghost use Rattle.oim_write.specs.code.Table.{Gains, ShareUri, row_names};
 
 use fact_base::{Row, Rows};
 use oim_dims::{Dimensions, Member};
@@ -111,10 +113,22 @@ impl UriSet {
     {
         match dimensions.unit() {
             Some(unit) => {
-                self.add_each(alloc, unit.numerators())?;
-                self.add_each(alloc, unit.denominators())
+                unit.known();
+                self.add_measures(alloc, unit.numerators())?;
+                self.add_measures(alloc, unit.denominators())
             }
             None => Ok(()),
+        }
+    }
+
+    // If all measures have one URI, which may be long, it is looked up once.
+    fn add_measures(&mut self, alloc: Global, names: &[Name]) -> Result<(), AllocError>
+        requires { IsSorted name_cmp names.now }
+        ensures { OnOk result (Gains self.old names.now self.new) }
+    {
+        match sharing_uri(names) {
+            Some(name) => self.add(alloc, name),
+            None => self.add_each(alloc, names),
         }
     }
 
@@ -208,4 +222,17 @@ fn put_in_order(texts: &mut Vec<Text>)
 {
     texts.sort_unstable();
     texts.dedup();
+}
+
+// Returns the first name if all have its URI. The names ascend, so only the last is compared.
+fn sharing_uri(names: &[Name]) -> Option<&Name>
+    requires { IsSorted name_cmp names.now }
+    ensures { IfSome result (λ name. ShareUri name.now names.now) }
+{
+    let last = names.len().checked_sub(1)?;
+    let first = &names[0];
+    if first.uri() == names[last].uri() {
+        return Some(first);
+    }
+    None
 }

@@ -1,5 +1,5 @@
 -- The table of prefixes, and how its URIs are collected (own).
-use Rattle.std.specs.Prelude.{◌≡◌, ℕ, List, String, length, map, string_bytes, ◌↔◌, ◌⊎◌, Contains, ◌++◌, flat_map}
+use Rattle.std.specs.Prelude.{◌≡◌, ℕ, List, String, length, map, string_bytes, ◌↔◌, ◌⊎◌, All, Contains, ◌++◌, flat_map}
 use Rattle.std.specs.declared.alloc.Global.{Global}
 use Rattle.fact_base.specs.Passed.{IsSet}
 use Rattle.fact_base.specs.Body.{text_cmp}
@@ -27,3 +27,8 @@ SharePrefix us text n rs = HoldForUris (λ u. prefix us u ≡ text) n rs
 -- `new` contains exactly the URIs of `old` and the URIs of the names
 pub record Gains (old : List (List ℕ)) (names : List QName) (new : List (List ℕ)) : Type 0 where
   pub members : (u : List ℕ) → Contains new u ↔ (Contains old u ⊎ Contains (uris_of_names names) u)
+
+-- the name is one of these names, and all have its URI
+pub record ShareUri (n : QName) (ns : List QName) : Type 0 where
+  pub among : Contains ns n
+  pub all : All (λ m. m.uri ≡ n.uri) ns
