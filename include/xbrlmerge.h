@@ -15,7 +15,7 @@
    Lengths. A length is the number of items at the pointer before it, and a call uses that many, so it must be right.
    `sheet_length`, `reports_length`, `report_length` and `out_length` count bytes. `ends_length` counts ends, one for each
    report, and `refusals_length` counts records: for an array `ends`, pass `sizeof ends / sizeof ends[0]`, as `sizeof ends`
-   counts bytes.
+   counts bytes. `most` is no length of an array, but the most bytes that a text may have.
 
    Reports. All reports are concatenated in `reports`, and `ends` contains the position where each report ends, counted from
    the start: reports of 3 and 4 bytes have the ends 3 and 7. Bytes after the last end are ignored. If an end is less than
