@@ -37,7 +37,7 @@ COMMANDS = ("merge", "verdicts", "sources")
 REPORT_REFUSALS, SHEET_REFUSALS = {*range(1, 32)}, {1, 2, 3, 5, 12, 13, 14, 32}
 
 URI, OTHER, XBRL = "https://made.example/2024", "http://example.org/u", "https://xbrl.org/2021"
-PREFIXES = {"m": URI, "made": URI, "x": OTHER, "a": "a", "xbrli": "http://www.xbrl.org/2003/instance", "xbrl": XBRL}
+PREFIXES = {"m": URI, "made": URI, "x": OTHER, "a": "a", "xbrli": "http://www.xbrl.org/2003/instance", "xbrl": XBRL, "own": XBRL}
 KINDS = {"A": "numeric", "B": "numeric", "T": "text", "Q": "name"}
 DAYS = ("2023-12-31T24:00:00", "2024-01-01T00:00:00", "2023-12-31T23:59:59", "2024-02-28T24:00:00", "2024-02-29T00:00:00",
         "0001-01-01T00:00:00", "9999-12-31T23:59:59", "1969-12-31T24:00:00")
@@ -139,7 +139,8 @@ def drawn_report(chance):
         info["baseURL"] = chance.choice(("http://x.org/d/r.json", "https://x.org", "HTTP://X.org/\u00e9"))
     if chance.random() < 0.3:
         levels = ("none", "complete", "consistent", "all", "all", "all")
-        info["features"] = {chance.choice(("xbrl:allowedDuplicates", "x:allowedDuplicates", "xbrl:other")): chance.choice(levels)}
+        keys = ("xbrl:allowedDuplicates", "own:allowedDuplicates", "x:allowedDuplicates", "xbrl:other")
+        info["features"] = {chance.choice(keys): chance.choice(levels)}
     if chance.random() < 0.1:
         info.update(chance.choice(({"linkTypes": 5}, {"linkGroups": {"a": []}}, {"x:y": None})))
     identifiers = chance.sample(("f1", "f10", "f2", "", "\u00e9", "\ue000", "\U0001f40b", "a b", "\"\\\n", "F"), chance.randint(0, 6))
@@ -169,26 +170,27 @@ DOCUMENT_FAULTS = (
     (("documentInfo",), "baseURL", (*WRONG, "d/r.json", "urn:x", "ftp://x/", "http:", "", " http://x.org/", "x" * 65_537, LONG + "a")),
     (("documentInfo",), "namespaces", (None, [], 1)),
     (("documentInfo",), "features", (None, [], 1, *({"xbrl:allowedDuplicates": it} for it in (*WRONG, "some", "None", "")))),
-    (("documentInfo",), "features", tuple({"xbrl:allowedDuplicates": it} for it in ("none", "complete", "consistent"))),
+    (("documentInfo",), "features", tuple({"own:allowedDuplicates": it} for it in ("none", "complete", "consistent"))),
+    (("documentInfo",), "features", ({"xbrl:allowedDuplicates": "all", "own:allowedDuplicates": "all"},)),
     (("documentInfo", "namespaces"), "", ("http://a/",)),
     (("documentInfo", "namespaces"), "a b", ("http://a/",)),
     (("documentInfo", "namespaces"), "q", ("", None, 1, XBRL, "http://a/")),
 )
 FACT_FAULTS = (
     ((), "value", (ABSENT, True, 5, [], {}, 1.5)),
-    ((), "value", (*NO_NUMBERS, *LONG_NUMBERS, *NO_NAMES, "q:a", "xbrl:a")),
+    *(((), "value", it) for it in (NO_NUMBERS, LONG_NUMBERS, (*NO_NAMES, "q:a", "xbrl:a"))),
     ((), "dimensions", (ABSENT, None, [], "x")),
     ((), "links", (None, [], "x", {"x:l": {}})),
-    ((), "decimals", (*NO_WHOLE, *FAR, *WHOLE)),
+    *(((), "decimals", it) for it in (NO_WHOLE, FAR, WHOLE)),
     ((), "id", (1,)),
     (("dimensions",), "more", (1,)),
     (("dimensions",), "noteId", ("n", None)),
-    (("dimensions",), "concept", (ABSENT, *WRONG, *NO_NAMES, "q:A", "xbrl:note", "m:Z", "x:A", "m:Reg")),
+    *((("dimensions",), "concept", it) for it in ((ABSENT,), WRONG, (*NO_NAMES, "q:A", "xbrl:note"), ("m:Z", "x:A", "m:Reg"))),
     (("dimensions",), "entity", (*WRONG, *NO_ENTITIES, "q:A", "xbrl:A")),
     (("dimensions",), "period", (*WRONG, *NO_DAYS, *(f"{DAYS[0]}/{it}" for it in (*DAYS, *NO_DAYS)))),
     (("dimensions",), "period", tuple(f"{it}/{DAYS[5]}" for it in DAYS)),
-    (("dimensions",), "unit", (*WRONG, *UNITS, *NO_UNITS, "A", "q:a*x:b", "x:a/xbrl:b", "q:a/")),
-    (("dimensions",), "language", (*WRONG, *LANGUAGES, *NO_LANGUAGES)),
+    *((("dimensions",), "unit", it) for it in (UNITS, (*WRONG, *NO_UNITS, "A", "q:a*x:b", "x:a/xbrl:b", "q:a/"))),
+    *((("dimensions",), "language", it) for it in (LANGUAGES, (*WRONG, *NO_LANGUAGES))),
     (("dimensions",), "m:Reg", (*WRONG, *NO_NAMES, "q:A", "xbrl:note")),
     (("dimensions",), "m:Sku", WRONG),
     (("dimensions",), "made:Sku", ("a",)),
@@ -222,6 +224,8 @@ def json_bytes(chance, tree):
     text = json.dumps(tree, ensure_ascii=chance.random() < 0.5, indent=chance.choice((None, 1)))
     if chance.random() < 0.05:
         text = text.replace('"decimals": 0', chance.choice(('"decimals": -0', '"decimals": 0.0', '"decimals": 0e0')))
+    if chance.random() < 0.3:
+        text = text.replace("1.5", chance.choice(("1e999", "-1e999", "NaN", "-Infinity", "1e308", "1" * 400, "0e999", "1e-999")))
     if chance.random() < 0.05:
         text = text.replace('"value"', chance.choice(('"value": "98", "value"', '"decimals": 3, "value"')), 1)
     return b"\xef\xbb\xbf" * (chance.random() < 0.05) + text.encode(errors="surrogatepass")

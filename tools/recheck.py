@@ -37,9 +37,8 @@ class Refused(Exception):
     """The number and the name of a refusal, and its place."""
 
 def read_report(content: bytes, sheet: Sheet, told: int = 0) -> tuple[dict[str, Fact], set[str], list[str]]:
-    """Returns the facts of a report by identifier, its references, and those of its URLs that are not plain. `told` is the number of
-    its refusal in --refusals, or 0. Errors: Refused, for the first of NotJson, the document's lowest condition, the lowest condition
-    of the first faulty fact by identifier, and DisallowedDuplicates."""
+    """Returns the facts of a report by identifier, its references, and its URLs that are not plain. `told` is its number in --refusals,
+    or 0. Errors: Refused, for NotJson, the lowest condition of the document, that of the first faulty fact, or DisallowedDuplicates."""
     tree = read_json(content, " at document")
     refuse_lowest(document_conditions(tree, told), " at document")
     info, objects = tree["documentInfo"], sorted(at(tree, "facts", {}).items())  # texts sort as their UTF-8 bytes do
@@ -332,8 +331,7 @@ def fact_tree(fact: Fact, prefixes: Mapping[str, str]) -> Tree:
     value = plain(content) if kind == 1 else spelled(content) if kind == 3 else content
     return {"dimensions": given, "value": value, **({} if is_exact else {"decimals": decimals})}
 
-def numbered(letter: str, count: int) -> list[str]:
-    """Returns the letter with each number from 1 to the count, padded with zeros to one width."""
+def numbered(letter: str, count: int) -> list[str]:  # all of one width
     return [f"{letter}{rank:0{len(str(count))}}" for rank in range(1, count + 1)]
 
 def json_text(tree: Tree) -> str:
@@ -445,6 +443,8 @@ if __name__ == "__main__":
         status = main()
         sys.stdout.flush()
     except (Exception, KeyboardInterrupt) as fault:  # untrusted input can cause any exception
-        print(f"recheck: {type(fault).__name__}: {json.dumps(str(fault))[1:-1]}", file=sys.stderr, flush=True)
-        status = 3
-    os._exit(status)
+        try:
+            print(f"recheck: {type(fault).__name__}: {json.dumps(str(fault))[1:-1]}", file=sys.stderr, flush=True)
+        finally:
+            os._exit(3)  # standard output or standard error may have failed, and would fail again
+    sys.exit(status)

@@ -306,6 +306,11 @@ class Others(Examples):
         self.assertEqual(ran(*words, self.place("no\x1b"))[0], 3)
         self.assertEqual(ran(*words, self.scratch)[0], 3)
         self.assertEqual(ran(*words, preexec_fn=lambda: os.close(1))[0], 3)
+        for stream in ("stdout", "stderr"):
+            with open("/dev/full", "w") as full:
+                streams = {"stdout": subprocess.DEVNULL, "stderr": subprocess.DEVNULL, stream: full}
+                done = subprocess.run([sys.executable, TOOL, *words, *[self.scratch] * (stream == "stderr")], **streams)
+                self.assertEqual(done.returncode, 3)
 
 
 if __name__ == "__main__":
