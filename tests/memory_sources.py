@@ -6,8 +6,8 @@
 Library code passes on an error that it received, or converts it: with `?`, in an arm of a `match` or an `if let` whose pattern names
 want of memory in each alternative, under a guard or condition such as `error.is_memory()` or `reason == Reason::OutOfMemory`, or in
 a function or closure that gets the error as a parameter. Each other place that makes such an error is a source. A constant or a
-function that makes the error from nothing, not in place of another error, is one source for each mention. A request of a constant
-size of 2^32 or more is also a source, since it must fail.
+function that makes the error from nothing, not in place of another error, is one source for each function that uses it. A request
+of a constant size of 2^32 or more is also a source, since it must fail.
 
 `STAY` lists the sources that stay, each with its reason. The status is 1 if there are others, if a listed one does not exist, or if
 more than eight are listed. The script reads tokens, not types. So it finds a source only where the error or the size is written out.
@@ -27,9 +27,11 @@ MOST = 8
 STAY = (
     ("crates/oim_write/src/writer.rt", "text", 1, "its sink is a list in memory, which fails only if memory is refused"),
     ("crates/row_formats/src/csv_record.rt", "text_of_record", 2, "csv writes to a list in memory, which fails only if memory is refused"),
+    ("crates/row_formats/src/row_csv.rt", "push_defined", 1, "a JSON text is UTF-8, which the contract of `members_json` does not say"),
     ("crates/row_formats/src/cells.rt", "Cells::push", 1, "a text with a quote beside ASCII is UTF-8, which no contract says"),
+    ("crates/xbrlmerge_c/src/check.rt", "xbrlmerge_check", 1, "reading a sheet has no other error than a refusal"),
     ("crates/xbrlmerge_c/src/output.rt", "answer", 1, "its sinks are lists in memory, which fail only if memory is refused"),
-    ("crates/xbrlmerge_c/src/refusal_name.rt", "REASONS", 2, "the table of all reasons: its name is returned, no error"),
+    ("crates/xbrlmerge_c/src/refusal_name.rt", "REASONS", 1, "the table of all reasons: its name is returned, no error"),
 )
 
 # The errors of other libraries that count as want of memory. `url` returns `Overflow` for a text of more than 4 GB.
@@ -87,7 +89,7 @@ class Code:
     """The tokens of a file, without attributes, ghost items and contracts, and the sources in it."""
 
     def __init__(self, path, text):
-        self.path, self.sources, self.owner, self.received = path, [], "", 0
+        self.path, self.sources, self.owner, self.received, self.users = path, [], "", 0, {}
         self.tokens = tokens_of(text)
         self.tokens = self.without_ghosts()
         self.items(0, len(self.tokens), "")
@@ -293,6 +295,8 @@ class Code:
 
     def look(self, at, scope):
         text, before = self.text(at), self.start_of_path(at)
+        if text.isupper() or self.text(at + 1) == "(":
+            self.users.setdefault(text, set()).add(self.owner)
         if text in REQUESTS and self.text(at + 1) == "(":
             self.request(at + 1, scope)
         if self.is_limit(at, "usize", "isize"):
@@ -340,14 +344,10 @@ def library_files():
             yield relative
 
 
-def mentions(codes, owner):
-    """Returns how often library code mentions this function or constant, except where it is defined."""
-    name, found = owner.rpartition("::")[2], 0
-    for code in codes:
-        for index, token in enumerate(code.tokens):
-            is_defined = code.text(index - 1) in ("fn", "const", "static")
-            found += token.text == name and not is_defined and (name.isupper() or code.text(index + 1) == "(")
-    return found
+def users(codes, owner):
+    """Returns how many functions and constants of library code mention this function or constant."""
+    name = owner.rpartition("::")[2]
+    return len({(code.path, user) for code in codes for user in code.users.get(name, ())})
 
 
 def counted(codes):
@@ -355,7 +355,7 @@ def counted(codes):
     sources, counts = [source for code in codes for source in code.sources], {}
     for it in sources:
         key = (it.path, it.owner)
-        counts[key] = counts.get(key, 0) + (max(1, mentions(codes, it.owner)) if it.from_nothing else 1)
+        counts[key] = counts.get(key, 0) + (max(1, users(codes, it.owner)) if it.from_nothing else 1)
     return sources, counts
 
 

@@ -147,7 +147,7 @@ class MemorySources(unittest.TestCase):
         self.assertEqual(lines_of(9 * other, ("a.rt", "make", 9, "why")), ["9 sources are listed, and at most 8 may stay"])
 
     def test_a_function_that_makes_one_counts_for_each_caller(self):
-        callers = body("Err(AllocError)") + "fn one() { make(a) }\nfn two() { make(b)?; make(c) }\n"
+        callers = body("Err(AllocError)") + "fn one() { make(a) }\nfn two() { make(b)?; make(c) }\nfn three() { make(d) }\n"
         self.assertEqual(lines_of(callers, ("a.rt", "make", 3, "why")), [])
         self.assertEqual(len(lines_of(callers, ("a.rt", "make", 2, "why"))), 1)
         constant = "const REFUSED: AllocError = AllocError;\nfn one() { Err(REFUSED) }\nfn two() { Err(REFUSED) }\n"

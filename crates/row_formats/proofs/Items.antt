@@ -1,4 +1,4 @@
-use Rattle.std.proofs.Common.{◌≡◌, ℕ, suc, ◌+◌, List, [], ◌∷◌, ◌++◌, length, append_assoc, append-nil, false, Result, Ok, Err, codes, refl, sym, ap, subst, ◌∙◌, arith, IsUtf8}
+use Rattle.std.proofs.Common.{◌≡◌, ℕ, suc, ◌+◌, List, [], ◌∷◌, ◌++◌, length, append_assoc, append-nil, false, Result, Ok, Err, codes, refl, sym, ap, ◌∙◌, arith}
 use Rattle.std.specs.Prelude.{OnOk}
 use Rattle.std.proofs.lemmas.Result.{on_ok_weaker}
 use Rattle.json.specs.Token.{begin_array, begin_object, end_array, end_object, key}
@@ -39,6 +39,3 @@ closed_evidence r k d name begun inner value closed =
 -- a writer that begins with nothing produces the text of a value
 pub whole_text : {begun done : Written} {text : List ℕ} (d : Data) → begun.before ≡ [] → begun.tokens ≡ [] → AddsValue begun done d → text ≡ done.before ++ print done.tokens → text ≡ compact_text d
 whole_text {done = done} d before tokens added is = is ∙ item_is [] done.before false d done.tokens (added.before ∙ before) (behind _ added.tokens tokens)
-
-pub whole_utf8 : {begun done : Written} {text : List ℕ} (d : Data) → begun.before ≡ [] → AddsValue begun done d → text ≡ done.before ++ print done.tokens → IsUtf8 (print done.tokens) → IsUtf8 text
-whole_utf8 {done = done} d before added is utf8 = subst IsUtf8 (sym (is ∙ ap (λ b. b ++ print done.tokens) (added.before ∙ before))) utf8

