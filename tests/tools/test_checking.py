@@ -8,7 +8,7 @@ import unittest
 import in_process
 from contradicting.checking import command, quoted
 from support import content
-from test_contradictions_run import REPORTS, SHEET, Stubbed
+from test_contradictions_run import REPORTS, SCHEMA, SHEET, Stubbed
 from test_contradictions_sources import example
 
 REFUSED = "report 2: 13 UnboundPrefix at fact 15\n"
@@ -45,6 +45,13 @@ class Checking(Stubbed):
         self.assertEqual(sorted(os.listdir(os.path.join(self.output, "reports"))), ["2.json"])
         self.assertNotIn("links", self.told("reports/2.json"))
         self.assertTrue(self.command().endswith(f" -- {broken} {self.output}/reports/2.json"), self.command())
+
+    def test_a_sheet_that_was_made_is_named(self):
+        self.prints_nothing()
+        schema = self.write("core.xsd", SCHEMA % "")
+        self.run_on(f"it={REPORTS[0]}", sheet=("--taxonomy", schema))
+        self.assertIn(f"recheck --sheet={self.output}/sheet.json --merged={self.output}/merged.json ", self.command())
+        self.assertTrue(self.command().endswith(f" -- {REPORTS[0]}"), self.command())
 
     def test_a_normalised_report_is_no_input(self):
         self.run_on("--normalise", *REPORTS)
