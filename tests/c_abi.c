@@ -166,7 +166,7 @@ static void bounds(struct asked asked, const struct buffers *whole, uint32_t wan
     }
 }
 
-/* Refuses each request for memory in turn. The call must then change nothing or, if only a cache lacks the memory, have its
+/* Refuses each request for memory in turn. The call must then change nothing or, if the kit does without the memory, have its
    usual result. Returns how many calls failed. */
 static long refuse_each(const struct asked *asked, const struct buffers *whole, uint32_t wanted) {
     long number = 0, refused = 0;
