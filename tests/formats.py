@@ -232,7 +232,9 @@ def wrong_bounds(program, scratch):
             for name, text, most, (status, out, told) in expected:
                 line = f"output: more than {most} bytes; --most-output BYTES sets the bound\n"
                 fits = len(whole) <= most
-                if (status, told) != ((0, "") if fits else (3, line)) or not text.startswith(out) or fits != (out == whole):
+                # a row whose URIs exceed the bound is not made, so nothing is printed
+                is_long = name == "default" and shape != "rows"
+                if (status, told) != ((0, "") if fits else (3, line)) or out != (b"" if is_long else text[:most]):
                     yield shape, kind, name
             if len(whole) <= bound or content(old) != "old":
                 yield shape, kind, "default"
