@@ -19,6 +19,7 @@ named, examples/embed/main.txt is skipped. The script compares
 - tests/normalise/vendors/sheet.json with the sheet that tools/contradictions makes from a taxonomy package. The tool also
   normalises three reports in that file's folder; one stays refused. The merged text must equal a merge of the expected results
   for the other two;
+- what tools/contradictions finds in the reports of trial.py, with the differences planted there;
 - the commands in the man pages and in the program's help, like those of a page that shows no output;
 - each example in docs/REFUSALS.md with the line that the program prints for it.
 
@@ -37,6 +38,7 @@ import sys
 import tempfile
 import zipfile
 
+import trial
 from support import TOP, content
 
 CRATE = os.path.join(TOP, "crates", "xbrlmerge")
@@ -351,6 +353,7 @@ def make_top(program, scratch):
 def told(program, embed):
     """Makes all comparisons. Returns the differences, and a text that counts the commands and the examples of refusals."""
     wrong, ran = compared(program) + (embedded(embed) if embed else []) + fragments(program) + page_of_vendors(program), 0
+    wrong += trial.faults(program)
     places = {**{it: list(of_page(it)) for it in PAGES}, "the man pages": list(of_man_pages()), "the help": of_help(program)}
     with tempfile.TemporaryDirectory() as scratch:
         make_top(program, scratch)
