@@ -1,5 +1,6 @@
 """Tests of tools/contradictions on inputs designed to take long, fill the page, or make the tool fail."""
 import csv
+import io
 import itertools
 import json
 import os
@@ -147,6 +148,23 @@ class Hostile(ToolTest):
         page = content(self.page)
         self.assertEqual([page.count(part) for part in ("<script", "</script>", "<!--", '<section class="row')], [3, 3, 0, 102])
         self.assertIn("<b><abbr title=\"http://e.example/t\"><bdi>T</bdi></abbr></b> 2 rows</summary>", page)
+
+    def test_a_name_is_guarded_as_a_whole_text(self):
+        from contradicting.tables import cell
+        from names import Name
+
+        for uri in ("u", "=u", "a;=b", "u" * 500, "a;=b" * 200, "\t=", ";"):
+            for local in ("a", "=a", ";=a", "\t=a", "\ufeff;\t+a", "|-1", "a" * 500):
+                self.assertEqual(cell(Name(uri, local)), cell(f"{{{uri}}}{local}"))
+
+    def test_lines_are_those_of_the_csv_module(self):
+        from contradicting.tables import line_of
+
+        texts = ["", "a", " a ", ",", '"', '""', "a\nb", "\r", "'", ";", "a,b\"c", "\u2028", "\x00"]
+        for cells in [*itertools.product(texts, repeat=2), texts]:
+            made = io.StringIO(newline="")
+            csv.writer(made).writerow(cells)
+            self.assertEqual(line_of(cells), made.getvalue())
 
     def test_a_table_that_would_be_too_long_is_refused_before_it_is_written(self):
         for limit, told in (("LONGEST_ROW", "one row"), ("LONGEST_TABLE", "a table")):

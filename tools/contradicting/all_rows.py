@@ -5,7 +5,6 @@ The lines are written to temporary files while the rows are read, so that only c
 from __future__ import annotations
 
 import collections
-import csv
 import os
 from typing import Iterator, NamedTuple, Sequence
 
@@ -15,7 +14,7 @@ from contradicting.rows import Row
 from contradicting.sections import hints
 from contradicting.shown import escaped, other_dimensions, period, shown, shown_label, unit
 from contradicting.sources import Holder
-from contradicting.tables import DIMENSIONS, LONGEST_ROW, LONGEST_TABLE, Line, cell, dimension_cells, length_of
+from contradicting.tables import DIMENSIONS, LONGEST_ROW, LONGEST_TABLE, cell, dimension_cells, length_of, line_of
 from names import Name
 from process import NotDone
 from text_files import PIECE
@@ -49,8 +48,6 @@ class AllRows:
         self.labels, self.length = labels, 0
         self.places = [os.path.join(folder, f"all_rows.{ending}") for ending in ("csv", "html")]
         self.table, self.page = (open(place, "w", encoding="utf-8", newline="") for place in self.places)
-        self.line = Line()
-        self.writer = csv.writer(self.line)
         self.chunk: list[str] = []  # the waiting rows of the page; `ends` has the number and the concept of the first and the last
         self.ends: list[tuple[int, str]] = []
         self.head = HEAD + "".join(f"<th>{escaped(name)}" for name in self.providers)
@@ -75,8 +72,7 @@ class AllRows:
             raise NotDone(f"the names in one row, with the URI of each, have more than {LONGEST_ROW} characters")
 
     def write_line(self, cells: list[str]) -> None:
-        self.writer.writerow(cells)
-        text = self.line.pop()
+        text = line_of(cells)
         self.length += len(text)
         if self.length > LONGEST_TABLE:
             raise NotDone(f"the table of all rows has more than {LONGEST_TABLE} characters")

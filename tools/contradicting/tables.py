@@ -3,7 +3,6 @@ spreadsheet might read as a formula.
 """
 from __future__ import annotations
 
-import csv
 import functools
 import re
 from decimal import Decimal
@@ -29,29 +28,35 @@ DIMENSIONS = "concept entity period unit language dimensions".split()
 COLUMNS = ["row", "fact", *DIMENSIONS, *"value nil decimals low high group evidence hint providers identifiers reported_by label".split()]
 LONGEST_ROW, LONGEST_TABLE = 1 << 24, 1 << 30  # the most characters of the dimensions in one row, and in a whole table
 
+SHORT = 200  # characters
+QUOTED = ',"\r\n'  # the characters that make quotes necessary (RFC 4180, section 2)
+
 Cell = Union[Value, int]
 
 
-class Line(list[str]):
-    """A file object for `csv.writer`: the writer appends a line, and `pop` takes it out."""
-
-    write = list.append
-
-
 def lines_of(table: Iterable[Sequence[str]]) -> Iterator[str]:
-    made = Line()
-    writer = csv.writer(made)
     yield "\ufeff"
-    for cells in table:
-        writer.writerow(cells)
-        yield made.pop()
+    yield from map(line_of, table)
+
+
+def line_of(cells: Iterable[str]) -> str:
+    """Returns a line of a table of several columns, as `csv.writer` writes it. The writer looks at each character by itself, which
+    takes ten times as long for names with long URIs."""
+    return ",".join(map(quoted, cells)) + "\r\n"
+
+
+def quoted(text: str) -> str:
+    if any(sign in text for sign in QUOTED):
+        return '"' + text.replace('"', '""') + '"'
+    return text
 
 
 def cell(value: Cell) -> str:
     if isinstance(value, str):
-        return safe(value) if len(value) > 200 else safe_again(value)
-    if isinstance(value, Name):
-        return cell(f"{{{value.uri}}}{value.local}")
+        return safe(value) if len(value) > SHORT else safe_again(value)
+    if isinstance(value, Name):  # a long URI is repeated in many names, so it is looked through once
+        uri = f"{{{value.uri}}}" if len(value.uri) < SHORT else ""
+        return (safe_again(uri) if uri else safe_uri(value.uri)) + cell("}" + value.local)[1:]
     return "" if value is None else plain(value)
 
 
@@ -61,6 +66,11 @@ def safe(text: str) -> str:
 
 
 safe_again = functools.lru_cache(10_000)(safe)  # short texts are repeated in many cells
+
+
+@functools.lru_cache(8)
+def safe_uri(uri: str) -> str:
+    return safe(f"{{{uri}}}")
 
 
 def guarded(found: re.Match[str]) -> str:
