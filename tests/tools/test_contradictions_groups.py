@@ -152,6 +152,12 @@ class Told(ToolTest):
         self.assertEqual(rows[0]["decimals: Beta"], "0; 0")
         self.assertIn("<bdi>Beta i2f1</bdi>", page)
 
+    def test_a_heading_is_no_formula(self):
+        names, self.NAMES = self.NAMES, ("Alpha;=1", *self.NAMES[1:])
+        *_, rows = self.run_on([[(("1", 0), (1,)), (("9", 0), (2,))]])
+        self.NAMES = names
+        self.assertEqual(rows[0]["provider: Alpha;'=1"], "1")
+
     def test_small_differences_are_hidden_on_the_page(self):
         rows = [[(("1000", 0), (1,)), (("1002", 0), (2,))], [(("1000", 0), (1,)), (("2000", 0), (2,))], [("x", (1,)), ("y", (2,))]]
         for share, shown in (("0.3%", "23"), ("0.003", "23"), ("0.1%", "123"), ("60%", "3")):

@@ -51,7 +51,7 @@ class AllRows:
         self.chunk: list[str] = []  # the waiting rows of the page; `ends` has the number and the concept of the first and the last
         self.ends: list[tuple[int, str]] = []
         self.head = HEAD + "".join(f"<th>{escaped(name)}" for name in self.providers)
-        self.write_line(["row", *COLUMNS, *(f"{kind}: {name}" for name in self.providers for kind in self.kinds(name))])
+        self.write_line(["row", *COLUMNS, *(cell(f"{kind}: {name}") for name in self.providers for kind in self.kinds(name))])
 
     def kinds(self, name: str) -> list[str]:
         return ["provider", "decimals", *["files"] * (name in self.several)]
@@ -80,13 +80,14 @@ class AllRows:
 
     def cells(self, row: Row, own: Own) -> Iterator[str]:
         concept, *others = dimension_cells(row.dimensions)
-        yield from (concept, cell(self.labels.get(row.dimensions.concept, "")), *others, row.verdict, cell(hints(row)))
-        lacking = [name for name in self.providers if name not in own]
+        yield from (concept, cell(self.labels.get(row.dimensions.concept, "")), *others, row.verdict, cell(hints(row)) if row.hints else "")
+        lacking = [name for name in self.providers if name not in own] if len(own) < len(self.everybody) else ()
         nil = [name for name, given in own.items() if any(each.fact.value is None for each in given)]
         yield f"{len(own)} of {len(self.everybody)}" if self.everybody else ""
-        yield from (cell(", ".join(lacking)), cell(", ".join(nil)))
+        yield cell(", ".join(lacking)) if lacking else ""
+        yield cell(", ".join(nil)) if nil else ""
         for name in self.providers:
-            yield from self.provider_cells(name, own.get(name, []))
+            yield from self.provider_cells(name, own[name]) if name in own else [""] * len(self.kinds(name))
 
     def provider_cells(self, name: str, given: list[Given]) -> Iterator[str]:
         """Yields the values of a provider and their decimals, and its files if it has several. A single value is a whole cell, so

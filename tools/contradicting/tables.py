@@ -29,7 +29,6 @@ COLUMNS = ["row", "fact", *DIMENSIONS, *"value nil decimals low high group evide
 LONGEST_ROW, LONGEST_TABLE = 1 << 24, 1 << 30  # the most characters of the dimensions in one row, and in a whole table
 
 SHORT = 200  # characters
-QUOTED = ',"\r\n'  # the characters that make quotes necessary (RFC 4180, section 2)
 
 Cell = Union[Value, int]
 
@@ -46,7 +45,8 @@ def line_of(cells: Iterable[str]) -> str:
 
 
 def quoted(text: str) -> str:
-    if any(sign in text for sign in QUOTED):
+    """Returns a cell, in quotes if RFC 4180, section 2, asks for them."""
+    if "," in text or '"' in text or "\n" in text or "\r" in text:
         return '"' + text.replace('"', '""') + '"'
     return text
 
@@ -54,9 +54,8 @@ def quoted(text: str) -> str:
 def cell(value: Cell) -> str:
     if isinstance(value, str):
         return safe(value) if len(value) > SHORT else safe_again(value)
-    if isinstance(value, Name):  # a long URI is repeated in many names, so it is looked through once
-        uri = f"{{{value.uri}}}" if len(value.uri) < SHORT else ""
-        return (safe_again(uri) if uri else safe_uri(value.uri)) + cell("}" + value.local)[1:]
+    if isinstance(value, Name):
+        return name_again(value) if len(value.uri) + len(value.local) < SHORT else safe_uri(value.uri) + cell("}" + value.local)[1:]
     return "" if value is None else plain(value)
 
 
@@ -68,8 +67,14 @@ def safe(text: str) -> str:
 safe_again = functools.lru_cache(10_000)(safe)  # short texts are repeated in many cells
 
 
+@functools.lru_cache(10_000)
+def name_again(name: Name) -> str:
+    return safe(f"{{{name.uri}}}{name.local}")
+
+
 @functools.lru_cache(8)
 def safe_uri(uri: str) -> str:
+    """Returns a namespace in braces. A long one is repeated in many names, but looked through once."""
     return safe(f"{{{uri}}}")
 
 
