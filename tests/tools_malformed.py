@@ -279,6 +279,8 @@ def of_report(scratch, chance):
     else:
         sheet = broken(chance, sheet, drawn, JSON_BREAKS)
     options = [word for word in drawn_reports.OPTIONS if chance.random() < 0.4]
+    if chance.random() < 0.3:
+        options += ["--map", scratch.write("map", drawn_map(chance))]
     words = ["--sheet", scratch.write("sheet", sheet), *options, "--"]
     report, made, told = odd_names(chance, 3)
     scratch.write(report, drawn)
@@ -292,6 +294,13 @@ def of_report(scratch, chance):
             scratch.case += 1
             again, _ = scratch.run("normalise", [*words, made, "again", "more"], ["again", "more"])
             expect((again, open_bytes("again"), open_bytes("more")) == (0, out, b""), "it changes its own output")
+
+
+def drawn_map(chance):
+    """Returns a map for the reports of drawn_reports. In some cases it is broken, or replaces what it replaces by."""
+    parts = {key: {old: chance.choice(new) for old, new in part.items() if chance.random() < 0.7} for key, part in drawn_reports.MAP.items() if chance.random() < 0.6}
+    text = json.dumps(parts).encode()
+    return text if chance.random() < 0.7 else broken(chance, text, text, JSON_BREAKS)
 
 
 def odd_names(chance, count):

@@ -10,6 +10,11 @@ SHEET = {
 }
 OPTIONS = "--drop-links --drop-notes --drop-unknown --dates=xbrl21 --zones=utc --drop-null".split()
 URIS = {"eg": "http://example.org/t", "x": "http://example.org/u", "xbrl": "https://xbrl.org/2021"}
+T, U, V = ("http://example.org/t", "http://example.org/u", "http://example.org/v")
+# for each part of a map: what is replaced, and choices for what replaces it
+MAP = {"namespaces": {U: (T, V), V: (U, V)}, "concepts": {f"{{{T}}}B": (f"{{{T}}}A", f"{{{V}}}A"), f"{{{T}}}Z": (f"{{{T}}}A",)},
+       "entities": {f"{{{U}}}529900 ": (f"{{{U}}}1", f"{{{V}}}a:b")}, "members": {f"{{{T}}}North": (f"{{{T}}}South", f"{{{U}}}x")},
+       "units": {f"{{{U}}}a": ({"unit": f"{{{U}}}z", "scale": 3}, {"unit": f"{{{U}}}b", "scale": -2}, {"unit": f"{{{V}}}b"}, 7)}}
 MOMENTS = "2023-01-01T00:00:00 2023-12-31T24:00:00 2024-01-01T00:00:00 9999-12-31T23:59:59".split()
 NAMES = ["http://example.org/t#B http://example.org/t#C", "", "http://example.org/t#C"]
 TIDY = {
