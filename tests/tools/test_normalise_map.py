@@ -88,12 +88,14 @@ class Maps(ToolTest):
 
     def test_maps_that_are_none(self):
         name, other = f"{{{OLD}}}A", f"{{{NEW}}}A"
-        for names in ([], {"x": {}}, {"namespaces": []}, {"namespaces": {"a": 1}}, {"namespaces": {"a": ""}}, {"concepts": {"A": other}},
+        for names in ([], {"x": {}}, {"namespaces": []}, {"namespaces": {"a": 1}}, {"namespaces": {"a": ""}}, {"concepts": {"A": other}}, {"members": {name: f"{{{NEW}}}a:b"}}, {"units": {f"{{{OLD}}}a b": {"unit": other}}},
                       {"concepts": {name: "o:A"}}, {"entities": {name: 1}}, {"units": {name: other}}, {"units": {name: {"unit": other, "scale": 19}}},
                       {"units": {name: {"unit": other, "scale": 1.5}}}, {"units": {name: {"unit": other, "x": 1}}}, {"units": {name: {"scale": 1}}},
                       {"namespaces": {"a": "b", "b": "c"}}, {"concepts": {name: other, other: f"{{{NEW}}}B"}}, {**YEAR, "members": {other: name}}):
             self.check_refused("map.json: ", {"f": fact()}, names)
         self.mapped({"f": fact()}, {**YEAR, "units": {}, "concepts": {other: other}})
+        facts, _ = self.mapped({"f": fact(entity="l:a b: ")}, {"entities": {f"{{{LEI}}}a b: ": f"{{{LEI}}}c d:"}})
+        self.assertEqual(facts["f"]["dimensions"]["entity"], "l:c d:")
 
 
 class OfProviders(Stubbed):

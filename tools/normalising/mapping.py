@@ -4,7 +4,7 @@ from __future__ import annotations
 import re
 from typing import Any, Mapping, NamedTuple, Optional
 
-from names import SPACE, Name, Uris, expanded
+from names import PART, SPACE, Name, Uris, expanded
 from normalising.json_text import Number, Tree, read_json
 from process import NotDone, shortened
 from text_files import shown_path
@@ -30,7 +30,7 @@ class NameMap:
         self.namespaces: dict[str, str] = dict(tree.get("namespaces", {}))
         if not all(type(uri) is str and uri for pair in self.namespaces.items() for uri in pair):
             raise ValueError("a namespace is empty, or not a text")
-        self.tables = {table: {name_of(old): name_of(new) for old, new in tree.get(table, {}).items()} for table in TABLES}
+        self.tables = {table: {name_of(old, table): name_of(new, table) for old, new in tree.get(table, {}).items()} for table in TABLES}
         self.units = {name_of(old): measure_of(new) for old, new in tree.get("units", {}).items()}
         units = {old: measure.name for old, measure in self.units.items()}
         check_ends(self.namespaces, {})
@@ -46,10 +46,11 @@ def check_ends(table: Mapping[Any, Any], namespaces: Mapping[str, str]) -> None:
             raise ValueError(f"{new.shown() if isinstance(new, Name) else shortened(new)} replaces a name, and is replaced itself")
 
 
-def name_of(text: Tree) -> Name:
-    """Returns the name that a text such as {URI}local spells. Errors: ValueError."""
+def name_of(text: Tree, table: str = "") -> Name:
+    """Returns the name that a text such as {URI}local spells. An entity may have any identifier. Errors: ValueError."""
     uri, sign, local = text[1:].partition("}") if type(text) is str and text.startswith("{") else ("", "", "")
-    if not uri or not sign or not local or any(space in uri + local for space in SPACE):
+    is_part = bool(local) if table == "entities" else PART.fullmatch(local)
+    if not uri or not sign or not is_part or any(space in uri for space in SPACE):
         raise ValueError(f"{shortened(str(text))} is not a name such as {{URI}}local")
     return Name(uri, local)
 
