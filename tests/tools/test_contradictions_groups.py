@@ -132,7 +132,7 @@ class Told(ToolTest):
         scaled = [[((f"{4321 + row}", 0), (2,)), ((f"{4321 + row}000", -3), (1, 4))] for row in range(20)]
         page, *_ = self.run_on([*scaled, [(("5", 0), (1,)), (("7", 0), (4,))]])
         hints_shown, rest = page.split("<h2>By concept</h2>")
-        self.assertIn('<details class="group" id="h1"><summary><b><bdi>Beta</bdi></b>: 1,000 times smaller 20 rows</summary>', hints_shown)
+        self.assertIn('<details class="group" id="h1"><summary><b><bdi>Beta</bdi></b>: 1,000 times smaller in 20 rows</summary>', hints_shown)
         self.assertEqual(page.count('<section class="row'), 21)
         self.assertIn('href="#h1"', rest)
         block = hints_shown.split('<script type="text/html">')[1].split("</script>")[0]
@@ -164,7 +164,7 @@ class Told(ToolTest):
             page, cells, listed = self.run_on(rows, "--at-least", share)
             self.assertEqual("".join(sorted(re.findall(r'<section class="row \w+" id="row(\d)"', page))), shown)
             hidden = 3 - len(shown)
-            self.assertEqual(f"<p>{hidden} contradictions with smaller differences are not shown" in page, hidden > 0)
+            self.assertEqual(f"<p>Not shown: {hidden} with smaller differences;" in page, hidden > 0)
             self.assertEqual((len(cells), len(listed)), (6, 3))
         for share in ("x", "-1", "1e3", "", "%", "\u0661%"):
             words = ["--sheet", "s", "-o", self.output, "a.json", f"--at-least={share}"]

@@ -105,7 +105,7 @@ def contradictions(found: Found) -> Iterator[str]:
     """Yields the contradictions: those with a common hint, the largest differences, an index, and the other rows."""
     rows = [row for row in sorted(found.rows, key=order) if not is_hidden(row, found.at_least)]
     if len(rows) < len(found.rows):
-        yield f"<p>{len(found.rows) - len(rows)} contradictions with smaller differences are not shown; contradictions.csv has them.</p>\n"
+        yield f"<p>Not shown: {len(found.rows) - len(rows)} with smaller differences; contradictions.csv has them.</p>\n"
     hinted = by_hint(rows)
     places = {row.number: rank for rank, each in enumerate(hinted.values(), 1) for row in each}
     yield from hint_groups(hinted, found)
@@ -143,7 +143,7 @@ def hint_groups(hinted: dict[tuple[str, str], list[Row]], found: Found) -> Itera
     if hinted:
         yield "<h2>Rows with the same hint</h2>\n<p>A hint may explain a difference. It is not a verdict.</p>\n"
     for rank, ((name, phrase), rows) in enumerate(hinted.items(), 1):
-        title = f"<b><bdi>{escaped(name)}</bdi></b>: {phrase}"
+        title = f"<b><bdi>{escaped(name)}</bdi></b>: {phrase} in"
         yield from groups(title, rows, f"h{rank}", found)
 
 

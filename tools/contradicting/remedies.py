@@ -67,8 +67,8 @@ LINKS = Remedy("fact with links", "facts with links", "--drop-links")
 NOTE = Remedy("footnote", "footnotes", "--drop-notes")
 CORE_PREFIX = Remedy("core dimension with a prefix", "core dimensions with a prefix")
 UNKNOWN = Remedy("member that the format does not have", "members that the format does not have")
-CONCEPT = Remedy("concept that the sheet lacks", "concepts that the sheet lacks", "--drop-unknown")
-DIMENSION = Remedy("dimension that the sheet lacks", "dimensions that the sheet lacks", "--drop-unknown")
+CONCEPT = Remedy("fact with a concept that the sheet lacks", "facts with a concept that the sheet lacks", "--drop-unknown")
+DIMENSION = Remedy("fact with a dimension that the sheet lacks", "facts with a dimension that the sheet lacks", "--drop-unknown")
 
 
 def remedy_for(fault: Fault) -> Optional[Remedy]:
