@@ -22,7 +22,8 @@ what may explain a difference: a factor of 100, 1,000, 1,000,000 or 1,000,000,00
 signs, nil, or a difference below 1 in the last place. --at-least 0.1% hides smaller differences between numbers from the page.
 
 In table.csv, provider: NAME and decimals: NAME contain the values of a provider and their decimals, joined by "; ", and files:
-NAME its files if it has several. With more than 100 providers, these columns are left out. nil_by lists who reports nil.
+NAME its files if it has several. If no provider is known, or more than 100, the columns values and decimals have all values.
+nil_by lists who reports nil.
 
 Providers are named after their files: the provider of issuer.json is "issuer". NAME=REPORT sets another name. If a provider
 made several reports, repeat its NAME. After --, each argument is the whole name of a file. Write -- before a glob, as in
@@ -76,7 +77,7 @@ from contradicting.page import Found, page  # noqa: E402
 from contradicting.progress import Progress  # noqa: E402
 from contradicting.provider_counts import ProviderCounts  # noqa: E402
 from contradicting.reports import maps_named, reports_named  # noqa: E402
-from contradicting.rows import Reader  # noqa: E402
+from contradicting.rows import Reader, RowObserver  # noqa: E402
 from contradicting.tables import lines_of, table  # noqa: E402
 from normalising.options import add_losses, loses  # noqa: E402
 from process import NotDone, Status, print_lines, printable, run  # noqa: E402
@@ -187,7 +188,8 @@ def write(inputs: Inputs, options: argparse.Namespace, folder: str, progress: Pr
     progress.show("reading the rows")
     labels, names = labels_for(options, inputs), inputs.sources.names
     near, counts, all_rows = Near(names) if options.near else None, ProviderCounts(names), AllRows(folder, names, labels)
-    reader = Reader(inputs.text, inputs.sheet, inputs.sources, [counts, all_rows, *[near] * bool(near)])
+    observers: list[RowObserver] = [counts, all_rows, *([near] if near else [])]
+    reader = Reader(inputs.text, inputs.sheet, inputs.sources, observers)
     rows = reader.rows(inputs.verdicts)
     all_rows.finish()
     made_from = MadeFrom(inputs.version, read_files(inputs_of(options)))

@@ -40,9 +40,8 @@ def read_text(path: str) -> str:
 
 def opened(path: str) -> io.BufferedReader:
     """Opens a file, or standard input, with a buffer of PIECE bytes. Errors: OSError."""
-    if path == STANDARD:
-        return open(0, "rb", PIECE, closefd=False)
-    return open(path, "rb", PIECE)
+    is_standard = path == STANDARD
+    return io.BufferedReader(io.FileIO(0 if is_standard else path, closefd=not is_standard), PIECE)
 
 
 def shown_path(path: str) -> str:

@@ -152,6 +152,18 @@ class Told(ToolTest):
         self.assertEqual(rows[0]["decimals: Beta"], "0; 0")
         self.assertIn("<bdi>Beta i2f1</bdi>", page)
 
+    def test_without_columns_of_providers_all_values_are_in_one(self):
+        from contradicting import all_rows
+
+        rows = [[(("1", 0), (1,)), (("9", 2), (2,))], [("x", (1,))]]
+        names = self.NAMES
+        self.NAMES = [*names, *(f"P{number}" for number in range(all_rows.MOST_PROVIDERS))]
+        page, _, listed = self.run_on(rows)
+        self.NAMES = names
+        self.assertEqual([(row["values"], row["decimals"], row["reported_by"]) for row in listed], [("1; 9", "0; 2", "2 of 103"), ("x", "", "1 of 103")])
+        self.assertNotIn("provider: Alpha", listed[0])
+        self.assertIn("<th>Values\n<tr class=apart><td>1<td>", page)
+
     def test_a_heading_is_no_formula(self):
         names, self.NAMES = self.NAMES, ("Alpha;=1", *self.NAMES[1:])
         *_, rows = self.run_on([[(("1", 0), (1,)), (("9", 0), (2,))]])

@@ -292,7 +292,7 @@ class Prepared(Stubbed):
             page = content(self.page)
             for name in ("Sales", "RegionAxis", "NorthMember"):
                 self.assertIn(f"<bdi{attribute}>{name} &amp; label</bdi>", page)
-            self.assertIn(f'<a href="#row1" aria-label="1 of Sales &amp; label">', page)
+            self.assertIn('<a href="#row1" aria-label="1 of Sales &amp; label">', page)
             self.assertEqual(self.cells("table.csv")[0]["label"], "Sales & label")
         self.write("package/labels.xml", "no XML")
         done = self.run_on(*REPORTS, sheet=["--taxonomy", self.place("package")])

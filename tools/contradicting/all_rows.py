@@ -6,7 +6,7 @@ from __future__ import annotations
 
 import collections
 import os
-from typing import Iterator, NamedTuple, Sequence
+from typing import Iterator, NamedTuple, Optional, Sequence
 
 from contradicting.facts import Fact
 from contradicting.labels import Labels
@@ -20,21 +20,25 @@ from process import NotDone
 from text_files import PIECE
 
 COLUMNS = [DIMENSIONS[0], "label", *DIMENSIONS[1:], *"verdict hint reported_by not_reported_by nil_by".split()]
-MOST_PROVIDERS = 100  # if there are more, they have no columns
+MOST_PROVIDERS = 100  # if there are more, all values are in one column
 CHUNK = 200  # rows that the page loads together
 WORDS = {"inconsistent": "contradiction", "consistent": "consistent", "complete": "one fact"}
 HEAD = "<tr><th>Row<th>Concept<th>Period<th>Unit<th>Other dimensions<th>Verdict"
 
 
 class Given(NamedTuple):
-    """A fact of a provider."""
+    """A fact of a provider, or of all if no provider has a column."""
 
     name: str
     fact: Fact
-    holder: Holder
+    holder: Optional[Holder] = None
+
+    def files(self) -> str:
+        return ", ".join(file for file, _ in self.holder.by_file()) if self.holder else ""
 
 
-Own = dict[str, list[Given]]  # the facts of a row by provider
+Own = dict[str, list[Given]]  # the facts of a row by provider; those of all providers are under ALL
+ALL = ""
 
 
 class AllRows:
@@ -50,11 +54,14 @@ class AllRows:
         self.table, self.page = (open(place, "w", encoding="utf-8", newline="") for place in self.places)
         self.chunk: list[str] = []  # the waiting rows of the page; `ends` has the number and the concept of the first and the last
         self.ends: list[tuple[int, str]] = []
-        self.head = HEAD + "".join(f"<th>{escaped(name)}" for name in self.providers)
-        self.write_line(["row", *COLUMNS, *(cell(f"{kind}: {name}") for name in self.providers for kind in self.kinds(name))])
+        self.columns = self.providers or [ALL]
+        self.head = HEAD + "".join(f"<th>{escaped(name) or 'Values'}" for name in self.columns)
+        self.write_line(["row", *COLUMNS, *(heading for name in self.columns for heading in self.headings(name))])
 
-    def kinds(self, name: str) -> list[str]:
-        return ["provider", "decimals", *["files"] * (name in self.several)]
+    def headings(self, name: str) -> list[str]:
+        if name == ALL:
+            return ["values", "decimals"]
+        return [cell(f"{kind}: {name}") for kind in ("provider", "decimals", *["files"] * (name in self.several))]
 
     def add(self, row: Row) -> None:
         """Writes the lines of a row. Errors: NotDone if a line or the table is too long; OSError."""
@@ -63,8 +70,9 @@ class AllRows:
         for name, fact in row.facts.items():
             for holder in row.holders[name]:
                 own.setdefault(holder.name, []).append(Given(name, fact, holder))
-        self.write_line([cell(row.number), *self.cells(row, own)])
-        self.write_page(row, own)
+        columns = own if self.providers else {ALL: [Given(name, fact) for name, fact in row.facts.items()]}
+        self.write_line([cell(row.number), *self.cells(row, own, columns)])
+        self.write_page(row, columns)
 
     def check_length(self, row: Row) -> None:
         names = (len(fact.value.uri) * len(row.holders[name]) for name, fact in row.facts.items() if isinstance(fact.value, Name))
@@ -78,7 +86,7 @@ class AllRows:
             raise NotDone(f"the table of all rows has more than {LONGEST_TABLE} characters")
         self.table.write(text)
 
-    def cells(self, row: Row, own: Own) -> Iterator[str]:
+    def cells(self, row: Row, own: Own, columns: Own) -> Iterator[str]:
         concept, *others = dimension_cells(row.dimensions)
         yield from (concept, cell(self.labels.get(row.dimensions.concept, "")), *others, row.verdict, cell(hints(row)) if row.hints else "")
         lacking = [name for name in self.providers if name not in own] if len(own) < len(self.everybody) else ()
@@ -86,11 +94,11 @@ class AllRows:
         yield f"{len(own)} of {len(self.everybody)}" if self.everybody else ""
         yield cell(", ".join(lacking)) if lacking else ""
         yield cell(", ".join(nil)) if nil else ""
-        for name in self.providers:
-            yield from self.provider_cells(name, own[name]) if name in own else [""] * len(self.kinds(name))
+        for name in self.columns:
+            yield from self.column_cells(name, columns[name]) if name in columns else [""] * (2 + (name in self.several))
 
-    def provider_cells(self, name: str, given: list[Given]) -> Iterator[str]:
-        """Yields the values of a provider and their decimals, and its files if it has several. A single value is a whole cell, so
+    def column_cells(self, name: str, given: list[Given]) -> Iterator[str]:
+        """Yields values and their decimals, and the files if the provider has several reports. A single value is a whole cell, so
         that a number stays one."""
         values = [each.fact for each in given if each.fact.value is not None]
         if len(values) == 1:
@@ -100,12 +108,12 @@ class AllRows:
             yield cell("; ".join(written(fact) for fact in values))
             yield cell("; ".join(str(fact.precision()[0]) for fact in values))
         if name in self.several:
-            yield cell("; ".join(", ".join(file for file, _ in each.holder.by_file()) for each in given))
+            yield cell("; ".join(each.files() for each in given))
 
-    def write_page(self, row: Row, own: Own) -> None:
+    def write_page(self, row: Row, columns: Own) -> None:
         others = "; ".join(f"{axis}: {member}" for axis, member in other_dimensions(row, self.labels))
         cells = [str(row.number), shown_label(row.dimensions.concept, self.labels), period(row), unit(row), others, WORDS[row.verdict]]
-        cells += ["; ".join(shown_given(row, each) for each in own.get(name, ())) for name in self.providers]
+        cells += ["; ".join(shown_given(row, each) for each in columns.get(name, ())) for name in self.columns]
         kind = " class=apart" * (row.verdict == "inconsistent")
         self.chunk.append(f"<tr{kind}>" + "".join(f"<td>{each}" for each in cells) + "\n")
         self.ends = [*self.ends[:1], (row.number, cells[1])]

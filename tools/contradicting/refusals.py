@@ -3,9 +3,9 @@ from __future__ import annotations
 
 import argparse
 import json
-from typing import Any, Iterable, Iterator, Mapping, NamedTuple, Optional
+from typing import Any, Iterable, Iterator, Mapping, NamedTuple, Optional, Union
 
-from contradicting.remedies import FaultGroup, remedy_for
+from contradicting.remedies import FaultGroup, Remedy, remedy_for
 from process import shortened
 
 MOST_LINES = 20  # the most faults of one report that are shown
@@ -40,7 +40,8 @@ class Refusals:
 
     def add(self, provider: str, path: str, refusal: str, faults: Iterable[Mapping[str, Any]]) -> None:
         """Adds a report with its faults. If it has no faults, the refusal is shown instead."""
-        first, count, groups = [], 0, {}
+        first, count = [], 0
+        groups: dict[Union[Remedy, str, None], FaultGroup] = {}
         for count, fault in enumerate(faults, 1):
             if count <= MOST_LINES:
                 first.append(line_of(fault))

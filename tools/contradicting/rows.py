@@ -14,7 +14,6 @@ from contradicting.groups import Group, groups_of, odd_facts, weights_of
 from contradicting.hints import Hint, hints_of
 from contradicting.sources import Holders, names_of
 from contradicting.texts import CORE, Text, Tree, using
-from names import Name
 from process import shortened
 from sheets import Sheet
 

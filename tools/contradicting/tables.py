@@ -5,7 +5,6 @@ from __future__ import annotations
 
 import functools
 import re
-from decimal import Decimal
 from typing import Iterable, Iterator, Mapping, Sequence, Union
 
 from contradicting.facts import Dimensions, Fact, Value, plain

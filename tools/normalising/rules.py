@@ -65,7 +65,7 @@ class Normaliser:
             for number, (name, fact) in enumerate(facts.items(), 1):
                 logs[name] = Log(name, number)
                 reader.read(name, fact, logs[name], tree["facts"])
-        if mapped and "namespaces" in information:
+        if mapped and isinstance(information, dict) and "namespaces" in information:
             Part(information, ("documentInfo",), whole).change("namespaces", mapped.namespaces, "map", True)
         if self.program and self.options.drop_unreadable:
             refused = refused_in(tree, self.program)
