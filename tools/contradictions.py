@@ -51,9 +51,9 @@ The page and changes.csv show at most 80 characters of an identifier, a URI or a
 In the tables, a ' precedes anything that a spreadsheet might read as a formula.
 
 Status 0: the files are written, and there is nothing to look at. 1: the files are written, and there is something to look at:
-a contradiction, a refused report or one with repeated members, a loss of --normalise, a report that cannot be normalised, a part that --taxonomy leaves
-out, or pairs that --near did not compare (0 with --exit-zero). 2: invalid arguments. 3: not done, and standard error shows why.
-After status 2 or 3, no output has changed, unless a replaced file could not be restored.
+a contradiction, a refused report or one with repeated members, a loss of --normalise, a report that cannot be normalised, a
+part that --taxonomy leaves out, or pairs that --near did not compare (0 with --exit-zero). 2: invalid arguments. 3: not done,
+and standard error shows why. After status 2 or 3, no output has changed, unless a replaced file could not be restored.
 """
 from __future__ import annotations
 

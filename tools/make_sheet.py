@@ -5,9 +5,10 @@
     tools/make_sheet --union [--] SHEET .. > sheet.json
 
 A schema is read together with the schemas that it imports, includes or redefines. In a folder or package, every .xsd file
-is read. One FILE or SHEET may be standard input, written as -. Nothing is downloaded: a schema that is imported by URL must be in a named folder or package whose
-META-INF/catalog.xml maps the URL to it. The schemas of the specifications, at xbrl.org and w3.org, are not needed: their
-item types are built in, except some of the data type registry.
+is read. One FILE or SHEET may be standard input, written as -. Nothing is downloaded: a schema that is imported by URL must
+be in a named folder or package whose META-INF/catalog.xml maps the URL to it. A package's own catalog comes first. The
+schemas of the specifications, at xbrl.org and w3.org, are not needed: their item types are built in, except some of the data
+type registry.
 
 Enumeration sets are listed as text, and in the member xbrlmerge:sets, which tools/normalise reads. Standard error lists
 the parts that are left out:
