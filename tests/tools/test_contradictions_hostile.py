@@ -38,6 +38,8 @@ def typed(size):
 # for each text: its facts at a given size, in the order of a merged text, and whether --near is tested
 LONG = {
     "a row of numbers": (lambda size: [number(each) for each in range(size)], False),
+    "a row of one large group and many small ones": (lambda size: [{**number(each), "decimals": -6} for each in range(size // 2)]
+                                                      + [number(10**9 + 10 * each) for each in range(size // 2)], False),
     "a row of texts": (lambda size: [text(f"t{each:07}") for each in range(size)], False),
     "rows that differ in unit": (lambda size: [number(1, unit=f"e:u{each:07}") for each in range(size)], True),
     "rows that differ in a namespace": (lambda size: [number(1, entity=f"{prefix}:{each:07}") for prefix in "el" for each in range(size)], True),

@@ -6,7 +6,7 @@ from decimal import Decimal
 from typing import Iterator, Mapping, NamedTuple, Optional
 
 from contradicting.facts import Fact, Interval
-from contradicting.groups import Group, Weights, weight
+from contradicting.groups import MOST_GROUPS, Group, Weights, weight
 
 FACTORS = (10**3, 10**6, 10**9, 100)
 MOST_PAIRS = 100  # the most pairs of facts that are compared for a difference in the last place
@@ -22,8 +22,8 @@ class Hint(NamedTuple):
 
 
 def hints_of(facts: Facts, groups: tuple[Group, ...], weights: Weights) -> Iterator[Hint]:
-    """Yields a hint for each group that a known mistake may separate from the first group."""
-    for group in groups[1:]:
+    """Yields a hint for each of the first groups that a known mistake may separate from the very first one."""
+    for group in groups[1:MOST_GROUPS]:
         one, other = groups[0], group
         if weight(one, weights) == weight(other, weights) and is_smaller(facts, one, other):
             one, other = other, one  # so that a mistake of one provider has the same hint in each row

@@ -1,6 +1,7 @@
 """Replaces names by a map: the assumption that names of two taxonomies, schemes or units mean the same."""
 from __future__ import annotations
 
+import itertools
 import re
 from typing import Any, Mapping, NamedTuple, Optional
 
@@ -83,6 +84,7 @@ class ReportMap:
         self.uris = {prefix: given.namespaces.get(uri, uri) for prefix, uri in uris.items()}
         self.namespaces = {**namespaces, **self.uris} if isinstance(namespaces, dict) else namespaces
         self.prefixes = {uri: prefix for prefix, uri in self.uris.items() if prefix}
+        self.new_prefixes = (f"map{number}" for number in itertools.count(1))
         self.seen: dict[tuple[str, Name], Name] = {}
 
     def renamed(self, kind: str, spelled: str) -> str:
@@ -128,7 +130,7 @@ class ReportMap:
     def spelled(self, name: Name) -> str:
         """Returns a name with a prefix, which is bound if its namespace has none yet."""
         if name.uri not in self.prefixes:
-            prefix = next(each for each in (f"map{number}" for number in range(1, len(self.namespaces) + 2)) if each not in self.namespaces)
+            prefix = next(each for each in self.new_prefixes if each not in self.namespaces)
             self.prefixes[name.uri] = prefix
             self.uris[prefix] = self.namespaces[prefix] = name.uri
         return f"{self.prefixes[name.uri]}:{name.local}"
