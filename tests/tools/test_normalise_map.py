@@ -98,6 +98,19 @@ class Maps(ToolTest):
         self.assertEqual(facts["f"]["dimensions"]["entity"], "l:c d:")
 
 
+class Long(ToolTest):
+    def test_time_does_not_grow_with_the_square_of_a_long_namespace(self):
+        def run_at(size):
+            old, new = ("http://example.org/" + sign * 20 * size for sign in "on")
+            names = {"concepts": {f"{{{old}}}A{each}": f"{{{new}}}B{each}" for each in range(20)}, "namespaces": {old: f"{old}/n"}}
+            facts = {f"f{each}": fact(concept=f"o:A{each % 40}") for each in range(size)}
+            report = self.write("report.json", json.dumps({"documentInfo": {"namespaces": {"o": old}}, "facts": facts}))
+            status, told = self.run_tool(report, self.out, self.changes, "--map", self.write("map.json", json.dumps(names)))
+            self.assertEqual((status, told), (1, ""))
+
+        self.assertLess(in_process.growth(run_at, 1_000), 9)
+
+
 class OfProviders(Stubbed):
     def test_a_map_of_a_provider(self):
         self.prints_nothing()

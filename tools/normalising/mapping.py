@@ -3,6 +3,7 @@ from __future__ import annotations
 
 import itertools
 import re
+import sys
 from typing import Any, Mapping, NamedTuple, Optional
 
 from names import PART, SPACE, Name, Uris, expanded
@@ -28,9 +29,9 @@ class NameMap:
     def __init__(self, tree: Tree) -> None:
         if not isinstance(tree, dict) or not all(key in PARTS and isinstance(part, dict) for key, part in tree.items()):
             raise ValueError(f"it is not a map, which is an object with the members {', '.join(PARTS)}, each an object")
-        self.namespaces: dict[str, str] = dict(tree.get("namespaces", {}))
-        if not all(type(uri) is str and uri for pair in self.namespaces.items() for uri in pair):
+        if not all(type(uri) is str and uri for pair in tree.get("namespaces", {}).items() for uri in pair):
             raise ValueError("a namespace is empty, or not a text")
+        self.namespaces = {sys.intern(old): sys.intern(new) for old, new in tree.get("namespaces", {}).items()}
         self.tables = {table: {name_of(old, table): name_of(new, table) for old, new in tree.get(table, {}).items()} for table in TABLES}
         self.units = {name_of(old): measure_of(new) for old, new in tree.get("units", {}).items()}
         units = {old: measure.name for old, measure in self.units.items()}
@@ -53,7 +54,7 @@ def name_of(text: Tree, table: str = "") -> Name:
     is_part = bool(local) if table == "entities" else PART.fullmatch(local)
     if not uri or not sign or not is_part or any(space in uri for space in SPACE):
         raise ValueError(f"{shortened(str(text))} is not a name such as {{URI}}local")
-    return Name(uri, local)
+    return Name(sys.intern(uri), local)
 
 
 def measure_of(tree: Tree) -> Measure:
