@@ -7,11 +7,12 @@ make_sheet reads taxonomies and sheets; contradictions reads taxonomies with lab
 `verdicts` and `sources`; normalise reads reports and sheets. In most cases one file is broken, or the package that contains
 the file, or both. Some files have the names of options, or names with control characters, and follow `--`. Some taxonomies are
 read with another one whose catalog rewrites their references; their kinds must not change. Some outputs are longer than a bound,
-which is then low. No cell of a table may begin with a sign of a formula where a spreadsheet could split the table. Each run must end within 10 seconds of processor time and 1 GiB of memory, with status 0, 1 or 3. Its lines
-on standard error must be printable, and the tool must raise no exception that it does not expect. With status 0 or 1 all
-outputs must be complete, and a second run of normalise on its output must change nothing. With status 3 no output may change.
-The tools run inside this script. In about one case in 20, a tool also runs as a process; its result must be the same. JOBS
-processes run in parallel, as many as there are processors by default. CASE runs only the case with this number.
+which is then low. No cell of a table may begin with a sign of a formula where a spreadsheet could split the table. Each run
+must end within 10 seconds of processor time and 1 GiB of memory, with status 0, 1 or 3. Its lines on standard error must be
+printable, and the tool must raise no exception that it does not expect. With status 0 or 1 all outputs must be complete, and
+a second run of normalise on its output must change nothing. With status 3 no output may change. The tools run inside this
+script. In about one case in 20, a tool also runs as a process; its result must be the same. JOBS processes run in parallel,
+as many as there are processors by default. CASE runs only the case with this number.
 
 Status 0: all is as expected. 1: something is not, or one of the statuses 0, 1 and 3 of a tool is missing in a run of 5,000
 cases or more. The first 20 faults are printed with the seed and the case. The files of each case with a fault are kept.
@@ -139,7 +140,8 @@ def drawn_text(chance):
     facts = drawn_facts(chance)
     names = [f"f{rank:0{len(str(len(facts)))}}" for rank in range(1, len(facts) + 1)]
     text = json.dumps({"documentInfo": {"namespaces": URIS}, "facts": dict(zip(names, facts))}, indent=chance.choice((None, None, 1)))
-    sources = "".join(f'{name} {chance.randint(1, 3)} {json.dumps(chance.choice(("id ", "=", "a;@")) + name)}\n' for name in names for _ in range(chance.randint(1, 2)))
+    sources = "".join(f'{name} {chance.randint(1, 3)} {json.dumps(chance.choice(("id ", "=", "a;@")) + name)}\n'
+                      for name in names for _ in range(chance.randint(1, 2)))
     return text.encode(), lines_of_verdicts.lines(text).encode(), sources.encode()
 
 
@@ -249,7 +251,8 @@ def of_taxonomy(scratch, chance):
     status, out = scratch.run("make_sheet", [*options, taxonomy], [])
     expect_sheet(status, out)
     if chance.random() < 0.5 and not options:
-        other = scratch.write(chance.choice(("other.zip", "--union", "x;=1.zip", "\x1b.zip")), packed(drawn_other_taxonomy(chance), zipfile.ZIP_STORED))
+        name = chance.choice(("other.zip", "--union", "x;=1.zip", "\x1b.zip"))
+        other = scratch.write(name, packed(drawn_other_taxonomy(chance), zipfile.ZIP_STORED))
         both, out_of_both = scratch.run("make_sheet", ["--", *chance.sample([taxonomy, other], 2)], [])
         expect_sheet(both, out_of_both)
         if status != 3:
@@ -298,7 +301,8 @@ def of_report(scratch, chance):
 
 def drawn_map(chance):
     """Returns a map for the reports of drawn_reports. In some cases it is broken, or replaces what it replaces by."""
-    parts = {key: {old: chance.choice(new) for old, new in part.items() if chance.random() < 0.7} for key, part in drawn_reports.MAP.items() if chance.random() < 0.6}
+    drawn = {key: part for key, part in drawn_reports.MAP.items() if chance.random() < 0.6}
+    parts = {key: {old: chance.choice(new) for old, new in part.items() if chance.random() < 0.7} for key, part in drawn.items()}
     text = json.dumps(parts).encode()
     return text if chance.random() < 0.7 else broken(chance, text, text, JSON_BREAKS)
 

@@ -88,7 +88,8 @@ class Hints(unittest.TestCase):
         facts = {"a": number(1000, 0), "b": number("1.0", 1), "c": number("1.2", 1), "d": number(1000, 0)}
         self.assertEqual([*hints.hints_of(facts, (("a", "d"), ("b", "c")), dict.fromkeys("abcd", 1))], [])
         facts["c"] = number("1.04", 1)
-        self.assertEqual([hint.phrase for hint in hints.hints_of(facts, (("a", "d"), ("b", "c")), {**dict.fromkeys("abcd", 1), "a": 3})], ["1,000 times smaller"])
+        found = hints.hints_of(facts, (("a", "d"), ("b", "c")), {**dict.fromkeys("abcd", 1), "a": 3})
+        self.assertEqual([hint.phrase for hint in found], ["1,000 times smaller"])
 
 
 class Told(ToolTest):
@@ -160,7 +161,8 @@ class Told(ToolTest):
         self.NAMES = [*names, *(f"P{number}" for number in range(all_rows.MOST_PROVIDERS))]
         page, _, listed = self.run_on(rows)
         self.NAMES = names
-        self.assertEqual([(row["values"], row["decimals"], row["reported_by"]) for row in listed], [("1; 9", "0; 2", "2 of 103"), ("x", "", "1 of 103")])
+        told = [(row["values"], row["decimals"], row["reported_by"]) for row in listed]
+        self.assertEqual(told, [("1; 9", "0; 2", "2 of 103"), ("x", "", "1 of 103")])
         self.assertNotIn("provider: Alpha", listed[0])
         self.assertIn("<th>Values\n<tr class=apart><td>1<td>", page)
 

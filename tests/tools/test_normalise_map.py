@@ -61,8 +61,9 @@ class Maps(ToolTest):
 
     def test_a_unit_is_scaled_exactly(self):
         for value, decimals, unit, scaled, places, now in (
-            ("4321", 0, "u:kEUR", "4321000", -3, "u:EUR"), ("4321.5", 1, "u:kEUR", "4321500", -2, "u:EUR"), ("-0.001", None, "u:kEUR", "-1", None, "u:EUR"),
-            ("5", 2, "u:t/u:kEUR", "0.005", 5, "u:t/u:EUR"), ("12", -3, "u:kEUR*u:kEUR", "12000000", -9, "u:EUR*u:EUR"), (None, None, "u:kEUR", None, None, "u:EUR"),
+            ("4321", 0, "u:kEUR", "4321000", -3, "u:EUR"), ("4321.5", 1, "u:kEUR", "4321500", -2, "u:EUR"),
+            ("-0.001", None, "u:kEUR", "-1", None, "u:EUR"), ("5", 2, "u:t/u:kEUR", "0.005", 5, "u:t/u:EUR"),
+            ("12", -3, "u:kEUR*u:kEUR", "12000000", -9, "u:EUR*u:EUR"), (None, None, "u:kEUR", None, None, "u:EUR"),
             ("123456789012345", 0, "u:kEUR", "123456789012345000", -3, "u:EUR"), ("0.10", None, "u:kEUR", "100", None, "u:EUR"),
         ):
             facts, _ = self.mapped({"f": fact(value, decimals=decimals, unit=unit)}, SCALED)
@@ -88,7 +89,8 @@ class Maps(ToolTest):
 
     def test_maps_that_are_none(self):
         name, other = f"{{{OLD}}}A", f"{{{NEW}}}A"
-        for names in ([], {"x": {}}, {"namespaces": []}, {"namespaces": {"a": 1}}, {"namespaces": {"a": ""}}, {"concepts": {"A": other}}, {"members": {name: f"{{{NEW}}}a:b"}}, {"units": {f"{{{OLD}}}a b": {"unit": other}}},
+        for names in ([], {"x": {}}, {"namespaces": []}, {"namespaces": {"a": 1}}, {"namespaces": {"a": ""}}, {"concepts": {"A": other}},
+                      {"members": {name: f"{{{NEW}}}a:b"}}, {"units": {f"{{{OLD}}}a b": {"unit": other}}},
                       {"concepts": {name: "o:A"}}, {"entities": {name: 1}}, {"units": {name: other}}, {"units": {name: {"unit": other, "scale": 19}}},
                       {"units": {name: {"unit": other, "scale": 1.5}}}, {"units": {name: {"unit": other, "x": 1}}}, {"units": {name: {"scale": 1}}},
                       {"namespaces": {"a": "b", "b": "c"}}, {"concepts": {name: other, other: f"{{{NEW}}}B"}}, {**YEAR, "members": {other: name}}):

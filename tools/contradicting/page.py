@@ -69,7 +69,9 @@ first difference; contradictions.csv has them whole.</p>
     yield """<p class="filter" hidden><label>Rows with the words <input type="search"></label> <output></output></p>
 <div class="found"></div><div class="list">"""
     yield from contradictions(found)
-    yield '<h2>All rows</h2>\n<p>Decimals are in brackets. Facts that are not in the largest group are red.</p><noscript><p>These rows need JavaScript. table.csv has them too.</p></noscript><div class="every">'
+    yield """<h2>All rows</h2>
+<p>Decimals are in brackets. Facts that are not in the largest group are red.</p>
+<noscript><p>These rows need JavaScript. table.csv has them too.</p></noscript><div class="every">"""
     yield from found.all_rows.page_pieces()
     yield "</div></div>"
     yield from found.made_from.html()
