@@ -9,11 +9,11 @@ and the program. A first run of each test counts the requests and refuses none; 
 memory. A second run, set to refuse the request after the last one, must do the same. Then each request is refused in a run of
 its own. A test must pass and print that a call got no memory (`refused`) or that its own setup got none (`refused here`). The
 program runs on each command line in LINES. The program must print the line `out of memory` and end with status 3. Before this
-line, the program may write a first part of its text. Two kinds of requests may be refused without harm, and then a test may
-print neither line, and the program may end as if nothing was refused: those for a smaller block, which returns unused memory,
-and those of clap, which searches for similar words in the tests and on the lines in ASKS_CLAP. Any other request counts as
-passed over, except in the tests in DEVICE_FAILS_TOO. JOBS processes run in parallel, as many as there are processors by
-default. The last line is the commit.
+line, the program may write a first part of its text. Three kinds of requests may be refused without harm, and then a test may
+print neither line, and the program may end as if nothing was refused: those for a smaller block, which returns unused memory;
+those of clap, which searches for similar words in the tests and on the lines in ASKS_CLAP; and those of json, which requests
+memory for more tokens than a text has, in the tests in ASKS_JSON. Any other request counts as passed over, except in the tests
+in DEVICE_FAILS_TOO. JOBS processes run in parallel, as many as there are processors by default. The last line is the commit.
 
 Status 0: nothing failed and nothing was passed over. 1: something failed or was passed over, a call returned want of memory
 with nothing refused, or no run of a crate in WRITES_FRONTS had written a first part. 2: a name is unknown, there is no cc, or a
@@ -40,10 +40,11 @@ SHARE, LIMIT = 40, 60
 # a sink takes at least this many bytes at a time, except the last time
 CHUNK = 1 << 16
 SHOWN = 20
-CALL, HERE, SMALLER, CLAP = "refused calls", "refused here", "memory kept", "clap searched less"
+CALL, HERE, SMALLER = "refused calls", "refused here", "memory kept"
+CLAP, JSON = "clap searched less", "json requested less"
 DEVICE, PASSED, FAILED = "device first", "passed over", "failed"
 CLOCK, PROCESSOR = "seconds", "of a processor"
-COLUMNS = ("tests", "requests", "refused in turn", CALL, HERE, SMALLER, CLAP, DEVICE, PASSED, FAILED, CLOCK, PROCESSOR)
+COLUMNS = ("tests", "requests", "refused in turn", CALL, HERE, SMALLER, CLAP, JSON, DEVICE, PASSED, FAILED, CLOCK, PROCESSOR)
 
 
 def labels(names_of_crates):
@@ -58,6 +59,10 @@ DEVICE_FAILS_TOO = labels({
     "command_tests": "files:: run::a_full_device run::an_output_that_failed"})
 # in these tests and on these command lines, a word is wrong, so clap searches for similar words
 ASKS_CLAP = (*labels({"command_tests": "words::other_words words::usage"}), f"{PROGRAM} merge --sheet s --allow some", f"{PROGRAM} report")
+# in these tests, the reader requests memory for fewer tokens of a piece than json wants, so json requests it again; if json gets
+# none, it still needs only what the text has
+ASKS_JSON = labels({"report_tests": "explained::faults_of_facts reports::facts::each_condition_on_a_name "
+                                    "reports::facts::facts_are_answered reports::facts::the_first_condition"})
 # the tests of these crates print how much of a text was written before a call got no memory
 WRITES_FRONTS = {"merge_tests"}
 
@@ -150,7 +155,9 @@ def refusals_told(ran):
 
 def ending_without_harm(subject, ran):
     """Classifies the result of a run that ended as if nothing was refused."""
-    return SMALLER if ran.smaller else CLAP if subject.label.startswith(ASKS_CLAP) else PASSED
+    if ran.smaller:
+        return SMALLER
+    return CLAP if subject.label.startswith(ASKS_CLAP) else JSON if subject.label.startswith(ASKS_JSON) else PASSED
 
 
 def ending_of_test(subject, ran):

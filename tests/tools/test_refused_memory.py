@@ -51,5 +51,21 @@ class Tasks(unittest.TestCase):
         self.assertEqual([number for _, _, numbers in tasks for number in numbers], list(range(1, 2 * refused_memory.SHARE + 2)))
 
 
+class Harmless(unittest.TestCase):
+    """A run that ends as if nothing was refused is a fault, unless the refused request was of a kind that has a name."""
+
+    def ending(self, label, smaller=False):
+        subject = refused_memory.Subject(label, (), os.devnull, None)
+        return refused_memory.ending(subject, refused_memory.Ran(0, b"", b"", True, smaller, 1))
+
+    def test_a_request_that_a_test_passes_over_is_a_fault(self):
+        self.assertEqual(self.ending("value_tests tests::names::texts_are_copied"), refused_memory.PASSED)
+
+    def test_requests_of_three_kinds_are_named(self):
+        self.assertEqual(self.ending("value_tests tests::names::texts_are_copied", smaller=True), refused_memory.SMALLER)
+        self.assertEqual(self.ending("command_tests tests::words::usage_tells_what_is_wrong"), refused_memory.CLAP)
+        self.assertEqual(self.ending("report_tests tests::explained::faults_of_facts_are_said"), refused_memory.JSON)
+
+
 if __name__ == "__main__":
     unittest.main()
