@@ -1,6 +1,8 @@
 use Rattle.std.proofs.Common.{◌≡◌}
+use Rattle.oim_write.specs.BoundedSink.{bounded_failures}
 use Rattle.command_line.proofs.commands.explain.put_each.Given as goal
 
--- the sink has not failed since the call began
+-- neither the sink nor its bound has failed since the call began
 abbrev pub invariant-loop-index : goal.invariant-loop-index
-invariant-loop-index g l = g.S.Sink.failures l.out ≡ g.S.Sink.failures l.initial.out
+invariant-loop-index g l =
+    bounded_failures (g.S.Sink.failures l.out.sink) l.out.overruns ≡ bounded_failures (g.S.Sink.failures l.initial.out.sink) l.initial.out.overruns
