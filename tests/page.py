@@ -11,7 +11,8 @@ this way.
 On 11,000 contradictions that the script generates, the tool may take at most 10 seconds of a processor and 300 MB of memory.
 The browser must show something within half a second, draw the page within 30 and return its whole text within 60. An entry of the
 index must open the rows of its concept. The filter must count the rows that contain its words, and show at most 100 of them.
-Neither the page nor a row may need scrolling sideways, at any of three window widths.
+Neither the page nor a row may need scrolling sideways, at any of three window widths. A printed page must have the rows of closed
+groups, unless there are too many.
 
 Status 0: all is as expected, or Chromium is not installed (a line reports this). 1: something is not; each fault is printed.
 2: the program is not built, or a process failed or took too long.
@@ -58,9 +59,20 @@ setTimeout(() => {
   field.dispatchEvent(new Event("input"));
   setTimeout(() => {
     measure();
+    dispatchEvent(new Event("beforeprint"));
+    answers.push(document.querySelectorAll("details.group:not([open])").length);
     root.dataset.told = [...answers, document.querySelector(".filter output").value].join("|");
   }, 3000);
 }, 2000);
+</script></body>"""
+# the script that prints the page, and counts the groups that are open while it is printed, and afterwards
+PRINTED = """<script>
+const opened = () => document.querySelectorAll("details.group[open]").length, counts = [];
+for (const name of ["beforeprint", "afterprint"]) {
+  dispatchEvent(new Event(name));
+  counts.push(opened());
+}
+document.documentElement.dataset.opened = counts.join("|");
 </script></body>"""
 # for each fact of one contradiction, its provider and its identifier in the provider's report
 OWN_NAMES = (("issuer", "f56"), ("statfeed", "TS08780"))
@@ -121,6 +133,10 @@ def look_at_example(words, scratch, kept):
         faults.append(f"the page has the rows {sorted(sections)}, not {sorted(rows)}")
     faults += [f"row {row} lacks {fact}" for row in rows for fact in rows[row] if f">{fact}<" not in sections.get(row, "")]
     faults += [f"the page lacks {name} {own}" for name, own in OWN_NAMES if not re.search(f"{name} <span [^>]*{name}.json[^>]*>{own}<", content)]
+    place, text = changed(page, "printed.html", "</body>", PRINTED)
+    printed = run([*words, "--dump-dom", f"file://{place}"]).decode()
+    groups = text.count('<details class="group"')
+    faults += ["the printed page lacks the rows of closed groups"] * (f'data-opened="{groups}|0"' not in printed or groups == 0)
     for look, wanted in LOOKS.items():
         picture = os.path.join(scratch, f"{look}.png")
         setting = f"--blink-settings=preferredColorScheme={0 if look == 'dark' else 1}"
@@ -186,7 +202,7 @@ def ask(words, page, width):
     found = re.search(r'data-told="([^"]*)"', content.decode())
     if not found:
         return [f"the browser reported nothing for a window of {width} pixels"]
-    opened, seen, wide, is_wide, _, left, wide_left, is_wide_left, told = found[1].split("|")
+    opened, seen, wide, is_wide, _, left, wide_left, is_wide_left, closed, told = found[1].split("|")
     lines = re.findall(r"<tr[^>]*><td>\d+<td>.*?(?=<tr|</table)", text.split("<h2>All rows</h2>\n")[1], re.DOTALL)
     numbers = len(lines), sum("Concept007" in line and "issuer" in line for line in lines)
     sections = re.findall('<section class="row .*?</section>', text, re.DOTALL)
@@ -194,6 +210,7 @@ def ask(words, page, width):
     counts = f"{wanted} of {len(sections)} contradictions, {numbers[1]} of {numbers[0]} rows"
     faults = [f"the filter shows the count {told}, not {counts}"] * (told.split(";")[0] != counts)
     faults += [f"the filter shows {left} rows"] * (int(left) != min(wanted, 100))
+    faults += ["a large page opens its groups for printing"] * (closed == "0")
     faults += [f"the index opens {opened} rows, and {seen} are shown"] * (int(opened) < 1 or int(seen) != 100 + int(opened))
     faults += [f"the page is wider than {width} pixels"] * ("true" in (is_wide, is_wide_left))
     return faults + [f"{wide} and {wide_left} rows are too wide for {width} pixels"] * (wide != "0" or wide_left != "0")

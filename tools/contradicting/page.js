@@ -1,6 +1,6 @@
 // Opens groups and filters rows. Without scripts there is no filter, and `noscript` names the tables with the rows.
 const box = document.querySelector(".filter"), [field, told] = [box.querySelector("input"), box.querySelector("output")];
-const list = document.querySelector(".list"), every = document.querySelector(".every"), found = document.querySelector(".found"), MOST = 100;
+const list = document.querySelector(".list"), every = document.querySelector(".every"), found = document.querySelector(".found"), MOST = 100, MOST_PRINTED = 2_000_000;
 const groups = [...document.querySelectorAll("details.group")], texts = groups.map(group => group.querySelector("script"));
 const SIGNS = {"&amp;": "&", "&lt;": "<", "&gt;": ">", "&quot;": '"', "&#x27;": "'"};
 let rows, lines, head, waiting;
@@ -10,6 +10,17 @@ function load(group) {
   const text = group.querySelector("script");
   if (text) text.outerHTML = text.textContent;
   name(group);
+}
+
+// A page for paper has the rows of closed groups too, unless they are too many.
+function unfold() {
+  const closed = groups.filter(group => !group.open);
+  if (closed.reduce((sum, group) => sum + group.textContent.length, 0) > MOST_PRINTED) return;
+  for (const group of closed) {
+    load(group);
+    group.open = true;
+  }
+  addEventListener("afterprint", () => { for (const group of closed) group.open = false; }, { once: true });
 }
 
 // On a narrow page, each cell of a table of all rows stands below the others, with the name of its column.
@@ -60,6 +71,7 @@ function filter() {
 
 document.addEventListener("toggle", event => event.target.matches("details.group") && load(event.target), true);
 document.addEventListener("click", event => open(event.target.closest("a[href]")?.hash));
+addEventListener("beforeprint", unfold);
 open(location.hash);
 field.addEventListener("input", () => { clearTimeout(waiting); waiting = setTimeout(filter, 150); });
 box.hidden = false;
