@@ -1,11 +1,11 @@
 -- The result of a search in an ascending list.
-use Rattle.std.proofs.Common.{◌≡◌, ℕ, zero, suc, ◌+◌, ◌<◌, ◌≤◌, ◌-◌, true, false, not, cond, List, [], ◌∷◌, length, get_or, Some, Ok, Err, refl, sym, ap, subst, ◌∙◌, arith, inl, inr}
+use Rattle.std.proofs.Common.{◌≡◌, ℕ, zero, suc, ◌+◌, ◌<◌, ◌≤◌, ◌-◌, true, false, not, cond, List, [], ◌∷◌, length, get_or, Some, None, Ok, Err, refl, sym, ap, subst, ◌∙◌, arith, inl, inr}
 use Rattle.std.specs.Prelude.{is_some}
 use mathlib.Core.Bool.{true≢false}
 use Rattle.std.specs.declared.cmp.Ordering.{Ordering}
 use Rattle.std.specs.declared.cmp.Ordering.TheVariants.{Less, Equal, Greater}
 use Rattle.std.specs.Ordering.{is_lt, is_eq, ordering_index}
-use Rattle.std.specs.Cmp.{IsTotalOrder, alike_right, tied_back}
+use Rattle.std.specs.Cmp.{IsTotalOrder, Equal-is, alike_right, tied_back}
 use Rattle.std.specs.List.{AllWithin}
 use Rattle.std.specs.List.Sorted.{IsNonDecreasingBy, IsPartitionPoint}
 use Rattle.std.proofs.lemmas.Bool.{cases_lt}
@@ -16,6 +16,7 @@ use Rattle.std.proofs.lemmas.Map.Keys.{Less-from_sorted}
 use Rattle.merge_laws.specs.code.Insertions.{found_at, index_of}
 use Rattle.merge_laws.specs.Sorted.{IsRising, item_at, has_key}
 use Rattle.merge_laws.specs.code.Items.{turned_less, turned_greater}
+use Rattle.merge_laws.proofs.Edits.{item_found, tells_ok}
 
 pub less : (r : Ordering) → true ≡ is_lt r → r ≡ Less
 less Less t = refl
@@ -97,11 +98,29 @@ module _ {K E : Type 0} {R : K → K → Ordering} (key : E → K) (o : IsTotalO
     | false ↦ λ t. let count : index_of R key k (e ∷ es) ≡ 0 = ap (λ b. cond (not (not b)) (1 + index_of R key k es) 0) t in absurd (omega (arith, lt, count))
   ] refl)
 
-  -- all items of es that are below an item of fs are below the next item of fs
-  pub passed_next : (es fs : List E) (i : ℕ) (x d : E) → IsRising R key fs → i + 1 < length fs → x ≡ get_or fs i x → (j : ℕ) (e : E) → j < index_of R key (key x) es → R (key (get_or es j e)) (key (get_or fs (i + 1) d)) ≡ Less
-  passed_next es fs i x d h within is j e lt =
-      o.trans _ _ _ (before_index (key x) es j e lt)
-      (ap (λ f. R (key f) (key (get_or fs (i + 1) d))) (is ∙ get_or_default fs i x d (omega (arith, within))) ∙ rising_at fs h i (i + 1) d (omega arith) within)
+  next_above : (fs : List E) (n m : ℕ) (x d : E) → IsRising R key fs → x ≡ get_or fs n x → m ≡ n + 1 → m < length fs → R (key x) (key (get_or fs m d)) ≡ Less
+  next_above fs n m x d h is next within =
+      ap (λ f. R (key f) (key (get_or fs m d))) (is ∙ get_or_default fs n x d (omega (arith, next, within)))
+      ∙ rising_at fs h n m d (omega (arith, next)) within
 
+  -- all items of es that are below an item of fs are below the next item of fs
   pub passed_more : (es fs : List E) (n m : ℕ) (x d : E) → IsRising R key fs → x ≡ get_or fs n x → m ≡ n + 1 → m < length fs → (p : ℕ) → p ≡ index_of R key (key x) es → AllWithin (λ e. R (key e) (key (get_or fs m d)) ≡ Less) es 0 p
-  passed_more es fs n m x d h is next within p at j e _ lt = subst (λ i. R (key (get_or es j e)) (key (get_or fs i d)) ≡ Less) (sym next) (passed_next es fs n x d h (subst (λ i. i < length fs) next within) is j e (subst (λ i. j < i) at lt))
+  passed_more es fs n m x d h is next within p at j e _ lt = o.trans _ _ _ (before_index (key x) es j e (subst (λ i. j < i) at lt)) (next_above fs n m x d h is next within)
+
+  tied_item : (k : K) (es : List E) (x : E) → item_at R key k es ≡ Some x → R k (key x) ≡ Equal
+  tied_item k [] x is = absurd (true≢false (sym (ap is_some is)))
+  tied_item k (e ∷ es) x is = elim (is_eq (R k (key e))) as (λ b. is_eq (R k (key e)) ≡ b → cond b (Some e) (item_at R key k es) ≡ Some x → R k (key x) ≡ Equal) [
+    | true ↦ λ t at. subst (λ y. R k (key y) ≡ Equal) (ap (λ a. elim a [ Some y ↦ y | None ↦ e ]) at) ((Equal-is _).0 t)
+    | false ↦ λ t at. tied_item k es x at
+  ] refl is
+
+  -- so is the item of es that has the key of this item
+  pub passed_found : (es fs : List E) (n m : ℕ) (x d : E) → IsRising R key es → IsRising R key fs → x ≡ get_or fs n x → m ≡ n + 1 → m < length fs → (i : ℕ) → Ok i ≡ found_at R key (key x) es → AllWithin (λ e. R (key e) (key (get_or fs m d)) ≡ Less) es 0 (i + 1)
+  passed_found es fs n m x d g h is next within i at j e from lt = elim (cases_lt j i) [
+    | inl under ↦ passed_more es fs n m x d h is next within i (sym (tells_ok _ _ i at).1) j e from under
+    | inr over ↦
+        let here : j ≡ i = omega (arith, over, lt) in
+        let tied = tied_item (key x) es (get_or es j e) (item_found key o (key x) es i e g at ∙ sym (ap (λ n. Some (get_or es n e)) here)) in
+        let above = turned_less key o _ _ (next_above fs n m x d h is next within) in
+        turned_greater key o _ _ (sym (alike_right o _ _ _ tied) ∙ above)
+  ]

@@ -190,7 +190,7 @@ fn changes_by<K: Key, V: Merge>(
                 let mut value = entries[index].1.copied(alloc)?;
                 value.merge(alloc, &other.1)?;
                 changes.values.push((index, value))?;
-                from = index;
+                from = index + 1;
             }
             Err(index) => {
                 changes.new_entries.push((index, other.copied(alloc)?))?;
@@ -226,7 +226,7 @@ fn changes_of<K: Key, V: Merge>(
                 value.known();
                 value.merge(alloc, own)?;
                 changes.values.push((index, value))?;
-                from = index;
+                from = index + 1;
             }
             Err(index) => {
                 changes.new_entries.push((index, (key, value)))?;

@@ -118,7 +118,7 @@ fn new_among<T: Key>(
     let mut from = 0;
     for other in others {
         match find_from(items, other, from) {
-            Ok(index) => from = index,
+            Ok(index) => from = index + 1,
             Err(index) => {
                 news.push((index, other.copied(alloc)?))?;
                 from = index;

@@ -1,9 +1,11 @@
-use Rattle.std.proofs.Common.{◌≡◌, ◌≤◌, ◌∷◌, ◌++◌, [], append-nil, length, sym, ap, subst, ◌∙◌, refl}
+use Rattle.std.proofs.Common.{◌≡◌, ◌+◌, ◌≤◌, ◌∷◌, ◌++◌, [], append-nil, get_or, length, sym, ap, subst, ◌∙◌, refl, arith}
+use Rattle.std.specs.List.{AllWithin}
+use Rattle.std.specs.declared.cmp.Ordering.TheVariants.{Less}
 use Rattle.merge_laws.specs.code.Insertions.{new_item, new_items, new_value, new_values, index_of}
 use Rattle.merge_laws.specs.Sorted.{has_key, entry_key}
-use Rattle.merge_laws.proofs.Edits.{is_new, no_value, not_new, tells_err, tells_ok, value_shared}
+use Rattle.merge_laws.proofs.Edits.{is_new, no_value, not_new, tells_err, value_shared}
 use Rattle.merge_laws.proofs.Lists.{flat_map_next}
-use Rattle.merge_laws.proofs.Indices.{passed_more, index_bound}
+use Rattle.merge_laws.proofs.Indices.{passed_found, passed_more, index_bound}
 use Rattle.merge_laws.proofs.sorted_map.changes_by.Goals as goal
 use Rattle.merge_laws.proofs.sorted_map.changes_by.Goals.{in-Ok+in_ok-value-in-Ok+in_ok-merge-in-Ok+in_ok-push-in-Ok, in-Err+in_ok-copied-in-Err+in_ok-push-in-Err}
 
@@ -25,7 +27,6 @@ loop-other-preserved g c =
     ∙ flat_map_next (new_item R entry_key es) fs i _ f c.loop-other-test.true c.other-item.is refl in
     elim c.match-find_from.branch [
       | in-Ok+in_ok-value-in-Ok+in_ok-merge-in-Ok+in_ok-push-in-Ok w ↦
-          let at : c.match-find_from.from ≡ index_of R entry_key f.0 es = w.from-is ∙ sym (tells_ok (has_key R entry_key f.0 es) (index_of R entry_key f.0 es) _ w.in-Ok.ensures.index).1 in
           let merged = w.in_ok-merge-in-Ok.ensures.ok ∙ ap (λ v. g.V.Merge.merged v f.1) w.in_ok-value-in-Ok.ensures in
           record {
             values =
@@ -39,8 +40,8 @@ loop-other-preserved g c =
                 ∙ sym (append-nil news)
                 ∙ ap (λ ns. news ++ ns) (sym (not_new entry_key o f es _ w.in-Ok.ensures.index))
                 ∙ news_more;
-            within = subst (λ n. n ≤ length es) (sym at) (index_bound entry_key o f.0 es);
-            passed = λ d within. passed_more entry_key o es fs i _ f d c.requires.others c.other-item.is refl within _ at;
+            within = omega (arith, w.from-is, w.in-Ok.ensures.bound);
+            passed = λ d within. subst (λ n. AllWithin (λ e. R e.0 (get_or fs (i + 1) d).0 ≡ Less) es 0 n) (sym w.from-is) (passed_found entry_key o es fs i _ f d c.requires.entries c.requires.others c.other-item.is refl within _ w.in-Ok.ensures.index);
           }
       | in-Err+in_ok-copied-in-Err+in_ok-push-in-Err w ↦
           let at : c.match-find_from.from ≡ index_of R entry_key f.0 es = w.from-is ∙ sym (tells_err (has_key R entry_key f.0 es) (index_of R entry_key f.0 es) _ w.in-Err.ensures.index).1 in

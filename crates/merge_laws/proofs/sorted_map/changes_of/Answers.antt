@@ -4,9 +4,9 @@ use Rattle.std.proofs.lemmas.Iterator.Consumers.{YieldsList-turn, YieldsList-end
 use Rattle.std.proofs.lemmas.List.{length_push, take_all}
 use Rattle.merge_laws.specs.code.Insertions.{new_item, new_items, new_value, new_values, index_of}
 use Rattle.merge_laws.specs.Sorted.{has_key, entry_key}
-use Rattle.merge_laws.proofs.Edits.{is_new, no_value, not_new, tells_err, tells_ok, value_shared}
+use Rattle.merge_laws.proofs.Edits.{is_new, no_value, not_new, tells_err, value_shared}
 use Rattle.merge_laws.proofs.Lists.{flat_map_next}
-use Rattle.merge_laws.proofs.Indices.{passed_more, index_bound}
+use Rattle.merge_laws.proofs.Indices.{passed_found, passed_more, index_bound}
 use Rattle.merge_laws.proofs.sorted_map.changes_of.Goals as goal
 
 pub find_from-requires-clause-within : goal.find_from-requires-clause-within
@@ -31,7 +31,6 @@ loop-other-preserved-in-Ok-1 g c =
     let news = c.loop-other.changes.new_entries.items in
     let read = c.index-entries-index.result in
     let turned = g.met.V.Merge.commutative (get_or es c.in-Ok.index read).1 f.1 c.known.ensures c.known-in-Ok.ensures in
-    let at : c.in-Ok.index ≡ index_of R entry_key f.0 es = sym (tells_ok (has_key R entry_key f.0 es) (index_of R entry_key f.0 es) _ c.in-Ok.ensures.index).1 in
     record {
       values =
           c.in_ok-push-in-Ok.ensures.items
@@ -44,8 +43,8 @@ loop-other-preserved-in-Ok-1 g c =
           ∙ ap (λ ns. news ++ ns) (sym (not_new entry_key o f es _ c.in-Ok.ensures.index))
           ∙ ap (λ ns. ns ++ new_item R entry_key es f) c.loop-other.invariant.new_entries
           ∙ flat_map_next (new_item R entry_key es) fs _ _ f turn.0 turn.1 next;
-      within = subst (λ n. n ≤ length es) (sym at) (index_bound entry_key o f.0 es);
-      passed = λ d within. passed_more entry_key o es fs _ _ f d c.requires.others turn.1 next within _ at;
+      within = omega (arith, c.in-Ok.ensures.bound);
+      passed = λ d within. passed_found entry_key o es fs _ _ f d c.requires.entries c.requires.others turn.1 next within _ c.in-Ok.ensures.index;
     }
 
 pub loop-other-preserved : goal.loop-other-preserved

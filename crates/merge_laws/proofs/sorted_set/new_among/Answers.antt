@@ -1,18 +1,17 @@
-use Rattle.std.proofs.Common.{◌≡◌, ℕ, ◌<◌, ◌≤◌, ◌++◌, ◌∷◌, [], List, Ok, Err, append-nil, length, sym, ap, subst, ◌∙◌}
+use Rattle.std.proofs.Common.{◌≡◌, ℕ, ◌+◌, ◌++◌, ◌∷◌, [], List, Ok, Err, append-nil, get_or, refl, sym, ap, subst, ◌∙◌, arith}
 use Rattle.std.specs.Cmp.{IsTotalOrder}
+use Rattle.std.specs.List.{AllWithin}
+use Rattle.std.specs.declared.cmp.Ordering.TheVariants.{Less}
 use Rattle.std.specs.declared.cmp.Ordering.{Ordering}
 use Rattle.merge_laws.specs.code.Insertions.{found_at, new_item, index_of}
 use Rattle.merge_laws.specs.Sorted.{has_key, itself}
-use Rattle.merge_laws.proofs.Edits.{not_new, is_new, tells_ok, tells_err}
+use Rattle.merge_laws.proofs.Edits.{not_new, is_new, tells_err}
 use Rattle.merge_laws.proofs.Lists.{flat_map_more}
-use Rattle.merge_laws.proofs.Indices.{passed_next, index_bound}
+use Rattle.merge_laws.proofs.Indices.{passed_found, passed_more}
 use Rattle.merge_laws.proofs.sorted_set.new_among.Goals as goal
 use Rattle.merge_laws.proofs.sorted_set.new_among.Goals.{in-Ok, in-Err+in_ok-copied-in-Err+in_ok-push-in-Err}
 
 module _ {K : Type 0} {R : K → K → Ordering} (o : IsTotalOrder R) (es : List K) (f : K) where
-  known_index : (from i : ℕ) → from ≡ i → Ok i ≡ found_at R itself f es → from ≡ index_of R itself f es
-  known_index from i is at = is ∙ sym (tells_ok (has_key R itself f es) (index_of R itself f es) i at).1
-
   new_index : (from i : ℕ) → from ≡ i → Err i ≡ found_at R itself f es → from ≡ index_of R itself f es
   new_index from i is at = is ∙ sym (tells_err (has_key R itself f es) (index_of R itself f es) i at).1
 
@@ -29,16 +28,19 @@ loop-other-preserved g c =
     let fs = c.args.others.now in
     let i = c.loop-other.other-index in
     let f = c.other-item.result in
-    let at : c.match-find_from.from ≡ index_of R itself f es = elim c.match-find_from.branch [
-      | in-Ok w ↦ known_index g.met.T.Ord.total es f _ _ w.from-is w.in-Ok.ensures.index
-      | in-Err+in_ok-copied-in-Err+in_ok-push-in-Err w ↦ new_index g.met.T.Ord.total es f _ _ w.from-is w.in-Err.ensures.index
-    ] in
+    let o = g.met.T.Ord.total in
     let more : c.match-find_from.news.items ≡ c.loop-other.news.items ++ new_item R itself es f = elim c.match-find_from.branch [
-      | in-Ok w ↦ nothing_more g.met.T.Ord.total es f c.loop-other.news.items c.match-find_from.news.items _ (ap (λ v. v.items) w.news-is) w.in-Ok.ensures.index
-      | in-Err+in_ok-copied-in-Err+in_ok-push-in-Err w ↦ one_more g.met.T.Ord.total es f c.loop-other.news.items c.match-find_from.news.items _ _ (ap (λ v. v.items) w.news-is ∙ w.in_ok-push-in-Err.ensures.items) w.in_ok-copied-in-Err.ensures w.in-Err.ensures.index
+      | in-Ok w ↦ nothing_more o es f c.loop-other.news.items c.match-find_from.news.items _ (ap (λ v. v.items) w.news-is) w.in-Ok.ensures.index
+      | in-Err+in_ok-copied-in-Err+in_ok-push-in-Err w ↦ one_more o es f c.loop-other.news.items c.match-find_from.news.items _ _ (ap (λ v. v.items) w.news-is ∙ w.in_ok-push-in-Err.ensures.items) w.in_ok-copied-in-Err.ensures w.in-Err.ensures.index
     ] in
     record {
       news = more ∙ ap (λ ns. ns ++ new_item R itself es f) c.loop-other.invariant.news ∙ sym (flat_map_more (new_item R itself es) fs i f c.loop-other-test.true c.other-item.is);
-      within = subst (λ n. n ≤ length es) (sym at) (index_bound itself g.met.T.Ord.total f es);
-      passed = λ d within j e _ lt. passed_next itself g.met.T.Ord.total es fs i f d c.requires.others within c.other-item.is j e (subst (λ n. j < n) at lt);
+      within = elim c.match-find_from.branch [
+        | in-Ok w ↦ omega (arith, w.from-is, w.in-Ok.ensures.bound)
+        | in-Err+in_ok-copied-in-Err+in_ok-push-in-Err w ↦ omega (arith, w.from-is, w.in-Err.ensures.bound)
+      ];
+      passed = λ d within. elim c.match-find_from.branch [
+        | in-Ok w ↦ subst (λ n. AllWithin (λ e. R e (get_or fs (i + 1) d) ≡ Less) es 0 n) (sym w.from-is) (passed_found itself o es fs i _ f d c.requires.items c.requires.others c.other-item.is refl within _ w.in-Ok.ensures.index)
+        | in-Err+in_ok-copied-in-Err+in_ok-push-in-Err w ↦ passed_more itself o es fs i _ f d c.requires.others c.other-item.is refl within _ (new_index o es f _ _ w.from-is w.in-Err.ensures.index)
+      ];
     }
