@@ -1,21 +1,23 @@
 -- Members and facts that are read from a tape.
-use Rattle.std.proofs.Common.{◌≡◌, ℕ, ◌≤◌, List, Some, None, option_and_then, refl, ap, ◌∙◌, arith, [], ◌++◌, Option, ◌∷◌, String, Global, sym, subst}
+use Rattle.std.proofs.Common.{◌≡◌, ℕ, ◌-◌, ◌<◌, ◌≤◌, List, Some, None, option_and_then, option_map, OnOk, Result, refl, ap, ◌∙◌, arith, [], ◌++◌, Option, ◌∷◌, String, Global, sym, subst}
+use Rattle.std.proofs.lemmas.Result.{on_ok_weaker}
 use Rattle.json.specs.Token.{Token}
 use Rattle.json.specs.Json.{Json, value, if_last, document}
 use Rattle.json.specs.Tree.{depth, members_depth, json_tokens}
-use Rattle.json.specs.Find.{BeginsWith, InMembers, NextMember}
+use Rattle.json.specs.Find.{as_array, as_number, as_object, BeginsWith, InItems, InMembers, NextItem, NextMember}
 use Rattle.json.specs.Lex.{tokens}
 use Rattle.json.specs.Json as j
 use Rattle.json.proofs.Printed.Trees.{value-json_tokens}
 use Rattle.json.proofs.Unique.Spelling.{value-json_tokens_back}
-use Rattle.serde_json.specs.Data.{Data, Members, no_members, put, member}
-use Rattle.serde_json.specs.Read.{of_json, of_members, max_depth}
+use Rattle.serde_json.specs.Data.{Data, null, boolean, string, array, no_items, item, Members, no_members, put, member}
+use Rattle.serde_json.specs.Read.{of_json, of_items, of_members, max_depth}
 use Rattle.oim_dims.specs.declared.fact.Fact.{Fact}
-use Rattle.oim_report.specs.code.TapeValues.{Ascends, AreData, one}
+use Rattle.oim_report.specs.code.TapeValues.{Ascends, AreData, IsRead, one}
 use Rattle.oim_report.specs.Pieces.{alone, HasMember, EndsWithBrace, IsPiece, put_all}
 use Rattle.oim_report.specs.code.FoundFacts.{AreFound, HaveOneMore}
 use Rattle.oim_report.proofs.PieceTexts.{append}
 use Rattle.oim_report.specs.code.Scope.{Scope}
+use Rattle.oim_report.proofs.Accepted.{map_some}
 use Rattle.oim_report.proofs.PutMembers.{ascends_put}
 use Rattle.oim_report.proofs.JoinedMembers.{Reads}
 use Rattle.oim_report.proofs.PiecesInTurn.{ReadAs, has_put, has_put_all, read_back}
@@ -73,6 +75,49 @@ all_read n vs tape rest Is next r =
     let depths : members_depth r.left ≡ 0 = ap members_depth none in
     record { ms = r.ms; reads = r.reads ∙ ap (λ l. of_members l r.ms) none; is = r.is; flat = r.flat (omega (arith, depths)) }
 
+-- ---- values that are skipped
+
+pub number_skipped : {E : Type 0} (v : Json) (s : List ℕ) (n : ℕ) (r : Result (Unit {0}) E) → as_number v ≡ Some s → OnOk r (IsRead 0 (j.number s)) → OnOk r (IsRead n v)
+number_skipped (j.number t) s n r e read =
+    let same : t ≡ s = Prim.cc in
+    on_ok_weaker r (λ h. record { found = h.found; reads = ap (λ x. of_json (j.number x)) same ∙ h.reads; flat = omega arith }) read
+number_skipped v s n r e read = absurd (Prim.cc)
+
+pub plain_skipped : (v : Json) (n : ℕ) → as_number v ≡ None → as_array v ≡ None → as_object v ≡ None → IsRead n v
+plain_skipped j.null n e f g = record { found = null; reads = refl; flat = omega arith }
+plain_skipped (j.boolean b) n e f g = record { found = boolean b; reads = refl; flat = omega arith }
+plain_skipped (j.string s) n e f g = record { found = string s; reads = refl; flat = omega arith }
+plain_skipped v n e f g = absurd (Prim.cc)
+
+-- if the items after the place on the tape are read, all items are read
+pub record AreSkipped (n : ℕ) (vs : j.Items) (tape : List Token) : Type 0 where
+  pub left : j.Items
+  pub here : InItems tape left
+  pub whole : IsRead n (j.array left) → IsRead n (j.array vs)
+
+item_read : (n : ℕ) (v : Json) (vs : j.Items) → 0 < n → IsRead (n - 1) v → IsRead n (j.array vs) → IsRead n (j.array (j.item v vs))
+item_read n v vs some one rest =
+    let items = map_some array (of_items vs) rest.found rest.reads in
+    let low = one.flat in
+    let below = rest.flat in
+    record {
+      found = array (item one.found items.0);
+      reads = λ i. option_map array (option_and_then (λ d. option_map (item d) (items.1 i)) (one.reads i));
+      flat = omega (arith, low, below, some);
+    }
+
+pub one_skipped : (n : ℕ) (vs : j.Items) (tape rest place : List Token) → 0 < n → NextItem tape (Some place) rest → ((v : Json) → BeginsWith place v → IsRead (n - 1) v) → AreSkipped n vs tape → AreSkipped n vs rest
+one_skipped n vs tape rest place some next is_one r =
+    let step = next r.left r.here in
+    record {
+      left = step.1;
+      here = step.4;
+      whole = λ more. r.whole (subst (λ l. IsRead n (j.array l)) (sym step.2) (item_read n step.0 step.1 some (is_one step.0 step.3) more));
+    }
+
+pub all_skipped : (n : ℕ) (vs : j.Items) (tape rest : List Token) → 0 < n → NextItem tape None rest → AreSkipped n vs tape → IsRead n (j.array vs)
+all_skipped n vs tape rest some next r = r.whole (subst (λ l. IsRead n (j.array l)) (sym (next r.left r.here)) (record { found = array no_items; reads = refl; flat = omega (arith, some) }))
+
 -- ---- a piece whose facts are read from a tape
 
 members_put : (vs : j.Members) (ms onto : Members) → AreData vs ms → of_members vs onto ≡ Some (put_all ms onto)
@@ -81,7 +126,7 @@ members_put (j.member k v vs) (member l d ms) onto h =
     ap (option_and_then (λ x. of_members vs (put k x onto))) h.1 ∙ ap (λ q. of_members vs (put q d onto)) h.0 ∙ members_put vs ms (put l d onto) h.3
 members_put vs ms onto h = absurd h
 
-shallow : (vs : j.Members) (ms : Members) → AreData vs ms → members_depth vs ≤ 2
+shallow : (vs : j.Members) (ms : Members) → AreData vs ms → members_depth vs ≤ 17
 shallow j.no_members no_members h = omega arith
 shallow (j.member k v vs) (member l d ms) h = let rest = shallow vs ms h.3 in let here = h.2 in omega (arith, rest, here)
 shallow vs ms h = absurd h

@@ -5,4 +5,5 @@ pub(crate) mod fact_members;
 pub(crate) mod fact_reader;
 pub(crate) mod fact_values;
 pub(crate) mod json_member;
+pub(crate) mod skipped;
 pub(crate) mod text_cache;

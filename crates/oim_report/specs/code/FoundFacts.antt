@@ -28,7 +28,7 @@ AreFound sheet bs (member k d ms) (s ∷ ss) (f ∷ fs) = (string_bytes s ≡ k)
 pub record IsData (sheet : Sheet) (bs : List Binding) (v : Json) (fact : Fact) : Type 0 where
   pub found : Data
   pub reads : of_json v ≡ Some found
-  pub flat : depth v ≤ 2
+  pub flat : depth v ≤ 17
   pub says : fact_outcome sheet bs found ≡ Ok fact
 
 -- the lists have one more fact, whose identifier is the key and whose value is at this place of a tape

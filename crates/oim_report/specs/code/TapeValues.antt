@@ -33,28 +33,34 @@ pub record IsSoFar (ms : Members) (parts : FactMembers) : Type 0 where
   pub shaped : parts.misshapen ≡ false
   pub unlinked : parts.linked ≡ false
 
--- the depth of the value is 1 at most; if ascending members have the parts `old`, they have the parts `new` after the value is
--- put at the key
+-- the value is read as data and has n levels at most
+pub record IsRead (n : ℕ) (v : json.Json) : Type 0 where
+  pub found : Data
+  pub reads : of_json v ≡ Some found
+  pub flat : depth v ≤ n
+
+-- the value has 16 levels at most; if ascending members have the parts `old`, they have the parts `new` after the value is put
+-- at the key
 pub record IsPut (key : List ℕ) (v : json.Json) (old new : FactMembers) : Type 0 where
   pub found : Data
   pub reads : of_json v ≡ Some found
-  pub flat : depth v ≤ 1
+  pub flat : depth v ≤ 16
   pub puts : (ms : Members) → Ascends ms → IsSoFar ms old → IsSoFar (put key found ms) new
 
--- the value is an object of depth 2 at most, and is read as a fact object with these parts
+-- the value is an object of 17 levels at most, and is read as a fact object with these parts
 pub record IsFactObject (v : json.Json) (parts : FactMembers) : Type 0 where
   pub found : Data
   pub reads : of_json v ≡ Some found
   pub are : fact_parts found ≡ Some parts
-  pub flat : depth v ≤ 2
+  pub flat : depth v ≤ 17
 
 -- an array with one object
 abbrev pub one : json.Members → json.Json
 one ms = json.array (json.item (json.object ms) json.no_items)
 
--- the keys are equal, one by one, and each value has depth 2 at most and is read as the data with the same index
+-- the keys are equal, one by one, and each value has 17 levels at most and is read as the data with the same index
 abbrev pub AreData : json.Members → Members → Type 0
 AreData json.no_members no_members = ⊤
 AreData json.no_members (member k d ms) = ⊥
 AreData (json.member k v vs) no_members = ⊥
-AreData (json.member k v vs) (member l d ms) = (k ≡ l) × (of_json v ≡ Some d) × (depth v ≤ 2) × AreData vs ms
+AreData (json.member k v vs) (member l d ms) = (k ≡ l) × (of_json v ≡ Some d) × (depth v ≤ 17) × AreData vs ms

@@ -17,7 +17,8 @@ ghost use Rattle.oim_report.specs.code.TapeValues.{Ascends, AreDimensions, IsFac
 
 use crate::document::json_tree::{has_colon, has_member, is_no_object, unknown_in};
 use crate::fact::json_member::JsonMember;
-use crate::limits::MOST_INSERTED;
+use crate::fact::skipped::skip_value;
+use crate::limits::{MOST_INSERTED, MOST_SKIPPED_LEVELS};
 use crate::pieces::not_in_pieces::NotInPieces;
 use json::Element;
 use serde_json::{Map, Value};
@@ -289,9 +290,7 @@ impl<'a> FactMembers<'a> {
             "decimals" => self.decimals = JsonMember::of_element(member)?,
             "dimensions" => self.dimensions = Some(DimensionMembers::of_element(alloc, member)?),
             "links" if is_empty_object(member) => {}
-            key if has_colon(key) => {
-                let _extension = JsonMember::of_element(member)?;
-            }
+            key if has_colon(key) => skip_value(member, MOST_SKIPPED_LEVELS)?,
             _ => return Err(NotInPieces::NeedsTree),
         }
         Ok(())

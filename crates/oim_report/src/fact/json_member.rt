@@ -116,6 +116,26 @@ fn whole_number(digits: &str) -> Option<i128>
     }
 }
 
+/// Returns whether `serde_json` reads a JSON number. It rejects a number that is too large for a
+/// float.
+pub(crate) fn is_finite_number(digits: &str) -> bool
+    ensures { result ≡ true → (found : Num) × (number_of digits.now ≡ Some found) }
+{
+    let bytes = digits.as_bytes();
+    if has_minus(bytes) {
+        is_finite(&Numeral::scan(&bytes[1..]), true)
+    } else {
+        is_finite(&Numeral::scan(bytes), false)
+    }
+}
+
+fn is_finite(numeral: &Numeral<'_>, is_negative: bool) -> bool
+    ensures { result ≡ true → (found : Num) × (number_from is_negative numeral.now ≡ Some found) }
+{
+    let number: f64 = numeral.to_float(is_negative);
+    number.is_finite()
+}
+
 fn has_minus(bytes: &[u8]) -> bool
     ensures value { result ≡ (slice_index bytes.now 0 == 45) }
     ensures len { IsTrue result → 0 < length bytes.now }

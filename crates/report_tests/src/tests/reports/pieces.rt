@@ -10,7 +10,7 @@ use std::test::Fail;
 // Reports that are long enough to be read in pieces. Each `@` is replaced by 70,000 bytes of
 // letters.
 // The number of facts of each report, their level, and the report.
-const LEVELS: [(usize, Level, &str); 3] = [
+const LEVELS: [(usize, Level, &str); 4] = [
     // members in any order, and with spaces
     (
         2,
@@ -22,6 +22,12 @@ const LEVELS: [(usize, Level, &str); 3] = [
         Unique,
         "\n{ \"documentInfo\" : {\n \"documentType\" : \"https://xbrl.org/2021/xbrl-json\", \"namespaces\" : {\n \"eg\" : \"http://example.org/t\" } },\n \"facts\" : {\n \"a\" : {\n \"value\" : \"@\",\n \"dimensions\" : { \"concept\" : \"eg:T\" }\n },\n \"b\" : { \"value\" : \"@\",\n \"dimensions\" : { \"concept\" : \"eg:T\", \"language\" : \"en\" }\n }\n } }\n",
     ),
+    // the value of an extension is any JSON value
+    (
+        2,
+        Unique,
+        r#"{"documentInfo":{"documentType":"https://xbrl.org/2021/xbrl-json","namespaces":{"eg":"http://example.org/t"}},"facts":{"a":{"eg:audited":true,"eg:share":-0.5e-3,"value":"@","dimensions":{"concept":"eg:T"}},"b":{"value":"@","eg:deep":[[],{"value":{"a":[null,false,{"":"}"}]}}],"dimensions":{"concept":"eg:T","language":"en"},"eg:audited":{}}}}"#,
+    ),
     // values and identifiers that look like the start or the end of a fact; one identifier is
     // repeated
     (
@@ -32,7 +38,7 @@ const LEVELS: [(usize, Level, &str); 3] = [
 ];
 
 // A refusal has its place in the whole report.
-const REFUSED: [(Outcome, &str); 3] = [
+const REFUSED: [(Outcome, &str); 5] = [
     (
         (2, 2),
         r#"{"documentInfo":{"documentType":"https://xbrl.org/2021/xbrl-json","namespaces":{"eg":"http://example.org/t"}},"facts":{"b":{"value":"@","dimensions":{"concept":"eg:T"}},"c":{},"a":{"value":"@","dimensions":{"concept":"eg:T"}},"b":{}}}"#,
@@ -44,6 +50,16 @@ const REFUSED: [(Outcome, &str); 3] = [
     (
         (3, 0),
         r#"{"documentInfo":{"documentType":"https://xbrl.org/2021/xbrl-json","namespaces":{"eg":"http://example.org/t"}},"facts":{"a":{"value":"@","dimensions":{"concept":"eg:T"}},"b":{"value":"@","dimensions":{"concept":"eg:T"}}},"facets":{}}"#,
+    ),
+    // a member whose key has no colon belongs to no extension
+    (
+        (3, 2),
+        r#"{"documentInfo":{"documentType":"https://xbrl.org/2021/xbrl-json","namespaces":{"eg":"http://example.org/t"}},"facts":{"a":{"value":"@","dimensions":{"concept":"eg:T"}},"b":{"audited":true,"value":"@","dimensions":{"concept":"eg:T"}}}}"#,
+    ),
+    // a number of an extension is too large for `serde_json`
+    (
+        (1, 0),
+        r#"{"documentInfo":{"documentType":"https://xbrl.org/2021/xbrl-json","namespaces":{"eg":"http://example.org/t"}},"facts":{"a":{"value":"@","dimensions":{"concept":"eg:T"}},"b":{"eg:deep":[{"a":1e999}],"value":"@","dimensions":{"concept":"eg:T"}}}}"#,
     ),
 ];
 

@@ -28,20 +28,20 @@ returns-in_ok-self-in-decimals c = λ v begins.
 pub returns-in_ok-of_element-in-dimensions : goal.returns-in_ok-of_element-in-dimensions
 returns-in_ok-of_element-in-dimensions c = λ v begins.
     let ds = c.in_ok-of_element-in-dimensions.ensures v begins in
+    let low = ds.flat in
     let old = seen_parts c.args.self.now in
     let parts = seen_dimensions c.in_ok-of_element-in-dimensions.field-0 in
     record {
       found = object ds.ms;
       reads = ds.reads;
-      flat = ds.flat;
+      flat = omega (arith, low);
       puts = λ ms rises h. subst (λ k. IsSoFar (put k (object ds.ms) ms) (record old { dimensions = Some parts })) (sym c.in-dimensions.is) (dimensions_put ds.ms parts ms old ds.are h);
     }
 
-pub returns-in_ok-_extension-in_default : goal.returns-in_ok-_extension-in_default
-returns-in_ok-_extension-in_default c = λ v begins.
-    let leaf = c.in_ok-_extension-in_default.ensures v begins in
-    let low = leaf.flat in
-    record { found = leaf.found; reads = leaf.reads; flat = omega (arith, low); puts = λ ms rises h. extension_put c.args.key.now leaf.found ms (seen_parts c.args.self.now) (sym c.has_colon.ensures ∙ c.if-has_colon.true) h }
+pub returns-in_ok-skip_value-in_default : goal.returns-in_ok-skip_value-in_default
+returns-in_ok-skip_value-in_default c = λ v begins.
+    let read = c.in_ok-skip_value-in_default.ensures v begins in
+    record { found = read.found; reads = read.reads; flat = read.flat; puts = λ ms rises h. extension_put c.args.key.now read.found ms (seen_parts c.args.self.now) (sym c.has_colon.ensures ∙ c.if-has_colon.true) h }
 
 pub returns-in-links : goal.returns-in-links
 returns-in-links c = λ v begins.
