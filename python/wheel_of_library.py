@@ -1,11 +1,14 @@
-"""Builds the wheel from the module and the shared library that ./build --library makes. Building needs no Python package."""
+"""Builds the wheel from the module and the shared library that ./build --library makes. Building needs no Python package.
+
+`pip wheel python/` packs the module with the library. `./build --packages` adds the program and the tools, since pip cannot know
+whether ./xbrlmerge is built for this machine alone."""
 import base64
 import glob
 import hashlib
 import os
 import re
 import zipfile
-from typing import Dict, Tuple
+from typing import Dict, List, Optional
 
 HERE = os.path.dirname(os.path.abspath(__file__))
 LIBRARY = os.path.join(HERE, "..", "lib", "libxbrlmerge.so")
@@ -14,6 +17,8 @@ SYSTEM = {b"libc.so.6", b"ld-linux-x86-64.so.2"}
 # the oldest minor version of the C library that a manylinux tag can name
 OLDEST = 5
 TIME = (1980, 1, 1, 0, 0, 0)
+TOOLS = "xbrlmerge_tools"
+PLAIN, RUNS = 0o644, 0o755
 
 
 def _project(key: str) -> str:
@@ -24,26 +29,47 @@ def _project(key: str) -> str:
     return found[1]
 
 
-def _platform(library: bytes) -> str:
-    """Returns the platform tag: manylinux with the newest version of the C library that the shared library needs, but at least
-    2.5. The tag is linux if the shared library needs a library that SYSTEM lacks, or if no version is found."""
-    minors = [int(it) for it in re.findall(rb"GLIBC_2\.(\d+)", library)]
-    is_plain = set(re.findall(rb"\x00([\w+.-]*\.so[.\d]*)(?=\x00)", library)) - {b"libxbrlmerge.so"} <= SYSTEM
+def _read(path: str) -> bytes:
+    with open(path, "rb") as file:
+        return file.read()
+
+
+def _platform(binaries: List[bytes]) -> str:
+    """Returns the platform tag: manylinux with the newest version of the C library that a library or program needs, but at least
+    2.5. The tag is linux if one needs a library that SYSTEM lacks, or if no version is found."""
+    minors = [int(it) for content in binaries for it in re.findall(rb"GLIBC_2\.(\d+)", content)]
+    needed = {it for content in binaries for it in re.findall(rb"\x00([\w+.-]*\.so[.\d]*)(?=\x00)", content)}
+    is_plain = {it for it in needed if not it.startswith(b"libxbrlmerge.so")} <= SYSTEM
     return f"manylinux_2_{max([OLDEST, *minors])}_x86_64" if is_plain and minors else "linux_x86_64"
 
 
-def _files(tag: str) -> Tuple[Dict[str, bytes], str]:
-    name, version = _project("name"), _project("version")
-    with open(LIBRARY, "rb") as file:
-        files = {f"{name}/libxbrlmerge.so": file.read()}
+def _module(library: str) -> Dict[str, bytes]:
+    """Returns the module with the library beside it, by place."""
+    name = _project("name")
+    files = {f"{name}/libxbrlmerge.so": _read(library)}
     for path in sorted([*glob.glob(f"{HERE}/{name}/*.py"), f"{HERE}/{name}/py.typed"]):
-        with open(path, "rb") as file:
-            files[f"{name}/{os.path.basename(path)}"] = file.read()
-    told = f"Metadata-Version: 2.1\nName: {name}\nVersion: {version}\nSummary: {_project('description')}\n"
-    info = f"{name}-{version}.dist-info"
-    files[f"{info}/METADATA"] = (told + f"Requires-Python: {_project('requires-python')}\n").encode()
-    files[f"{info}/WHEEL"] = f"Wheel-Version: 1.0\nGenerator: {name}\nRoot-Is-Purelib: false\nTag: {tag}\n".encode()
-    return files, info
+        files[f"{name}/{os.path.basename(path)}"] = _read(path)
+    return files
+
+
+def _commands(program: str, info: str) -> Dict[str, bytes]:
+    """Returns the program and the tools, by place, and the names of the tools' commands."""
+    tools = os.path.join(HERE, "..", "tools")
+    paths = sorted(it for it in glob.glob(f"{tools}/**", recursive=True) if it.endswith((".py", ".css", ".js")))
+    files = {f"{TOOLS}/{os.path.relpath(it, tools)}": _read(it) for it in paths}
+    files[f"{TOOLS}/__init__.py"] = _read(f"{HERE}/{TOOLS}/__init__.py")
+    names = re.findall(r"^def ([a-z]\w*)\(", files[f"{TOOLS}/__init__.py"].decode(), re.MULTILINE)
+    lines = [f"xbrlmerge-{it.replace('_', '-')} = {TOOLS}:{it}" for it in names]
+    files[f"{info}/entry_points.txt"] = "\n".join(["[console_scripts]", *lines, ""]).encode()
+    files[f"{info[: -len('.dist-info')]}.data/scripts/xbrlmerge"] = _read(program)
+    return files
+
+
+def _information(tag: str, info: str) -> Dict[str, bytes]:
+    told = {"Metadata-Version": "2.1", "Name": _project("name"), "Version": _project("version"), "Summary": _project("description"),
+            "Requires-Python": _project("requires-python")}
+    wheel = f"Wheel-Version: 1.0\nGenerator: {_project('name')}\nRoot-Is-Purelib: false\nTag: {tag}\n"
+    return {f"{info}/METADATA": "".join(f"{key}: {value}\n" for key, value in told.items()).encode(), f"{info}/WHEEL": wheel.encode()}
 
 
 def _record(files: Dict[str, bytes], info: str) -> str:
@@ -54,16 +80,25 @@ def _record(files: Dict[str, bytes], info: str) -> str:
     return "".join(line(*it) for it in files.items()) + f"{info}/RECORD,,\n"
 
 
-def build_wheel(wheel_directory: str, config_settings: object = None, metadata_directory: object = None) -> str:
-    """Makes the wheel in a folder, and returns its name (PEP 517)."""
-    with open(LIBRARY, "rb") as file:
-        tag = f"py3-none-{_platform(file.read())}"
-    files, info = _files(tag)
+def _tag(library: str, program: Optional[str]) -> str:
+    return "py3-none-" + _platform([_read(it) for it in (library, program) if it])
+
+
+def make_wheel(folder: str, library: str = LIBRARY, program: Optional[str] = None) -> str:
+    """Makes the wheel in a folder, and returns its name. With a program, it contains the program and the tools."""
+    stem, tag = f"{_project('name')}-{_project('version')}", _tag(library, program)
+    info = f"{stem}.dist-info"
+    files = {**_module(library), **(_commands(program, info) if program else {}), **_information(tag, info)}
     files[f"{info}/RECORD"] = _record(files, info).encode()
-    name = f"{_project('name')}-{_project('version')}-{tag}.whl"
-    with zipfile.ZipFile(os.path.join(wheel_directory, name), "w", zipfile.ZIP_DEFLATED) as wheel:
+    name = f"{stem}-{tag}.whl"
+    with zipfile.ZipFile(os.path.join(folder, name), "w", zipfile.ZIP_DEFLATED) as wheel:
         for path, content in files.items():
             told = zipfile.ZipInfo(path, TIME)
-            told.external_attr = (0o755 if path.endswith(".so") else 0o644) << 16
+            told.external_attr = (RUNS if path.endswith(".so") or "/scripts/" in path else PLAIN) << 16
             wheel.writestr(told, content, zipfile.ZIP_DEFLATED)
     return name
+
+
+def build_wheel(wheel_directory: str, config_settings: object = None, metadata_directory: object = None) -> str:
+    """Makes the wheel in a folder, and returns its name (PEP 517)."""
+    return make_wheel(wheel_directory)

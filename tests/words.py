@@ -2,8 +2,10 @@
 """Compares the commands, options, values and arguments in the program's help with the man page and the completions:
 
     tests/words [PROGRAM]
+    tests/words --write
 
-The man page must also show the same line formats as the help, such as "take I R". The help of `explain` and the man page must
+The man pages of the tools are made from what `tools/NAME --help` prints; with --write, the script only makes them. The man page of
+the program must also show the same line formats as the help, such as "take I R". The help of `explain` and the man page must
 name the members of the objects that `explain --format json` prints. By default, PROGRAM is $XBRLMERGE or the built program.
 Status 0: all have the same words. 1: some words differ; each is printed with the place where it is missing or should not be.
 2: there is no program.
@@ -17,6 +19,11 @@ import sys
 import tempfile
 
 from support import TOP, built_program, content
+
+sys.dont_write_bytecode = True
+sys.path.append(TOP)
+from packages.contents import TOOLS, command_of  # noqa: E402
+from packages.manual import help_of, page  # noqa: E402
 
 MAN = "docs/xbrlmerge.1"
 COMPLETIONS = os.path.join(TOP, "share", "bash-completion", "completions", "xbrlmerge")
@@ -195,7 +202,22 @@ def differences(place, told, found):
     return lines
 
 
+def pages_of_tools():
+    """Returns the man pages of the tools, by path. Their version is the program's."""
+    version = re.search(r'^\.TH XBRLMERGE 1 "" "xbrlmerge ([^"]*)"', content(MAN), re.MULTILINE)[1]
+    return {f"docs/man1/{command_of(tool)}.1": page(tool, help_of(TOP, tool), version) for tool in TOOLS}
+
+
+def write_pages():
+    for path, text in pages_of_tools().items():
+        with open(os.path.join(TOP, path), "w", encoding="utf-8") as file:
+            file.write(text)
+    return 0
+
+
 def main(words):
+    if words == ["--write"]:
+        return write_pages()
     program = built_program(*words)
     told = told_by_help(program)
     lines = differences("the man page", told, told_by_man())
@@ -205,6 +227,8 @@ def main(words):
     lines += differences("the help", members, {"explain": {"members": members_in_help(program)}})
     lines += differences("the man page", members, {"explain": {"members": members_in_man()}})
     lines += told_by_synopsis(told)
+    lines += [f"{path} differs from the tool's --help: tests/words --write makes it" for path, text in pages_of_tools().items()
+              if not os.path.exists(os.path.join(TOP, path)) or content(path) != text]
     lines += differences("the completions for bash", told, told_by_completions())
     lines += differences("the completions for zsh", told, told_by_zsh())
     lines += differences("the completions for fish", told, told_by_fish())

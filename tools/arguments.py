@@ -2,9 +2,11 @@
 from __future__ import annotations
 
 import argparse
+import os
 import sys
 from typing import NoReturn, Optional
 
+from commands import command, with_commands
 from process import Status, print_lines
 from text_files import as_file
 
@@ -16,8 +18,9 @@ class Parser(argparse.ArgumentParser):
     come from untrusted sources, so messages are escaped.
     """
 
-    def __init__(self, prog: str, description: Optional[str], usage: str) -> None:
-        super().__init__(prog=prog, description=description, usage=usage, formatter_class=argparse.RawDescriptionHelpFormatter)
+    def __init__(self, tool: str, description: Optional[str], usage: str) -> None:
+        super().__init__(prog=os.path.basename(command(tool)), description=with_commands(description or ""), usage=usage,
+                         formatter_class=argparse.RawDescriptionHelpFormatter)
 
     def read(self) -> argparse.Namespace:
         """Returns the options. `words` contains the arguments before `--` that are not options, and `files` the arguments after

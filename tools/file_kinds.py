@@ -5,10 +5,12 @@ import codecs
 import re
 from typing import Any, Optional
 
+from commands import command
+
 INLINE = "http://www.xbrl.org/2013/inlineXBRL"
 CONVERT = "convert it to xBRL-JSON with another program"
 CSV = "the metadata of an xBRL-CSV report"
-TAXONOMY = "a taxonomy: make a sheet of it with tools/make_sheet"
+TAXONOMY = f"a taxonomy: make a sheet of it with {command('make_sheet')}"
 # a byte order mark of UTF-16, or the first character of JSON or XML in UTF-16
 UTF_16 = (codecs.BOM_UTF16_BE, codecs.BOM_UTF16_LE, b"{\0", b"<\0", b"\0{", b"\0<")
 # braces, keys, and spaces after commas or semicolons are of JSON or prose, not of a row of a table

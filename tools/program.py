@@ -7,6 +7,7 @@ import os
 import re
 import shutil
 import subprocess  # nosec B404: it runs the program that the user names, without a shell
+import sys
 from typing import Any, Iterable, Iterator, Optional, Sequence
 
 from normalising.json_text import Number
@@ -14,21 +15,23 @@ from process import NotDone
 
 NAME = "xbrlmerge"
 HERE = os.path.dirname(os.path.abspath(__file__))
-BESIDE = [os.path.join(folder, NAME) for folder in (os.path.dirname(HERE), HERE)]
 MOST_EXPLAINED = 1 << 30  # bytes
 REFUSAL = re.compile(r"report ([1-9]\d{0,17}): (\d+ \w+ at .*)")
 
 
 def add_program(parser: argparse.ArgumentParser) -> None:
-    parser.add_argument("--program", metavar="FILE", help="the program, by default xbrlmerge beside or in tools/, or on the PATH")
+    parser.add_argument("--program", metavar="FILE", help="the program, by default the xbrlmerge beside this tool, or on the PATH")
 
 
 def program_at(given: Optional[str]) -> str:
-    """Returns the path of the program. Without `given`, looks beside tools/, then in tools/, then on the PATH.
+    """Returns the path of the program. Without `given`, looks beside tools/, in tools/, beside the command that runs the tool,
+    and then on the PATH.
 
     Errors: NotDone if there is none.
     """
-    places = [place for place in BESIDE if os.path.isfile(place) and os.access(place, os.X_OK)]
+    folders = [os.path.dirname(HERE), HERE, *[os.path.dirname(os.path.realpath(sys.argv[0]))] * (os.sep in sys.argv[0])]
+    beside = [os.path.join(folder, NAME) for folder in folders]
+    places = [place for place in beside if os.path.isfile(place) and os.access(place, os.X_OK)]
     found = given or next(iter(places), None) or shutil.which(NAME)
     if not found:
         raise NotDone(f"{NAME} is neither beside this tool nor on the PATH: build it with ./build, or name it with --program")

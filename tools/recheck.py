@@ -31,6 +31,8 @@ from typing import Any, Callable, Iterable, Iterator, Mapping, NamedTuple, NoRet
 Tree = Any  # a JSON value: a dict, list, str, int, float, bool or None
 Name = Any  # a URI and a local part, or a scheme and an identifier; for a text that denotes none, the condition 12, 13 or 14
 Sheet = Mapping[str, Mapping[Name, str]]  # the kinds of the concepts and of the dimensions
+COMMAND = "xbrlmerge-recheck" if Path(__file__).resolve().parent.name == "xbrlmerge_tools" else "tools/recheck"
+OWN_NAME = os.path.basename(COMMAND)
 
 
 # ---- Accepted or refused
@@ -409,11 +411,11 @@ def explanation(number: int, row: Sequence[tuple[str, Value]]) -> Iterator[str]:
 
 class Parser(argparse.ArgumentParser):
     def error(self, message: str) -> NoReturn:
-        self.exit(2, f"recheck: {json.dumps(message)[1:-1]}\n")
+        self.exit(2, f"{OWN_NAME}: {json.dumps(message)[1:-1]}\n")
 
 def main() -> int:
     texts = ("merged", "verdicts", "sources", "refusals")
-    parser = Parser(prog="recheck", description=__doc__, formatter_class=argparse.RawDescriptionHelpFormatter)
+    parser = Parser(prog=OWN_NAME, description=(__doc__ or "").replace("tools/recheck", COMMAND), formatter_class=argparse.RawDescriptionHelpFormatter)
     for name in ("sheet", *texts):
         parser.add_argument(f"--{name}", required=name in ("sheet", "merged"), metavar="FILE")
     parser.add_argument("--explain", type=int, metavar="ROW")
@@ -444,7 +446,7 @@ if __name__ == "__main__":
         sys.stdout.flush()
     except (Exception, KeyboardInterrupt) as fault:  # untrusted input can cause any exception
         try:
-            print(f"recheck: {type(fault).__name__}: {json.dumps(str(fault))[1:-1]}", file=sys.stderr, flush=True)
+            print(f"{OWN_NAME}: {type(fault).__name__}: {json.dumps(str(fault))[1:-1]}", file=sys.stderr, flush=True)
         finally:
             os._exit(3)  # standard output or standard error may have failed, and would fail again
     sys.exit(status)

@@ -8,7 +8,10 @@ import tempfile
 import unittest
 
 HERE = os.path.dirname(os.path.abspath(__file__))
-BUILD = os.path.join(os.path.dirname(os.path.dirname(HERE)), "build")
+TOP = os.path.dirname(os.path.dirname(HERE))
+BUILD = os.path.join(TOP, "build")
+# ./build imports its modules from the folder packages/
+sys.path.append(TOP)
 CRATES = "low: std\nside: low\nmiddle: low json\nxbrlmerge: middle\nxbrlmerge_c staticlib: low\n"
 
 

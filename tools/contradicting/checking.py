@@ -6,6 +6,8 @@ import shlex
 import sys
 from typing import Iterable
 
+from commands import command as command_of
+
 LINES = ("verdicts", "sources", "refusals")  # each is written as NAME.txt
 FOLDER = "reports"  # contains the normalised reports
 
@@ -19,7 +21,7 @@ def command(folder: str, sheet: str, reports: Iterable[str]) -> str:
     """Returns the command that checks the files in a folder, for a shell. Its paths start where this tool was started."""
     files = {"sheet": sheet, "merged": os.path.join(folder, "merged.json")}
     files.update((name, os.path.join(folder, f"{name}.txt")) for name in LINES)
-    program = os.path.join(os.path.dirname(sys.argv[0]), "recheck")
+    program = os.path.join(os.path.dirname(sys.argv[0]), os.path.basename(command_of("recheck")))
     return " ".join([quoted(program), *(f"--{name}={quoted(path)}" for name, path in files.items()), "--", *map(quoted, reports)])
 
 

@@ -1,0 +1,91 @@
+"""Writes what the packages consist of, as SPDX 2.3: the packages, the crates with checksums of their proofs, and the kit."""
+from __future__ import annotations
+
+import hashlib
+import json
+import re
+from typing import Any, Mapping, Sequence
+
+from packages.kit import UNKNOWN, KitCrate, kit_crates
+from packages.source import Source
+
+SOURCE, KIT = "source", "kit"
+# the crates of the kit that every program contains
+ALWAYS = ("std", "os", "libc")
+# crates that no package contains
+TESTS = re.compile(r"\w+_tests|test_helpers")
+NO_LICENCE = "No licence is granted yet: the owner has not chosen one."
+PORTED = "The package contains code of the Rattle kit. Parts of the kit were ported from others, under these licences:"
+COMMON = "On Debian, /usr/share/common-licenses/Apache-2.0 is the text of Apache-2.0."
+
+
+def identifier(*parts: str) -> str:
+    return "-".join(["SPDXRef", *(re.sub(r"[^A-Za-z0-9.-]", "-", it) for it in parts)])
+
+
+def part(own: str, name: str, licence: str, **more: Any) -> dict[str, Any]:
+    """Returns a package of SPDX, which is any part of the whole."""
+    return {"SPDXID": own, "name": name, "downloadLocation": UNKNOWN, "filesAnalyzed": False, "licenseConcluded": UNKNOWN,
+            "licenseDeclared": licence, "copyrightText": UNKNOWN, **more}
+
+
+def relation(one: str, kind: str, other: str) -> dict[str, str]:
+    return {"spdxElementId": one, "relationshipType": kind, "relatedSpdxElement": other}
+
+
+def of_kit(crate: KitCrate, version: str) -> dict[str, Any]:
+    told = {"versionInfo": crate.ported.partition(" ")[2] or version}
+    if crate.ported:
+        told["comment"] = f"ported from the Rust crate {crate.ported}"
+    return part(identifier(KIT, crate.name), crate.name, crate.licence, **told)
+
+
+def parts(source: Source, packed: Mapping[str, bytes], of_the_kit: Sequence[KitCrate]) -> list[dict[str, Any]]:
+    kit_version = source.kit_version.split()[0]
+    found = [part(identifier(SOURCE), "xbrlmerge", "NONE", versionInfo=source.version, sourceInfo=f"git commit {source.commit}",
+                  licenseComments=NO_LICENCE),
+             part(identifier(KIT), "Rattle kit", UNKNOWN, versionInfo=kit_version, comment=source.kit_version.strip())]
+    for name, content in packed.items():
+        digest = {"algorithm": "SHA256", "checksumValue": hashlib.sha256(content).hexdigest()}
+        found.append(part(identifier("package", name), name, "NONE", versionInfo=source.version, packageFileName=name,
+                          checksums=[digest], licenseComments=NO_LICENCE))
+    for name, crate in source.crates.items():
+        told = f"SHA-256 of all that the proof read, and of the kit's version: {crate.proof}"
+        found.append(part(identifier("crate", name), name, "NONE", versionInfo=source.version, comment=told))
+    return [*found, *(of_kit(it, kit_version) for it in of_the_kit)]
+
+
+def relations(source: Source, packed: Mapping[str, bytes], of_the_kit: Sequence[KitCrate]) -> list[dict[str, str]]:
+    found = [relation(identifier(KIT), "BUILD_TOOL_OF", identifier(SOURCE))]
+    found += [relation(identifier(SOURCE), "DEPENDS_ON", identifier(KIT, it)) for it in ALWAYS]
+    for name in packed:
+        own = identifier("package", name)
+        found += [relation(identifier("DOCUMENT"), "DESCRIBES", own), relation(own, "GENERATED_FROM", identifier(SOURCE))]
+    for name, crate in source.crates.items():
+        found.append(relation(identifier(SOURCE), "CONTAINS", identifier("crate", name)))
+        found += [relation(identifier("crate", name), "DEPENDS_ON", identifier("crate" if it in source.crates else KIT, it))
+                  for it in (*crate.uses, "std")]
+    found += [relation(identifier(KIT, it.name), "DEPENDS_ON", identifier(KIT, used)) for it in of_the_kit for used in it.uses]
+    return found
+
+
+def bill(source: Source, packed: Mapping[str, bytes]) -> bytes:
+    """Returns the document for the packages, which are given by name."""
+    used = {it for crate in source.crates.values() for it in crate.uses} - set(source.crates)
+    of_the_kit = kit_crates(source.kit, {*used, *ALWAYS})
+    name = f"xbrlmerge-{source.version}"
+    document = {
+        "spdxVersion": "SPDX-2.3", "dataLicense": "CC0-1.0", "SPDXID": identifier("DOCUMENT"), "name": name,
+        "documentNamespace": f"https://spdx.org/spdxdocs/{name}-{source.commit}",
+        "creationInfo": {"created": source.moment, "creators": ["Tool: xbrlmerge-build"]},
+        "packages": parts(source, packed, of_the_kit), "relationships": relations(source, packed, of_the_kit),
+    }
+    return (json.dumps(document, indent=1) + "\n").encode()
+
+
+def notices(source: Source) -> str:
+    """Returns the licences of all parts, for readers."""
+    used = {it for crate in source.crates.values() for it in crate.uses} - set(source.crates)
+    lines = [f"    {it.name} ({it.ported}): {it.licence}" if it.ported else f"    {it.name}: {it.licence}"
+             for it in kit_crates(source.kit, {*used, *ALWAYS}) if it.licence != UNKNOWN]
+    return "\n".join([NO_LICENCE, "So do not pass this package on.", "", PORTED, *lines, "", COMMON, ""])

@@ -1,0 +1,107 @@
+"""Lists what is installed: the program with the tools, the library, and the documents. Places are below the prefix."""
+from __future__ import annotations
+
+import os
+
+from packages.files import PLAIN, RUNS, File, read, read_below
+
+PROGRAM = "xbrlmerge"
+TOOLS = ("contradictions", "make_sheet", "normalise", "recheck")
+# the version of the library's calls, which changes if a program that was linked before can no longer use the library
+INTERFACE = "0"
+SHARED = f"libxbrlmerge.so.{INTERFACE}"
+# a Python package, so its modules take no names from others
+TOOL_PACKAGE = "xbrlmerge_tools"
+SHARE, DOCUMENTS = "share/xbrlmerge", "share/doc/xbrlmerge"
+COMPLETIONS = ("share/bash-completion/completions", "share/zsh/site-functions", "share/fish/vendor_completions.d")
+LAUNCHER = """\
+#!/bin/sh
+# Runs a tool of xbrlmerge, which needs Python 3.9 or later.
+here=$(dirname -- "$(readlink -f -- "$0")")
+if ! command -v python3 >/dev/null; then
+    echo "{command}: Python 3.9 or later is not installed" >&2
+    exit 3
+fi
+exec python3 -B "$here/../{share}/run_tool.py" {tool} "$0" "$@"
+"""
+# python3 run_tool.py TOOL COMMAND ARGUMENT ..: with COMMAND as its name, the tool finds the program beside the command
+RUN_TOOL = f"""\
+import sys
+
+import {TOOL_PACKAGE}
+
+tool = sys.argv[1]
+del sys.argv[:2]
+getattr({TOOL_PACKAGE}, tool)()
+"""
+# the paths are relative to the folder of this file, so that they hold in every prefix
+PKG_CONFIG = """\
+prefix=${{pcfiledir}}/{up}
+includedir=${{prefix}}/include
+libdir=${{pcfiledir}}/..
+
+Name: xbrlmerge
+Description: merges xBRL-JSON reports
+Version: {version}
+Cflags: -I${{includedir}}
+Libs: -L${{libdir}} -lxbrlmerge
+"""
+
+
+def command_of(tool: str) -> str:
+    return f"{PROGRAM}-{tool.replace('_', '-')}"
+
+
+def tool_package(top: str, place: str) -> list[File]:
+    """Returns the files of the Python package with the tools, below a place."""
+    folder = os.path.join(place, TOOL_PACKAGE)
+    own = read(os.path.join(top, "python", TOOL_PACKAGE, "__init__.py"), os.path.join(folder, "__init__.py"))
+    return [own, *read_below(os.path.join(top, "tools"), folder, (".py", ".css", ".js"))]
+
+
+def tools(top: str) -> list[File]:
+    """Returns the commands of the tools, and what they run."""
+    commands = [File(f"bin/{command_of(it)}", LAUNCHER.format(command=command_of(it), share=SHARE, tool=it).encode(), RUNS)
+                for it in TOOLS]
+    return [*commands, File(f"{SHARE}/run_tool.py", RUN_TOOL.encode()), *(plain(it) for it in tool_package(top, SHARE))]
+
+
+def plain(file: File) -> File:
+    """Returns a file that is not executable: the commands run it."""
+    return File(file.place, file.content, PLAIN)
+
+
+def program(top: str, built: str) -> list[File]:
+    """Returns the built program, the tools, the man pages and the completions."""
+    pages = read_below(os.path.join(top, "docs"), "share/man/man1", (".1",))
+    pages = [File(f"share/man/man1/{os.path.basename(it.place)}", it.content) for it in pages]
+    completions = [it for folder in COMPLETIONS for it in read_below(os.path.join(top, folder), folder, ("",))]
+    return [read(built, f"bin/{PROGRAM}", RUNS), *tools(top), *pages, *completions]
+
+
+def pkg_config(version: str, up: str = "../..") -> bytes:
+    """Returns the file for pkg-config. `up` leads from its folder to the prefix."""
+    return PKG_CONFIG.format(version=version, up=up).encode()
+
+
+def shared_library(folder: str) -> list[File]:
+    return [read(os.path.join(folder, SHARED), f"lib/{SHARED}")]
+
+
+def for_developers(top: str, folder: str, version: str) -> list[File]:
+    """Returns what compilers need besides the shared library."""
+    return [read(os.path.join(top, "include/xbrlmerge.h"), "include/xbrlmerge.h"),
+            read(os.path.join(folder, "libxbrlmerge.a"), "lib/libxbrlmerge.a"),
+            File("lib/libxbrlmerge.so", SHARED.encode(), is_link=True),
+            File("lib/pkgconfig/xbrlmerge.pc", pkg_config(version))]
+
+
+def python_module(top: str, place: str) -> list[File]:
+    return read_below(os.path.join(top, "python", "xbrlmerge"), os.path.join(place, "xbrlmerge"), (".py", "py.typed"))
+
+
+def documents(top: str) -> list[File]:
+    """Returns the pages and the examples, which link to each other as in the repository."""
+    pages = [read(os.path.join(top, it), f"{DOCUMENTS}/{it}") for it in ("README.md", "CHANGELOG.md", "SECURITY.md")]
+    return [*pages, *read_below(os.path.join(top, "docs"), f"{DOCUMENTS}/docs", (".md", ".png")),
+            *read_below(os.path.join(top, "examples"), f"{DOCUMENTS}/examples", ("",))]

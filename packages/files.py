@@ -1,0 +1,68 @@
+"""The files that are installed or packed."""
+from __future__ import annotations
+
+import os
+from dataclasses import dataclass, replace
+from typing import Iterable
+
+PLAIN, RUNS = 0o644, 0o755  # the permissions of a file, and of a program
+
+
+@dataclass(frozen=True)
+class File:
+    """A file at a place below a folder, or a link whose content is the name of the file beside it that it leads to."""
+
+    place: str
+    content: bytes
+    mode: int = PLAIN
+    is_link: bool = False
+
+    def moved(self, old: str, new: str) -> File:
+        """Returns the file with another start of its place, if its place has the old start."""
+        return replace(self, place=new + self.place[len(old):]) if self.place.startswith(old) else self
+
+
+def read(path: str, place: str, mode: int = PLAIN) -> File:
+    with open(path, "rb") as file:
+        return File(place, file.read(), mode)
+
+
+def read_below(folder: str, place: str, endings: tuple[str, ...]) -> list[File]:
+    """Returns the files in a folder and the folders below it whose names end as named, in the order of their names."""
+    found = []
+    for at, folders, names in os.walk(folder):
+        folders.sort()
+        for name in sorted(names):
+            path = os.path.join(at, name)
+            if name.endswith(endings):
+                mode = RUNS if os.access(path, os.X_OK) else PLAIN
+                found.append(read(path, os.path.join(place, os.path.relpath(path, folder)), mode))
+    return found
+
+
+def put(file: File, folder: str) -> str:
+    """Puts a file below a folder in one step, and returns its new path."""
+    path = os.path.join(folder, file.place)
+    os.makedirs(os.path.dirname(path), exist_ok=True)
+    new = f"{path}.new"
+    if file.is_link:
+        if os.path.lexists(new):
+            os.unlink(new)
+        os.symlink(file.content.decode(), new)
+    else:
+        with open(new, "wb") as opened:
+            opened.write(file.content)
+        os.chmod(new, file.mode)
+    os.replace(new, path)
+    return path
+
+
+def folders_of(files: Iterable[File]) -> list[str]:
+    """Returns the folders that contain the files, each after the folder that contains it."""
+    found = set()
+    for file in files:
+        folder = os.path.dirname(file.place)
+        while folder:
+            found.add(folder)
+            folder = os.path.dirname(folder)
+    return sorted(found)

@@ -1,0 +1,63 @@
+"""Installs files below a prefix, and removes them again. A list below the prefix names what was installed."""
+from __future__ import annotations
+
+import contextlib
+import os
+from typing import Iterable
+
+from packages.contents import SHARE
+from packages.files import File, folders_of, put
+
+LIST = f"{SHARE}/installed.txt"
+
+
+def listed(prefix: str) -> list[str]:
+    """Returns the lines of the list: places of files, and of folders that were created, each with a / at its end. Returns no
+    line if there is no list."""
+    try:
+        with open(os.path.join(prefix, LIST), encoding="utf-8") as file:
+            return file.read().splitlines()
+    except FileNotFoundError:
+        return []
+
+
+def install(files: Iterable[File], prefix: str) -> list[str]:
+    """Installs files, removes those that an earlier version installed besides, and returns the paths. Errors: OSError."""
+    files, before = list(files), listed(prefix)
+    places = [file.place for file in files]
+    folders = [f"{it}/" for it in folders_of([*files, File(LIST, b"")])]
+    lines = [it for it in folders if it in before or not os.path.isdir(os.path.join(prefix, it))]
+    # the list is written first, so that what a failed run has installed can be removed, too
+    put(File(LIST, "".join(f"{it}\n" for it in sorted({*before, *places, *lines})).encode()), prefix)
+    paths = [put(file, prefix) for file in files]
+    old = [it for it in before if it not in places and it not in folders]
+    remove(old, prefix)
+    put(File(LIST, "".join(f"{it}\n" for it in [*places, *lines]).encode()), prefix)
+    return paths
+
+
+def uninstall(prefix: str) -> list[str]:
+    """Removes what was installed, and returns the paths. Folders that contain other files stay. Errors: OSError, also if nothing
+    was installed below the prefix."""
+    lines = listed(prefix)
+    if not lines:
+        raise OSError(f"nothing is installed there: {os.path.join(prefix, LIST)} is missing")
+    removed = remove([it for it in lines if not it.endswith("/")], prefix)
+    os.unlink(os.path.join(prefix, LIST))
+    return removed + remove([it for it in lines if it.endswith("/")], prefix)
+
+
+def remove(places: Iterable[str], prefix: str) -> list[str]:
+    """Removes files, and then folders that are empty, each before the folder that contains it. Returns the removed paths."""
+    removed = []
+    for place in sorted(places, key=lambda it: (it.endswith("/"), -it.count("/"), it)):
+        path = os.path.join(prefix, place)
+        if not place.endswith("/"):
+            with contextlib.suppress(FileNotFoundError):
+                os.unlink(path)
+                removed.append(path)
+        else:
+            with contextlib.suppress(OSError):  # it contains other files
+                os.rmdir(path)
+                removed.append(path)
+    return removed

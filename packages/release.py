@@ -1,0 +1,68 @@
+"""Makes all packages of a commit in a folder: all of them, or none."""
+from __future__ import annotations
+
+import hashlib
+import os
+import sys
+import tempfile
+from dataclasses import replace
+
+from packages import bill, contents, debian
+from packages.files import read
+from packages.library import run_tool
+from packages.source import Source
+from packages.tarball import tarball
+
+SUMS = "SHA256SUMS"
+ABOUT = """\
+xbrlmerge {version} for Linux on x86-64, with version {libc} of the C library (glibc) or a later one.
+Run bin/xbrlmerge, or copy bin/, lib/ and share/ into a folder such as /usr/local. The tools need Python 3.9 or later.
+
+{notices}"""
+
+
+def make(source: Source, folder: str) -> list[str]:
+    """Makes the packages, and returns their paths. They appear in the folder once all are made. Errors: OSError."""
+    os.makedirs(folder, exist_ok=True)
+    with tempfile.TemporaryDirectory(prefix=".new-", dir=folder) as scratch:
+        new, trees, program = (os.path.join(scratch, it) for it in ("new", "trees", contents.PROGRAM))
+        os.mkdir(new)
+        run_tool("strip", "-o", program, source.program)
+        source = replace(source, program=program)
+        debian.make(source, new, trees)
+        wheel(source, new)
+        put(os.path.join(new, f"xbrlmerge-{source.version}-x86_64.tar.xz"), archive(source))
+        put(os.path.join(new, f"xbrlmerge-{source.version}.spdx.json"), bill.bill(source, packed(new)))
+        sums = "".join(f"{hashlib.sha256(content).hexdigest()}  {name}\n" for name, content in packed(new).items())
+        put(os.path.join(new, SUMS), sums.encode())
+        names = sorted(os.listdir(new))
+        for name in names:
+            os.replace(os.path.join(new, name), os.path.join(folder, name))
+    return [os.path.join(folder, name) for name in names]
+
+
+def wheel(source: Source, folder: str) -> None:
+    sys.path.append(os.path.join(source.top, "python"))
+    import wheel_of_library  # it is in python/ because pip runs it, too
+
+    wheel_of_library.make_wheel(folder, os.path.join(source.library, contents.SHARED), source.program)
+
+
+def archive(source: Source) -> bytes:
+    """Returns the .tar.xz, with all that can be installed."""
+    program = contents.program(source.top, source.program)
+    about = ABOUT.format(version=source.version, libc=debian.newest_libc(program[0].content), notices=bill.notices(source))
+    files = [*program, *contents.shared_library(source.library), *contents.documents(source.top),
+             *contents.for_developers(source.top, source.library, source.version),
+             contents.File("README", about.encode())]
+    return tarball(files, f"xbrlmerge-{source.version}", source.seconds)
+
+
+def packed(folder: str) -> dict[str, bytes]:
+    """Returns the files in a folder, by name."""
+    return {name: read(os.path.join(folder, name), name).content for name in sorted(os.listdir(folder))}
+
+
+def put(path: str, content: bytes) -> None:
+    with open(path, "wb") as file:
+        file.write(content)

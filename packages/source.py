@@ -1,0 +1,73 @@
+"""What packages are made from: the built files, and the commit that they were built from."""
+from __future__ import annotations
+
+import os
+import re
+import shutil
+import subprocess
+import time
+from dataclasses import dataclass
+from typing import Mapping, Sequence
+
+# what makes the packages, besides the kit
+NEEDED = ("git", "dpkg-deb", "gcc", "strip")
+
+
+@dataclass(frozen=True)
+class Crate:
+    """A crate of the repository: the crates that it uses, and a checksum of all that its proof read."""
+
+    uses: Sequence[str]
+    proof: str
+
+
+@dataclass(frozen=True)
+class Source:
+    """The checkout, the program, a folder with the libraries, the version, the commit with its time, and the kit."""
+
+    top: str
+    program: str
+    library: str
+    version: str
+    commit: str
+    seconds: int  # since 1970
+    kit: str  # its folder
+    kit_version: str
+    crates: Mapping[str, Crate]
+
+    @property
+    def moment(self) -> str:
+        return time.strftime("%Y-%m-%dT%H:%M:%SZ", time.gmtime(self.seconds))
+
+
+def git(top: str, *words: str) -> str:
+    """Returns the output of a git command. Errors: OSError."""
+    done = subprocess.run(["git", "-C", top, *words], capture_output=True, text=True)
+    if done.returncode != 0:
+        raise OSError(f"git {words[0]} failed: {done.stderr.strip()[-500:]}")
+    return done.stdout.strip()
+
+
+def commit_of(top: str) -> tuple[str, int]:
+    """Returns the commit of a checkout, and its time in seconds since 1970. Errors: OSError."""
+    commit, seconds = git(top, "log", "-1", "--format=%H %ct").split()
+    return commit, int(seconds)
+
+
+def wrong_source(top: str, folder: str) -> str:
+    """Returns why no packages can be made from a checkout into a folder, or an empty text."""
+    missing = [it for it in NEEDED if shutil.which(it) is None]
+    if missing:
+        return f"{missing[0]} is not on the PATH: ./build --packages needs it"
+    if not os.path.exists(os.path.join(top, ".git")):
+        return "this folder is not a git checkout: packages name their commit"
+    inside = os.path.relpath(os.path.realpath(folder), os.path.realpath(top))
+    besides = [] if inside.startswith("..") else [f":(exclude){inside}"]
+    changed = git(top, "status", "--porcelain", "--", ".", *besides).splitlines()
+    return f"the checkout has changes that are not committed, such as {changed[0].split(maxsplit=1)[1]}" if changed else ""
+
+
+def newest_libc(content: bytes) -> str:
+    """Returns the newest version of the C library that a program or a library needs, such as 2.34."""
+    minors = [int(it) for it in re.findall(rb"GLIBC_2\.(\d+)", content)]
+    return f"2.{max(minors, default=0)}"
