@@ -9,7 +9,9 @@ each length counts. The first program in docs/LIBRARY.md must merge two examples
 tests/c_abi.c with each library and makes each call on the examples. The texts, lines and statuses must equal xbrlmerge's.
 For a refused sheet, only the number of the refusal is compared. With the static library, each request for memory in these
 calls is also refused in turn. Other calls pass buffers that are too short, ends of reports that are out of range or out
-of order, an unknown level, or lengths of 0. The header is compiled as C and, if g++ is installed, as C++.
+of order, an unknown level, or lengths of 0. The header is compiled as C and, if g++ is installed, as C++. The Rust program
+examples/embed/rust/merge.rs is built, if rustc is installed, and must merge two examples, too. The last line counts what was
+skipped because g++ or rustc is not installed.
 
 Status 0: all is as expected. 1: something differs; each difference is printed. 2: a library or the program is not built, or gcc
 is not installed.
@@ -35,7 +37,8 @@ CROSSES = {"&[u8]": "const uint8_t *, size_t", "&[usize]": "const size_t *, size
            "usize": "size_t", "&mut usize": "size_t *", "&mut [RefusedReport]": "xbrlmerge_refusal *, size_t",
            "&mut RefusedReport": "xbrlmerge_refusal *", "&mut CheckedReport": "xbrlmerge_checked *"}
 ROWS = {"RefusedReport": "xbrlmerge_refusal", "CheckedReport": "xbrlmerge_checked"}
-faults = []
+RUST = f"{TOP}/examples/embed/rust/merge.rs"
+faults, skipped = [], []
 
 
 def check(holds, told):
@@ -111,6 +114,16 @@ def names_agree():
         check(names == set(calls), f"{os.path.basename(words[-1])} exports {sorted(names)}")
     needed = re.findall(r"NEEDED.*\[(.*)\]", must("readelf", "-d", SHARED))
     check(needed == ["libc.so.6"], f"the library needs {needed}")
+    sonames = re.findall(r"SONAME.*\[(.*)\]", must("readelf", "-d", SHARED))
+    check(sonames == [os.path.basename(os.readlink(SHARED))], f"the library has the soname {sonames}")
+
+
+def is_installed(program):
+    """Returns whether a program is installed. If not, prints that, and counts it as skipped."""
+    if shutil.which(program) is None:
+        skipped.append(program)
+        print(f"tests/c_abi: {program} is not installed")
+    return program not in skipped
 
 
 def built(scratch):
@@ -120,7 +133,7 @@ def built(scratch):
     must("gcc", *SANITIZED, *WRAPS, source, STATIC, "-o", f"{scratch}/static")
     must("gcc", *SANITIZED, *WRAPS, source, f"-L{TOP}/lib", "-lxbrlmerge", f"-Wl,-rpath,{TOP}/lib", "-o", f"{scratch}/shared")
     must("gcc", "-std=c99", *WARNINGS, "-fsyntax-only", "-x", "c", HEADER)
-    if shutil.which("g++"):
+    if is_installed("g++"):
         must("g++", "-std=c++11", *WARNINGS, "-fsyntax-only", "-x", "c++", HEADER)
     return [f"{scratch}/static", f"{scratch}/shared"]
 
@@ -134,6 +147,17 @@ def first_program(program, scratch, files):
     done, wanted = run(f"{scratch}/first", *files), run(program, "merge", "--sheet", *files)
     same = wanted.stdout and (done.returncode, done.stdout) == (wanted.returncode, wanted.stdout)
     check(same, f"the program in docs/LIBRARY.md on {' '.join(map(os.path.basename, files))}: {done.returncode} {done.stdout[-200:]} {done.stderr.decode()[-400:]}")
+
+
+def rust_program(program, scratch, files):
+    """Compares the results of the Rust program, on a sheet and reports, with xbrlmerge's. For a refused report it prints only
+    numbers."""
+    if not os.path.exists(f"{scratch}/merge"):
+        must("rustc", "--edition", "2021", "-D", "warnings", "-L", f"{TOP}/lib", "-C", f"link-arg=-Wl,-rpath,{TOP}/lib", RUST, "-o", f"{scratch}/merge")
+    done, wanted = run(f"{scratch}/merge", *files), run(program, "merge", "--sheet", *files)
+    told = re.sub(r"^(report \d+:) (\d+) \w+ at", r"\1 refusal \2 at", wanted.stderr.decode().replace("at document", "at fact 0"), flags=re.MULTILINE)
+    same = wanted.stdout and (done.returncode, done.stdout, done.stderr.decode()) == (wanted.returncode, wanted.stdout, told)
+    check(same, f"{os.path.relpath(RUST, TOP)} on {' '.join(map(os.path.basename, files))}: {done.returncode} {done.stderr.decode()[-400:]}")
 
 
 def lines(text):
@@ -183,8 +207,11 @@ def main():
         for caller in callers:
             done = run(caller, "edges", examples["sheet"])
             check(done.returncode == 0, f"{os.path.basename(caller)}: edges: {done.stderr.decode()[-400:]}")
+        with_rust = is_installed("rustc")
         for names in (("sheet", "issuer", "ledgerline"), ("sheet", "oldharbour", "issuer")):
             first_program(program, scratch, [examples[it] for it in names])
+            if with_rust:
+                rust_program(program, scratch, [examples[it] for it in names])
         for words in (("merge", "0"), ("merge", "2"), ("merge", "3"), ("verdicts",), ("verdicts-json",), ("sources",), ("sources-json",)):
             compare(program, callers, words, some)
             compare(program, callers, words, [bad, examples["issuer"]])
@@ -192,7 +219,8 @@ def main():
         for name in ("issuer", "ledgerline", "merged", "oldharbour"):
             compare(program, callers, ("check",), [examples["sheet"], examples[name]])
         compare(program, callers, ("check",), [bad, examples["issuer"]])
-    print("tests/c_abi: header, exports and program agree" if not faults else f"tests/c_abi: {len(faults)} faults")
+    behind = f"; {len(skipped)} skipped: {', '.join(skipped)}" if skipped else ""
+    print(f"tests/c_abi: {f'{len(faults)} faults' if faults else 'header, exports and program agree'}{behind}")
     return 1 if faults else 0
 
 

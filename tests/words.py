@@ -22,8 +22,8 @@ from support import TOP, built_program, content
 
 sys.dont_write_bytecode = True
 sys.path.append(TOP)
-from packages.contents import TOOLS, command_of  # noqa: E402
-from packages.manual import help_of, page  # noqa: E402
+from packing.contents import TOOLS, command_of  # noqa: E402
+from packing.manual import help_of, page  # noqa: E402
 
 MAN = "docs/xbrlmerge.1"
 COMPLETIONS = os.path.join(TOP, "share", "bash-completion", "completions", "xbrlmerge")

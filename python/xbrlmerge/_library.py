@@ -9,6 +9,8 @@ from typing import Any, Callable, List, NamedTuple, Sequence, Tuple
 
 DONE, REFUSED, TOO_LOOSE, TOO_SHORT, SHEET_REFUSED, NO_MEMORY, BAD_ENDS, BAD_LEVEL, TOO_MUCH = range(9)
 NAME = "libxbrlmerge.so"
+# the name by which the system finds an installed library
+SONAME = "libxbrlmerge.so.0"
 # the records for a refusal and for an accepted report in include/xbrlmerge.h
 ROW, CHECKED = struct.Struct("=QQI4x"), struct.Struct("=QII")
 # the first buffer is this many bytes longer than the reports: a text made from short reports can be longer than the reports
@@ -18,7 +20,8 @@ LARGEST = (1 << 64) - 1
 
 
 def _load() -> ctypes.CDLL:
-    """Loads the first library that exists: the one that XBRLMERGE_LIBRARY names, the one beside this module, or the one in lib/.
+    """Loads the first library that exists: the one that XBRLMERGE_LIBRARY names, the one beside this module, the one in lib/, or
+    the one that is installed.
 
     Raises ImportError if none exists, or if Python is not 64-bit or the processor is not little-endian. Raises OSError if
     the library cannot be loaded.
@@ -26,12 +29,15 @@ def _load() -> ctypes.CDLL:
     here = os.path.dirname(os.path.abspath(__file__))
     places = (os.environ.get("XBRLMERGE_LIBRARY", ""), os.path.join(here, NAME), os.path.join(here, "..", "..", "lib", NAME))
     found = next((place for place in places if place and os.path.exists(place)), None)
-    if found is None:
-        raise ImportError(f"xbrlmerge: there is no {NAME}: `./build --library` makes it, and XBRLMERGE_LIBRARY may name it")
     if struct.calcsize("P") != 8 or sys.byteorder != "little":
         raise ImportError("xbrlmerge: it needs a 64-bit Python on a little-endian processor")
     # a CDLL lets other Python threads run during a call
-    return ctypes.CDLL(os.path.abspath(found))
+    if found:
+        return ctypes.CDLL(os.path.abspath(found))
+    try:
+        return ctypes.CDLL(SONAME)
+    except OSError:
+        raise ImportError(f"xbrlmerge: there is no {NAME}: `./build --library` makes it, and XBRLMERGE_LIBRARY may name it") from None
 
 
 _LIBRARY = _load()

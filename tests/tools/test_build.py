@@ -10,7 +10,7 @@ import unittest
 HERE = os.path.dirname(os.path.abspath(__file__))
 TOP = os.path.dirname(os.path.dirname(HERE))
 BUILD = os.path.join(TOP, "build")
-# ./build imports its modules from the folder packages/
+# ./build imports its modules from the folder packing/
 sys.path.append(TOP)
 CRATES = "low: std\nside: low\nmiddle: low json\nxbrlmerge: middle\nxbrlmerge_c staticlib: low\n"
 

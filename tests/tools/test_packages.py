@@ -16,10 +16,10 @@ from in_process import RoomTest, content
 TOP = os.path.dirname(os.path.dirname(os.path.dirname(os.path.abspath(__file__))))
 sys.path += [TOP, os.path.join(TOP, "python")]
 import wheel_of_library  # noqa: E402
-from packages import bill, contents, debian, installation, kit, manual, release  # noqa: E402
-from packages.files import RUNS, File, folders_of, read_below  # noqa: E402
-from packages.source import Crate, Source, newest_libc, wrong_source  # noqa: E402
-from packages.tarball import tarball  # noqa: E402
+from packing import bill, contents, debian, installation, kit, manual, release  # noqa: E402
+from packing.files import RUNS, File, folders_of, read_below  # noqa: E402
+from packing.source import Crate, Source, newest_libc, wrong_source  # noqa: E402
+from packing.tarball import tarball  # noqa: E402
 
 VERSION, SECONDS = "1.2.0-dev", 1_700_000_000
 # a stand-in for the program

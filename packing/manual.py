@@ -3,10 +3,10 @@ from __future__ import annotations
 
 import os
 import re
-import subprocess
 import sys
 
-from packages.contents import TOOLS, command_of
+from packing.contents import TOOLS, command_of
+from packing.running import run_tool
 
 HEAD = """\
 .\\" Made from `tools/{tool} --help` by `tests/words --write`.
@@ -32,9 +32,8 @@ HELP = "-h, --help"
 
 def help_of(top: str, tool: str) -> str:
     """Returns what a tool prints for --help."""
-    around = {**os.environ, "COLUMNS": WIDE, "NO_COLOR": "1"}
-    words = [sys.executable, os.path.join(top, "tools", f"{tool}.py"), "--help"]
-    return subprocess.run(words, capture_output=True, text=True, check=True, env=around).stdout
+    variables = {"COLUMNS": WIDE, "NO_COLOR": "1"}
+    return run_tool(sys.executable, os.path.join(top, "tools", f"{tool}.py"), "--help", variables=variables)
 
 
 def page(tool: str, text: str, version: str) -> str:

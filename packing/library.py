@@ -2,22 +2,14 @@
 from __future__ import annotations
 
 import os
-import subprocess
 
-from packages.contents import SHARED, pkg_config
-from packages.files import PLAIN, RUNS, File, put, read
+from packing.contents import SHARED, pkg_config
+from packing.files import PLAIN, RUNS, File, put, read
+from packing.running import run_tool
 
 # the names of the functions that the library exports begin with this
 EXPORTS = "xbrlmerge_"
 STRICT = ("-Wl,-z,defs,-z,now,-z,relro", "-Wl,-Bsymbolic", "-Wl,--gc-sections")
-
-
-def run_tool(*words: str) -> str:
-    """Runs a command and returns its output. If the command fails, raises OSError with its message."""
-    done = subprocess.run(words, capture_output=True, text=True)
-    if done.returncode != 0:
-        raise OSError(f"{words[0]} failed: {done.stderr.strip()[-500:]}")
-    return done.stdout
 
 
 def exported(archive: str) -> list[str]:

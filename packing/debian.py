@@ -5,15 +5,15 @@ import gzip
 import hashlib
 import io
 import os
-import subprocess
 import time
 from dataclasses import dataclass, field
 from typing import Iterable, Mapping, Sequence
 
-from packages import contents
-from packages.bill import notices
-from packages.files import PLAIN, RUNS, File, folders_of, put
-from packages.source import Source, git, newest_libc
+from packing import contents
+from packing.bill import notices
+from packing.files import PLAIN, RUNS, File, folders_of, put
+from packing.running import run_tool
+from packing.source import Source, git, newest_libc
 
 MACHINE, LIBRARIES, MODULES = "amd64", "usr/lib/x86_64-linux-gnu", "usr/lib/python3/dist-packages"
 SHARED_PACKAGE = f"libxbrlmerge{contents.INTERFACE}"
@@ -110,7 +110,7 @@ def make(source: Source, folder: str, scratch: str) -> None:
     maintainer = git(source.top, "log", "-1", "--format=%an <%ae>")
     for package in packages(source):
         files = [*package.files, *documents(package, source, maintainer)]
-        sums = "".join(f"{hashlib.md5(it.content).hexdigest()}  {it.place}\n" for it in files if not it.is_link)  # nosec B324
+        sums = "".join(f"{hashlib.md5(it.content, usedforsecurity=False).hexdigest()}  {it.place}\n" for it in files if not it.is_link)
         told = {"control": control(package, source, maintainer, files), "md5sums": sums, **package.control}
         files += [File(f"DEBIAN/{name}", text.encode(), RUNS if text.startswith("#!") else PLAIN) for name, text in told.items()]
         tree = os.path.join(scratch, package.name)
@@ -132,8 +132,5 @@ def lay_out(files: Sequence[File], tree: str, seconds: int) -> None:
 
 def build(tree: str, path: str, seconds: int) -> None:
     """Runs dpkg-deb, with one thread, because the number of threads changes the bytes."""
-    around = {**os.environ, "SOURCE_DATE_EPOCH": str(seconds), "DPKG_DEB_THREADS_MAX": "1"}
-    words = ["dpkg-deb", "--root-owner-group", "-Zxz", "-z9", "--build", tree, path]
-    done = subprocess.run(words, capture_output=True, text=True, env=around)
-    if done.returncode != 0:
-        raise OSError(f"dpkg-deb failed: {done.stderr.strip()[-500:]}")
+    run_tool("dpkg-deb", "--root-owner-group", "-Zxz", "-z9", "--build", tree, path,
+             variables={"SOURCE_DATE_EPOCH": str(seconds), "DPKG_DEB_THREADS_MAX": "1"})

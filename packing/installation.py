@@ -5,8 +5,8 @@ import contextlib
 import os
 from typing import Iterable
 
-from packages.contents import SHARE
-from packages.files import File, folders_of, put
+from packing.contents import SHARE
+from packing.files import File, folders_of, put
 
 LIST = f"{SHARE}/installed.txt"
 

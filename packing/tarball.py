@@ -6,7 +6,7 @@ import lzma
 import tarfile
 from typing import Iterable
 
-from packages.files import RUNS, File, folders_of
+from packing.files import RUNS, File, folders_of
 
 
 def tarball(files: Iterable[File], folder: str, seconds: int) -> bytes:

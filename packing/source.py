@@ -4,10 +4,11 @@ from __future__ import annotations
 import os
 import re
 import shutil
-import subprocess
 import time
 from dataclasses import dataclass
 from typing import Mapping, Sequence
+
+from packing.running import run_tool
 
 # what makes the packages, besides the kit
 NEEDED = ("git", "dpkg-deb", "gcc", "strip")
@@ -42,10 +43,7 @@ class Source:
 
 def git(top: str, *words: str) -> str:
     """Returns the output of a git command. Errors: OSError."""
-    done = subprocess.run(["git", "-C", top, *words], capture_output=True, text=True)
-    if done.returncode != 0:
-        raise OSError(f"git {words[0]} failed: {done.stderr.strip()[-500:]}")
-    return done.stdout.strip()
+    return run_tool("git", "-C", top, *words).strip()
 
 
 def commit_of(top: str) -> tuple[str, int]:

@@ -6,8 +6,8 @@ import json
 import re
 from typing import Any, Mapping, Sequence
 
-from packages.kit import UNKNOWN, KitCrate, kit_crates
-from packages.source import Source
+from packing.kit import UNKNOWN, KitCrate, kit_crates
+from packing.source import Source
 
 SOURCE, KIT = "source", "kit"
 # the crates of the kit that every program contains

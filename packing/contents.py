@@ -3,7 +3,7 @@ from __future__ import annotations
 
 import os
 
-from packages.files import PLAIN, RUNS, File, read, read_below
+from packing.files import PLAIN, RUNS, File, read, read_below
 
 PROGRAM = "xbrlmerge"
 TOOLS = ("contradictions", "make_sheet", "normalise", "recheck")

@@ -7,11 +7,11 @@ import sys
 import tempfile
 from dataclasses import replace
 
-from packages import bill, contents, debian
-from packages.files import read
-from packages.library import run_tool
-from packages.source import Source
-from packages.tarball import tarball
+from packing import bill, contents, debian
+from packing.files import read
+from packing.running import run_tool
+from packing.source import Source
+from packing.tarball import tarball
 
 SUMS = "SHA256SUMS"
 ABOUT = """\
