@@ -23,7 +23,6 @@ Run bin/xbrlmerge, or copy bin/, lib/ and share/ into a folder such as /usr/loca
 
 def make(source: Source, folder: str) -> list[str]:
     """Makes the packages, and returns their paths. They appear in the folder once all are made. Errors: OSError."""
-    os.makedirs(folder, exist_ok=True)
     with tempfile.TemporaryDirectory(prefix=".new-", dir=folder) as scratch:
         new, trees, program = (os.path.join(scratch, it) for it in ("new", "trees", contents.PROGRAM))
         os.mkdir(new)

@@ -53,12 +53,15 @@ def commit_of(top: str) -> tuple[str, int]:
 
 
 def wrong_source(top: str, folder: str) -> str:
-    """Returns why no packages can be made from a checkout into a folder, or an empty text."""
+    """Returns why no packages can be made from a checkout into a folder, or an empty text. Makes the folder. Errors: OSError."""
     missing = [it for it in NEEDED if shutil.which(it) is None]
     if missing:
         return f"{missing[0]} is not on the PATH: ./build --packages needs it"
     if not os.path.exists(os.path.join(top, ".git")):
         return "this folder is not a git checkout: packages name their commit"
+    os.makedirs(folder, exist_ok=True)
+    if not os.access(folder, os.W_OK | os.X_OK):
+        return f"{folder} cannot be written to"
     inside = os.path.relpath(os.path.realpath(folder), os.path.realpath(top))
     besides = [] if inside.startswith("..") else [f":(exclude){inside}"]
     changed = git(top, "status", "--porcelain", "--", ".", *besides).splitlines()

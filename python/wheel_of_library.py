@@ -7,6 +7,7 @@ import glob
 import hashlib
 import os
 import re
+import stat
 import zipfile
 from typing import Dict, List, Optional
 
@@ -18,7 +19,8 @@ SYSTEM = {b"libc.so.6", b"ld-linux-x86-64.so.2"}
 OLDEST = 5
 TIME = (1980, 1, 1, 0, 0, 0)
 TOOLS = "xbrlmerge_tools"
-PLAIN, RUNS = 0o644, 0o755
+# the permissions of a regular file: without its kind, pip would not make the program executable
+PLAIN, RUNS = stat.S_IFREG | 0o644, stat.S_IFREG | 0o755
 
 
 def _project(key: str) -> str:

@@ -1,4 +1,6 @@
 """Functions that the scripts of tests/ share: reading files, and finding the program."""
+import importlib.machinery
+import importlib.util
 import os
 import sys
 
@@ -16,6 +18,14 @@ def bytes_of(path):
     """Returns the bytes of a file. A relative path starts at the working folder."""
     with open(path, "rb") as file:
         return file.read()
+
+
+def script(path):
+    """Returns a Python script that has no ending, such as ./build, as a module."""
+    loader = importlib.machinery.SourceFileLoader(f"{os.path.basename(path)}_script", path)
+    module = importlib.util.module_from_spec(importlib.util.spec_from_loader(loader.name, loader))
+    loader.exec_module(module)
+    return module
 
 
 def built_program(named=None):

@@ -232,7 +232,7 @@ def main(words):
     lines += differences("the completions for bash", told, told_by_completions())
     lines += differences("the completions for zsh", told, told_by_zsh())
     lines += differences("the completions for fish", told, told_by_fish())
-    print("\n".join(lines) or "the man page and the completions have the same words as the program")
+    print("\n".join(lines) or "the man pages and the completions have the same words as the program and the tools")
     return 1 if lines else 0
 
 

@@ -1,27 +1,18 @@
 """Tests which crates ./build proves again."""
-import importlib.machinery
-import importlib.util
 import os
 import shutil
 import sys
 import tempfile
 import unittest
 
-HERE = os.path.dirname(os.path.abspath(__file__))
-TOP = os.path.dirname(os.path.dirname(HERE))
-BUILD = os.path.join(TOP, "build")
+TOP = os.path.dirname(os.path.dirname(os.path.dirname(os.path.abspath(__file__))))
 # ./build imports its modules from the folder packing/
-sys.path.append(TOP)
+sys.path += [os.path.join(TOP, "tests"), TOP]
+from support import script  # noqa: E402
+
+sys.dont_write_bytecode = True
+BUILD = os.path.join(TOP, "build")
 CRATES = "low: std\nside: low\nmiddle: low json\nxbrlmerge: middle\nxbrlmerge_c staticlib: low\n"
-
-
-def loaded(path):
-    """Returns the script as a module."""
-    loader = importlib.machinery.SourceFileLoader("build_script", path)
-    module = importlib.util.module_from_spec(importlib.util.spec_from_loader("build_script", loader))
-    sys.dont_write_bytecode = True
-    loader.exec_module(module)
-    return module
 
 
 class Build(unittest.TestCase):
@@ -33,7 +24,7 @@ class Build(unittest.TestCase):
         self.put("crates.txt", CRATES)
         for name in ("low", "side", "middle", "xbrlmerge", "xbrlmerge_c"):
             self.put(f"crates/{name}/src/{'main' if name == 'xbrlmerge' else 'lib'}.rt", name)
-        self.build = loaded(os.path.join(self.top, "build"))
+        self.build = script(os.path.join(self.top, "build"))
 
     def put(self, path, text):
         path = os.path.join(self.top, path)

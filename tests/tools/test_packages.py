@@ -140,7 +140,7 @@ class Archives(Packages):
         with zipfile.ZipFile(self.place(name)) as wheel:
             files = {it: wheel.read(it) for it in wheel.namelist()}
             (program,) = [it for it in files if it.endswith(".data/scripts/xbrlmerge")]
-            self.assertTrue(wheel.getinfo(program).external_attr >> 16 & 0o100)
+            self.assertEqual(wheel.getinfo(program).external_attr >> 16, 0o100755)
         self.assertTrue(name.endswith("-py3-none-manylinux_2_34_x86_64.whl"), name)
         self.assertEqual({it.partition("/")[0] for it in files if ".d" not in it.partition("/")[0]}, {"xbrlmerge", "xbrlmerge_tools"})
         packed = {it.place: it.content for it in contents.tool_package(TOP, "")}
@@ -167,6 +167,7 @@ class Archives(Packages):
 
     def test_all_packages_appear_or_none(self):
         folder = self.place("out")
+        os.mkdir(folder)
         with mock.patch.object(release, "run_tool", lambda *words: shutil.copy(words[3], words[2])):
             with mock.patch.object(debian, "make", side_effect=OSError("dpkg-deb failed")):
                 self.assertRaises(OSError, release.make, self.source(), folder)
@@ -185,6 +186,7 @@ class Bill(Packages):
     def test_it_names_commit_kit_proofs_and_licences(self):
         found = json.loads(bill.bill(self.source(), {"one.deb": b"one"}))
         parts = {it["SPDXID"]: it for it in found["packages"]}
+        self.assertEqual(len(parts), len(found["packages"]))
         self.assertEqual(found["creationInfo"]["created"], "2023-11-14T22:13:20Z")
         self.assertIn("c0ffee", parts["SPDXRef-source"]["sourceInfo"])
         self.assertEqual(parts["SPDXRef-kit"]["comment"], "kit-1 logic 2")
@@ -219,7 +221,6 @@ class Sources(Packages):
             self.assertIn("not a git checkout", wrong_source(top, out))
             subprocess.run(["git", "init", "-q", top], check=True)
             self.assertEqual(wrong_source(top, out), "")
-            os.mkdir(out)
             self.write("top/out/one.deb", "")
             self.assertEqual(wrong_source(top, out), "")
             self.write("top/new", "")
