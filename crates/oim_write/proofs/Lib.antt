@@ -1,5 +1,6 @@
 pub mod BoundedRuns
 pub mod Ranks
+pub mod Padded
 pub mod UriSets
 pub mod Measures
 pub mod Passing

@@ -5,11 +5,12 @@ ghost use Rattle.fact_base.specs.Passed.{member_data, option_spelled, option_uni
 ghost use Rattle.oim_write.specs.Ordered.{decimals_member, defined_members, ordered_dimensions, ordered_fact, other_dimensions, text_member};
 ghost use Rattle.oim_write.specs.Tokens.{AddsMembers, AddsValue};
 
+use crate::fixed_text::spell_units;
 use crate::scratch::Scratch;
 use json::Writer;
 use oim_dims::{Dimensions, Member, Spelling, Unit, spell, spell_unit};
 use oim_names::{Name, Text};
-use oim_value::{Value, write_fixed};
+use oim_value::Value;
 use std::alloc::AllocError;
 
 /// Writes a fact as an object (xBRL-JSON 1.0, section 3). `concept` is the text of its concept, which
@@ -194,8 +195,8 @@ pub fn write_value<S: Spelling>(
     match value {
         Value::Nil => json.null(),
         Value::Number(number, _) => {
-            let number = write_fixed(scratch.alloc, *number)?;
-            json.string(number.as_str())
+            spell_units(&mut scratch.text, number.units())?;
+            json.string(scratch.text.as_str())
         }
         Value::Text(text) => json.string(text.as_str()),
         Value::Name(name) => write_name(json, spelling, &mut scratch.text, name),

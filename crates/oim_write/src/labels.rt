@@ -2,6 +2,7 @@ ghost use Rattle.std.specs.Prelude.{◌≡◌, ◌∷◌, ◌++◌, IfOk, OnOk, 
 ghost use Rattle.oim_write.specs.Rank.{padded, width};
 
 use crate::prefix_table::PrefixTable;
+use itoa::Buffer;
 use oim_names::Text;
 use std::alloc::{AllocError, Global};
 
@@ -55,13 +56,13 @@ pub(crate) fn push_label(
     push_padded(text, digits, number)
 }
 
-#[tactic(auto, unfolding(crate::specs::Rank::padded))]
-fn push_padded(text: &mut String, digits: usize, number: u128) -> Result<(), AllocError>
+pub(crate) fn push_padded(text: &mut String, digits: usize, number: u128) -> Result<(), AllocError>
     ensures { OnOk result (string_bytes text.new ≡ string_bytes text.old ++ padded digits number) }
 {
-    if digits == 0 {
-        return Ok(());
+    let mut buffer = Buffer::new();
+    let decimal = buffer.format(number);
+    for _ in decimal.len()..digits {
+        text.push_str("0")?;
     }
-    push_padded(text, digits - 1, number / 10)?;
-    text.push(char::from(b'0' + (number % 10) as u8))
+    text.push_str(&decimal[decimal.len().saturating_sub(digits)..])
 }

@@ -5,6 +5,7 @@ mod bounded_sink;
 mod concept_texts;
 mod encoded;
 mod fact_text;
+mod fixed_text;
 mod labels;
 pub mod laws;
 mod parts;

@@ -105,7 +105,7 @@ fn class_of(period: &Period) -> usize
 }
 
 /// Two buffers that are reused for each fact, to request memory less often. One holds a name, a
-/// unit or a label; the other caches the texts of periods.
+/// unit, a label or a number; the other caches the texts of periods.
 #[derive(Drop)]
 pub struct Scratch {
     pub(crate) alloc: Global,
