@@ -17,6 +17,7 @@ import json
 import os
 import re
 import shutil
+import socket
 import subprocess
 import sys
 import tempfile
@@ -72,6 +73,22 @@ FILES = {
     "a FIFO of all": (GOOD, GOOD, GOOD),
     "endless, little memory": (MEMORY, MEMORY, MEMORY),
     "endless": (LENGTH, LENGTH, LENGTH),
+}
+# for each kind of file, the second line that --verbose prints if `strange` cannot be read, and if it is the output
+CAUSES = {
+    "missing": ("There is no such file.", None),
+    "a folder": ("It is a folder.", "It is a folder."),
+    "without permission": ("You may not read it: permission denied.", None),
+    "a socket": ("It is a device, pipe or socket.", "It is a device, pipe or socket; only a regular file is replaced."),
+    "a link to nothing": ("It is a link to a file that does not exist.", "It is a link; only a regular file is replaced."),
+}
+# command lines, and the second line
+VERBOSE = {
+    "check --sheet sheet -": "There is no such file; for standard input, use /dev/stdin.",
+    "check --sheet https://made.example/sheet.json report": "URLs are not downloaded.",
+    "check --sheet sheet cut": "File: cut",
+    "merge --sheet sheet -o none/out": "There is no such folder.",
+    "merge --sheet sheet -o /dev/null": "It is a device, pipe or socket; only a regular file is replaced.",
 }
 # command lines in which `strange` is the sheet, the events or a report. Reading an `endless` file is slow, so only the first
 # command line in each list reads one
@@ -246,6 +263,11 @@ def make(scratch, kind, name):
         os.close(os.open(strange, os.O_CREAT, 0))
     elif kind == "/dev/null":
         os.symlink("/dev/null", strange)
+    elif kind == "a link to nothing":
+        os.symlink("nothing", strange)
+    elif kind == "a socket":
+        with socket.socket(socket.AF_UNIX) as opened:
+            opened.bind(strange)
     elif kind.startswith("endless"):
         os.symlink("/dev/zero", strange)
     if not kind.startswith("a FIFO"):
@@ -307,6 +329,28 @@ def compare_files(scratch):
             scratch.expect(ran == (3, b"", ends[1].replace("strange", "-")), f"standard input is {kind}", "", ran)
 
 
+def expect_second(scratch, case, words, ran, cause):
+    """Expects status 3 or 1 with a first line, which is tested elsewhere, and this second line."""
+    lines = ran.err.splitlines()
+    scratch.expect(ran.status in (1, 3) and ran.out == b"" and lines[1:] == [cause], case, words, ran)
+
+
+def compare_causes(scratch):
+    """Makes reading, writing and checking fail with --verbose, and on a terminal. A second line must state why."""
+    for kind, causes in CAUSES.items():
+        for words, cause in zip(("check --verbose --sheet sheet strange", "check --verbose --sheet sheet report -o strange"), causes):
+            if cause:
+                make(scratch, kind, "report")
+                try:
+                    ran = run_strange(scratch, kind, words)
+                finally:
+                    remove(scratch, None)
+                expect_second(scratch, f"strange is {kind}", words, ran, cause)
+    for words, cause in VERBOSE.items():
+        expect_second(scratch, "--verbose", f"{words} --verbose", scratch.run(f"{words} --verbose"), cause)
+        expect_second(scratch, "on a terminal", words, run_on_terminal(scratch, words), cause)
+
+
 def run_on_terminal(scratch, words):
     """Runs the program with a terminal as standard error."""
     outer, inner = os.openpty()
@@ -343,7 +387,7 @@ def main():
     started, counts = time.monotonic(), []
     with tempfile.TemporaryDirectory(prefix="devices-") as folder:
         scratch = Scratch(program, folder)
-        for compare in (compare_wholes, compare_outputs, compare_pipes, compare_inputs, compare_files, compare_terminals):
+        for compare in (compare_wholes, compare_outputs, compare_pipes, compare_inputs, compare_files, compare_causes, compare_terminals):
             before = scratch.count
             compare(scratch)
             counts.append(f"{scratch.count - before} of {compare.__name__.removeprefix('compare_')}")

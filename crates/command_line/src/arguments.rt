@@ -21,6 +21,9 @@ pub(crate) const NULL: &str = "null";
 /// The option that suppresses the progress line.
 pub(crate) const QUIET: &str = "quiet";
 
+/// The option that prints a second line for a refusal or a fault, as on a terminal.
+pub(crate) const VERBOSE: &str = "verbose";
+
 pub(crate) const OUTPUT: &str = "output";
 
 /// The option that sets the bound of the output.
@@ -44,14 +47,16 @@ pub(crate) fn flag<'w>(alloc: Global, name: &'w str, help: &'w str) -> Arg<'w> {
         .help(help)
 }
 
-/// Adds the arguments for the output file and for the bound of the output.
+/// Adds the arguments for the output file, for the bound of the output and for second lines.
 pub(crate) fn with_output<'w>(alloc: Global, command: Building<'w>) -> Building<'w> {
-    let output_help = "Write the complete output to FILE, or nothing";
+    let output_help = "Write the complete output to FILE, or nothing; - is standard output";
     let most_help = "Stop with status 3 if the output is longer than BYTES";
     let output = option(alloc, OUTPUT, "FILE", output_help).short('o');
     let most = option(alloc, MOST, "BYTES", most_help);
     let most = most.value_parser(ValueParser::Unsigned(1, u64::MAX));
-    with(with(command, output), most)
+    let verbose_help = "Also print the file of a refused report, and why a file failed";
+    let verbose = flag(alloc, VERBOSE, verbose_help);
+    with(with(with(command, output), most), verbose)
 }
 
 /// Returns a command with this name and help, and the option for a sheet.

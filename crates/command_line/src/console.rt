@@ -28,6 +28,8 @@ pub(crate) struct Console<E> {
     err: E,
     is_terminal: bool,
     pub is_quiet: bool,
+    /// True if a second line is printed for a refusal or a fault.
+    pub is_verbose: bool,
     is_shown: bool,
     read: usize,
     bytes: u64,
@@ -39,6 +41,7 @@ impl<E: Write> Console<E> {
             err,
             is_terminal,
             is_quiet: false,
+            is_verbose: is_terminal,
             is_shown: false,
             read: 0,
             bytes: 0,
@@ -76,12 +79,13 @@ impl<E: Write> Console<E> {
     }
 
     /// Erases the progress line, prints the refused reports or the error, if there are any, and
-    /// returns the exit status.
-    pub(crate) fn tell(&mut self, done: &Result<Success, Error<'_>>) -> u8 {
+    /// returns the exit status. `files` has the names of the reports; it is empty for a bundle.
+    pub(crate) fn tell(&mut self, done: &Result<Success, Error<'_>>, files: &[&str]) -> u8 {
         self.clear();
+        let files = if self.is_verbose { files } else { &[] };
         match done {
             Ok(Success::Refusals(refusals)) => {
-                print_refusals(&mut self.err, refusals);
+                print_refusals(&mut self.err, refusals, files);
                 if refusals.as_slice().is_empty() {
                     DONE
                 } else {
@@ -91,7 +95,7 @@ impl<E: Write> Console<E> {
             Ok(Success::Faults(0)) => DONE,
             Ok(Success::Faults(_)) => REFUSED,
             Err(error) => {
-                print_error(&mut self.err, self.is_terminal, error);
+                print_error(&mut self.err, self.is_verbose, error, files);
                 match error {
                     Error::TooLoose(..) => TOO_LOOSE,
                     _ => FAILED,
@@ -103,9 +107,12 @@ impl<E: Write> Console<E> {
 
 // File names are escaped, because a line end in a name could fake a line.
 
-fn print_refusals<E: Write>(err: &mut E, refusals: &Refusals) {
+fn print_refusals<E: Write>(err: &mut E, refusals: &Refusals, files: &[&str]) {
     for (report, refusal) in refusals.as_slice() {
         print_refusal(err, *report, refusal);
+        if let Some(file) = files.get(report.saturating_sub(1) as usize) {
+            let _ = writeln!(err, "File: {}", Escaped(file));
+        }
     }
 }
 
@@ -119,21 +126,21 @@ fn print_refusal<E: Write>(err: &mut E, report: u64, refusal: &Refusal) {
 }
 
 /// Prints why the program stopped. If a row is above the allowed level, the refused reports are
-/// printed first. The cause of `Unread` and the kind of a refused sheet are printed only on a
-/// terminal, and only if they are known.
-fn print_error<E: Write>(err: &mut E, is_terminal: bool, error: &Error<'_>) {
+/// printed first. Why a file failed and the kind of a refused sheet are printed only if
+/// `is_verbose`, and only if they are known.
+fn print_error<E: Write>(err: &mut E, is_verbose: bool, error: &Error<'_>, files: &[&str]) {
     let _ = match error {
         Error::Usage(error) => write!(err, "{error}"),
         Error::Unread(file, why) => {
             let _ = print_file(err, file, "cannot be read");
-            match why {
-                Some(why) if is_terminal => writeln!(err, "{why}"),
-                _ => Ok(()),
-            }
+            print_why(err, is_verbose, *why)
         }
         Error::TooLong(file) => print_file(err, file, "too long"),
         Error::NoNames(file) => print_file(err, file, "names no report"),
-        Error::Unwritten(file) => print_file(err, file, "cannot be written"),
+        Error::Unwritten(file, why) => {
+            let _ = print_file(err, file, "cannot be written");
+            print_why(err, is_verbose, *why)
+        }
         Error::Event(line) => writeln!(err, "event {line}: refused"),
         Error::Sheet {
             reason,
@@ -143,12 +150,12 @@ fn print_error<E: Write>(err: &mut E, is_terminal: bool, error: &Error<'_>) {
             let _ = print_sheet(err, *reason);
             match (explained, kind) {
                 (Some(lines), _) => write!(err, "{lines}"),
-                (None, Some(kind)) if is_terminal => writeln!(err, "The file looks like {kind}."),
+                (None, Some(kind)) if is_verbose => writeln!(err, "The file looks like {kind}."),
                 _ => Ok(()),
             }
         }
         Error::TooLoose(row, refused) => {
-            print_refusals(err, refused);
+            print_refusals(err, refused, files);
             writeln!(err, "too loose: row {row}")
         }
         Error::Device(written) => writeln!(err, "device: {written} bytes written"),
@@ -164,6 +171,13 @@ fn print_error<E: Write>(err: &mut E, is_terminal: bool, error: &Error<'_>) {
 
 fn print_file<E: Write>(err: &mut E, file: &str, fault: &str) -> io::Result<()> {
     writeln!(err, "file {}: {fault}", Escaped(file))
+}
+
+fn print_why<E: Write>(err: &mut E, is_verbose: bool, why: Option<&'static str>) -> io::Result<()> {
+    match why {
+        Some(why) if is_verbose => writeln!(err, "{why}"),
+        _ => Ok(()),
+    }
 }
 
 fn print_sheet<E: Write>(err: &mut E, reason: Reason) -> io::Result<()> {

@@ -27,8 +27,8 @@ pub(crate) enum Error<'n> {
     /// The file with this name should list reports, but neither the file nor the arguments name
     /// one.
     NoNames(&'n str),
-    /// The file with this name cannot be written.
-    Unwritten(&'n str),
+    /// The file with this name cannot be written. The text is the cause, if it is known.
+    Unwritten(&'n str, Option<&'static str>),
     /// The line with this number, from 1, of the schedule is not an event, or names a report,
     /// replica or message that does not exist.
     Event(u64),

@@ -1,3 +1,4 @@
+use crate::causes::why_unread;
 use crate::console::Console;
 use crate::error::Error;
 use oim_explain::kind_of_taxonomy;
@@ -6,8 +7,8 @@ use oim_names::Reason;
 use oim_report::Sheet;
 use oim_write::Encoded;
 use std::alloc::Global;
-use std::fs::{self, File};
-use std::io::{ErrorKind, Read, Write};
+use std::fs::File;
+use std::io::{Read, Write};
 use std::mem;
 use std::rt::Files;
 
@@ -138,19 +139,5 @@ pub(crate) fn read_bytes<'n, R: Read + Drop>(
         Err(ReadFault::OutOfMemory) => Err(Error::OutOfMemory),
         Err(ReadFault::TooLong) => Err(Error::TooLong(name)),
         Err(ReadFault::Device(_)) => Err(Error::Unread(name, None)),
-    }
-}
-
-fn why_unread<F: Files>(files: &F, name: &str) -> Option<&'static str> {
-    match fs::metadata(files, name) {
-        Ok(found) if found.is_dir() => return Some("It is a folder."),
-        Err(fault) if fault.kind() == ErrorKind::NotFound => return Some("There is no such file."),
-        _ => {}
-    }
-    match File::open(files, name) {
-        Err(fault) if fault.kind() == ErrorKind::PermissionDenied => {
-            Some("You may not read it: permission denied.")
-        }
-        _ => None,
     }
 }

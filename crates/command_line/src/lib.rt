@@ -3,6 +3,7 @@
 #![tactic(auto)]
 
 mod arguments;
+mod causes;
 mod commands;
 mod console;
 mod error;

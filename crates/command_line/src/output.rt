@@ -1,3 +1,4 @@
+use crate::causes::{why_kept, why_uncreated};
 use crate::commands::execute;
 use crate::error::{Error, Success};
 use crate::inputs::Inputs;
@@ -84,10 +85,10 @@ fn settle<'n, F: Files>(
     name: &'n str,
 ) -> Result<Success, Error<'n>> {
     match done {
-        Err(Error::Device(_)) => Err(Error::Unwritten(name)),
+        Err(Error::Device(_)) => Err(Error::Unwritten(name, None)),
         Ok(success) => match put_in_place(files, file, beside, name) {
             Ok(()) => Ok(success),
-            Err(_) => Err(Error::Unwritten(name)),
+            Err(_) => Err(Error::Unwritten(name, None)),
         },
         stopped => stopped,
     }
@@ -115,7 +116,7 @@ fn new_beside<'w, F: Files>(
     if let Some(mode) = kept {
         if file.set_permissions(mode).is_err() {
             let _ = fs::remove_file(files, beside.as_str());
-            return Err(Error::Unwritten(name));
+            return Err(Error::Unwritten(name, None));
         }
     }
     Ok((beside, file))
@@ -143,7 +144,8 @@ fn old_mode<'w, F: Files>(files: &F, name: &'w str) -> Result<Option<Permissions
             Ok(Some(Permissions::from_mode(mode)))
         }
         Err(fault) if fault.kind() == ErrorKind::NotFound && !name.is_empty() => Ok(None),
-        _ => Err(Error::Unwritten(name)),
+        Ok(found) => Err(Error::Unwritten(name, why_kept(&found))),
+        Err(_) => Err(Error::Unwritten(name, None)),
     }
 }
 
@@ -162,10 +164,10 @@ fn first_new<'w, F: Files>(
         match how.open(files, beside.as_str()) {
             Ok(file) => return Ok((beside, file)),
             Err(fault) if fault.kind() == ErrorKind::AlreadyExists => {}
-            Err(_) => break,
+            Err(fault) => return Err(Error::Unwritten(name, why_uncreated(&fault))),
         }
     }
-    Err(Error::Unwritten(name))
+    Err(Error::Unwritten(name, None))
 }
 
 fn name_beside(alloc: Global, name: &str, number: u32) -> Result<String, AllocError> {

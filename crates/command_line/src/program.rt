@@ -24,12 +24,12 @@ pub struct Streams<R, O, E> {
 /// Runs the program with the arguments after its name. Without arguments, it merges the bundle on
 /// standard input. On standard error it prints a line for each refusal (`explain` prints none), or
 /// why it stopped; if a row is above the allowed level, it prints both. If standard input is a
-/// terminal and there are no arguments, it prints that a bundle is expected. If standard error is a
-/// terminal, it also prints why a file cannot be read, if the cause is known. If standard error is
-/// a terminal and `--quiet` is not given, commands for several reports also show how many reports
-/// were read. Returns the highest exit status that applies: 0 by default; 1 if a report was refused
-/// or `explain` found a fault; 2 if a row is above the allowed level; 3 if the program stopped for
-/// another reason.
+/// terminal and there are no arguments, it prints that a bundle is expected. With `--verbose`, or if
+/// standard error is a terminal, a second line has the file of a refused report, or why a file
+/// failed, if the cause is known. If standard error is a terminal and `--quiet` is not given,
+/// commands for several reports also show how many reports were read. Returns the highest exit
+/// status that applies: 0 by default; 1 if a report was refused or `explain` found a fault; 2 if a
+/// row is above the allowed level; 3 if the program stopped for another reason.
 pub fn run<F, W, R, O, E>(alloc: Global, files: &F, words: &[W], streams: Streams<R, O, E>) -> u8
 where
     F: Files,
@@ -52,9 +52,10 @@ where
     match read_words(alloc, words) {
         Ok(args) => {
             console.is_quiet = args.is_quiet;
+            console.is_verbose |= args.is_verbose;
             run_args(alloc, files, &args, input, out, &mut console)
         }
-        Err(error) => console.tell(&Err(error)),
+        Err(error) => console.tell(&Err(error), &[]),
     }
 }
 
@@ -69,7 +70,7 @@ fn run_args<F: Files, R: Read + Drop, O: Write + Drop, E: Write>(
 ) -> u8 {
     match args.read_input(alloc, files, input) {
         Ok(bytes) => run_named(alloc, files, args, bytes.as_bytes(), out, console),
-        Err(error) => console.tell(&Err(error)),
+        Err(error) => console.tell(&Err(error), &[]),
     }
 }
 
@@ -96,7 +97,7 @@ fn run_named<'n, F: Files, O: Write + Drop, E: Write>(
             };
             run_inputs(args, &mut inputs, out)
         }
-        Err(error) => console.tell(&Err(error)),
+        Err(error) => console.tell(&Err(error), &[]),
     }
 }
 
@@ -109,5 +110,5 @@ fn run_inputs<'n, F: Files, O: Write + Drop, E: Write>(
         Some(name) => write_file(args, inputs, name),
         None => write_out(args, inputs, out),
     };
-    inputs.console.tell(&done)
+    inputs.console.tell(&done, inputs.names)
 }

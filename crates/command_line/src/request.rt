@@ -16,7 +16,8 @@ pub(crate) struct Args<'w> {
     pub words: Vec<&'w str>,
     /// The file that lists more report names; it may be standard input.
     pub list: Option<&'w str>,
-    /// The character after each name in the file. It may be missing after the last name.
+    /// The character after each name in the file. It may be missing after the last name. A line end
+    /// may be CR LF.
     pub end: char,
     /// The name of the output file; None for standard output.
     pub output: Option<&'w str>,
@@ -24,6 +25,8 @@ pub(crate) struct Args<'w> {
     pub most: Option<u64>,
     /// True if the progress line is suppressed.
     pub is_quiet: bool,
+    /// True if a second line is printed for a refusal or a fault, as on a terminal.
+    pub is_verbose: bool,
 }
 
 impl<'w> Args<'w> {
@@ -79,9 +82,10 @@ impl<'w> Args<'w> {
             return Ok(all);
         };
         let Ok(text) = str::from_utf8(bytes) else {
-            return Err(Error::Unread(list, None));
+            return Err(Error::Unread(list, Some("It is not UTF-8.")));
         };
         for name in text.split(self.end) {
+            let name = self.without_return(name);
             if !name.is_empty() {
                 all.push(name)?;
             }
@@ -90,6 +94,13 @@ impl<'w> Args<'w> {
             return Err(Error::NoNames(list));
         }
         Ok(all)
+    }
+
+    fn without_return<'n>(&self, name: &'n str) -> &'n str {
+        match name.strip_suffix('\r') {
+            Some(before) if self.end == '\n' => before,
+            _ => name,
+        }
     }
 }
 

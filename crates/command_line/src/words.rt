@@ -1,4 +1,4 @@
-use crate::arguments::{Building, LIST, MOST, NULL, OUTPUT, QUIET, REPORT, SHEET};
+use crate::arguments::{Building, LIST, MOST, NULL, OUTPUT, QUIET, REPORT, SHEET, VERBOSE};
 use crate::commands::rows::{self, print_format_of};
 use crate::commands::{check, explain, merge, replay};
 use crate::error::Error;
@@ -15,6 +15,9 @@ const PROGRAM: &str = "xbrlmerge";
 // Between releases, this constant is the next version with `-dev`. `tests/tools/test_version.py`
 // compares this version with the versions in other files.
 const VERSION: &str = "0.3.0-dev";
+
+/// The name of standard output after `--output`.
+const STANDARD_OUTPUT: &str = "-";
 
 const ABOUT: &str = "Merges xBRL-JSON reports, and finds where they contradict each other";
 
@@ -80,6 +83,7 @@ fn alone(alloc: Global, request: Request<'_>) -> Args<'_> {
         output: None,
         most: None,
         is_quiet: false,
+        is_verbose: false,
     }
 }
 
@@ -107,10 +111,18 @@ fn args_of<'w>(alloc: Global, matches: &ArgMatches<'w>) -> Result<Option<Args<'w
         words: Vec::from_slice(alloc, matches.get_strs(REPORT).unwrap_or(&[]))?,
         list: matches.get_str(LIST),
         end: if matches.get_flag(NULL) { '\0' } else { '\n' },
-        output: matches.get_str(OUTPUT),
+        output: output_of(matches),
         most: matches.get_one(MOST),
         is_quiet: matches.get_flag(QUIET),
+        is_verbose: matches.get_flag(VERBOSE),
     }))
+}
+
+fn output_of<'w>(matches: &ArgMatches<'w>) -> Option<&'w str> {
+    match matches.get_str(OUTPUT) {
+        Some(STANDARD_OUTPUT) => None,
+        output => output,
+    }
 }
 
 fn request_of<'w>(name: &str, matches: &ArgMatches<'w>) -> Option<Request<'w>> {

@@ -9,6 +9,7 @@ complete -c xbrlmerge -n '__fish_seen_subcommand_from merge verdicts sources che
 complete -c xbrlmerge -n '__fish_seen_subcommand_from merge verdicts sources check explain replay' -l sheet -r -F -d 'The sheet'
 complete -c xbrlmerge -n '__fish_seen_subcommand_from merge verdicts sources check explain replay' -s o -l output -r -F -d 'Write the complete output to this file, or nothing'
 complete -c xbrlmerge -n '__fish_seen_subcommand_from merge verdicts sources check explain replay' -l most-output -x -d 'Stop if the output is longer than this number of bytes'
+complete -c xbrlmerge -n '__fish_seen_subcommand_from merge verdicts sources check explain replay' -l verbose -d 'Also print the file of a refused report, and why a file failed'
 complete -c xbrlmerge -n '__fish_seen_subcommand_from merge verdicts sources explain replay' -l reports-from -r -F -d 'Also read the reports named in this file'
 complete -c xbrlmerge -n '__fish_seen_subcommand_from merge verdicts sources explain replay' -s 0 -l null -d 'Report names in the file end with NUL'
 complete -c xbrlmerge -n '__fish_seen_subcommand_from merge verdicts sources explain replay' -l quiet -d 'Do not show progress'

@@ -10,7 +10,7 @@ use made::{made, removed};
 use replayed::REPLAYED;
 use rows::{
     BOUNDED, CHECKED, FULL, Full, JUDGED, LISTED, MERGED, ONE, Row, SHOWN, STOPPED, UNFLUSHED,
-    UNHEARD, WRITTEN,
+    UNHEARD, VERBOSE, WRITTEN,
 };
 use std::fs;
 use std::test::Fail;
@@ -133,6 +133,7 @@ fn files_are_judged(rt: HostRuntime) -> Result<(), Fail> {
 fn files_are_checked_and_listed(rt: HostRuntime) -> Result<(), Fail> {
     made(&rt, "out/checked")?;
     assert!(rt; are_met(&rt, CHECKED.as_slice())? && are_met(&rt, LISTED.as_slice())?);
+    assert!(rt; are_met(&rt, VERBOSE.as_slice())?);
     removed(&rt, "out/checked")
 }
 

@@ -134,6 +134,58 @@ pub(super) const JUDGED: [Row; 11] = [
     ),
 ];
 
+/// A second line has the file of a refused report, or why a file failed.
+pub(super) const VERBOSE: [Row; 8] = [
+    (
+        "merge --sheet sheet 100 unbound --verbose",
+        1,
+        ONE,
+        "report 2: 13 UnboundPrefix at fact 1\nFile: unbound\n",
+    ),
+    (
+        "merge --verbose --sheet sheet --allow consistent 100 unbound 102",
+        2,
+        &[],
+        "report 2: 13 UnboundPrefix at fact 1\nFile: unbound\ntoo loose: row 1\n",
+    ),
+    (
+        "check --verbose --sheet sheet unbound",
+        1,
+        &[],
+        "report 1: 13 UnboundPrefix at fact 1\nFile: unbound\n",
+    ),
+    (
+        "merge --sheet sheet --verbose 100 none",
+        3,
+        &[],
+        "file none: cannot be read\nThere is no such file.\n",
+    ),
+    (
+        "check --sheet sheet --verbose -",
+        3,
+        &[],
+        "file -: cannot be read\nThere is no such file; for standard input, use /dev/stdin.\n",
+    ),
+    (
+        "merge --sheet https://example.org/sheet.json --verbose",
+        3,
+        &[],
+        "file https://example.org/sheet.json: cannot be read\nURLs are not downloaded.\n",
+    ),
+    (
+        "merge --sheet sheet --verbose -o .",
+        3,
+        &[],
+        "file .: cannot be written\nIt is a folder.\n",
+    ),
+    (
+        "merge --sheet sheet --verbose -o none/out",
+        3,
+        &[],
+        "file none/out: cannot be written\nThere is no such folder.\n",
+    ),
+];
+
 pub(super) const CHECKED: [Row; 8] = [
     (
         "check --sheet sheet canonical",
@@ -180,8 +232,8 @@ pub(super) const CHECKED: [Row; 8] = [
     ("check --sheet sheet empty", 1, &[], NOT_JSON),
 ];
 
-/// Each row names an output file. Runs that end with status 2 or 3 leave the file `out` unchanged.
-pub(super) const WRITTEN: [Row; 6] = [
+/// Each row names an output file, or `-` for standard output. Runs that end with status 2 or 3 leave the file `out` unchanged.
+pub(super) const WRITTEN: [Row; 7] = [
     ("merge --sheet sheet empty 100 -o out", 1, &[], NOT_JSON),
     (
         "merge --sheet sheet 100 101 --allow none -o out",
@@ -191,6 +243,7 @@ pub(super) const WRITTEN: [Row; 6] = [
     ),
     ("verdicts --sheet sheet 100 none -o out", 3, &[], NOT_READ),
     ("merge --sheet sheet --output=out -- out", 0, &[], ""),
+    ("merge --sheet sheet 100 -o -", 0, ONE, ""),
     (
         "check --sheet sheet 100 -o .",
         3,
@@ -243,8 +296,9 @@ pub(super) const SHOWN: [(&str, &str); 3] = [
 ];
 
 /// A file lists reports, which follow the reports in the arguments.
-pub(super) const LISTED: [Row; 8] = [
+pub(super) const LISTED: [Row; 9] = [
     ("merge --sheet sheet --reports-from names", 0, BOTH, ""),
+    ("merge --sheet sheet --reports-from returns", 0, BOTH, ""),
     ("merge --sheet sheet -0 --reports-from ended", 0, BOTH, ""),
     (
         "verdicts --sheet sheet 100 unbound --reports-from names",
