@@ -7,15 +7,19 @@ The script runs the program on the examples, on texts with quotes, line ends and
 It computes the output of `--format json` and `--format csv` from the lines and from the output of `merge`. The program's
 output must be the same, byte for byte. `--format lines` must print the same as no `--format`. `--spreadsheet` must begin with a
 byte order mark, and may only add a ' to cells. It must guard a text as tools/contradictions does: exactly so if the text is ASCII,
-otherwise at least so. Last, it runs the program on reports whose output repeats a long URI, with and without `--most-output`.
+otherwise at least so. SQLite joins the sources of the examples to their verdicts: each pair must have the concept and the value
+that the report's file has. Last, the script runs the program on reports whose output repeats a long URI, with and without
+`--most-output`.
 
 Status 0: all is as expected. 1: something is not. 2: there is no program.
 """
 import csv
+import decimal
 import io
 import json
 import os
 import random
+import sqlite3
 import subprocess
 import sys
 import tempfile
@@ -112,7 +116,7 @@ def rows_of(lines, merged):
     for line in lines:
         number, first, last, verdict, *shown = line.split(" ")
         these = names[names.index(first) : names.index(last) + 1]
-        facts = [{"identifier": name, "value": merged.value(merged.facts[name]),
+        facts = [{"fact": name, "value": merged.value(merged.facts[name]),
                   **{key: merged.facts[name][key] for key in ("decimals",) if key in merged.facts[name]}} for name in these]
         row = {"row": int(number), "verdict": verdict, "dimensions": merged.dimensions(merged.facts[first]["dimensions"]), "facts": facts}
         if verdict == "consistent":
@@ -130,14 +134,14 @@ def records_of(row):
     shown = [common.get("low", ""), common.get("high", ""), *evidence.get("apart", ["", ""])]
     for fact in row["facts"]:
         is_nil = fact["value"] is None
-        yield [row["row"], row["verdict"], fact["identifier"], *(given.get(name, "") for name in CORE), compact(defined) if defined else "",
+        yield [row["row"], row["verdict"], fact["fact"], *(given.get(name, "") for name in CORE), compact(defined) if defined else "",
                "" if is_nil else fact["value"], "true" if is_nil else "", fact.get("decimals", ""), *shown]
 
 
-def sources_of(lines):
+def sources_of(lines, files):
     for line in lines:
         fact, report, identifier = line.split(" ", 2)
-        yield {"fact": fact, "report": int(report), "identifier": json.loads(identifier)}
+        yield {"report": int(report), "file": files[int(report) - 1], "identifier": json.loads(identifier), "fact": fact}
 
 
 def is_within(part, whole):
@@ -165,13 +169,13 @@ def wrong_with(program, sheet, reports):
         return printed(program, command, sheet, reports, *words)
 
     merged = Merged(asked("merge"), json.loads(content(sheet)))
-    rows, sources = list(rows_of(lines_of(asked("verdicts")), merged)), list(sources_of(lines_of(asked("sources"))))
+    rows, sources = list(rows_of(lines_of(asked("verdicts")), merged)), list(sources_of(lines_of(asked("sources")), reports))
     facts = [cells for row in rows for cells in records_of(row)]
     wanted = {
         ("verdicts", "json"): "".join(f"{compact(row)}\n" for row in rows),
         ("verdicts", "csv"): table([COLUMNS, *facts]),
         ("sources", "json"): "".join(f"{compact(source)}\n" for source in sources),
-        ("sources", "csv"): table([["fact", "report", "identifier"], *(source.values() for source in sources)]),
+        ("sources", "csv"): table([["report", "file", "identifier", "fact"], *(source.values() for source in sources)]),
     }
     wrong = [words for words, text in wanted.items() if asked(words[0], "--format", words[1]) != text]
     for command in ("verdicts", "sources"):
@@ -189,6 +193,50 @@ def odd_report(prefix):
     facts = {f"{text}{prefix}{place}": {"value": f"{text}{prefix}", "dimensions": {"concept": "eg:T", "eg:Sku": text or "none"}}
              for place, text in enumerate(TEXTS)}
     return json.dumps({"documentInfo": info, "facts": facts})
+
+
+def tables_of(program, kind):
+    """Returns the tables of verdicts and sources of the examples, each a list of objects. Those of verdicts have a fact each."""
+    texts = [printed(program, command, f"{TOP}/examples/sheet.json", EXAMPLES, "--format", kind) for command in ("verdicts", "sources")]
+    if kind == "csv":
+        verdicts, sources = (list(csv.DictReader(io.StringIO(text, newline=""))) for text in texts)
+        return [{**it, "value": None if it["nil"] else it["value"]} for it in verdicts], sources
+    rows, sources = ([json.loads(line) for line in lines_of(text)] for text in texts)
+    return [{"fact": fact["fact"], "row": row["row"], "concept": row["dimensions"]["concept"], "value": fact["value"]}
+            for row in rows for fact in row["facts"]], sources
+
+
+def joined(*tables):
+    """Returns the tables' natural join, computed by SQLite. The tables have different columns, except those to join by."""
+    base = sqlite3.connect(":memory:")
+    for name, table in zip("ab", tables):
+        columns = list(table[0])
+        base.execute(f"create table {name} ({', '.join(columns)})")
+        base.executemany(f"insert into {name} values ({', '.join('?' for _ in columns)})", ([*it.values()] for it in table))
+    found = base.execute("select file, identifier, concept, value from a natural join b").fetchall()
+    base.close()
+    return found
+
+
+def is_pair(own, concept, value):
+    """Returns whether a report's own fact has this concept and value. Numbers may be spelled differently, and names have their
+    own prefixes."""
+    if own["dimensions"]["concept"].split(":")[1] != concept.split("}")[1]:
+        return False
+    try:
+        return decimal.Decimal(own["value"]) == decimal.Decimal(value)
+    except (decimal.InvalidOperation, TypeError):
+        return own["value"] == value or own["value"].split(":")[-1] == value.split("}")[-1]
+
+
+def wrong_pairs(program):
+    """Yields the formats in which a join of sources to verdicts does not give each fact object of the examples its value."""
+    reports = {path: json.loads(content(path))["facts"] for path in EXAMPLES[:3]}  # the fourth is refused
+    wanted = sorted((path, identifier) for path, facts in reports.items() for identifier in facts)
+    for kind in ("json", "csv"):
+        pairs = joined(*tables_of(program, kind))
+        if sorted(pair[:2] for pair in pairs) != wanted or not all(is_pair(reports[path][it], *more) for path, it, *more in pairs):
+            yield kind
 
 
 def generous(scratch, shape):
@@ -269,6 +317,9 @@ def main(words):
             for fault in wrong_with(program, sheet, reports):
                 faults += 1
                 print(f"case {ran}: {' '.join(fault)}")
+        for kind in wrong_pairs(program):
+            faults += 1
+            print(f"pairs in SQLite: {kind}")
         for fault in wrong_bounds(program, scratch):
             faults += 1
             print(f"bound: {' '.join(fault)}")

@@ -22,6 +22,7 @@ import os
 import pathlib
 import pickle
 import random
+import re
 import shutil
 import subprocess
 import sys
@@ -64,6 +65,12 @@ def listed(answer):
     return (1 if answer.refusals else 0), answer.text, list(map(str, answer.refusals))
 
 
+def without_files(ran):
+    """Returns a result of `ran` as the module makes it: it has the reports' bytes, and no files."""
+    status, out, lines = ran
+    return status, re.sub(rb'(?m)^(\{"report":\d+,"file":)"[^"]*"', rb"\1null", out), lines
+
+
 def listings():
     return xbrlmerge.verdicts, xbrlmerge.sources, xbrlmerge.verdict_columns, xbrlmerge.source_columns
 
@@ -76,7 +83,7 @@ class Examples(unittest.TestCase):
         self.assertEqual(listed(xbrlmerge.verdicts(sheet, reports)), ran("verdicts", sheet, reports))
         self.assertEqual(listed(xbrlmerge.sources(sheet, reports)), ran("sources", sheet, reports))
         self.assertEqual(listed(xbrlmerge.verdict_columns(sheet, reports)), ran("verdicts", sheet, reports, "--format", "json"))
-        self.assertEqual(listed(xbrlmerge.source_columns(sheet, reports)), ran("sources", sheet, reports, "--format", "json"))
+        self.assertEqual(listed(xbrlmerge.source_columns(sheet, reports)), without_files(ran("sources", sheet, reports, "--format", "json")))
         for report in (*reports, bytes_of(f"{TOP}/examples/merged.json")):
             status, text, lines = ran("check", sheet, [report])
             self.assertEqual(str(xbrlmerge.check(sheet, report)), text.decode().rstrip("\n") if status == 0 else lines[0])
@@ -145,8 +152,13 @@ class Examples(unittest.TestCase):
             wanted = {name: [] for name in columns}
             for record in csv.DictReader(io.StringIO(text, newline="")):
                 for name, items in wanted.items():
-                    items.append(record[name] or None)
+                    # the program reads copies of the files
+                    items.append(EXAMPLES[int(record["report"]) - 1] if name == "file" else record[name] or None)
             self.assertEqual({name: [it if it is None else str(it) for it in items] for name, items in columns.items()}, wanted)
+
+    def test_bytes_have_no_file(self):
+        columns = xbrlmerge.source_columns(SHEET, [bytes_of(EXAMPLES[0]), pathlib.Path(EXAMPLES[1])])
+        self.assertEqual({*zip(columns["report"], columns["file"])}, {(1, None), (2, EXAMPLES[1])})
 
     def test_tables_take_columns(self):
         for name, table in (("pandas", "DataFrame"), ("pyarrow", "table")):
@@ -242,7 +254,7 @@ class Drawn(unittest.TestCase):
                 self.assertEqual(listed(xbrlmerge.verdicts(self.sheet, reports)), ran("verdicts", self.sheet, reports))
                 self.assertEqual(listed(xbrlmerge.sources(self.sheet, reports)), ran("sources", self.sheet, reports))
                 for command, call in (("verdicts", xbrlmerge.verdict_columns), ("sources", xbrlmerge.source_columns)):
-                    self.assertEqual(listed(call(self.sheet, reports)), ran(command, self.sheet, reports, "--format", "json"))
+                    self.assertEqual(listed(call(self.sheet, reports)), without_files(ran(command, self.sheet, reports, "--format", "json")))
 
     def test_threads_merge_at_once(self):
         def work(place):

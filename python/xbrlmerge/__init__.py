@@ -32,7 +32,7 @@ _LINE_END, _SPACE = "\n", " "
 _CORE = ("concept", "entity", "period", "unit", "language")
 _VERDICT_COLUMNS = ("row", "verdict", "fact", *_CORE, "dimensions", "value", "decimals",
                     "common_low", "common_high", "apart_first", "apart_second")
-_SOURCE_COLUMNS = ("fact", "report", "identifier")
+_SOURCE_COLUMNS = ("report", "file", "identifier", "fact")
 
 
 @dataclasses.dataclass(frozen=True)
@@ -206,13 +206,15 @@ def verdict_columns(sheet: Given, reports: Iterable[Given], most_output: Optiona
 
 
 def source_columns(sheet: Given, reports: Iterable[Given], most_output: Optional[int] = None) -> Columns:
-    """Returns the sources as three columns: the canonical identifier of the fact, the number of the report, and the identifier
-    in that report. Each fact object in an accepted report has an item. `most_output` is as for verdict_columns. Raises TooMuch,
-    SheetRefused, MemoryError, OSError, TypeError, and ValueError if `most_output` is less than 1.
+    """Returns the sources as four columns: the number of the report, its file, the fact's identifier in the report, and its
+    canonical identifier. The file is the path that was given, or None for bytes; in the text it is always null. Each fact object
+    in an accepted report has an item. `most_output` is as for verdict_columns. Raises TooMuch, SheetRefused, MemoryError,
+    OSError, TypeError, and ValueError if `most_output` is less than 1.
     """
-    answer = _library.sources_json(_bytes(sheet), _each(reports), _most(most_output))
+    given = _listed(reports)
+    answer = _library.sources_json(_bytes(sheet), _each(given), _most(most_output))
     text = _text(answer)
-    return Columns(_SOURCE_COLUMNS, (tuple(map(json.loads(line).get, _SOURCE_COLUMNS)) for line in _lines(text)), text, _refusals(answer))
+    return Columns(_SOURCE_COLUMNS, (_source_row(json.loads(line), given) for line in _lines(text)), text, _refusals(answer))
 
 
 def check(sheet: Given, report: Given) -> Union[Checked, Refusal]:
@@ -239,11 +241,20 @@ def _bytes(given: Given) -> bytes:
         return file.read()
 
 
-def _each(reports: Iterable[Given]) -> List[bytes]:
-    """Returns the bytes of each report. Raises TypeError for a single file or report, even if Python can iterate over it."""
+def _listed(reports: Iterable[Given]) -> List[Given]:
+    """Raises TypeError for a single file or report, even if Python can iterate over it."""
     if isinstance(reports, (str, bytes, bytearray, memoryview, os.PathLike)):
         raise TypeError("reports must be a list of files or bytes")
-    return [_bytes(it) for it in reports]
+    return [*reports]
+
+
+def _each(reports: Iterable[Given]) -> List[bytes]:
+    return [_bytes(it) for it in _listed(reports)]
+
+
+def _file(given: Given) -> Optional[str]:
+    """Returns the path of a report that was given as a path."""
+    return None if isinstance(given, (bytes, bytearray, memoryview)) else os.fspath(given)
 
 
 def _refusal(row: _library.Row) -> Refusal:
@@ -293,12 +304,17 @@ def _facts(row: Dict[str, Any]) -> Iterable[Tuple[Any, ...]]:
     common = evidence.get("common", {})
     shown = (common.get("low"), common.get("high"), *evidence.get("apart", (None, None)))
     for fact in row["facts"]:
-        yield row["row"], row["verdict"], fact["identifier"], *dimensions, fact["value"], fact.get("decimals"), *shown
+        yield row["row"], row["verdict"], fact["fact"], *dimensions, fact["value"], fact.get("decimals"), *shown
 
 
 def _source(line: str) -> Source:
     fact, report, identifier = line.split(_SPACE, 2)
     return Source(fact, int(report), json.loads(identifier))
+
+
+def _source_row(source: Dict[str, Any], reports: List[Given]) -> Tuple[Any, ...]:
+    file = _file(reports[source["report"] - 1])
+    return source["report"], file, source["identifier"], source["fact"]
 
 
 def _record(identifier: str, fact: Dict[str, Any]) -> Dict[str, Any]:

@@ -63,7 +63,7 @@ fn execute_under<'n, F: Files, E: Write, S: Sink>(
         Subcommand::Sources(format) => {
             let merge = inputs.trace(sheet)?;
             out.raise(inputs.take_allowance());
-            Ok(rows::put_sources(merge, format, out)?)
+            Ok(rows::put_sources(merge, format, inputs.names, out)?)
         }
         Subcommand::Check(report) => check::run(report, sheet, inputs, out),
         Subcommand::Replay(replicas, events) => replay::run(replicas, events, sheet, inputs, out),

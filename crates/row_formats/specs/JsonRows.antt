@@ -16,7 +16,7 @@ use Rattle.row_formats.specs.Spelled.{braced}
 -- a fact without its dimensions: the row contains the dimensions once
 abbrev pub fact_data : List ℕ → Value → Data
 fact_data identifier v =
-    object (member (codes "identifier") (string identifier) (
+    object (member (codes "fact") (string identifier) (
     member (codes "value") (value_data braced v) (
     decimals_member v no_members)))
 

@@ -8,6 +8,8 @@ mod row_csv;
 mod row_format;
 mod row_json;
 mod row_length;
+mod source_rows;
 
 pub use row_format::RowFormat;
 pub use row_length::has_long_row;
+pub use source_rows::SourceRows;

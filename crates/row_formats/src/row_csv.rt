@@ -301,23 +301,35 @@ pub(crate) fn source_header(alloc: Global) -> Result<Vec<u8>, AllocError>
     ensures { IfOk result (λ text. text.items ≡ record_text source_columns) }
 {
     let mut record = StringRecord::new(alloc);
-    push_three(&mut record, "fact", "report", "identifier")?;
+    push_four(&mut record, "report", "file", "identifier", "fact")?;
     text_of_record(alloc, &record)
 }
 
 pub(crate) fn csv_source(
     alloc: Global,
     spreadsheet: bool,
-    fact: &str,
     report: u64,
+    file: Option<&str>,
     own: &str,
+    fact: &str,
 ) -> Result<Vec<u8>, AllocError>
-    ensures { IfOk result (λ text. text.items ≡ csv_source spreadsheet fact.now report own.now) }
+    ensures { IfOk result (λ text. text.items ≡ csv_source spreadsheet report (option_copied file.entry) own.now fact.now) }
 {
     let report = format!(in alloc; "{report}")?;
     let mut record = StringRecord::new(alloc);
-    record.push_field(fact)?;
     record.push_field(report.as_str())?;
-    Cells { alloc, spreadsheet }.push(&mut record, own)?;
+    let cells = Cells { alloc, spreadsheet };
+    push_file(cells, &mut record, file)?;
+    cells.push(&mut record, own)?;
+    record.push_field(fact)?;
     text_of_record(alloc, &record)
+}
+
+fn push_file(cells: Cells, fields: &mut StringRecord, file: Option<&str>) -> Result<(), AllocError>
+    ensures { OnOk result (fields_of fields.new ≡ fields_of fields.old ++ cell cells.spreadsheet (or_empty (option_copied file.entry)) ∷ []) }
+{
+    match file {
+        Some(file) => cells.push(fields, file),
+        None => cells.push(fields, ""),
+    }
 }

@@ -1,9 +1,9 @@
 ghost use Rattle.std.specs.Prelude.{◌≡◌, ◌++◌, IfOk};
 ghost use Rattle.row_formats.specs.CsvCells.{byte_order_mark};
 
-use crate::row_csv::{csv_header, csv_row, csv_source, source_header};
-use crate::row_json::{json_row, json_source};
-use oim_merge::{IndexedMention, JudgedRow, SourceFormat, VerdictFormat};
+use crate::row_csv::{csv_header, csv_row};
+use crate::row_json::json_row;
+use oim_merge::{JudgedRow, VerdictFormat};
 use oim_write::Scratch;
 use std::alloc::{AllocError, Global};
 
@@ -47,41 +47,10 @@ impl VerdictFormat for RowFormat {
     }
 }
 
-impl SourceFormat for RowFormat {
-    ghost use Rattle.row_formats.specs.SourceRows.{source_header, source_text};
-
-    ghost header = { source_header };
-
-    ghost source_text = { source_text };
-
-    fn header(&self, alloc: Global) -> Result<Vec<u8>, AllocError> {
-        match self {
-            RowFormat::Json => Ok(Vec::new(alloc)),
-            RowFormat::Csv => source_header(alloc),
-            RowFormat::SpreadsheetCsv => with_mark(alloc, source_header(alloc)?),
-        }
-    }
-
-    fn source(
-        &self,
-        alloc: Global,
-        fact: &str,
-        mention: &IndexedMention,
-    ) -> Result<Vec<u8>, AllocError> {
-        let report = mention.report;
-        let own = mention.identifier.as_str();
-        match self {
-            RowFormat::Json => json_source(alloc, fact, report, own),
-            RowFormat::Csv => csv_source(alloc, false, fact, report, own),
-            RowFormat::SpreadsheetCsv => csv_source(alloc, true, fact, report, own),
-        }
-    }
-}
-
 /// U+FEFF, from which a spreadsheet knows that the text is UTF-8.
 const BYTE_ORDER_MARK: [u8; 3] = [0xef, 0xbb, 0xbf];
 
-fn with_mark(alloc: Global, header: Vec<u8>) -> Result<Vec<u8>, AllocError>
+pub(crate) fn with_mark(alloc: Global, header: Vec<u8>) -> Result<Vec<u8>, AllocError>
     ensures { IfOk result (λ text. text.items ≡ byte_order_mark ++ header.items) }
 {
     let mut text = Vec::from_slice(alloc, &BYTE_ORDER_MARK)?;

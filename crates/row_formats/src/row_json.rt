@@ -1,4 +1,5 @@
 ghost use Rattle.std.specs.Prelude.{◌≡◌, ◌+◌, ◌<◌, ◌≤◌, length, IfOk, OnOk};
+ghost use Rattle.std.specs.Option.{option_copied};
 ghost use Rattle.serde_json.specs.Data.{array};
 ghost use Rattle.fact_base.specs.Shown.{shown};
 ghost use Rattle.oim_write.specs.Tokens.{AddsMembers, AddsValue};
@@ -6,7 +7,7 @@ ghost use Rattle.oim_merge.specs.Lines.{verdict_shown, verdict_word};
 ghost use Rattle.oim_merge.specs.Judged.{IsJudged, judged_text, names_of};
 ghost use Rattle.oim_merge.specs.Identifiers.{named};
 ghost use Rattle.row_formats.specs.JsonRows.{apart_data, common_data, evidence_members, fact_data, fact_items, json_row, row_data};
-ghost use Rattle.row_formats.specs.SourceRows.{json_source, source_data};
+ghost use Rattle.row_formats.specs.SourceRows.{file_data, json_source, source_data};
 
 use fact_base::Evidence;
 use json::Writer;
@@ -109,7 +110,7 @@ fn write_fact(
         (fact_data (named identifiers.now.before identifiers.now.count index) value.now)) }
 {
     json.begin_object()?;
-    json.key("identifier")?;
+    json.key("fact")?;
     let identifier = identifiers.at(index)?;
     json.string(identifier.as_str())?;
     json.key("value")?;
@@ -179,28 +180,47 @@ fn write_pair(
 
 pub(crate) fn json_source(
     alloc: Global,
-    fact: &str,
     report: u64,
+    file: Option<&str>,
     own: &str,
+    fact: &str,
 ) -> Result<Vec<u8>, AllocError>
-    ensures { IfOk result (λ line. line.items ≡ json_source fact.now report own.now) }
+    ensures { IfOk result (λ line. line.items ≡ json_source report (option_copied file.entry) own.now fact.now) }
 {
     let mut json = Writer::new(Vec::new(alloc));
-    write_source(&mut json, fact, report, own)?;
+    write_source(&mut json, report, file, own, fact)?;
     let mut line = json.into_inner();
     line.push(b'\n')?;
     Ok(line)
 }
 
-fn write_source(json: &mut Writer, fact: &str, report: u64, own: &str) -> Result<(), AllocError>
-    ensures { OnOk result (AddsValue json.old json.new (source_data fact.now report own.now)) }
+fn write_source(
+    json: &mut Writer,
+    report: u64,
+    file: Option<&str>,
+    own: &str,
+    fact: &str,
+) -> Result<(), AllocError>
+    ensures { OnOk result (AddsValue json.old json.new
+        (source_data report (option_copied file.entry) own.now fact.now)) }
 {
     json.begin_object()?;
-    json.key("fact")?;
-    json.string(fact)?;
     json.key("report")?;
     json.u64(report)?;
+    json.key("file")?;
+    write_file(json, file)?;
     json.key("identifier")?;
     json.string(own)?;
+    json.key("fact")?;
+    json.string(fact)?;
     json.end_object()
+}
+
+fn write_file(json: &mut Writer, file: Option<&str>) -> Result<(), AllocError>
+    ensures { OnOk result (AddsValue json.old json.new (file_data (option_copied file.entry))) }
+{
+    match file {
+        Some(file) => json.string(file),
+        None => json.null(),
+    }
 }

@@ -57,7 +57,7 @@ module _ (old new : Option (List ℕ)) where
   sources_stop sheet reports (TooLoose row told) s = absurd s
   sources_stop sheet reports (SheetFault reason) s = absurd s
 
-  pub json_sources_stop : (sheet : Sheet) (reports : List (List ℕ)) (fault : Fault) → MentionsStop (source_header Json) (source_text Json) (traced sheet reports) old new fault → StopsRowCall SourcesJson sheet reports old new
+  pub json_sources_stop : (sheet : Sheet) (reports : List (List ℕ)) (fault : Fault) → MentionsStop (source_header Json) (source_text Json []) (traced sheet reports) old new fault → StopsRowCall SourcesJson sheet reports old new
   json_sources_stop sheet reports (OutOfMemory count) front = inr (front_of SourcesJson sheet reports _ count refl front)
   json_sources_stop sheet reports (Device count) front = inr (front_of SourcesJson sheet reports _ count refl front)
   json_sources_stop sheet reports (TooLoose row told) s = absurd s
@@ -99,10 +99,10 @@ module _ (sheet : Sheet) (reports : List (List ℕ)) (old new : Option (List ℕ
       (mentions_fault [] source_line t old new fault err, sources_stop old new sheet reports fault (subst (λ (x : Traced). MentionsStop [] source_line x old new fault) is err))
 
   pub json_sources_listed : (t : Traced) → t ≡ traced sheet reports → (result : Result (List (ℕ × Refusal)) Fault) →
-      IfOk result (AppendsMentions (source_header Json) (source_text Json) t old new) → IfErr result (MentionsStop (source_header Json) (source_text Json) t old new) → ListsRowCall SourcesJson sheet reports old new result
-  json_sources_listed t is (Ok told) ok err = subst (λ (x : Traced). AppendsMentions (source_header Json) (source_text Json) x old new told) is ok
+      IfOk result (AppendsMentions (source_header Json) (source_text Json []) t old new) → IfErr result (MentionsStop (source_header Json) (source_text Json []) t old new) → ListsRowCall SourcesJson sheet reports old new result
+  json_sources_listed t is (Ok told) ok err = subst (λ (x : Traced). AppendsMentions (source_header Json) (source_text Json []) x old new told) is ok
   json_sources_listed t is (Err fault) ok err =
-      (mentions_fault (source_header Json) (source_text Json) t old new fault err, json_sources_stop old new sheet reports fault (subst (λ (x : Traced). MentionsStop (source_header Json) (source_text Json) x old new fault) is err))
+      (mentions_fault (source_header Json) (source_text Json []) t old new fault err, json_sources_stop old new sheet reports fault (subst (λ (x : Traced). MentionsStop (source_header Json) (source_text Json []) x old new fault) is err))
 
 -- ---- a listing that is longer than its bound
 

@@ -47,4 +47,4 @@ module _ (sheet : Sheet) (reports : List (List ℕ)) (before after : List ℕ) (
   lists Verdicts w = (subst (AreLines (merged sheet reports)) (sym (w.listed.appended ∙ ap (λ b. b ++ w.listed.rows) none)) w.listed.are, w.refusals_are)
   lists Sources w = (w.appended ∙ ap (λ b. b ++ sources sheet reports) none, w.refusals_are)
   lists VerdictsJson w = (subst (AreRows Json (merged sheet reports)) (sym (w.listed.appended ∙ ap (λ b. b ++ w.listed.rows) none)) (record { rows = w.listed.rows; are = w.listed.are; whole = refl }), w.refusals_are)
-  lists SourcesJson w = (w.appended ∙ ap (λ b. b ++ sources_in Json sheet reports) none, w.refusals_are)
+  lists SourcesJson w = (w.appended ∙ ap (λ b. b ++ sources_in Json [] sheet reports) none, w.refusals_are)

@@ -1,5 +1,5 @@
 -- The results of calls on the bytes of a sheet and of reports (own).
-use Rattle.std.specs.Prelude.{◌≡◌, ◌≢◌, ◌≤◌, ◌<◌, ◌+◌, ◌==◌, ℕ, List, length, if◌then◌else◌, Option, Some, None, Ok, Err}
+use Rattle.std.specs.Prelude.{◌≡◌, ◌≢◌, ◌≤◌, ◌<◌, ◌+◌, ◌==◌, ℕ, List, [], length, if◌then◌else◌, Option, Some, None, Ok, Err}
 use Rattle.oim_names.specs.declared.reason.Reason.{Reason}
 use Rattle.oim_value.specs.declared.level.Level.{Level}
 use Rattle.oim_report.specs.Sheet.{Sheet, sheet_outcome}
@@ -37,11 +37,12 @@ pub record IsLoose (sheet : List ℕ) (reports : List (List ℕ)) (level : Level
   pub first : IsFirstAbove level (merged listed reports) number
   pub refusals_are : told ≡ refused listed reports
 
+-- the reports are bytes, so their sources have no files
 abbrev pub IsTextOf : RowCall → Sheet → List (List ℕ) → List ℕ → Type 0
 IsTextOf Verdicts sheet reports text = AreLines (merged sheet reports) text
 IsTextOf Sources sheet reports text = text ≡ sources sheet reports
 IsTextOf VerdictsJson sheet reports text = AreRows Json (merged sheet reports) text
-IsTextOf SourcesJson sheet reports text = text ≡ sources_in Json sheet reports
+IsTextOf SourcesJson sheet reports text = text ≡ sources_in Json [] sheet reports
 
 -- ---- a bound on the text
 

@@ -12,7 +12,7 @@ use fact_base::Base;
 use oim_merge::{Fault, Merged, Refusals, SourceLines, write_verdicts};
 use oim_report::Sheet;
 use oim_write::{BoundedSink, Sink, StdSink, default_bound};
-use row_formats::{RowFormat, has_long_row};
+use row_formats::{RowFormat, SourceRows, has_long_row};
 use std::alloc::{AllocError, Global};
 
 /// What a call lists, and in which format: lines, or JSON objects.
@@ -173,7 +173,12 @@ fn write_json_sources<S: Sink>(
     requires ends { AreEnds reports.now ends.now }
     ensures { ListsRowCall SourcesJson sheet.now (reports_at reports.now ends.now) (S.told out.old) (S.told out.new) result }
 {
-    trace_reports(alloc, sheet, reports, ends)?.finish(&RowFormat::Json, out)
+    // the caller passes bytes without names
+    let rows = SourceRows {
+        format: RowFormat::Json,
+        files: &[],
+    };
+    trace_reports(alloc, sheet, reports, ends)?.finish(&rows, out)
 }
 
 fn write_rows<S: Sink>(

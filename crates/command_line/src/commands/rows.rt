@@ -7,7 +7,7 @@ use clap::ArgMatches;
 use clap::builder::ValueParser;
 use oim_merge::{Consolidation, Fault, Merged, Refusals, SourceLines, TracedMerge, write_verdicts};
 use oim_write::{BoundedSink, Sink};
-use row_formats::{RowFormat, has_long_row};
+use row_formats::{RowFormat, SourceRows, has_long_row};
 use std::alloc::Global;
 use std::mem;
 
@@ -85,8 +85,9 @@ FORMAT is one of:
   lines  as above
   json   a JSON object per line
   csv    a header and a record for each line, quoted as in RFC 4180
-The output of json and csv may have 1 MiB and 16 bytes for each byte of the files that were read.
---most-output sets another limit.
+json and csv have report, file, identifier and fact: the number and the file of the report, the
+fact's identifier there, and FACT. Their output may have 1 MiB and 16 bytes for each byte of the
+files that were read. --most-output sets another limit.
 
 Example:
   xbrlmerge sources --sheet examples/sheet.json examples/issuer.json examples/statfeed.json
@@ -162,16 +163,18 @@ fn put_rows<'n, S: Sink>(
     Ok(written?)
 }
 
-/// Writes where each fact was reported to `out`, and returns the refusals.
+/// Writes where each fact was reported to `out`, and returns the refusals. `files` has the names of
+/// the reports.
 pub(crate) fn put_sources<S: Sink>(
     merge: TracedMerge<'_>,
     format: PrintFormat,
+    files: &[&str],
     out: &mut S,
 ) -> Result<Refusals, Fault>
     requires { S.failures out.old < 2 ^ 64 - 1 }
 {
     match format {
         PrintFormat::Lines => merge.finish(&SourceLines, out),
-        PrintFormat::Rows(format) => merge.finish(&format, out),
+        PrintFormat::Rows(format) => merge.finish(&SourceRows { format, files }, out),
     }
 }

@@ -3,7 +3,7 @@ ghost use Rattle.std.specs.Prelude.{◌≡◌, ◌+◌, ◌-◌, ◌^◌, ◌<�
 use oim_merge::{Consolidation, Fault, Refusals, TracedMerge};
 use oim_report::Sheet;
 use oim_write::{Encoded, Sink, StdSink};
-use row_formats::RowFormat;
+use row_formats::{RowFormat, SourceRows};
 use std::alloc::{AllocError, Global};
 use test_helpers::asked_again::{SHEET, may_repeat};
 
@@ -19,14 +19,22 @@ const SECOND: &[u8] =
     br#"{"documentInfo":{"documentType":"https://xbrl.org/2021/xbrl-json","namespaces":{"eg":"http://example.org/t","x":"http://example.org/u"}},"facts":{"p":{"value":"100.2","decimals":1,"dimensions":{"concept":"eg:A","entity":"x:E1","period":"2024-01-01T00:00:00/2025-01-01T00:00:00","unit":"eg:USD","eg:Reg":"eg:N"}},"q":{"value":"two","dimensions":{"concept":"eg:T","language":"en"}}}}"#;
 
 const VERDICTS_JSON: &[u8] =
-    br#"{"row":1,"verdict":"consistent","dimensions":{"concept":"{http://example.org/t}A","entity":"{http://example.org/u}E1","{http://example.org/t}Reg":"{http://example.org/t}N","period":"2024-01-01T00:00:00/2025-01-01T00:00:00","unit":"{http://example.org/t}USD"},"facts":[{"identifier":"f1","value":"100","decimals":0},{"identifier":"f2","value":"100.2","decimals":1}],"evidence":{"common":{"low":"100.15","high":"100.25"}}}
-{"row":2,"verdict":"complete","dimensions":{"concept":"{http://example.org/t}B","{http://example.org/t}Sku":"s,1"},"facts":[{"identifier":"f3","value":null}]}
-{"row":3,"verdict":"complete","dimensions":{"concept":"{http://example.org/t}Q"},"facts":[{"identifier":"f4","value":"{http://example.org/t}N"}]}
-{"row":4,"verdict":"inconsistent","dimensions":{"concept":"{http://example.org/t}T","language":"en"},"facts":[{"identifier":"f5","value":"=1, \"x\""},{"identifier":"f6","value":"two"}],"evidence":{"apart":["f5","f6"]}}
+    br#"{"row":1,"verdict":"consistent","dimensions":{"concept":"{http://example.org/t}A","entity":"{http://example.org/u}E1","{http://example.org/t}Reg":"{http://example.org/t}N","period":"2024-01-01T00:00:00/2025-01-01T00:00:00","unit":"{http://example.org/t}USD"},"facts":[{"fact":"f1","value":"100","decimals":0},{"fact":"f2","value":"100.2","decimals":1}],"evidence":{"common":{"low":"100.15","high":"100.25"}}}
+{"row":2,"verdict":"complete","dimensions":{"concept":"{http://example.org/t}B","{http://example.org/t}Sku":"s,1"},"facts":[{"fact":"f3","value":null}]}
+{"row":3,"verdict":"complete","dimensions":{"concept":"{http://example.org/t}Q"},"facts":[{"fact":"f4","value":"{http://example.org/t}N"}]}
+{"row":4,"verdict":"inconsistent","dimensions":{"concept":"{http://example.org/t}T","language":"en"},"facts":[{"fact":"f5","value":"=1, \"x\""},{"fact":"f6","value":"two"}],"evidence":{"apart":["f5","f6"]}}
 "#;
 
-const SOURCES_JSON: &[u8] =
-    b"{\"fact\":\"f1\",\"report\":1,\"identifier\":\"p\"}\n{\"fact\":\"f2\",\"report\":3,\"identifier\":\"p\"}\n{\"fact\":\"f3\",\"report\":1,\"identifier\":\"r\"}\n{\"fact\":\"f4\",\"report\":1,\"identifier\":\"s\"}\n{\"fact\":\"f5\",\"report\":1,\"identifier\":\"-q\"}\n{\"fact\":\"f6\",\"report\":3,\"identifier\":\"q\"}\n";
+// The third report has no file.
+static FILES: [&str; 2] = ["=1, \"x\".json", "two.json"];
+
+const SOURCES_JSON: &[u8] = br#"{"report":1,"file":"=1, \"x\".json","identifier":"p","fact":"f1"}
+{"report":3,"file":null,"identifier":"p","fact":"f2"}
+{"report":1,"file":"=1, \"x\".json","identifier":"r","fact":"f3"}
+{"report":1,"file":"=1, \"x\".json","identifier":"s","fact":"f4"}
+{"report":1,"file":"=1, \"x\".json","identifier":"-q","fact":"f5"}
+{"report":3,"file":null,"identifier":"q","fact":"f6"}
+"#;
 
 const VERDICTS_CSV: &[u8] =
     b"row,verdict,fact,concept,entity,period,unit,language,dimensions,value,nil,decimals,common_low,common_high,apart_first,apart_second\r
@@ -38,8 +46,14 @@ const VERDICTS_CSV: &[u8] =
 4,inconsistent,f6,{http://example.org/t}T,,,,en,,two,,,,,f5,f6\r
 ";
 
-const SOURCES_SPREADSHEET: &[u8] =
-    b"\xef\xbb\xbffact,report,identifier\r\nf1,1,p\r\nf2,3,p\r\nf3,1,r\r\nf4,1,s\r\nf5,1,'-q\r\nf6,3,q\r\n";
+const SOURCES_SPREADSHEET: &[u8] = b"\xef\xbb\xbfreport,file,identifier,fact\r
+1,\"'=1, \"\"x\"\".json\",p,f1\r
+3,,p,f2\r
+1,\"'=1, \"\"x\"\".json\",r,f3\r
+1,\"'=1, \"\"x\"\".json\",s,f4\r
+1,\"'=1, \"\"x\"\".json\",'-q,f5\r
+3,,q,f6\r
+";
 
 #[derive(Clone, Copy)]
 enum Call {
@@ -86,7 +100,11 @@ fn sources<S: Sink>(
     requires { S.failures sink.old < 2 ^ 64 - 1 }
 {
     let reports = reports(alloc)?;
-    TracedMerge::of(alloc, sheet, &reports)?.finish(&format, sink)
+    let rows = SourceRows {
+        format,
+        files: FILES.as_slice(),
+    };
+    TracedMerge::of(alloc, sheet, &reports)?.finish(&rows, sink)
 }
 
 fn verdicts<S: Sink>(

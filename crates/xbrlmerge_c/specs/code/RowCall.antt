@@ -22,7 +22,7 @@ abbrev pub AppendsRowCall : RowCall → Sheet → List (List ℕ) → Option (Li
 AppendsRowCall Verdicts = ListsVerdicts
 AppendsRowCall Sources = ListsSources
 AppendsRowCall VerdictsJson = λ sheet reports. Lists (header Json) (row_text Json) (merged sheet reports) (refused sheet reports)
-AppendsRowCall SourcesJson = λ sheet reports. AppendsMentions (source_header Json) (source_text Json) (traced sheet reports)
+AppendsRowCall SourcesJson = λ sheet reports. AppendsMentions (source_header Json) (source_text Json []) (traced sheet reports)
 
 -- a first part of the listing was appended
 pub record AppendsFrontOfListing (call : RowCall) (sheet : Sheet) (reports : List (List ℕ)) (old new : Option (List ℕ)) : Type 0 where

@@ -34,10 +34,10 @@ const VERDICTS: &[u8] = b"1 f1 f2 inconsistent apart f1 f2\n";
 const SOURCES: &[u8] = b"f1 1 \"a\"\nf2 3 \"b\"\n";
 
 const VERDICTS_JSON: &[u8] =
-    b"{\"row\":1,\"verdict\":\"inconsistent\",\"dimensions\":{\"concept\":\"{http://example.org/t}A\"},\"facts\":[{\"identifier\":\"f1\",\"value\":\"100\",\"decimals\":0},{\"identifier\":\"f2\",\"value\":\"102\",\"decimals\":0}],\"evidence\":{\"apart\":[\"f1\",\"f2\"]}}\n";
+    b"{\"row\":1,\"verdict\":\"inconsistent\",\"dimensions\":{\"concept\":\"{http://example.org/t}A\"},\"facts\":[{\"fact\":\"f1\",\"value\":\"100\",\"decimals\":0},{\"fact\":\"f2\",\"value\":\"102\",\"decimals\":0}],\"evidence\":{\"apart\":[\"f1\",\"f2\"]}}\n";
 
 const SOURCES_JSON: &[u8] =
-    b"{\"fact\":\"f1\",\"report\":1,\"identifier\":\"a\"}\n{\"fact\":\"f2\",\"report\":3,\"identifier\":\"b\"}\n";
+    b"{\"report\":1,\"file\":null,\"identifier\":\"a\",\"fact\":\"f1\"}\n{\"report\":3,\"file\":null,\"identifier\":\"b\",\"fact\":\"f2\"}\n";
 
 /// The content of each output record before a call.
 const BEFORE: RefusedReport = RefusedReport {

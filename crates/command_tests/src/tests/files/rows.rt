@@ -100,7 +100,7 @@ const APART: &[&str] = &["1 f1 f2 inconsistent apart f1 f2\n"];
 
 const ALIKE: &[&str] = &["1 f1 f1 complete\n"];
 
-pub(super) const JUDGED: [Row; 11] = [
+pub(super) const JUDGED: [Row; 13] = [
     ("verdicts --sheet sheet", 0, &[], ""),
     ("verdicts --sheet sheet 100 101", 0, TOUCHING, ""),
     (
@@ -131,6 +131,23 @@ pub(super) const JUDGED: [Row; 11] = [
         1,
         &["f1 3 \"a\"\nf2 1 \"a\"\n"],
         SECOND,
+    ),
+    (
+        "sources 101 unbound 100 --sheet sheet --format json",
+        1,
+        &[
+            r#"{"report":3,"file":"100","identifier":"a","fact":"f1"}"#,
+            "\n",
+            r#"{"report":1,"file":"101","identifier":"a","fact":"f2"}"#,
+            "\n",
+        ],
+        SECOND,
+    ),
+    (
+        "sources --sheet sheet 100 --format csv --reports-from names",
+        0,
+        &["report,file,identifier,fact\r\n1,100,a,f1\r\n3,100,a,f1\r\n2,101,a,f2\r\n"],
+        "",
     ),
 ];
 

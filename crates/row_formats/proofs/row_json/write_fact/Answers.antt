@@ -14,8 +14,8 @@ returns c =
     let v = c.args.value.now in
     let identifier = Adds-is (ap (λ t. Token.string t ∷ []) (c.as_str.ensures.bytes ∙ c.in_ok-identifier.ensures)) (Adds-one c.in_ok-string.ensures) in
     let rest = member (codes "value") (value_data braced v) (decimals_member v no_members) in
-    closed_object c.end_object.result (member (codes "identifier") (string name) rest) (Adds-one c.in_ok-begin_object.ensures)
-    (then_member (codes "identifier") (string name) rest (Adds-one c.in_ok-key.ensures) identifier
+    closed_object c.end_object.result (member (codes "fact") (string name) rest) (Adds-one c.in_ok-begin_object.ensures)
+    (then_member (codes "fact") (string name) rest (Adds-one c.in_ok-key.ensures) identifier
     (then_member (codes "value") (value_data braced v) (decimals_member v no_members) (Adds-one c.in_ok-key-2.ensures) c.in_ok-write_value.ensures
     c.in_ok-write_decimals.ensures))
     c.end_object.ensures
