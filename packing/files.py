@@ -6,6 +6,8 @@ from dataclasses import dataclass, replace
 from typing import Iterable
 
 PLAIN, RUNS = 0o644, 0o755  # the permissions of a file, and of a program
+# folders with files that were made, as .gitignore has them
+MADE = ("__pycache__", "out")
 
 
 @dataclass(frozen=True)
@@ -31,7 +33,7 @@ def read_below(folder: str, place: str, endings: tuple[str, ...]) -> list[File]:
     """Returns the files in a folder and the folders below it whose names end as named, in the order of their names."""
     found = []
     for at, folders, names in os.walk(folder):
-        folders.sort()
+        folders[:] = sorted({*folders} - {*MADE})
         for name in sorted(names):
             path = os.path.join(at, name)
             if name.endswith(endings):

@@ -10,10 +10,10 @@ made from a built program and from the libraries in a folder; nothing is proved,
 
 Then the script unpacks each package, in folders with spaces in their names: those for Debian, the wheel in a new virtual
 environment without network, and the .tar.xz. It also installs below a prefix as ./build --install does and, as root, with `dpkg`.
-With the unpacked commands first on the PATH, it runs README's examples as an ordinary user, in a folder that this user cannot
-write to. The program must work without Python, and the tools must say what they need. The program, the Python module, and a C
-and a Rust program that use the unpacked library must write the bytes of examples/merged.json. After removing a package,
-nothing may be left. If lintian is installed, it must find no error.
+With the unpacked commands first on the PATH, it runs README's examples in the unpacked folder of documents; if the script runs as
+root, they run as an ordinary user, who cannot write there. The program must work without Python, and the tools must say what
+they need. The program, the Python module, and a C and a Rust program that use the unpacked library must write the expected
+bytes. After removing a package, nothing may be left. If lintian is installed, it must find no error.
 
 The last line counts what was skipped because a program is not installed, or because the script does not run as root.
 Status 0: all is as expected. 1: something is not; each fault is printed. 2: the packages cannot be made.
@@ -39,6 +39,7 @@ from support import TOP, bytes_of, content, script
 sys.dont_write_bytecode = True
 sys.path.append(TOP)
 from packing import contents, debian, installation, release  # noqa: E402
+from packing.source import newest_libc  # noqa: E402
 
 NOBODY = 65534
 FILES = [f"{TOP}/examples/{it}.json" for it in ("sheet", "issuer", "ledgerline", "statfeed")]
@@ -255,11 +256,19 @@ def by_build(top, documents, scratch):
     check(os.listdir(prefix) == [], f"--uninstall leaves {os.listdir(prefix)}")
 
 
+def names_the_c_library(top):
+    """Checks that README names the version of the C library that the program and the library need."""
+    newest = newest_libc(bytes_of(f"{top}/bin/xbrlmerge") + bytes_of(f"{top}/lib/{contents.SHARED}"))
+    check(f"glibc {newest} or later" in content("README.md"), f"README does not name version {newest} of the C library")
+
+
 def tested(made, scratch):
     documents = for_debian(made, scratch)
     by_dpkg(made, documents)
     by_pip(made, documents, scratch)
-    by_build(from_tarball(made, scratch), documents, scratch)
+    top = from_tarball(made, scratch)
+    names_the_c_library(top)
+    by_build(top, documents, scratch)
     for name in sorted(os.listdir(made)):
         print(f"{os.path.getsize(f'{made}/{name}'):10} bytes: {name}")
 

@@ -11,7 +11,7 @@ import unittest
 import zipfile
 from unittest import mock
 
-from in_process import RoomTest, content
+from in_process import RoomTest
 
 TOP = os.path.dirname(os.path.dirname(os.path.dirname(os.path.abspath(__file__))))
 sys.path += [TOP, os.path.join(TOP, "python")]
@@ -56,12 +56,6 @@ class Contents(Packages):
             folder, rest = os.path.split(name[len("tools/"):])
             wanted = f"share/xbrlmerge/xbrlmerge_tools/{os.path.join(folder, rest)}" if "." in rest else f"bin/{contents.command_of(rest)}"
             self.assertIn(wanted, places)
-
-    def test_each_tool_has_a_page(self):
-        for tool in contents.TOOLS:
-            version = content("docs/xbrlmerge.1").partition('"" "xbrlmerge ')[2].partition('"')[0]
-            page = manual.page(tool, manual.help_of(TOP, tool), version)
-            self.assertEqual(page, content(f"docs/man1/{contents.command_of(tool)}.1"), "tests/words --write writes the page")
 
     def test_a_page_is_the_same_for_each_python(self):
         old = "usage: x\n\nDoes it.\n\n    tools/normalise A\n\nText.\n\noptional arguments:\n  -h, --help  show\n  -o DIR, --output DIR  the\n      rest\n"
@@ -233,6 +227,11 @@ class Files(Packages):
 
     def test_permissions_are_read(self):
         self.assertEqual([(it.place, it.mode) for it in read_below(self.scratch, "x", ("am",))], [("x/program", RUNS)])
+
+    def test_files_that_python_made_are_left_out(self):
+        os.mkdir(self.place("__pycache__"))
+        self.write("__pycache__/program", "")
+        self.assertEqual([it.place for it in read_below(self.scratch, "x", ("program",))], ["x/program"])
 
 
 if __name__ == "__main__":

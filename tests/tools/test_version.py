@@ -20,7 +20,8 @@ class Version(unittest.TestCase):
         (self.program,) = found("crates/command_line/src/words.rt", r'^const VERSION: &str = "(.*)";$')
 
     def test_man_page_and_module_have_that_of_the_program(self):
-        self.assertEqual(found("docs/xbrlmerge.1", r'^\.TH XBRLMERGE 1 "" "xbrlmerge ([^"]*)"'), [self.program])
+        for page in ("xbrlmerge", *(f"man1/xbrlmerge-{tool}" for tool in ("contradictions", "make-sheet", "normalise", "recheck"))):
+            self.assertEqual(found(f"docs/{page}.1", r'^\.TH XBRLMERGE\S* 1 "" "xbrlmerge ([^"]*)"'), [self.program])
         # PEP 440 spells the ending `-dev` as `.dev0`
         self.assertEqual(found("python/pyproject.toml", r'^version = "(.*)"$'), [self.program.replace("-dev", ".dev0")])
 
