@@ -82,10 +82,9 @@ impl<E: Write> Console<E> {
     /// returns the exit status. `files` has the names of the reports; it is empty for a bundle.
     pub(crate) fn tell(&mut self, done: &Result<Success, Error<'_>>, files: &[&str]) -> u8 {
         self.clear();
-        let files = if self.is_verbose { files } else { &[] };
         match done {
             Ok(Success::Refusals(refusals)) => {
-                print_refusals(&mut self.err, refusals, files);
+                print_refusals(&mut self.err, self.is_verbose, refusals, files);
                 if refusals.as_slice().is_empty() {
                     DONE
                 } else {
@@ -107,11 +106,14 @@ impl<E: Write> Console<E> {
 
 // File names are escaped, because a line end in a name could fake a line.
 
-fn print_refusals<E: Write>(err: &mut E, refusals: &Refusals, files: &[&str]) {
+fn print_refusals<E: Write>(err: &mut E, is_verbose: bool, refusals: &Refusals, files: &[&str]) {
     for (report, refusal) in refusals.as_slice() {
         print_refusal(err, *report, refusal);
-        if let Some(file) = files.get(report.saturating_sub(1) as usize) {
-            let _ = writeln!(err, "File: {}", Escaped(file));
+        match files.get(report.saturating_sub(1) as usize) {
+            Some(file) if is_verbose => {
+                let _ = writeln!(err, "File: {}", Escaped(file));
+            }
+            _ => {}
         }
     }
 }
@@ -155,7 +157,7 @@ fn print_error<E: Write>(err: &mut E, is_verbose: bool, error: &Error<'_>, files
             }
         }
         Error::TooLoose(row, refused) => {
-            print_refusals(err, refused, files);
+            print_refusals(err, is_verbose, refused, files);
             writeln!(err, "too loose: row {row}")
         }
         Error::Device(written) => writeln!(err, "device: {written} bytes written"),
