@@ -1,3 +1,7 @@
+ghost use Rattle.std.specs.Prelude.{◌≡◌, OnOk};
+ghost use Rattle.std.specs.Io.KnownBytes.{Appends};
+ghost use Rattle.command_line.specs.Told.{refusal_line, status_of};
+
 use crate::error::{Error, Success};
 use oim_explain::Escaped;
 use oim_merge::Refusals;
@@ -80,27 +84,30 @@ impl<E: Write> Console<E> {
 
     /// Erases the progress line, prints the refused reports or the error, if there are any, and
     /// returns the exit status. `files` has the names of the reports; it is empty for a bundle.
-    pub(crate) fn tell(&mut self, done: &Result<Success, Error<'_>>, files: &[&str]) -> u8 {
+    pub(crate) fn tell(&mut self, done: &Result<Success, Error<'_>>, files: &[&str]) -> u8
+        ensures { result ≡ status_of done.now }
+    {
         self.clear();
         match done {
             Ok(Success::Refusals(refusals)) => {
                 print_refusals(&mut self.err, self.is_verbose, refusals, files);
-                if refusals.as_slice().is_empty() {
-                    DONE
-                } else {
-                    REFUSED
-                }
             }
-            Ok(Success::Faults(0)) => DONE,
-            Ok(Success::Faults(_)) => REFUSED,
-            Err(error) => {
-                print_error(&mut self.err, self.is_verbose, error, files);
-                match error {
-                    Error::TooLoose(..) => TOO_LOOSE,
-                    _ => FAILED,
-                }
-            }
+            Ok(Success::Faults(_)) => {}
+            Err(error) => print_error(&mut self.err, self.is_verbose, error, files),
         }
+        status(done)
+    }
+}
+
+fn status(done: &Result<Success, Error<'_>>) -> u8
+    ensures { result ≡ status_of done.now }
+{
+    match done {
+        Ok(Success::Refusals(refusals)) if refusals.as_slice().is_empty() => DONE,
+        Ok(Success::Faults(0)) => DONE,
+        Ok(_) => REFUSED,
+        Err(Error::TooLoose(..)) => TOO_LOOSE,
+        Err(_) => FAILED,
     }
 }
 
@@ -108,7 +115,7 @@ impl<E: Write> Console<E> {
 
 fn print_refusals<E: Write>(err: &mut E, is_verbose: bool, refusals: &Refusals, files: &[&str]) {
     for (report, refusal) in refusals.as_slice() {
-        print_refusal(err, *report, refusal);
+        let _ = print_refusal(err, *report, refusal);
         match files.get(report.saturating_sub(1) as usize) {
             Some(file) if is_verbose => {
                 let _ = writeln!(err, "File: {}", Escaped(file));
@@ -118,13 +125,15 @@ fn print_refusals<E: Write>(err: &mut E, is_verbose: bool, refusals: &Refusals, 
     }
 }
 
-fn print_refusal<E: Write>(err: &mut E, report: u64, refusal: &Refusal) {
+fn print_refusal<E: Write>(err: &mut E, report: u64, refusal: &Refusal) -> io::Result<()>
+    ensures { OnOk result (Appends (E.contents err.old) (E.contents err.new) (refusal_line (report, refusal.now))) }
+{
     let number = refusal.reason.number();
     let name = refusal.reason.name();
-    let _ = match refusal.place {
+    match refusal.place {
         Place::Document => writeln!(err, "report {report}: {number} {name} at document"),
         Place::Fact(fact) => writeln!(err, "report {report}: {number} {name} at fact {fact}"),
-    };
+    }
 }
 
 /// Prints why the program stopped. If a row is above the allowed level, the refused reports are

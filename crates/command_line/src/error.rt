@@ -1,3 +1,5 @@
+ghost use Rattle.std.specs.Prelude.{◌≡◌};
+
 use clap::error::ErrorKind;
 use oim_merge::{Fault, Refusals, ReplayFault};
 use oim_names::Reason;
@@ -90,12 +92,20 @@ impl From<ReplayFault> for Error<'_> {
 }
 
 impl From<AllocError> for Error<'_> {
+    ghost use Rattle.command_line.specs.declared.error.Error.TheVariants as error;
+
+    ghost from_gives = { λ _ made. made ≡ error.OutOfMemory };
+
     fn from(_: AllocError) -> Self {
         Error::OutOfMemory
     }
 }
 
 impl<T: Drop> From<AllocFailed<T>> for Error<'_> {
+    ghost use Rattle.command_line.specs.declared.error.Error.TheVariants as error;
+
+    ghost from_gives = { λ _ made. made ≡ error.OutOfMemory };
+
     fn from(_: AllocFailed<T>) -> Self {
         Error::OutOfMemory
     }

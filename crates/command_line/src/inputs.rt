@@ -1,6 +1,14 @@
+ghost use Rattle.std.specs.Prelude.{◌≡◌, Ok, Err, IfOk, IfErr, ℕ, List};
+ghost use Rattle.oim_report.specs.Sheet.{sheet_outcome};
+ghost use Rattle.oim_merge.specs.Added.{added};
+ghost use Rattle.oim_merge.specs.Traced.{traced};
+ghost use Rattle.command_line.specs.Faults.{IsReadError, IsSheetError};
+ghost use Rattle.command_line.specs.Reading.{AreRead, WithRead};
+
 use crate::causes::why_unread;
 use crate::console::Console;
 use crate::error::Error;
+use crate::folder::Folder;
 use oim_explain::kind_of_taxonomy;
 use oim_merge::{Consolidation, ReadFault, StdSource, TracedMerge, read_all};
 use oim_names::Reason;
@@ -33,10 +41,15 @@ pub(crate) struct Inputs<'n, F, E> {
     pub console: &'n mut Console<E>,
 }
 
-impl<'n, F: Files, E: Write> Inputs<'n, F, E> {
+impl<'n, F: Folder, E: Write> Inputs<'n, F, E> {
     /// Reads the file with this name, and allows output for its bytes.
-    pub(crate) fn read(&mut self, name: &'n str) -> Result<Encoded, Error<'n>> {
-        let bytes = read_file(self.alloc, self.files, name)?;
+    pub(crate) fn read(&mut self, name: &'n str) -> Result<Encoded, Error<'n>>
+        ensures ok { IfOk result (F.gives self.old.files.now name.now) }
+        ensures err { IfErr result IsReadError }
+        ensures files { self.new.files ≡ self.old.files }
+        ensures names { self.new.names ≡ self.old.names }
+    {
+        let bytes = self.files.read_named(self.alloc, name)?;
         let read = bytes.as_bytes().len() as u64;
         let allowed = read.saturating_mul(self.output_per_byte);
         self.allowance = self.allowance.saturating_add(allowed);
@@ -49,14 +62,25 @@ impl<'n, F: Files, E: Write> Inputs<'n, F, E> {
     }
 
     /// Errors: `Unread`; `TooLong`; `Sheet` if the sheet is refused; out of memory.
-    pub(crate) fn read_sheet(&mut self, name: &'n str) -> Result<Sheet, Error<'n>> {
+    pub(crate) fn read_sheet(&mut self, name: &'n str) -> Result<Sheet, Error<'n>>
+        ensures ok { IfOk result (λ sheet. (bytes : List ℕ)
+            × F.gives self.old.files.now name.now bytes × (sheet_outcome bytes ≡ Ok sheet)) }
+        ensures err { IfErr result IsSheetError }
+        ensures files { self.new.files ≡ self.old.files }
+        ensures names { self.new.names ≡ self.old.names }
+    {
         let bytes = self.read(name)?;
         sheet_of(self.alloc, bytes.as_bytes())
     }
 
     /// Updates the progress line, if the console shows one. Then reads the report with this name
     /// and counts it.
-    pub(crate) fn read_report(&mut self, name: &'n str) -> Result<Encoded, Error<'n>> {
+    pub(crate) fn read_report(&mut self, name: &'n str) -> Result<Encoded, Error<'n>>
+        ensures ok { IfOk result (F.gives self.old.files.now name.now) }
+        ensures err { IfErr result IsReadError }
+        ensures files { self.new.files ≡ self.old.files }
+        ensures names { self.new.names ≡ self.old.names }
+    {
         self.console.show(self.names.len());
         let report = self.read(name)?;
         self.console.add(report.as_bytes().len());
@@ -64,7 +88,10 @@ impl<'n, F: Files, E: Write> Inputs<'n, F, E> {
     }
 
     /// Returns the bytes of all reports, in order. Stops at the first report that cannot be read.
-    pub(crate) fn read_reports(&mut self) -> Result<Vec<Encoded>, Error<'n>> {
+    pub(crate) fn read_reports(&mut self) -> Result<Vec<Encoded>, Error<'n>>
+        ensures ok { IfOk result (λ all. AreRead (F.gives self.old.files.now) self.old.names.now all.items) }
+        ensures err { IfErr result IsReadError }
+    {
         let names = self.names;
         let mut all = Vec::new(self.alloc);
         for name in names {
@@ -79,7 +106,11 @@ impl<'n, F: Files, E: Write> Inputs<'n, F, E> {
     pub(crate) fn consolidate<'s>(
         &mut self,
         sheet: &'s Sheet,
-    ) -> Result<Consolidation<'s>, Error<'n>> {
+    ) -> Result<Consolidation<'s>, Error<'n>>
+        ensures ok { IfOk result (λ consolidation. WithRead (F.gives self.old.files.now) self.old.names.now
+            (λ reports. consolidation ≡ added sheet.now reports)) }
+        ensures err { IfErr result IsReadError }
+    {
         let mut consolidation = Consolidation::new(self.alloc, sheet);
         let names = self.names;
         for index in 0..names.len() {
@@ -90,7 +121,11 @@ impl<'n, F: Files, E: Write> Inputs<'n, F, E> {
     }
 
     /// Does the same as `consolidate`, and stores where each fact was reported.
-    pub(crate) fn trace<'s>(&mut self, sheet: &'s Sheet) -> Result<TracedMerge<'s>, Error<'n>> {
+    pub(crate) fn trace<'s>(&mut self, sheet: &'s Sheet) -> Result<TracedMerge<'s>, Error<'n>>
+        ensures ok { IfOk result (λ merge. WithRead (F.gives self.old.files.now) self.old.names.now
+            (λ reports. merge ≡ traced sheet.now reports)) }
+        ensures err { IfErr result IsReadError }
+    {
         let mut merge = TracedMerge::new(self.alloc, sheet);
         let names = self.names;
         for index in 0..names.len() {
@@ -101,7 +136,10 @@ impl<'n, F: Files, E: Write> Inputs<'n, F, E> {
     }
 }
 
-pub(crate) fn sheet_of<'n>(alloc: Global, bytes: &[u8]) -> Result<Sheet, Error<'n>> {
+pub(crate) fn sheet_of<'n>(alloc: Global, bytes: &[u8]) -> Result<Sheet, Error<'n>>
+    ensures ok { IfOk result (λ sheet. sheet_outcome bytes.now ≡ Ok sheet) }
+    ensures err { IfErr result IsSheetError }
+{
     match Sheet::read(alloc, bytes) {
         Ok(sheet) => Ok(sheet),
         Err(Reason::OutOfMemory) => Err(Error::OutOfMemory),
@@ -117,7 +155,9 @@ pub(crate) fn read_file<'n, F: Files>(
     alloc: Global,
     files: &F,
     name: &'n str,
-) -> Result<Encoded, Error<'n>> {
+) -> Result<Encoded, Error<'n>>
+    ensures { IfErr result IsReadError }
+{
     let read = match File::open(files, name) {
         Ok(file) => read_bytes(alloc, file, name),
         Err(_) => Err(Error::Unread(name, None)),
@@ -133,7 +173,9 @@ pub(crate) fn read_bytes<'n, R: Read + Drop>(
     alloc: Global,
     reader: R,
     name: &'n str,
-) -> Result<Encoded, Error<'n>> {
+) -> Result<Encoded, Error<'n>>
+    ensures { IfErr result IsReadError }
+{
     match read_all(alloc, &mut StdSource::new(reader), MOST_BYTES) {
         Ok(bytes) => Ok(bytes),
         Err(ReadFault::OutOfMemory) => Err(Error::OutOfMemory),

@@ -7,6 +7,7 @@ mod causes;
 mod commands;
 mod console;
 mod error;
+mod folder;
 mod inputs;
 mod output;
 mod program;

@@ -3,6 +3,7 @@ ghost use Rattle.std.specs.Prelude.{◌-◌, ◌^◌, ◌<◌};
 use crate::arguments::{Building, REPORT, command, with, with_output};
 use crate::commands::put_text;
 use crate::error::Error;
+use crate::folder::Folder;
 use crate::inputs::Inputs;
 use clap::Arg;
 use oim_merge::{Checked, Refusals, check_report};
@@ -11,7 +12,6 @@ use oim_report::Sheet;
 use oim_write::Sink;
 use std::alloc::Global;
 use std::io::Write;
-use std::rt::Files;
 
 pub(crate) const NAME: &str = "check";
 
@@ -55,7 +55,7 @@ pub(crate) fn words<'w>(alloc: Global) -> Building<'w> {
 /// is returned with the report number 1.
 ///
 /// Errors: `Unread`, `TooLong`, out of memory, and `Device`.
-pub(crate) fn run<'n, F: Files, E: Write, S: Sink>(
+pub(crate) fn run<'n, F: Folder, E: Write, S: Sink>(
     report: &'n str,
     sheet: &Sheet,
     inputs: &mut Inputs<'n, F, E>,

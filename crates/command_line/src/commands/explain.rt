@@ -4,6 +4,7 @@ ghost use Rattle.oim_write.specs.BoundedSink.{bounded_failures};
 use crate::arguments::{Building, FORMAT, command, option, with, with_reports};
 use crate::commands::put_text;
 use crate::error::{Error, Success};
+use crate::folder::Folder;
 use crate::inputs::{Inputs, sheet_of};
 use clap::ArgMatches;
 use clap::builder::ValueParser;
@@ -12,7 +13,6 @@ use oim_report::Sheet;
 use oim_write::{BoundedSink, Sink};
 use std::alloc::{AllocError, Global};
 use std::io::Write;
-use std::rt::Files;
 
 pub(crate) const NAME: &str = "explain";
 
@@ -87,7 +87,7 @@ pub(crate) fn format_of(found: &ArgMatches<'_>) -> Format {
 /// the number of faults.
 ///
 /// Errors: `Unread`, `TooLong`, `Sheet`, out of memory, and `Device`.
-pub(crate) fn run<'n, F: Files, E: Write, S: Sink>(
+pub(crate) fn run<'n, F: Folder, E: Write, S: Sink>(
     name: &'n str,
     format: Format,
     inputs: &mut Inputs<'n, F, E>,
@@ -107,7 +107,7 @@ pub(crate) fn run<'n, F: Files, E: Write, S: Sink>(
     Ok(Success::Faults(faults))
 }
 
-fn put_under<'n, F: Files, E: Write, S: Sink>(
+fn put_under<'n, F: Folder, E: Write, S: Sink>(
     name: &str,
     format: Format,
     bytes: &[u8],
@@ -171,7 +171,7 @@ fn put_explained<'n, S: Sink>(
 }
 
 /// Explains each report. `faults` is the number of lines already written about the sheet.
-fn put_each<'n, F: Files, E: Write, S: Sink>(
+fn put_each<'n, F: Folder, E: Write, S: Sink>(
     names_of_sheet: &SheetNames<'_>,
     format: Format,
     inputs: &mut Inputs<'n, F, E>,

@@ -3,6 +3,7 @@ ghost use Rattle.std.specs.Prelude.{◌-◌, ◌^◌, ◌<◌};
 use crate::arguments::{Building, command, option, with, with_reports};
 use crate::commands::put_text;
 use crate::error::Error;
+use crate::folder::Folder;
 use crate::inputs::Inputs;
 use clap::builder::ValueParser;
 use fact_base::Base;
@@ -11,7 +12,6 @@ use oim_report::Sheet;
 use oim_write::{Sink, WriteFault, write_to};
 use std::alloc::Global;
 use std::io::Write;
-use std::rt::Files;
 
 pub(crate) const NAME: &str = "replay";
 
@@ -68,7 +68,7 @@ pub(crate) fn words<'w>(alloc: Global) -> Building<'w> {
 /// Errors: `Unread`; `TooLong`; `Event` if a line is not an event or names a report, replica or
 /// message that does not exist; out of memory; `Device`. A line that is not an event is found
 /// before any report is read.
-pub(crate) fn run<'n, F: Files, E: Write, S: Sink>(
+pub(crate) fn run<'n, F: Folder, E: Write, S: Sink>(
     replicas: usize,
     schedule: &'n str,
     sheet: &Sheet,
@@ -83,7 +83,7 @@ pub(crate) fn run<'n, F: Files, E: Write, S: Sink>(
     Ok(put_replayed(inputs.alloc, out, replayed)?)
 }
 
-fn replay_reports<'n, 's, F: Files, E: Write>(
+fn replay_reports<'n, 's, F: Folder, E: Write>(
     replicas: usize,
     events: &Events,
     sheet: &'s Sheet,

@@ -1,6 +1,12 @@
-use Rattle.std.proofs.Common.{◌≡◌}
+use Rattle.std.proofs.Common.{◌≡◌, take}
+use Rattle.oim_merge.specs.Added.{added}
+use Rattle.command_line.specs.Reading.{WithRead}
 use Rattle.command_line.proofs.inputs.Inputs.consolidate.Given as goal
 
--- the consolidation has counted each report that was read so far
+-- the reports with the names so far were read and added
 abbrev pub invariant-loop-index : goal.invariant-loop-index
-invariant-loop-index g l = l.consolidation.reports ≡ l.index
+invariant-loop-index g l = record {
+  files : l.self.files ≡ l.fn.self.files;
+  read : WithRead (g.F.Folder.gives l.fn.self.files.now) (take l.index l.fn.self.names.now) (λ reports. l.consolidation ≡ added l.fn.sheet reports);
+  count : l.consolidation.reports ≡ l.index;
+}

@@ -1,0 +1,10 @@
+use Rattle.std.proofs.Common.{◌≡◌, take}
+use Rattle.command_line.specs.Reading.{AreRead}
+use Rattle.command_line.proofs.inputs.Inputs.read_reports.Given as goal
+
+-- the reports with the names so far were read
+abbrev pub invariant-loop-name : goal.invariant-loop-name
+invariant-loop-name g l = record {
+  files : l.self.files ≡ l.fn.self.files;
+  read : AreRead (g.F.Folder.gives l.fn.self.files.now) (take l.name-index l.names) l.all.items;
+}

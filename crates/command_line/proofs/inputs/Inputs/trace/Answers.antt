@@ -1,0 +1,17 @@
+use Rattle.std.proofs.Common.{◌≡◌, ◌+◌, ap, ◌∙◌, subst, get_or}
+use Rattle.oim_merge.specs.Traced.{Traced, with_traced}
+use Rattle.command_line.proofs.Readings.{no_name, traced_step}
+use Rattle.command_line.proofs.inputs.Inputs.trace.Goals as goal
+
+pub loop-index-preserved : goal.loop-index-preserved
+loop-index-preserved g c =
+    let l = c.loop-index in
+    let names = c.args.self.now.names.now in
+    let bytes = c.in_ok-read_report.field-0 in
+    let gives = g.F.Folder.gives in
+    let gave = subst (λ files. gives files.now (get_or names l.index no_name).now bytes) l.invariant.files c.in_ok-read_report.ensures.ok in
+    record {
+      files = c.read_report.ensures.files ∙ l.invariant.files;
+      read = traced_step (gives c.args.self.now.files.now) names l.index bytes c.loop-index-test.true gave c.args.sheet.now l.merge c.add.new.self (c.in_ok-add.ensures.ok ∙ ap (with_traced l.merge) c.as_bytes.ensures) l.invariant.read;
+      count = ap (λ (a : Traced). a.added.reports) c.in_ok-add.ensures.ok ∙ ap (λ n. n + 1) l.invariant.count;
+    }
