@@ -9,7 +9,7 @@ from packing.contents import TOOLS, command_of
 from packing.running import run_tool
 
 HEAD = """\
-.\\" Made from `tools/{tool} --help` by `tests/words --write`.
+.\\" Made from `tools/{tool} --help` by `tests/pages/manual --write`.
 .TH {title} 1 "" "xbrlmerge {version}" "User commands"
 .SH NAME
 {command} \\- {about}

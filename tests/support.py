@@ -5,6 +5,8 @@ import os
 import sys
 
 TOP = os.path.dirname(os.path.dirname(os.path.abspath(__file__)))
+# scripts import modules of the tools, modules beside the unit tests, and packing/
+sys.path[:0] = [f"{TOP}/tools", f"{TOP}/tests/gate/unit", TOP]
 BUILT = ("xbrlmerge", "crates/xbrlmerge/out/xbrlmerge")
 
 
@@ -21,8 +23,9 @@ def bytes_of(path):
 
 
 def script(path):
-    """Returns a Python script that has no ending, such as ./build, as a module."""
-    loader = importlib.machinery.SourceFileLoader(f"{os.path.basename(path)}_script", path)
+    """Returns a Python script, which has no ending, as a module. A relative path starts at the top of the repository."""
+    loader = importlib.machinery.SourceFileLoader(f"{os.path.basename(path)}_script", os.path.join(TOP, path))
+    sys.path.append(os.path.dirname(loader.path))  # for the modules beside the script
     module = importlib.util.module_from_spec(importlib.util.spec_from_loader(loader.name, loader))
     loader.exec_module(module)
     return module
@@ -38,5 +41,5 @@ def built_program(named=None):
     for place in places:
         if os.path.isfile(place) and os.access(place, os.X_OK):
             return os.path.abspath(place)
-    print(f"{os.path.relpath(sys.argv[0], TOP).removesuffix('.py')}: there is no program; ./build makes it", file=sys.stderr)
+    print(f"{os.path.relpath(sys.argv[0], TOP)}: there is no program; ./build makes it", file=sys.stderr)
     sys.exit(2)

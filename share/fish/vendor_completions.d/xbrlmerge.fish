@@ -1,4 +1,4 @@
-# Completions of `xbrlmerge` for fish. Written by hand; tests/words compares them with the program.
+# Completions of `xbrlmerge` for fish. Written by hand; tests/pages/manual compares them with the program.
 # ./build --install PREFIX puts them in PREFIX/share/fish/vendor_completions.d; or copy them to ~/.config/fish/completions/
 
 complete -c xbrlmerge -n __fish_use_subcommand -f -a 'merge verdicts sources check explain replay help'

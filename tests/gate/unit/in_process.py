@@ -1,0 +1,82 @@
+"""Runs the tools in the process of the tests, where a run takes milliseconds, and measures how time grows with the input."""
+import contextlib
+import io
+import os
+import signal
+import sys
+import tempfile
+import time
+import unittest
+import warnings
+from unittest import mock
+
+HERE = os.path.dirname(os.path.abspath(__file__))
+sys.path.append(f"{HERE}/../..")
+from support import TOP, content
+import process
+
+TOOLS = os.path.join(TOP, "tools")
+
+
+class RoomTest(unittest.TestCase):
+    """The base class of tests that write files. Each test has a new folder, `scratch`."""
+
+    def setUp(self):
+        scratch = tempfile.TemporaryDirectory()
+        self.addCleanup(scratch.cleanup)
+        self.scratch = scratch.name
+
+    def place(self, name):
+        return os.path.join(self.scratch, name)
+
+    def write(self, name, text):
+        """Writes a text, or bytes, and returns the path of the file."""
+        with open(self.place(name), "wb") as file:
+            file.write(text if isinstance(text, bytes) else text.encode())
+        return self.place(name)
+
+
+def heeding(number):
+    """Returns a `preexec_fn` that lets this signal end a tool, even if the tests ignore the signal, as under nohup."""
+    return lambda: signal.signal(number, signal.SIG_DFL)
+
+
+def stub_program(folder):
+    """Writes the stub program to a folder, and returns its path."""
+    path = os.path.join(folder, "xbrlmerge")
+    with open(path, "w", encoding="utf-8") as file:
+        file.write(f"#!{sys.executable} -IS\n{content('tests/gate/unit/stub_program.py')}")
+    os.chmod(path, 0o755)
+    return path
+
+
+def run(tool, *words):
+    """Runs a tool, and returns its status and its standard error."""
+    return run_whole(tool, *words)[:2]
+
+
+def run_whole(tool, *words):
+    """Runs a tool, and returns its status, its standard error, and its standard output as bytes."""
+    argv, out = mock.patch.object(sys, "argv", [tool.__name__, *words]), io.TextIOWrapper(io.BytesIO())
+    with argv, contextlib.redirect_stderr(io.StringIO()) as told, contextlib.redirect_stdout(out), warnings.catch_warnings():
+        warnings.simplefilter("ignore", ResourceWarning)  # tools leave files open until their process ends
+        status, lines = process.outcome(tool.main)
+        process.print_lines(lines)
+        return status, told.getvalue(), out.buffer.getvalue()
+
+
+def growth(run_at, size):
+    """Returns the time of a run at four times the size, divided by the time at the size: 4 if time is linear, 16 if quadratic.
+
+    Each time is the least processor time of three runs. Time that does not depend on the size lowers the ratio.
+    """
+    def least(at):
+        return min(seconds(run_at, at) for _ in range(3))
+
+    return least(4 * size) / least(size)
+
+
+def seconds(run_at, size):
+    start = time.process_time()
+    run_at(size)
+    return time.process_time() - start

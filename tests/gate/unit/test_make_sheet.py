@@ -1,0 +1,220 @@
+"""Tests of tools/make_sheet on the taxonomies beside this file, on bad inputs and on sheets."""
+import json
+import os
+import subprocess
+import sys
+import unittest
+import zipfile
+
+import in_process
+
+TOOL = os.path.join(in_process.TOOLS, "make_sheet.py")
+TOY = os.path.join(in_process.HERE, "taxonomy")
+EXTENSION = os.path.join(in_process.HERE, "extension", "extension.xsd")
+DOUBTFUL = os.path.join(in_process.HERE, "doubtful", "doubtful.xsd")
+TOY_SHEET = {
+    "namespaces": {"n1": "http://toy.example/2024", "n2": "http://toy.example/2024/base"},
+    "concepts": {
+        "n1:Apprentices": "numeric",
+        "n1:Auditor": "text",
+        "n1:Costs": "numeric",
+        "n1:Country": "name",
+        "n1:Currency": "name",
+        "n1:Dividend": "numeric",
+        "n1:Emissions": "numeric",
+        "n1:Employees": "numeric",
+        "n1:Founded": "text",
+        "n1:Industry": "name",
+        "n1:Margin": "numeric",
+        "n1:Notes": "text",
+        "n1:Profit": "numeric",
+        "n1:Revenue": "numeric",
+        "n1:StaffCosts": "numeric",
+        "n2:Assets": "numeric",
+    },
+    "dimensions": {"n1:DistrictAxis": "explicit", "n1:ProductAxis": "typed", "n1:RegionAxis": "explicit"},
+}
+SCHEMA = """<xs:schema xmlns:xs="http://www.w3.org/2001/XMLSchema" xmlns:xbrli="http://www.xbrl.org/2003/instance"
+    xmlns:this="http://made.example" targetNamespace="http://made.example">%s</xs:schema>"""
+ITEM = '<xs:element name="%s" type="xbrli:%sItemType" substitutionGroup="xbrli:item"/>'
+
+
+def run(*words):
+    return subprocess.run([sys.executable, TOOL, *words], capture_output=True)
+
+
+def pack(package, folder):
+    """Makes a package of the files in a folder."""
+    with zipfile.ZipFile(package, "w", zipfile.ZIP_DEFLATED) as made:
+        for at, _, names in os.walk(folder):
+            for name in names:
+                place = os.path.join(at, name)
+                made.write(place, os.path.join("toy", os.path.relpath(place, folder)))
+
+
+class ToolTest(in_process.RoomTest):
+    def check_refused(self, status, told, *words):
+        """Runs the tool, which must end with this status, print the reason, and print no sheet. Returns its lines."""
+        done = run(*words)
+        self.assertEqual((done.returncode, done.stdout), (status, b""), done.stderr)
+        self.assertIn(told, done.stderr.decode())
+        self.assertTrue(all(line.startswith(b"make_sheet: ") for line in done.stderr.splitlines()), done.stderr)
+        return done.stderr.decode().splitlines()
+
+    def check_sheet(self, sheet, *words):
+        done = run(*words)
+        self.assertEqual((done.returncode, done.stderr), (0, b""))
+        self.assertEqual(json.loads(done.stdout), sheet)
+        return done.stdout
+
+
+class Taxonomies(ToolTest):
+    def test_each_case_of_the_toy_taxonomy(self):
+        self.check_sheet(TOY_SHEET, os.path.join(TOY, "toy", "core.xsd"))
+
+    def test_file_folder_and_package_give_the_same_bytes(self):
+        package = self.place("toy.zip")
+        pack(package, TOY)
+        text = self.check_sheet(TOY_SHEET, package)
+        self.assertEqual(run(TOY).stdout, text)
+        self.assertEqual(run(os.path.join(TOY, "toy", "core.xsd")).stdout, text)
+        self.assertEqual(run(os.path.join(TOY, "toy", "types.xsd"), TOY, package).stdout, text)
+        self.assertEqual((text.count(b"\n"), text[-1:]), (1, b"\n"))
+
+    def test_what_is_imported_by_url_comes_from_a_named_package(self):
+        package = self.place("toy.zip")
+        pack(package, TOY)
+        sheet = json.loads(run(EXTENSION, package).stdout)
+        self.assertEqual(sheet["concepts"]["n1:OnlineRevenue"], "numeric")
+        self.assertEqual(sheet["namespaces"]["n1"], "http://issuer.example/2024")
+        self.assertEqual(len(sheet["concepts"]), len(TOY_SHEET["concepts"]) + 1)
+        self.assertEqual(run(TOY, EXTENSION).stdout, run(EXTENSION, package).stdout)
+
+    def test_a_missing_import_is_reported(self):
+        lines = self.check_refused(3, "http://toy.example/2024/core.xsd", EXTENSION)
+        self.assertEqual(len(lines), 1)
+
+    def test_what_is_in_doubt_is_left_out_with_a_line_each(self):
+        done = run(DOUBTFUL)
+        self.assertEqual(done.returncode, 1)
+        self.assertEqual(json.loads(done.stdout)["concepts"], {"n1:Set": "text", "n1:Sure": "numeric"})
+        self.assertEqual(json.loads(done.stdout)["xbrlmerge:sets"], ["n1:Set"])
+        left_out = [line.split("}")[1].split(" ")[0] for line in done.stderr.decode().splitlines()]
+        names = "Fraction LostHead LostType NewInRegistry NoItemType NoType Prefixed RoundHead RoundHeadAgain"
+        self.assertEqual(left_out, [*names.split(), "RoundType", "Structure"])
+
+    def test_a_registry_type_that_is_not_listed_is_followed(self):
+        registry = self.write(
+            "registry.xsd",
+            """<xs:schema xmlns:xs="http://www.w3.org/2001/XMLSchema" xmlns:x="http://www.xbrl.org/2003/instance"
+            targetNamespace="http://www.xbrl.org/dtr/type/2022-03-31"><xs:complexType name="newItemType">
+            <xs:simpleContent><xs:restriction base="x:decimalItemType"/></xs:simpleContent></xs:complexType>
+            <xs:complexType name="SQNameItemType"><xs:simpleContent><xs:restriction base="x:stringItemType"/>
+            </xs:simpleContent></xs:complexType></xs:schema>""",
+        )
+        sheet = json.loads(run(DOUBTFUL, registry).stdout)
+        self.assertEqual(sheet["concepts"], {"n1:NewInRegistry": "numeric", "n1:Set": "text", "n1:Sure": "numeric"})
+
+
+class BadInputs(ToolTest):
+    def test_no_xml_and_no_schema(self):
+        self.check_refused(3, "not well-formed", self.write("a.xsd", "{}"))
+        self.check_refused(3, "unclosed token", self.write("b.xsd", SCHEMA[:30]))
+        self.check_refused(3, "not a schema: name the package", self.write("c.xsd", "<a/>"))
+        self.check_refused(3, "nowhere.xsd", self.place("nowhere.xsd"))
+        self.check_refused(3, "no element found", TOY, self.write("d.xsd", ""))
+        lines = self.check_refused(3, "xsd", TOY, self.write("e.xsd", "no XML"), self.write("f.xsd", "nor this"))
+        self.assertEqual(len(lines), 1)
+        self.check_refused(3, "not well-formed", self.write("g.xsd", SCHEMA % ITEM % ("A", "string") + "&"))
+        self.check_refused(3, "a.xsd", self.write("a.xsd", b"\xff\xfe\x00"))
+
+    def test_an_entity_is_not_read(self):
+        secret = self.write("secret", "monetary")
+        for encoding in ("utf-8", "utf-16"):
+            text = f'<?xml version="1.0" encoding="{encoding}"?><!DOCTYPE a [<!ENTITY e SYSTEM "{secret}">]>' + SCHEMA
+            place = self.write("a.xsd", (text % "<xs:annotation>&e;</xs:annotation>").encode(encoding))
+            self.assertEqual(len(self.check_refused(3, "document type", place)), 1)
+        imported = self.write("b.xsd", SCHEMA % '<xs:include schemaLocation="a.xsd"/>')
+        self.check_refused(3, "a.xsd: it has a document type", imported)
+        package = self.place("a.zip")
+        with zipfile.ZipFile(package, "w") as made:
+            made.write(place, "a.xsd")
+        self.check_refused(3, "document type", package)
+
+    def test_a_package_keeps_to_itself(self):
+        outside = self.write("outside.xsd", SCHEMA % ITEM % ("A", "string"))
+        package = self.place("a.zip")
+        for name in ("../b.xsd", "a/../../b.xsd", outside):
+            with zipfile.ZipFile(package, "w") as made:
+                made.writestr(name, SCHEMA % "")
+            self.assertEqual(len(self.check_refused(3, "outside", package)), 1)
+        self.assertEqual(sorted(os.listdir(self.scratch)), ["a.zip", "outside.xsd"])  # nothing is unpacked
+        with zipfile.ZipFile(package, "w") as made:
+            made.writestr("b.xsd", SCHEMA % '<xs:include schemaLocation="../outside.xsd"/>')
+        self.check_refused(3, "../outside.xsd is not in the named files", package)
+
+    def test_a_broken_package(self):
+        package = self.place("a.zip")
+        pack(package, TOY)
+        with open(package, "rb") as file:
+            data = file.read()
+        self.check_refused(3, "cut.zip", self.write("cut.zip", data[: len(data) // 2]))
+        at = data.index(b"core.xsd") + 60
+        self.check_refused(3, "turned.zip", self.write("turned.zip", data[:at] + b"turned" + data[at + 6 :]))
+
+    def test_two_declarations_of_one_name(self):
+        place = self.write("a.xsd", SCHEMA % (ITEM % ("A", "string") + ITEM % ("A", "monetary")))
+        self.check_refused(3, "declared in two ways", place)
+
+    def test_names_cannot_break_a_line(self):
+        text = SCHEMA.replace("http://made", "http://made&#10;&#27;[31m") % ITEM % ("A", "fraction")
+        self.assertEqual(len(run(self.write("a.xsd", text)).stderr.splitlines()), 1)
+
+    def test_usage(self):
+        self.assertEqual(run().returncode, 2)
+        self.assertEqual(run("--help").returncode, 0)
+
+
+class Unions(ToolTest):
+    def sheet(self, name, uri, concepts, dimensions):
+        text = {"namespaces": {"p": uri}, "concepts": concepts, "dimensions": dimensions, "x:note": 1}
+        return self.write(name, json.dumps(text))
+
+    def test_two_sheets_make_one(self):
+        first = self.sheet("a.json", "http://b.example", {"p:B": "text", "p:A": "numeric"}, {"p:D": "typed"})
+        second = self.sheet("b.json", "http://a.example", {"p:A": "name"}, {})
+        both = {
+            "namespaces": {"n1": "http://a.example", "n2": "http://b.example"},
+            "concepts": {"n1:A": "name", "n2:A": "numeric", "n2:B": "text"},
+            "dimensions": {"n2:D": "typed"},
+        }
+        text = self.check_sheet(both, "--union", first, second, first)
+        self.assertEqual(run("--union", second, first).stdout, text)
+        self.assertEqual(run("--union", self.write("c.json", text)).stdout, text)
+
+    def test_sets_stay_sets(self):
+        concepts = {"namespaces": {"p": "http://a.example"}, "concepts": {"p:A": "text", "p:B": "text"}}
+        first = self.write("a.json", json.dumps({**concepts, "xbrlmerge:sets": ["p:A"]}))
+        second = self.write("b.json", json.dumps(concepts))
+        for words in ((first,), (first, second), (second, first)):
+            sheet = json.loads(run("--union", *words).stdout)
+            self.assertEqual(sheet["xbrlmerge:sets"], ["n1:A"])
+            self.assertEqual(sheet["concepts"], {"n1:A": "text", "n1:B": "text"})
+        self.assertNotIn("xbrlmerge:sets", json.loads(run("--union", second).stdout))
+        numeric = self.write("c.json", json.dumps({**concepts, "concepts": {"p:A": "numeric"}}))
+        self.check_refused(3, "{http://a.example}A is set, but numeric", "--union", numeric, first)
+
+    def test_a_concept_of_two_kinds_is_named(self):
+        first = self.sheet("a.json", "http://a.example", {"p:A": "numeric"}, {})
+        second = self.sheet("b.json", "http://a.example", {"p:A": "text"}, {})
+        self.check_refused(3, "{http://a.example}A is text, but numeric", "--union", first, second)
+
+    def test_what_is_no_sheet(self):
+        texts = ["", "[]", "{", '{"facts":{}}', '{"concepts":{"p:A":"text"}}', '{"concepts":[]}']
+        texts += ['{"namespaces":{"p":"u"},"concepts":{"%s":"%s"}}' % each for each in (("A", "text"), ("p:A", "explicit"))]
+        for text in texts:
+            self.check_refused(3, "a.json", "--union", self.write("a.json", text))
+
+
+if __name__ == "__main__":
+    unittest.main()

@@ -1,0 +1,367 @@
+"""Tests of tools/normalise: the reports of tests/program/normalise, the examples of docs/GUIDE.md, drawn reports and bad inputs."""
+import json
+import os
+import random
+import re
+import subprocess
+import sys
+import unittest
+from decimal import Decimal
+from unittest import mock
+
+import drawn_reports
+import in_process
+import normalise
+import process
+from normalising.json_text import read_json, text_of
+from support import content
+
+TOOL = os.path.join(in_process.TOOLS, "normalise.py")
+REPORTS = f"{in_process.TOP}/tests/program/normalise"
+
+
+def part_at(tree, pointer):
+    """Returns the object that contains the target of a pointer, and the target's key in it."""
+    *path, key = (step.replace("~1", "/").replace("~0", "~") for step in pointer.split("/")[1:])
+    for step in path:
+        tree = tree[step]
+    return tree, key
+
+
+def undo(tree, changes):
+    """Undoes changes, the last one first."""
+    for change in reversed(changes):
+        part, key = part_at(tree, change["pointer"])
+        if "moved" in change:
+            del part[part_at(tree, change["moved"])[1]]
+        part[key] = change["was"]
+
+
+class ToolTest(in_process.RoomTest):
+    def setUp(self):
+        super().setUp()
+        self.out, self.changes = self.place("out.json"), self.place("changes.jsonl")
+
+    def run_tool(self, *words):
+        """Runs the tool in this process, and returns its status and its standard error."""
+        return in_process.run(normalise, *words)
+
+    def refusing(self, faults, **also):
+        """Makes a stub program that refuses facts and, if `also` is given, the document. Returns the options that use the
+        program."""
+        os.makedirs(self.place("bin"), exist_ok=True)
+        told = [{"place": "fact 1", "identifier": fact, **dict(zip(("number", "name"), why.split()))} for fact, why in faults.items()]
+        self.write("bin/explain.out", "".join(json.dumps(fault) + "\n" for fault in [*told, *[also] * bool(also)]))
+        self.write("bin/explain.status", "1")
+        return ["--drop-unreadable", "--program", in_process.stub_program(self.place("bin"))]
+
+    def normalised(self, report, *options):
+        """Runs the tool. Its status must be 1 if a change loses something, and 0 otherwise. Undoing the changes must give the
+        report, and a second run must change nothing. Returns the status, standard error, the output and the changes."""
+        with mock.patch.object(process, "MOST_CHARACTERS", sys.maxsize):
+            self.run_tool(report, self.out, self.changes, *options)
+        tree = read_json(self.out)
+        undo(tree, self.changes_told())
+        self.assertEqual(tree, read_json(report), "undoing the changes does not give the report")
+        status, told = self.run_tool(report, self.out, self.changes, *options)
+        self.assertIn(status, (0, 1), told)
+        out, changes = content(self.out), self.changes_told()
+        self.assertEqual(status, int(any(change["loss"] for change in changes)))
+        again = self.run_tool(self.write("again.json", out), self.place("out2"), self.place("changes2"), *options)
+        self.assertEqual((again, content(self.place("out2")), content(self.place("changes2"))), ((0, told), out, ""))
+        return status, told, out, changes
+
+    def changes_told(self):
+        return [self.tree_of(line) for line in content(self.changes).splitlines()]
+
+    def tree_of(self, text):
+        return read_json(self.write("tree.json", text))
+
+
+class Reports(ToolTest):
+    """Normalises the reports of tests/program/normalise, and compares the outputs with the files beside them."""
+
+    def test_each_report_comes_out_as_it_stands_beside_it(self):
+        for case in map(json.loads, content(os.path.join(REPORTS, "cases.jsonl")).splitlines()):
+            with self.subTest(case["report"]):
+                stem = os.path.join(REPORTS, case["report"])
+                sheet = os.path.join(os.path.dirname(stem), "sheet.json")
+                wanted = content(f"{stem}.changes.jsonl")
+                # for --drop-unreadable, a stub replaces the program; the script tests/program/normalise/run runs the built program
+                dropped = [change for change in map(json.loads, wanted.splitlines()) if change["rule"] == "drop-unreadable"]
+                options = [word for word in case["options"] if word != "--drop-unreadable"]
+                if options != case["options"]:
+                    options += self.refusing({change["fact"]: change["why"] for change in dropped})
+                status, _, out, _ = self.normalised(f"{stem}.json", "--sheet", sheet, *options)
+                self.assertEqual((status, out, content(self.changes)), (case["status"], content(f"{stem}.out.json"), wanted))
+
+    def test_there_are_enough_of_them(self):
+        cases = [json.loads(line) for line in content(os.path.join(REPORTS, "cases.jsonl")).splitlines()]
+        self.assertGreaterEqual(len({case["report"] for case in cases}), 60)
+        self.assertGreaterEqual(len({os.path.dirname(case["report"]) for case in cases}), 12)
+
+
+class Docs(ToolTest):
+    """docs/GUIDE.md has an example for each rule: options, a fact before, and the fact after or `dropped`."""
+
+    SHEET = {
+        "namespaces": {"eg": "http://example.org/t"},
+        "concepts": {"eg:A": "numeric", "eg:Q": "name", "eg:S": "text", "eg:T": "text"},
+        "dimensions": {"eg:Reg": "explicit", "eg:Sku": "typed"},
+        "xbrlmerge:sets": ["eg:S"],
+    }
+    URIS = {"eg": "http://example.org/t", "x": "http://example.org/u", "xbrl": "https://xbrl.org/2021"}
+    TYPE = "https://xbrl.org/2021/xbrl-json"
+
+    def test_the_examples(self):
+        text = content("docs/GUIDE.md")
+        sheet, seen = self.write("sheet.json", json.dumps(self.SHEET)), set()
+        for rule, example in re.findall(r"^### `([a-z-]+)`$.*?^```\n(.*?)^```$", text, re.MULTILINE | re.DOTALL):
+            options, before, after = example.splitlines()
+            options = self.refusing({"f": "27 NumberDigits"}) if rule == "drop-unreadable" else options.split()[1:]
+            information = json.dumps({"documentType": self.TYPE, "namespaces": self.URIS})
+            report = self.write("report.json", '{"documentInfo":%s,"facts":{"f":%s}}' % (information, before))
+            with self.subTest(rule):
+                _, _, out, changes = self.normalised(report, "--sheet", sheet, *options)
+                self.assertEqual({change["rule"] for change in changes} - {"value-text"} or {"value-text"}, {rule})
+                facts = self.tree_of(out)["facts"]
+                self.assertEqual(text_of(facts["f"]) if facts else "dropped", after)
+                seen.add(rule)
+        self.assertEqual(seen, set(RULES))
+
+
+RULES = """decimals decimals-infinite value-text exponent period-fraction core-prefix white-space unknown-member set
+drop-links drop-notes drop-unknown dates zones drop-null drop-unreadable""".split()
+
+
+class Drawn(ToolTest):
+    """Tests on drawn reports, which must also pass the checks of `normalised`."""
+
+    def setUp(self):
+        super().setUp()
+        self.sheet = self.write("sheet.json", json.dumps(drawn_reports.SHEET))
+
+    def test_untidy_reports_with_drawn_options(self):
+        for seed in range(100):
+            chance = random.Random(seed)
+            report = self.write("report.json", drawn_reports.untidy(chance))
+            with self.subTest(seed=seed):
+                lossy = [word for word in drawn_reports.OPTIONS if chance.random() < 0.3]
+                refused = ["f1", "f3"] if seed % 4 == 0 else []
+                options = [*lossy, *(self.refusing(dict.fromkeys(refused, "26 NumberForm")) if refused else [])]
+                _, _, out, changes = self.normalised(report, "--sheet", self.sheet, *options)
+                self.assertTrue(options or not any(change["loss"] for change in changes))
+                self.assertFalse(self.tree_of(out)["facts"].keys() & {*refused})
+
+    def test_a_report_within_the_profile_is_the_same(self):
+        for seed in range(100):
+            chance = random.Random(seed)
+            text = drawn_reports.tidy(chance)
+            report = self.write("report.json", text)
+            with self.subTest(seed=seed):
+                status, told, out, changes = self.normalised(report, "--sheet", self.sheet, *drawn_reports.OPTIONS)
+                self.assertEqual((status, told, changes), (0, "", []))
+                self.assertEqual(out, text_of(read_json(report)) + "\n")
+
+    def test_rough_spellings_come_to_the_tidy_report(self):
+        for seed in range(100):
+            chance = random.Random(seed)
+            tidy = drawn_reports.tidy(chance)
+            rough = self.write("report.json", drawn_reports.roughened(chance, tidy))
+            with self.subTest(seed=seed):
+                status, told, out, _ = self.normalised(rough, "--sheet", self.sheet)
+                self.assertEqual((status, told), (0, ""))
+                self.assertEqual(*(self.numbers_read(self.tree_of(text)) for text in (out, tidy)))
+
+    def numbers_read(self, tree):
+        """Returns the facts of a report, with the values of numeric facts as numbers."""
+        for fact in tree["facts"].values():
+            if fact["value"] and fact["dimensions"]["concept"] in ("eg:A", "eg:B"):
+                fact["value"] = Decimal(fact["value"])
+        return tree["facts"]
+
+    def test_without_a_sheet_no_kind_is_guessed(self):
+        kinds = {"exponent", "set"}
+        for seed in range(60):
+            report = self.write("report.json", drawn_reports.untidy(random.Random(seed)))
+            for change in self.normalised(report)[3]:
+                self.assertNotIn(change["rule"], kinds)
+                self.assertTrue(change["rule"] != "white-space" or "/dimensions/" in change["pointer"])
+
+
+class Numbers(ToolTest):
+    def value_of(self, token):
+        """Normalises a report with a numeric fact of this value. Returns the new value as JSON, and standard error."""
+        sheet = self.write("sheet.json", json.dumps(Docs.SHEET))
+        fact = '{"value":%s,"dimensions":{"concept":"eg:A"}}' % token
+        text = '{"documentInfo":{"namespaces":{"eg":"http://example.org/t"}},"facts":{"f":%s}}' % fact
+        _, told, out, _ = self.normalised(self.write("report.json", text), "--sheet", sheet)
+        return text_of(self.tree_of(out)["facts"]["f"]["value"]), told
+
+    def test_letters_stay_and_no_float_is_made(self):
+        for token in ("0.1", "100.50", "-0", "12345678901234567890.123", "1.000000000000000001"):
+            self.assertEqual(self.value_of(token), (f'"{token}"', ""))
+
+    def test_exponents_within_eighteen_digits(self):
+        for token, plain in (
+            ("1E-7", "0.0000001"),
+            ("1.25e6", "1250000"),
+            ("1E17", "100000000000000000"),
+            ("1e-18", "0.000000000000000001"),
+            ("-2.50E+1", "-25.0"),
+            ("0E99", "0"),
+            ("9.99999999999999999e17", "999999999999999999"),
+        ):
+            self.assertEqual(self.value_of(token), (f'"{plain}"', ""), token)
+
+    def test_exponents_beyond_are_left_and_told(self):
+        for token in ("1E18", "1E-19", "1.0000000000000000001e0", "1e999999999", "1e99999999999999999999", "1e-999999999"):
+            value, told = self.value_of(token)
+            self.assertEqual(value, f'"{token}"')
+            self.assertIn("/facts/f/value is left: written without an exponent, it has more than 18 digits", told)
+
+    def test_what_is_no_number_is_left(self):
+        for token in ('"INF"', '"NaN"', '"1,000"', '"e5"', '"0x1E2"', '"\u0661E1"', "null", "{}", "[1]"):
+            self.assertEqual(self.value_of(token)[0], token)
+
+
+class Periods(ToolTest):
+    def period_of(self, period, *options):
+        """Normalises a report with this period. Returns the new period, and the number of lines on standard error."""
+        fact = '{"value":null,"dimensions":{"period":%s}}' % json.dumps(period)
+        _, told, out, _ = self.normalised(self.write("report.json", '{"facts":{"f":%s}}' % fact), *options)
+        return self.tree_of(out)["facts"]["f"]["dimensions"]["period"], len(told.splitlines())
+
+    def test_fractions(self):
+        for period, made in (
+            ("2023-12-31T00:00:00.0", ("2023-12-31T00:00:00", 0)),
+            ("2023-12-31T24:00:00.000/2024-12-31T24:00:00.00", ("2023-12-31T24:00:00/2024-12-31T24:00:00", 0)),
+            ("2023-12-31T00:00:00.50", ("2023-12-31T00:00:00.50", 1)),
+            ("2023-12-31T00:00:00.000Z", ("2023-12-31T00:00:00Z", 1)),
+            ("2023-12-31.0", ("2023-12-31.0", 2)),
+            ("2023", ("2023", 0)),
+        ):
+            self.assertEqual(self.period_of(period), made, period)
+
+    def test_dates(self):
+        for period, made in (
+            ("2023-12-31", ("2023-12-31T24:00:00", 0)),
+            ("2023-01-01/2023-12-31", ("2023-01-01T00:00:00/2023-12-31T24:00:00", 0)),
+            ("2023-01-01T00:00:00/2023-12-31", ("2023-01-01T00:00:00/2023-12-31T24:00:00", 0)),
+            ("2023-12-31+02:00", ("2023-12-31T24:00:00+02:00", 1)),
+            ("2023-02-30", ("2023-02-30", 1)),
+        ):
+            self.assertEqual(self.period_of(period, "--dates=xbrl21"), made, period)
+
+    def test_zones(self):
+        for period, made in (
+            ("2023-12-31T24:00:00Z", ("2023-12-31T24:00:00", 0)),
+            ("2023-12-31T24:00:00+01:00", ("2023-12-31T23:00:00", 0)),
+            ("2023-12-31T23:30:00-00:30", ("2024-01-01T00:00:00", 0)),
+            ("2023-12-31T00:00:00+05:45/2024-12-31T00:00:00", ("2023-12-30T18:15:00/2024-12-31T00:00:00", 0)),
+            ("0001-01-01T00:00:00+01:00", ("0001-01-01T00:00:00+01:00", 1)),
+            ("9999-12-31T24:00:00-01:00", ("9999-12-31T24:00:00-01:00", 1)),
+            ("2023-12-31T00:00:00+14:01", ("2023-12-31T00:00:00+14:01", 1)),
+            ("2023-12-31T00:00:00.5Z", ("2023-12-31T00:00:00.5Z", 2)),
+            ("2023-12-31T24:00:01+01:00", ("2023-12-31T24:00:01+01:00", 1)),
+            ("2023-12-31Z", ("2023-12-31Z", 2)),
+        ):
+            self.assertEqual(self.period_of(period, "--zones=utc"), made, period)
+        self.assertEqual(self.period_of("2023-12-31+02:00", "--zones=utc", "--dates=xbrl21"), ("2023-12-31T22:00:00", 0))
+
+
+class Unreadable(ToolTest):
+    """Tests of --drop-unreadable, with a stub program that prints the faults."""
+
+    def setUp(self):
+        super().setUp()
+        self.sheet = self.write("sheet.json", json.dumps(Docs.SHEET))
+        self.report = self.write("report.json", '{"facts":{"f":{"value":5,"id":1},"g":{"value":6}}}')
+
+    def test_a_refused_fact_has_one_change(self):
+        status, told, out, changes = self.normalised(self.report, "--sheet", self.sheet, *self.refusing({"f": "11 DimensionsMissing"}))
+        self.assertEqual((status, told, out), (1, "", '{"facts":{"g":{"value":"6"}}}\n'))
+        self.assertEqual([(change["fact"], change["rule"], change.get("why")) for change in changes],
+                         [("f", "drop-unreadable", "11 DimensionsMissing"), ("g", "value-text", None)])
+
+    def test_why_a_document_is_refused_is_told(self):
+        options = self.refusing({}, place="document", identifier=None, number=2, name="MemberForm", sentence='"documentInfo" is missing')
+        status, told, out, _ = self.normalised(self.report, "--sheet", self.sheet, *options)
+        self.assertEqual((status, told), (0, 'normalise: the document is refused: 2 MemberForm: "documentInfo" is missing\n'))
+        self.assertEqual(out, '{"facts":{"f":{"value":"5"},"g":{"value":"6"}}}\n')
+
+    def test_a_program_that_fails_is_told(self):
+        options = self.refusing({})
+        for name, text, why in (("explain.err", "error: unexpected argument '--format' found\n", "xbrlmerge explain: error: unexpected"),
+                                ("explain.err", "", "ended with status 3"), ("explain.status", "1", None)):
+            self.write("bin/explain.status", "3")
+            self.write(f"bin/{name}", text)
+            status, told = self.run_tool(self.report, self.out, self.changes, "--sheet", self.sheet, *options)
+            self.assertEqual((status, os.path.exists(self.out)), (3, False) if why else (0, True), told)
+            self.assertIn(why or "", told)
+        self.assertEqual(self.run_tool(self.report, self.out, self.changes, "--sheet", self.sheet, *options[:-1], self.place("no"))[0], 3)
+
+
+class BadInputs(ToolTest):
+    def check_refused(self, told, *words):
+        """Runs the tool, which must end with status 3, print one line with the reason, and leave no new file."""
+        before = set(os.listdir(self.scratch))
+        status, lines = self.run_tool(*words)
+        self.assertEqual((status, len(lines.splitlines())), (3, 1), lines)
+        self.assertIn(told, lines)
+        self.assertEqual(set(os.listdir(self.scratch)), before)
+
+    def check_report(self, told, text):
+        self.check_refused(told, self.write("bad.json", text), self.out, self.changes)
+
+    def test_members_that_stand_twice(self):
+        self.check_report('the member "a" is repeated in the root: 1 and 2.50', '{"a":1,"a":2.50}')
+        self.check_report('"k" is repeated in /facts/~1~0/0: null and null', '{"facts":{"/~":[{"k":null,"k":null}]}}')
+        both = '{"facts":{"f":{"dimensions":{"concept":"a:A","xbrl:concept":"a:B"}}}}'
+        self.check_report('/facts/f/dimensions/xbrl:concept and concept are the same member: "a:A" and "a:B"', both)
+
+    def test_what_is_no_json(self):
+        for text in ("", "{", '{"a":NaN}', '{"a":01}', '{"a":"\\ud800"}', b'{"a":"\xff"}', "[" * 100_000, '{"a":"\n"}'):
+            self.check_report("bad.json", text)
+        self.check_report("not a report", "[]")
+
+    def test_files_that_are_missing_or_that_cannot_be_written(self):
+        report = self.write("good.json", "{}")
+        self.check_refused("nowhere", self.place("nowhere"), self.out, self.changes)
+        self.check_refused("nowhere", report, self.out, self.changes, "--sheet", self.place("nowhere"))
+        self.check_refused("/no", report, self.out, os.path.join(self.scratch, "no", "x"))
+        self.check_refused("not a file", report, self.out, self.scratch)
+
+    def test_files_that_were_there_stay_where_it_fails(self):
+        self.write("out.json", "of a run before")
+        self.check_report("bad.json", "{")
+        self.assertEqual(content(self.out), "of a run before")
+
+    def test_what_is_no_sheet(self):
+        report = self.write("good.json", "{}")
+        name = '{"namespaces":{"p":"u"},"concepts":{"p:A":"numeric"},"xbrlmerge:sets":["p:A"]}'
+        for text in ("", "[]", '{"concepts":[]}', '{"concepts":{"p:A":"text"}}', '{"namespaces":{"p":"u"},"concepts":{"p:A":"x"}}', name):
+            self.check_refused("bad.json", report, self.out, self.changes, "--sheet", self.write("bad.json", text))
+
+    def test_usage(self):
+        report = self.write("good.json", "{}")
+        for words in ([], [report, self.out], [report, self.out, self.out], [report, self.out, report]):
+            self.assertEqual(self.run_tool(*words)[0], 2)
+        for option in ("--drop-unknown", "--drop-unreadable", "--dates=iso", "--zones=cet"):
+            self.assertEqual(self.run_tool(report, self.out, self.changes, option)[0], 2)
+
+    def test_the_command(self):
+        run = [sys.executable, TOOL]
+        self.assertEqual(subprocess.run([*run, "--help"], capture_output=True).returncode, 0)
+        done = subprocess.run([*run, self.write("good.json", '{"id":1}'), self.out, self.changes], capture_output=True)
+        self.assertEqual((done.returncode, done.stdout, done.stderr, content(self.out)), (0, b"", b"", "{}\n"))
+
+    def test_ten_thousand_facts_take_seconds(self):
+        fact = '"f%d":{"value":%d.50,"decimals":"2","dimensions":{"concept":"eg:A","period":"2023-12-31T00:00:00.000Z"}}'
+        text = '{"facts":{%s}}' % ",".join(fact % (n, n) for n in range(10_000))
+        status, _ = self.run_tool(self.write("large.json", text), self.out, self.changes, "--zones=utc")
+        self.assertEqual((status, content(self.changes).count("\n")), (1, 40_000))
+
+
+if __name__ == "__main__":
+    unittest.main()

@@ -1,0 +1,244 @@
+"""Tests what ./build installs and packs, with stand-ins for the program and the libraries."""
+import hashlib
+import io
+import json
+import os
+import shutil
+import subprocess
+import sys
+import tarfile
+import unittest
+import zipfile
+from unittest import mock
+
+from in_process import TOP, RoomTest
+from packing import bill, contents, debian, installation, kit, manual, release
+from packing.files import RUNS, File, folders_of, read_below
+from packing.source import Crate, Source, newest_libc, wrong_source
+from packing.tarball import tarball
+
+sys.path.append(os.path.join(TOP, "python"))
+import wheel_of_library
+
+VERSION, SECONDS = "1.2.0-dev", 1_700_000_000
+# a stand-in for the program
+PROGRAM = b"#!/bin/sh\n# GLIBC_2.3 GLIBC_2.34 \0libc.so.6\0\necho a stand-in >&2\nexit 3\n"
+URL = "# `url`\n\nA parser, ported from the Rust crate `url` 2.5.8 (MIT or Apache-2.0; both are here).\n"
+CRATES = {"low": Crate(["json"], "aa"), "xbrlmerge": Crate(["low", "url"], "bb")}
+
+
+class Packages(RoomTest):
+    def setUp(self):
+        super().setUp()
+        for name, text in {"program": PROGRAM, contents.SHARED: PROGRAM, "libxbrlmerge.a": b"!<arch>\n"}.items():
+            os.chmod(self.write(name, text), 0o755)
+
+    def source(self):
+        kit_folder = self.place("kit")
+        for name, uses in {"json": "std", "url": "json", "std": "", "os": "std", "libc": ""}.items():
+            for folder in (f"rattle/{name}", f"rlibs/{name}.rlib"):
+                os.makedirs(os.path.join(kit_folder, folder), exist_ok=True)
+            self.write(f"kit/rlibs/{name}.rlib/format", f"crate {name}\n" + (f"dep {uses}\n" if uses else ""))
+        self.write("kit/rattle/url/README.md", URL)
+        self.write("kit/rattle/url/LICENSE-MIT", "")
+        return Source(TOP, self.place("program"), self.scratch, VERSION, "c0ffee", SECONDS, kit_folder, "kit-1 logic 2\n", CRATES)
+
+    def program(self):
+        return contents.program(TOP, self.place("program"))
+
+
+class Contents(Packages):
+    def test_the_tools_are_whole(self):
+        places = {it.place for it in contents.tools(TOP)}
+        names = subprocess.run(["git", "-C", TOP, "ls-files", "tools"], capture_output=True, text=True).stdout.split()
+        for name in names or ["tools/process.py"]:
+            folder, rest = os.path.split(name[len("tools/"):])
+            wanted = f"share/xbrlmerge/xbrlmerge_tools/{os.path.join(folder, rest)}" if "." in rest else f"bin/{contents.command_of(rest)}"
+            self.assertIn(wanted, places)
+
+    def test_a_page_is_the_same_for_each_python(self):
+        old = "usage: x\n\nDoes it.\n\n    tools/normalise A\n\nText.\n\noptional arguments:\n  -h, --help  show\n  -o DIR, --output DIR  the\n      rest\n"
+        new = old.replace("optional arguments", "options").replace("-o DIR, --output DIR", "-o, --output DIR")
+        page = manual.page("normalise", old, VERSION)
+        self.assertEqual(page, manual.page("normalise", new, VERSION))
+        self.assertIn("\n.SH OPTIONS\n.TP\n.B \\-o, \\-\\-output DIR\nthe rest\n.SH SEE", page)
+        self.assertIn("\nxbrlmerge\\-normalise A\n", page)
+
+    def test_the_newest_version_of_the_c_library_counts(self):
+        self.assertEqual(newest_libc(PROGRAM), "2.34")
+
+
+class Installation(Packages):
+    def run_installed(self, prefix, tool, *words, path=None):
+        around = {**os.environ, "PATH": path or os.environ["PATH"]}
+        command = os.path.join(prefix, "bin", contents.command_of(tool))
+        return subprocess.run([command, *words], capture_output=True, text=True, env=around, cwd=self.scratch)
+
+    def test_the_tools_have_the_names_of_their_commands(self):
+        prefix = self.place("a prefix")
+        installation.install(self.program(), prefix)
+        for tool in contents.TOOLS:
+            done = self.run_installed(prefix, tool, "--help")
+            self.assertIn(f"usage: {contents.command_of(tool)} ", done.stdout)
+            self.assertNotIn("tools/", done.stdout)
+        done = self.run_installed(prefix, "make_sheet")
+        self.assertEqual(done.returncode, 2)
+        self.assertIn("\nxbrlmerge-make-sheet: error: ", done.stderr)
+        self.assertFalse([it for at, folders, _ in os.walk(prefix) for it in folders if it == "__pycache__"])
+
+    def test_a_tool_finds_the_program_beside_its_command(self):
+        prefix = self.place("prefix")
+        installation.install(self.program(), prefix)
+        link = self.place("link")
+        os.symlink(os.path.join(prefix, "bin", "xbrlmerge-contradictions"), link)
+        sheet = self.write("sheet.json", "{}")
+        done = subprocess.run([link, "--sheet", sheet, "-o", "out", sheet], capture_output=True, text=True, cwd=self.scratch,
+                              env={**os.environ, "PATH": "/usr/bin:/bin"})
+        self.assertIn("xbrlmerge merge: a stand-in\n", done.stderr)
+
+    def test_without_python_a_tool_says_so(self):
+        prefix, empty = self.place("prefix"), self.place("empty")
+        installation.install(self.program(), prefix)
+        os.mkdir(empty)
+        for name in ("sh", "dirname", "readlink"):
+            os.symlink(shutil.which(name), os.path.join(empty, name))
+        done = self.run_installed(prefix, "recheck", path=empty)
+        self.assertEqual((done.returncode, done.stderr), (3, "xbrlmerge-recheck: Python 3.9 or later is not installed\n"))
+
+    def test_what_was_installed_is_removed(self):
+        prefix, own = self.place("prefix"), self.place("prefix/share/man/own")
+        os.makedirs(os.path.dirname(own))
+        self.write("prefix/share/man/own", "own")
+        installation.install([*self.program(), File("share/xbrlmerge/old/file", b"")], prefix)
+        installation.install(self.program(), prefix)
+        self.assertFalse(os.path.exists(os.path.join(prefix, "share/xbrlmerge/old")))
+        installation.uninstall(prefix)
+        self.assertEqual([os.path.join(at, it) for at, _, names in os.walk(prefix) for it in names], [own])
+        self.assertEqual(sorted(os.listdir(prefix)), ["share"])
+        self.assertRaisesRegex(OSError, "nothing is installed there", installation.uninstall, prefix)
+
+
+class Archives(Packages):
+    def test_an_archive_depends_on_files_and_time_alone(self):
+        files = [File("b/c", b"1", RUNS), File("b/a", b"c", is_link=True)]
+        packed = tarball(files, "top", SECONDS)
+        self.assertEqual(packed, tarball(reversed(files), "top", SECONDS))
+        with tarfile.open(fileobj=io.BytesIO(packed)) as archive:
+            self.assertEqual([(it.name, it.mode, it.mtime, it.linkname) for it in archive],
+                             [("top", RUNS, SECONDS, ""), ("top/b", RUNS, SECONDS, ""), ("top/b/a", 0o777, SECONDS, "c"),
+                              ("top/b/c", RUNS, SECONDS, "")])
+
+    def test_a_wheel_has_the_module_the_program_and_the_tools(self):
+        name = wheel_of_library.make_wheel(self.scratch, self.place(contents.SHARED), self.place("program"))
+        with zipfile.ZipFile(self.place(name)) as wheel:
+            files = {it: wheel.read(it) for it in wheel.namelist()}
+            (program,) = [it for it in files if it.endswith(".data/scripts/xbrlmerge")]
+            self.assertEqual(wheel.getinfo(program).external_attr >> 16, 0o100755)
+        self.assertTrue(name.endswith("-py3-none-manylinux_2_34_x86_64.whl"), name)
+        self.assertEqual({it.partition("/")[0] for it in files if ".d" not in it.partition("/")[0]}, {"xbrlmerge", "xbrlmerge_tools"})
+        packed = {it.place: it.content for it in contents.tool_package(TOP, "")}
+        self.assertEqual({it: files.get(it) for it in packed}, packed)
+        (points,) = [files[it].decode() for it in files if it.endswith("entry_points.txt")]
+        for tool in contents.TOOLS:
+            self.assertIn(f"\n{contents.command_of(tool)} = xbrlmerge_tools:{tool}\n", points)
+
+    def test_the_module_alone_needs_no_program(self):
+        name = wheel_of_library.make_wheel(self.scratch, self.place(contents.SHARED))
+        with zipfile.ZipFile(self.place(name)) as wheel:
+            self.assertFalse([it for it in wheel.namelist() if "tools" in it or "scripts" in it])
+
+    def test_debian_compares_versions_as_meant(self):
+        self.assertEqual(debian.version_of("0.3.0-dev"), "0.3.0~dev")
+        places = {it.place for it in debian.moved(self.program())}
+        self.assertLessEqual({"usr/bin/xbrlmerge", "usr/share/man/man1/xbrlmerge-recheck.1.gz",
+                              "usr/share/zsh/vendor-completions/_xbrlmerge"}, places)
+
+    def test_no_file_is_in_two_packages(self):
+        places = [it.place for package in debian.packages(self.source()) for it in package.files]
+        self.assertEqual(len(places), len(set(places)))
+        self.assertTrue(all(it.startswith("usr/") for it in places))
+
+    def test_all_packages_appear_or_none(self):
+        folder = self.place("out")
+        os.mkdir(folder)
+        with mock.patch.object(release, "run_tool", lambda *words: shutil.copy(words[3], words[2])):
+            with mock.patch.object(debian, "make", side_effect=OSError("dpkg-deb failed")):
+                self.assertRaises(OSError, release.make, self.source(), folder)
+            self.assertEqual(os.listdir(folder), [])
+            with mock.patch.object(debian, "make"), mock.patch.object(release, "tarball", return_value=b""):
+                release.make(self.source(), folder)
+        with open(os.path.join(folder, "SHA256SUMS"), encoding="ascii") as file:
+            sums = dict(reversed(line.split("  ")) for line in file.read().splitlines())
+        self.assertEqual({*sums, "SHA256SUMS"}, {*os.listdir(folder)})
+        for name, told in sums.items():
+            with open(os.path.join(folder, name), "rb") as file:
+                self.assertEqual(hashlib.sha256(file.read()).hexdigest(), told)
+
+
+class Bill(Packages):
+    def test_it_names_commit_kit_proofs_and_licences(self):
+        found = json.loads(bill.bill(self.source(), {"one.deb": b"one"}))
+        parts = {it["SPDXID"]: it for it in found["packages"]}
+        self.assertEqual(len(parts), len(found["packages"]))
+        self.assertEqual(found["creationInfo"]["created"], "2023-11-14T22:13:20Z")
+        self.assertIn("c0ffee", parts["SPDXRef-source"]["sourceInfo"])
+        self.assertEqual(parts["SPDXRef-kit"]["comment"], "kit-1 logic 2")
+        self.assertTrue(parts["SPDXRef-crate-xbrlmerge"]["comment"].endswith(": bb"))
+        self.assertEqual(parts["SPDXRef-package-one.deb"]["checksums"][0]["checksumValue"], hashlib.sha256(b"one").hexdigest())
+        self.assertEqual([parts["SPDXRef-kit-url"][it] for it in ("versionInfo", "licenseDeclared")], ["2.5.8", "MIT OR Apache-2.0"])
+        self.assertEqual(parts["SPDXRef-kit-json"]["licenseDeclared"], "NOASSERTION")
+        ends = {it[end] for it in found["relationships"] for end in ("spdxElementId", "relatedSpdxElement")}
+        self.assertEqual(ends - {"SPDXRef-DOCUMENT"}, {*parts})
+
+    def test_the_page_of_a_crate_names_its_version(self):
+        for name, page, told in (("jiff_core", "after `jiff-core` 0.1.2 and `jiff` 0.2.39", "jiff-core 0.1.2"),
+                                 ("jiff_span", "from the crate `jiff` 0.2.39", "jiff 0.2.39"),
+                                 ("clap", "with clap_builder 4.6.7: clap_lex 1.1.1", "clap_builder 4.6.7"),
+                                 ("idna", "`tests/uts46.rs` of version 1.1.0, `idna_adapter` 1.2.2", "idna 1.1.0"),
+                                 ("json", "compared with serde_json 1.0.154", "")):
+            self.assertEqual(kit.ported(name, page), told)
+
+    def test_the_files_of_a_crate_name_its_licences(self):
+        self.assertEqual(kit.licence("", ["LICENSE-MIT", "LICENSE-APACHE", "LICENSE-UNICODE"]), "(MIT OR Apache-2.0) AND Unicode-3.0")
+        self.assertEqual(kit.licence("others are (MIT)", ["README.md"]), "NOASSERTION")
+        self.assertEqual(kit.licence("(Unlicense or MIT, `COPYING`)", ["LICENSE-MIT"]), "Unlicense OR MIT")
+
+
+class Sources(Packages):
+    def setUp(self):
+        super().setUp()
+        # a git hook that runs the tests names its own repository
+        own = mock.patch.dict(os.environ, {name: it for name, it in os.environ.items() if not name.startswith("GIT_")}, clear=True)
+        own.start()
+        self.addCleanup(own.stop)
+
+    def test_a_checkout_must_be_clean(self):
+        top, out = self.place("top"), self.place("top/out")
+        os.mkdir(top)
+        with mock.patch("shutil.which", lambda name: None if name == "dpkg-deb" else name):
+            self.assertEqual(wrong_source(top, out), "dpkg-deb is not on the PATH: ./build --packages needs it")
+        with mock.patch("shutil.which", lambda name: name):
+            self.assertIn("not a git checkout", wrong_source(top, out))
+            subprocess.run(["git", "init", "-q", top], check=True)
+            self.assertEqual(wrong_source(top, out), "")
+            self.write("top/out/one.deb", "")
+            self.assertEqual(wrong_source(top, out), "")
+            self.write("top/new", "")
+            self.assertEqual(wrong_source(top, out), "the checkout has changes that are not committed, such as new")
+
+
+class Files(Packages):
+    def test_folders_come_after_those_that_contain_them(self):
+        self.assertEqual(folders_of([File("a/b/c", b""), File("a/d", b"")]), ["a", "a/b"])
+
+    def test_permissions_are_read(self):
+        self.assertEqual([(it.place, it.mode) for it in read_below(self.scratch, "x", ("am",))], [("x/program", RUNS)])
+
+    def test_files_that_python_made_are_left_out(self):
+        os.mkdir(self.place("__pycache__"))
+        self.write("__pycache__/program", "")
+        self.assertEqual([it.place for it in read_below(self.scratch, "x", ("program",))], ["x/program"])
+
+
+if __name__ == "__main__":
+    unittest.main()

@@ -1,0 +1,79 @@
+"""A trial of tools/contradictions, which the script `examples` runs: three providers, a taxonomy with labels, planted differences."""
+import csv
+import json
+import os
+import subprocess
+import tempfile
+import zipfile
+
+from support import TOP
+
+NAMESPACE = "http://trial.example/t"
+SCALED = [f"Item{number:02}" for number in range(1, 21)]  # concepts that Beta reports 1,000 times smaller
+NUMBERS = [*SCALED, "Profit", "Equity", "Inventories", "Staff"]
+SCHEMA = """<xs:schema xmlns:xs="http://www.w3.org/2001/XMLSchema" xmlns:xbrli="http://www.xbrl.org/2003/instance"
+    targetNamespace="http://trial.example/t">%s</xs:schema>"""
+ELEMENT = '<xs:element id="t_{0}" name="{0}" type="xbrli:monetaryItemType" substitutionGroup="xbrli:item"/>'
+LINKBASE = """<link:linkbase xmlns:link="http://www.xbrl.org/2003/linkbase" xmlns:xlink="http://www.w3.org/1999/xlink">
+    <link:labelLink>%s</link:labelLink></link:linkbase>"""
+LABEL = """<link:loc xlink:href="t.xsd#t_{0}" xlink:label="{0}"/><link:labelArc xlink:from="{0}" xlink:to="{0}_label"/>
+    <link:label xlink:label="{0}_label" xml:lang="en">{0} of the group</link:label>"""
+USUAL = {**{name: f"{4_321 + place}000" for place, name in enumerate(SCALED)}, "Equity": "700000", "Inventories": "90000", "Staff": "100"}
+# for each file: its provider and its values. Alpha restates its profit. Beta reports items 1,000 times smaller, a nil and another
+# staff, and no profit. Gamma lacks the equity.
+FILES = {
+    "annual.json": ("Alpha", {**USUAL, "Profit": "500000"}),
+    "restated.json": ("Alpha", {"Profit": "520000"}),
+    "beta.json": ("Beta", {**USUAL, **{name: USUAL[name][:-3] for name in SCALED}, "Inventories": None, "Staff": "140"}),
+    "gamma.json": ("Gamma", {**{name: value for name, value in USUAL.items() if name != "Equity"}, "Profit": "520000"}),
+}
+
+
+def write_package(place):
+    with zipfile.ZipFile(place, "w") as package:
+        package.writestr("t/t.xsd", SCHEMA % "".join(map(ELEMENT.format, NUMBERS)))
+        package.writestr("t/labels.xml", LINKBASE % "".join(map(LABEL.format, NUMBERS)))
+        package.writestr("META-INF/taxonomyPackage.xml", "<a/>")
+
+
+def report(values):
+    dimensions = {"entity": "t:group", "period": "2024-01-01T00:00:00", "unit": "t:EUR"}
+    facts = {f"i{place}": {"value": value, "dimensions": {"concept": f"t:{name}", **dimensions}} for place, (name, value) in enumerate(values.items())}
+    return json.dumps({"documentInfo": {"documentType": "https://xbrl.org/2021/xbrl-json", "namespaces": {"t": NAMESPACE}}, "facts": facts})
+
+
+def table(folder, name):
+    with open(os.path.join(folder, name), encoding="utf-8-sig", newline="") as file:
+        return list(csv.DictReader(file))
+
+
+def faults(program):
+    """Runs the tool on the reports with their taxonomy. Returns what it does not find."""
+    with tempfile.TemporaryDirectory() as scratch:
+        write_package(os.path.join(scratch, "taxonomy.zip"))
+        for name, (_, values) in FILES.items():
+            with open(os.path.join(scratch, name), "w", encoding="utf-8") as file:
+                file.write(report(values))
+        words = ["--program", program, "--taxonomy", "taxonomy.zip", "-o", "out", *(f"{provider}={name}" for name, (provider, _) in FILES.items())]
+        ran = subprocess.run([os.path.join(TOP, "tools", "contradictions"), *words], capture_output=True, text=True, cwd=scratch)
+        if (ran.returncode, ran.stderr) != (1, ""):
+            return [f"the trial ends with {ran.returncode}: {ran.stderr}"]
+        folder = os.path.join(scratch, "out")
+        with open(os.path.join(folder, "page.html"), encoding="utf-8") as file:
+            page = file.read()
+        return lacking(page, table(folder, "contradictions.csv"), table(folder, "table.csv"))
+
+
+def lacking(page, cells, rows):
+    told = {(cell["label"].split()[0], cell["value"]): (cell["group"], cell["identifiers"]) for cell in cells}
+    row = {row["label"]: row for row in rows}
+    checks = {
+        "the restatement with its file": told.get(("Profit", "500000")) == ("2", f"Alpha: annual.json, i{len(USUAL)}")
+        and told["Profit", "520000"][0] == "1" and "<bdi>annual.json</bdi>" in page,
+        "the scale error as one hint": page.count('<bdi>Beta</bdi></b>: 1,000 times smaller in 20 rows</summary>') == 1,
+        "the missing fact by its label": row["Equity of the group"]["not_reported_by"] == "Gamma",
+        "the outlier's group": told.get(("Staff", "140"), " ")[0] == "2" and told.get(("Staff", "100"), " ")[0] == "1",
+        "the nil": row["Inventories of the group"]["nil_by"] == "Beta" and row["Inventories of the group"]["hint"] == "Beta: nil",
+        "all rows": len(rows) == len(NUMBERS) and row["Staff of the group"]["provider: Beta"] == "140",
+    }
+    return [f"the trial of tools/contradictions does not find {what}" for what, holds in checks.items() if not holds]
