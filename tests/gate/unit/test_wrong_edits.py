@@ -1,4 +1,4 @@
-"""Tests which edits tests/prover/mutants tries, in a small repository, with a prover that refuses each edit."""
+"""Tests which edits tests/prover/wrong_edits tries, in a small repository, with a prover that refuses each edit."""
 import os
 import shutil
 import subprocess
@@ -13,12 +13,12 @@ for edit in crates/"$2"/must-fail/*.edit; do echo "must-fail $edit: refused, as 
 
 
 @unittest.skipIf(shutil.which("git") is None, "needs git")
-class Mutants(unittest.TestCase):
+class WrongEdits(unittest.TestCase):
     def setUp(self):
-        self.tree = SmallTree(self, "tests/prover/mutants")
+        self.tree = SmallTree(self, "tests/prover/wrong_edits")
         for crate in ("low", "middle", "high"):
             self.tree.put(f"crates/{crate}/src/lib.rt", "")
-            self.tree.put(f"mutants/{crate}/one.edit", "file: src/lib.rt\nold: a\nnew: b\n")
+            self.tree.put(f"wrong_edits/{crate}/one.edit", "file: src/lib.rt\nold: a\nnew: b\n")
         self.tree.put("crates/bare/src/lib.rt", "")
         self.tree.put("crates.txt", "low:\nmiddle: low\nhigh: low middle\nbare:\n")
         self.tree.put("HANDLES", "")
@@ -34,7 +34,7 @@ class Mutants(unittest.TestCase):
         subprocess.run(["git", "-C", self.tree.folder, *words], check=True)
 
     def tried(self, *words):
-        """Runs tests/prover/mutants. Returns its status, and its lines except those of the prover."""
+        """Runs tests/prover/wrong_edits. Returns its status, and its lines except those of the prover."""
         status, lines, _ = self.tree.run(*words, env={**os.environ, "PATH": self.path})
         return status, [it for it in lines if not it.startswith("must-fail ")]
 
@@ -46,7 +46,7 @@ class Mutants(unittest.TestCase):
         self.tree.put("crates/bare/src/lib.rt", "// it has no edits\n")
         high, low = "high: 1 of 1 refused, 0 by names alone", "low: 1 of 1 refused, 0 by names alone"
         self.assertEqual(self.tried("--changed", "HEAD"), (0, [high, low]))
-        self.tree.put("mutants/middle/two.edit", "file: src/lib.rt\nold: a\nnew: c\n")
+        self.tree.put("wrong_edits/middle/two.edit", "file: src/lib.rt\nold: a\nnew: c\n")
         middle = "middle: 2 of 2 refused, 0 by names alone"
         self.assertEqual(self.tried("--changed", "HEAD"), (0, [high, low, middle]))
 

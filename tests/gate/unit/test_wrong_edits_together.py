@@ -1,4 +1,4 @@
-"""Tests which edits tests/prover/mutants_together makes together, and which it reports, with a prover that refuses wrong functions."""
+"""Tests which edits wrong_edits_together makes together, and which it reports, with a prover that refuses wrong functions."""
 import os
 import unittest
 
@@ -22,9 +22,9 @@ fi
 CODE = "fn one() {\n    first\n}\n\npub fn two() {\n    second\n}\n"
 
 
-class MutantsTogether(unittest.TestCase):
+class WrongEditsTogether(unittest.TestCase):
     def setUp(self):
-        self.tree = SmallTree(self, "tests/prover/mutants_together")
+        self.tree = SmallTree(self, "tests/prover/wrong_edits_together")
         self.tree.put("crates/low/src/lib.rt", CODE)
         self.tree.put("crates.txt", "low:\n")
         self.tree.put("HANDLES", "")
@@ -34,7 +34,7 @@ class MutantsTogether(unittest.TestCase):
         self.env = {**os.environ, "PATH": os.pathsep.join([os.path.dirname(prover), os.environ["PATH"]]), "RUNS": self.runs}
 
     def edit(self, name, old, new):
-        self.tree.put(f"mutants/low/{name}.edit", f"file: src/lib.rt\nold: {old}\nnew: {new}\n")
+        self.tree.put(f"wrong_edits/low/{name}.edit", f"file: src/lib.rt\nold: {old}\nnew: {new}\n")
 
     def tried(self, *words):
         """Runs the script. Returns its status, its lines, and how often it ran the prover."""
@@ -71,7 +71,7 @@ class MutantsTogether(unittest.TestCase):
         self.assertEqual(self.tried(), (1, lines, 3))
 
     def test_a_crate_without_edits(self):
-        self.assertEqual(self.tree.run("low", env=self.env)[:2], (1, ["low: no such crate, or no edits in mutants/low"]))
+        self.assertEqual(self.tree.run("low", env=self.env)[:2], (1, ["low: no such crate, or no edits in wrong_edits/low"]))
 
 
 if __name__ == "__main__":
