@@ -207,7 +207,7 @@ def write(inputs: Inputs, options: argparse.Namespace, folder: str, progress: Pr
     with files_written(texts):
         progress.clear()
         print("; ".join([*parts, f"page: {printable(os.path.join(options.output, 'page.html'))}"]), flush=True)
-    is_to_look_at = rows or refused or inputs.losses or near and near.cut
+    is_to_look_at = rows or refused or inputs.losses or near and near.uncompared
     return Status.LOOK if is_to_look_at and not options.exit_zero else Status.DONE
 
 

@@ -43,7 +43,7 @@ from arguments import Parser  # noqa: E402
 from process import Status, print_lines, run  # noqa: E402
 from sheet_making.limits import Limits, reading  # noqa: E402
 from sheet_making.making import kinds_in  # noqa: E402
-from sheet_making.sheets import sheet_text, union  # noqa: E402
+from sheet_making.sheet_text import sheet_text, union  # noqa: E402
 from text_files import LONGEST, PIECE, STANDARD, opened  # noqa: E402
 
 

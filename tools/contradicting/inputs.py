@@ -20,7 +20,7 @@ from process import NotDone
 from program import Program
 from sheet_making.limits import Limits
 from sheet_making.making import kinds_in
-from sheet_making.sheets import sheet_text
+from sheet_making.sheet_text import sheet_text
 from sheets import Sheet
 
 File = tuple[str, Iterator[str]]  # the name of a file beside the page, and its pieces

@@ -36,19 +36,19 @@ class Near:
     case or white space; dates at most a day apart; another unit or language; a dimension that one row lacks.
     Rows form a group if they are equal in all dimensions but one, and their values of that dimension share a key of `buckets`.
     Two rows also form a group if one lacks a dimension of the other and they are otherwise equal. In a group, neighbours in the
-    order of the rows are compared first. `cut` counts the pairs that MOST_PAIRS and MOST_FACTS exclude from the comparison.
+    order of the rows are compared first. `uncompared` counts the pairs that MOST_PAIRS and MOST_FACTS exclude.
     """
 
     def __init__(self, providers: Sequence[str]) -> None:
-        self.everybody, self.cut = {*providers}, 0
+        self.everybody, self.uncompared = {*providers}, 0
         self.kept: dict[int, Kept] = {}
         self.items: dict[int, Items] = {}
 
     def add(self, row: Row) -> None:
         """Keeps a row that can belong to a pair: some providers report it, and some do not."""
-        who = frozenset(names_of(row.holders))
-        if who and who < self.everybody:
-            self.kept[row.number] = Kept(row.dimensions, row.facts, row.holders, who)
+        names = frozenset(names_of(row.holders))
+        if names and names < self.everybody:
+            self.kept[row.number] = Kept(row.dimensions, row.facts, row.holders, names)
 
     def pairs(self) -> list[tuple[int, int, Axis]]:
         """Returns the pairs in order: the numbers of two rows, and the dimension in which they differ."""
@@ -85,7 +85,7 @@ class Near:
         pairs = itertools.chain.from_iterable(zip(numbers, numbers[step:]) for step in range(1, len(numbers)))
         for done, (one, other) in enumerate(pairs):
             if done == MOST_PAIRS or facts > MOST_FACTS:
-                self.cut += count - done
+                self.uncompared += count - done
                 return
             axis = self.difference(one, other) if self.kept[one].names.isdisjoint(self.kept[other].names) else None
             if axis:
@@ -103,10 +103,10 @@ class Near:
         return axes[0] if shared else None
 
     def notes(self) -> list[str]:
-        told = f"--near: {self.cut} pairs of rows were not compared."
+        count = f"--near: {self.uncompared} pairs of rows were not compared."
         group = "Rows that are similar in one dimension and equal in all others form a group."
         most = f"In each group, at most {MOST_PAIRS} pairs are compared, or fewer if those found have over {MOST_FACTS} facts."
-        return [f"{told} {group} {most}"] if self.cut else []
+        return [f"{count} {group} {most}"] if self.uncompared else []
 
     def table(self, pairs: list[tuple[int, int, Axis]], labels: Mapping[Name, str]) -> Iterator[Sequence[str]]:
         """Yields the lines of the table: the headings, then, for each pair, one line for each fact of its two rows."""

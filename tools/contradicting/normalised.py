@@ -12,8 +12,8 @@ from contradicting.tables import cell, lines_of
 from normalising.changes import Log
 from normalising.json_text import Number, Tree, pieces_of, read_json_of_length, text_of
 from normalising.mapping import read_map
-from normalising.names import sheet_at
 from normalising.rules import Normaliser
+from normalising.sheet_file import sheet_at
 from process import NotDone, sentence
 from program import Program
 

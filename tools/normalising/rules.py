@@ -12,7 +12,6 @@ from normalising import moments
 from normalising.changes import Log, Part, Reason
 from normalising.json_text import Number, Tree, pointer_of, text_of
 from normalising.mapping import NameMap, ReportMap
-from normalising.names import core_spelling, is_text
 from normalising.unreadable import refused_in
 from process import NotDone
 from program import Program
@@ -246,6 +245,16 @@ def scale_value(fact: Part, scale: int) -> None:
     fact.change("value", scaled, "map", True)
     if places is not None:
         fact.change("decimals", Number(places), "map", True)
+
+
+def is_text(value: Tree) -> bool:
+    return isinstance(value, str) and not isinstance(value, Number)
+
+
+def core_spelling(key: str, uris: Uris) -> Optional[str]:
+    """Returns the local part of a name in the namespace XBRL, or None. The prefix `xbrl` means XBRL unless it is bound."""
+    prefix, colon, local = key.partition(":")
+    return local if colon and uris.get(prefix, XBRL if prefix == "xbrl" else None) == XBRL else None
 
 
 def kind_of(name: Optional[Name], kinds: Kinds) -> Optional[str]:

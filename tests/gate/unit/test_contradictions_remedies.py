@@ -6,9 +6,9 @@ import unittest
 import in_process
 from contradicting.remedies import FOR_NAMES
 from normalising.json_text import Number
-from normalising.names import sheet_at
 from normalising.options import LOSSES
 from normalising.rules import Normaliser
+from normalising.sheet_file import sheet_at
 
 SHEET = {"namespaces": {"eg": "http://example.org/t"}, "concepts": {"eg:A": "numeric", "eg:Q": "name"},
          "dimensions": {"eg:Reg": "explicit", "eg:Sku": "typed"}}
