@@ -13,8 +13,8 @@ from support import TOP, content
 RUST_USE = re.compile(r"^(?:pub )?use (\w+)::(?:\w+::)*(?:\{([^}]*)\}|(\w+));", re.MULTILINE)
 USE = re.compile(r"^\s*(?:ghost )?(?:pub )?use Rattle\.([\w.]+?)(?:\.\{(.*?)\}| as (\w+));?$", re.MULTILINE)
 HEAD = re.compile(r"\s*(?:(?:abbrev|unfoldable|opaque|pub) )*(?:(data|record) )?([^\s:({]+)(?(1)| :)")
-WORD = re.compile(r"(?<![\w.])[A-Za-z_]\w*(?:\.[A-Za-z_]\w*)*")
-TOKEN = re.compile(rf"λ [\w ]+\.|[({{](?:0 )?(?:\w+ )+:|\blet \w+|[(){{}}]|{WORD.pattern}")
+IDENTIFIER = re.compile(r"(?<![\w.])[A-Za-z_]\w*(?:\.[A-Za-z_]\w*)*")
+TOKEN = re.compile(rf"λ [\w ]+\.|[({{](?:0 )?(?:\w+ )+:|\blet \w+|[(){{}}]|{IDENTIFIER.pattern}")
 FIELD_TOKEN = re.compile(rf"\n\s+(?:pub )?\w+ :|{TOKEN.pattern}")
 
 
@@ -73,7 +73,7 @@ class Specs:
 
     def owner(self, path, word):
         """Returns the definition, type or limit that a word in a file means. For a word of the kit, returns its full name; for
-        other words, returns None."""
+        others, returns None."""
         word, *rest = word.split(".")
         if (path, word) in self.owners:
             return self.owners[path, word]
@@ -97,7 +97,7 @@ class Specs:
 
     def type_owner(self, path, word):
         """Returns the type that a word in Rattle code means, or None if this repository does not define it."""
-        crates = {it: crate for crate, names, name in RUST_USE.findall(content(path)) for it in WORD.findall(names) + [name]}
+        crates = {it: crate for crate, names, name in RUST_USE.findall(content(path)) for it in IDENTIFIER.findall(names) + [name]}
         crate = crates.get(word, "crate").replace("crate", path.split("/")[1])
         return (self.types[crate, word], word) if (crate, word) in self.types else None
 
@@ -121,8 +121,8 @@ def of_code(path, name):
     return "\n".join([*lines[first : last + (not is_function)], *view])
 
 
-def free_words(code, bound, is_record=False):
-    """Yields the free words of a clause or a record.
+def free_identifiers(code, bound, is_record=False):
+    """Yields the free identifiers of a clause or a record.
 
     λ, let and (x : T) bind a name up to the end of the surrounding brackets. A record field binds its name in the later fields.
     """
@@ -152,36 +152,36 @@ def without_comments(text):
     return "\n".join(it.split(" -- ")[0] for it in text.split("\n") if not it.lstrip().startswith(("--", "///")))
 
 
-def defined_words(specs, path, name):
-    """Yields the free words of a definition. In a pattern only constructors are free; all other words are bound."""
+def identifiers_of_definition(specs, path, name):
+    """Yields the free identifiers of a definition. In a pattern only constructors are free; all others are bound."""
     code = without_comments(specs.texts[path, name])
     heads = "|".join(map(re.escape, specs.names[path, name]))
     indent = re.search(r"^( *)(?!abbrev mutual)\S", code, re.MULTILINE)[1]
     first, *clauses = re.split(rf"^(?={indent}(?:{heads})\s)", code, flags=re.MULTILINE)
-    yield from free_words(first, set(), re.match(r" *(?:pub )?record ", first) is not None)
+    yield from free_identifiers(first, set(), re.match(r" *(?:pub )?record ", first) is not None)
     for clause in clauses:
         pattern, body = re.split(r" =(?=\s)", clause, maxsplit=1)
-        words = WORD.findall(pattern)
-        constructors = [it for it in words if it in specs.imports[path] or specs.owners.get((path, it), ("", it))[1] != it]
+        identifiers = IDENTIFIER.findall(pattern)
+        constructors = [it for it in identifiers if it in specs.imports[path] or specs.owners.get((path, it), ("", it))[1] != it]
         yield from constructors
-        yield from free_words(body, set(words) - set(constructors))
+        yield from free_identifiers(body, set(identifiers) - set(constructors))
 
 
-def contract_words(specs, path, name):
-    """Returns the free words of a contract."""
+def identifiers_of_contract(specs, path, name):
+    """Returns the free identifiers of a contract."""
     specs.imports.setdefault(path, imports_of(content(path)))
     contract = "\n".join(re.findall(r"(?:ensures|requires)[^{]*\{.*", of_code(path, name), re.DOTALL))
-    return free_words(without_comments(contract), set())
+    return free_identifiers(without_comments(contract), set())
 
 
 def type_names(specs, path, name):
     """Yields the types of a type's fields, and the names that its view uses."""
     code = without_comments(specs.text(path, name))
     for field in re.findall(r"^ +(?:pub )?\w+(?:: |\()(.*)", code, re.MULTILINE):
-        yield from (specs.type_owner(path, it) for it in WORD.findall(field))
+        yield from (specs.type_owner(path, it) for it in IDENTIFIER.findall(field))
     specs.imports.setdefault(path, imports_of(content(path)))
     for view in re.findall(r"^ *ghost \w+ = (.*)", code, re.MULTILINE):
-        yield from (specs.owner(path, it) for it in free_words(view, set()))
+        yield from (specs.owner(path, it) for it in free_identifiers(view, set()))
 
 
 @functools.lru_cache(maxsize=None)
@@ -190,8 +190,8 @@ def needs(specs, path, name):
     if path.endswith(".rt") and not is_contract(specs, path, name):
         owners = type_names(specs, path, name)
     else:
-        words = (contract_words if path.endswith(".rt") else defined_words)(specs, path, name)
-        owners = (specs.owner(path, it) for it in words)
+        identifiers = (identifiers_of_contract if path.endswith(".rt") else identifiers_of_definition)(specs, path, name)
+        owners = (specs.owner(path, it) for it in identifiers)
     return [it for it in dict.fromkeys(owners) if it and it != (path, name)]
 
 

@@ -65,14 +65,14 @@ def faults(program):
 
 
 def lacking(page, cells, rows):
-    told = {(cell["label"].split()[0], cell["value"]): (cell["group"], cell["identifiers"]) for cell in cells}
+    found = {(cell["label"].split()[0], cell["value"]): (cell["group"], cell["identifiers"]) for cell in cells}
     row = {row["label"]: row for row in rows}
     checks = {
-        "the restatement with its file": told.get(("Profit", "500000")) == ("2", f"Alpha: annual.json, i{len(USUAL)}")
-        and told["Profit", "520000"][0] == "1" and "<bdi>annual.json</bdi>" in page,
+        "the restatement with its file": found.get(("Profit", "500000")) == ("2", f"Alpha: annual.json, i{len(USUAL)}")
+        and found["Profit", "520000"][0] == "1" and "<bdi>annual.json</bdi>" in page,
         "the scale error as one hint": page.count('<bdi>Beta</bdi></b>: 1,000 times smaller in 20 rows</summary>') == 1,
         "the missing fact by its label": row["Equity of the group"]["not_reported_by"] == "Gamma",
-        "the outlier's group": told.get(("Staff", "140"), " ")[0] == "2" and told.get(("Staff", "100"), " ")[0] == "1",
+        "the outlier's group": found.get(("Staff", "140"), " ")[0] == "2" and found.get(("Staff", "100"), " ")[0] == "1",
         "the nil": row["Inventories of the group"]["nil_by"] == "Beta" and row["Inventories of the group"]["hint"] == "Beta: nil",
         "all rows": len(rows) == len(NUMBERS) and row["Staff of the group"]["provider: Beta"] == "140",
     }

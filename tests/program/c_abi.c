@@ -34,8 +34,8 @@ void *__wrap_malloc(size_t size) { return is_refused() ? NULL : __real_malloc(si
 void *__wrap_realloc(void *block, size_t size) { return size && is_refused() ? NULL : __real_realloc(block, size); }
 void *__wrap_calloc(size_t count, size_t size) { return is_refused() ? NULL : __real_calloc(count, size); }
 
-static void fail(int line, const char *told) {
-    fprintf(stderr, "c_abi.c:%d: expected %s\n", line, told);
+static void fail(int line, const char *expected) {
+    fprintf(stderr, "c_abi.c:%d: expected %s\n", line, expected);
     exit(90);
 }
 

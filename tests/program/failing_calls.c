@@ -1,6 +1,6 @@
 /* This library, loaded by LD_PRELOAD, replaces the functions of the C library (glibc) with which xbrlmerge writes a file.
    Three environment variables control this library. FAIL is the number of the call that fails as on a full device. KILL is the
-   number of the call at which the process is killed. CALLS_TOLD names a file, to which the name of each counted call is
+   number of the call at which the process is killed. CALLS_LOG names a file, to which the name of each counted call is
    appended. Calls are counted from 1; writes to the standard streams and calls of open without O_EXCL are not counted. */
 #define _GNU_SOURCE
 #include <dlfcn.h>
@@ -20,20 +20,20 @@ static long number_of(const char *name) {
     return number ? atol(number) : 0;
 }
 
-static void tell(const char *name) {
+static void record(const char *name) {
     static ssize_t (*real)(int, const void *, size_t);
     static int (*opened)(const char *, int, ...);
-    const char *told = getenv("CALLS_TOLD");
-    if (!told) return;
+    const char *log_file = getenv("CALLS_LOG");
+    if (!log_file) return;
     if (!real) real = dlsym(RTLD_NEXT, "write");
     if (!opened) opened = dlsym(RTLD_NEXT, "open");
-    int file = opened(told, O_WRONLY | O_CREAT | O_APPEND | O_CLOEXEC, 0600);
+    int file = opened(log_file, O_WRONLY | O_CREAT | O_APPEND | O_CLOEXEC, 0600);
     if (file < 0 || real(file, name, strlen(name)) < 0 || real(file, "\n", 1) < 0 || close(file) < 0) abort();
 }
 
 static int fails(const char *name) {
     made++;
-    tell(name);
+    record(name);
     if (made == number_of("KILL")) raise(SIGKILL);
     if (made != number_of("FAIL")) return 0;
     errno = ENOSPC;

@@ -1,8 +1,8 @@
 /* This library, loaded by LD_PRELOAD, replaces malloc, calloc and realloc of the C library (glibc). Two environment variables
    control this library. REFUSE is the number of the request that is refused. Requests are counted from 1 once this library is
-   loaded. REFUSE_TOLD names a file, to which a refusal appends the line "refused", or "refused smaller" if the request is for a
+   loaded. REFUSE_LOG names a file, to which a refusal appends the line "refused", or "refused smaller" if the request is for a
    smaller block in place of a block. When the process exits normally, the number of requests is appended to the same file.
-   Without REFUSE_TOLD, requests are neither counted nor refused. */
+   Without REFUSE_LOG, requests are neither counted nor refused. */
 #include <errno.h>
 #include <fcntl.h>
 #include <malloc.h>
@@ -13,17 +13,17 @@
 
 void *__libc_malloc(size_t), *__libc_calloc(size_t, size_t), *__libc_realloc(void *, size_t);
 
-static const char *told;
+static const char *log_file;
 static long chosen, made;
 
-static void tell(const char *line) {
-    int file = told ? open(told, O_WRONLY | O_CREAT | O_APPEND | O_CLOEXEC, 0600) : -1;
+static void record(const char *line) {
+    int file = log_file ? open(log_file, O_WRONLY | O_CREAT | O_APPEND | O_CLOEXEC, 0600) : -1;
     if (file >= 0 && (write(file, line, strlen(line)) < 0 || close(file) < 0)) abort();
 }
 
 static int is_refused(const char *line) {
-    if (!told || __atomic_add_fetch(&made, 1, __ATOMIC_RELAXED) != chosen) return 0;
-    tell(line);
+    if (!log_file || __atomic_add_fetch(&made, 1, __ATOMIC_RELAXED) != chosen) return 0;
+    record(line);
     errno = ENOMEM;
     return 1;
 }
@@ -40,11 +40,11 @@ void *realloc(void *block, size_t size) { return size && is_refused(line_of(bloc
 __attribute__((constructor)) static void begin(void) {
     const char *number = getenv("REFUSE");
     chosen = number ? atol(number) : 0;
-    told = getenv("REFUSE_TOLD");
+    log_file = getenv("REFUSE_LOG");
 }
 
 __attribute__((destructor)) static void end(void) {
     char line[32];
     snprintf(line, sizeof line, "%ld\n", made);
-    tell(line);
+    record(line);
 }

@@ -58,11 +58,11 @@ def run(tool, *words):
 def run_whole(tool, *words):
     """Runs a tool, and returns its status, its standard error, and its standard output as bytes."""
     argv, out = mock.patch.object(sys, "argv", [tool.__name__, *words]), io.TextIOWrapper(io.BytesIO())
-    with argv, contextlib.redirect_stderr(io.StringIO()) as told, contextlib.redirect_stdout(out), warnings.catch_warnings():
+    with argv, contextlib.redirect_stderr(io.StringIO()) as errors, contextlib.redirect_stdout(out), warnings.catch_warnings():
         warnings.simplefilter("ignore", ResourceWarning)  # tools leave files open until their process ends
         status, lines = process.outcome(tool.main)
         process.print_lines(lines)
-        return status, told.getvalue(), out.buffer.getvalue()
+        return status, errors.getvalue(), out.buffer.getvalue()
 
 
 def growth(run_at, size):

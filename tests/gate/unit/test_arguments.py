@@ -45,11 +45,11 @@ class OddNames(Stubbed):
 
     def test_the_other_tools_read_such_files_too(self):
         self.put("--drop-notes")
-        status, told = in_process.run(normalise, "--", "--drop-notes", "--sheet=out", "-")
-        self.assertEqual((status, told, os.path.exists("--sheet=out"), os.path.exists("-")), (0, "", True, True))
+        status, errors = in_process.run(normalise, "--", "--drop-notes", "--sheet=out", "-")
+        self.assertEqual((status, errors, os.path.exists("--sheet=out"), os.path.exists("-")), (0, "", True, True))
         self.write("--union", SCHEMA % ITEM % ("A", "string"))
-        status, told, out = in_process.run_whole(make_sheet, "--", "--union")
-        self.assertEqual((status, told, [*json.loads(out)["concepts"]]), (0, "", ["n1:A"]))
+        status, errors, out = in_process.run_whole(make_sheet, "--", "--union")
+        self.assertEqual((status, errors, [*json.loads(out)["concepts"]]), (0, "", ["n1:A"]))
 
     def test_a_merged_report_of_a_provider_after_two_dashes(self):
         merged = shutil.copy(example("merged.json"), "--names=a")
@@ -76,8 +76,8 @@ class StandardStreams(Stubbed):
         self.assertEqual(content(self.place("changes")).encode(), self.CHANGE)
         self.assertEqual(self.run_piped("normalise", "report.json", "out", "-"), (0, b"", self.CHANGE))
         self.assertEqual(content(self.place("out")).encode(), self.NORMAL)
-        told = b"normalise: standard input: the file cannot be read as JSON: it is not UTF-8; the file looks like a gzip file: unpack it first\n"
-        self.assertEqual(self.run_piped("normalise", "-", "-", "changes", given=b"\x1f\x8b"), (3, told, b""))
+        line = b"normalise: standard input: the file cannot be read as JSON: it is not UTF-8; the file looks like a gzip file: unpack it first\n"
+        self.assertEqual(self.run_piped("normalise", "-", "-", "changes", given=b"\x1f\x8b"), (3, line, b""))
         self.assertFalse(os.path.exists(self.place("-")))
 
     def test_a_full_device_changes_no_file(self):
@@ -96,8 +96,8 @@ class StandardStreams(Stubbed):
         with zipfile.ZipFile(packed, "w") as package:
             package.writestr("a.xsd", schema)
         for words, given, concept in ((["-"], schema, "n1:A"), (["-"], packed.getvalue(), "n1:A"), (["--union", "-"], sheet, "n1:B")):
-            status, told, out = self.run_piped("make_sheet", *words, given=given)
-            self.assertEqual((status, told, [*json.loads(out)["concepts"]]), (0, b"", [concept]))
+            status, errors, out = self.run_piped("make_sheet", *words, given=given)
+            self.assertEqual((status, errors, [*json.loads(out)["concepts"]]), (0, b"", [concept]))
 
     def test_streams_that_are_none(self):
         sheet = ["--sheet", SHEET, "-o"]
@@ -123,10 +123,10 @@ class Messages(Stubbed):
             (make_sheet, ["a", f"--{ESCAPE}"]),
             (make_sheet, ["a", "--megabytes", ESCAPE]),
         ):
-            status, told = in_process.run(tool, *words)
-            self.assertEqual(status, 2, told)
-            self.assertTrue(told.replace("\n", "").isprintable(), told)
-            self.assertEqual([line for line in told.splitlines() if "error: " in line], told.splitlines()[-1:])
+            status, errors = in_process.run(tool, *words)
+            self.assertEqual(status, 2, errors)
+            self.assertTrue(errors.replace("\n", "").isprintable(), errors)
+            self.assertEqual([line for line in errors.splitlines() if "error: " in line], errors.splitlines()[-1:])
 
 
 if __name__ == "__main__":

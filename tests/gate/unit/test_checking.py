@@ -21,14 +21,14 @@ class Checking(Stubbed):
         """Returns the command at the foot of the page."""
         return html.unescape(re.search(r'<details class="check">.*<pre>(.*?)</pre></details>', content(self.page), re.DOTALL)[1])
 
-    def told(self, name):
+    def file_text(self, name):
         return content(os.path.join(self.output, name))
 
     def test_the_command_checks_the_run(self):
         self.run_on(*REPORTS)
-        self.assertEqual(self.told("verdicts.txt"), content(example("verdicts.txt")))
-        self.assertEqual(self.told("sources.txt"), content(example("sources.txt")))
-        self.assertEqual(self.told("refusals.txt"), "")
+        self.assertEqual(self.file_text("verdicts.txt"), content(example("verdicts.txt")))
+        self.assertEqual(self.file_text("sources.txt"), content(example("sources.txt")))
+        self.assertEqual(self.file_text("refusals.txt"), "")
         done = subprocess.run(["bash", "-c", self.command()], capture_output=True, text=True)
         self.assertEqual((done.returncode, done.stderr), (0, ""))
         self.assertEqual(done.stdout, "references not checked: 2\n3 reports, 149 fact objects, 120 facts, 64 rows, 3 contradictions: agree\n")
@@ -36,14 +36,14 @@ class Checking(Stubbed):
     def test_refusals_are_written_as_they_were_printed(self):
         self.refuses(REFUSED, ("a sentence", {}))
         self.run_on(*REPORTS[:1], example("oldharbour.json"), *REPORTS[1:])
-        self.assertEqual(self.told("refusals.txt"), REFUSED)
+        self.assertEqual(self.file_text("refusals.txt"), REFUSED)
 
     def test_normalised_reports_are_written_and_others_are_not(self):
         self.prints_nothing()
         linked, broken = self.write("linked.json", LINKED), self.write("broken.json", "{")
         self.run_on("--normalise", "--drop-links", broken, linked)
         self.assertEqual(sorted(os.listdir(os.path.join(self.output, "reports"))), ["2.json"])
-        self.assertNotIn("links", self.told("reports/2.json"))
+        self.assertNotIn("links", self.file_text("reports/2.json"))
         self.assertTrue(self.command().endswith(f" -- {broken} {self.output}/reports/2.json"), self.command())
 
     def test_a_sheet_that_was_made_is_named(self):

@@ -61,13 +61,13 @@ class ToolTest(in_process.RoomTest):
         self.assertTrue(done.stdout.decode().endswith(f"; page: {self.page}\n"), done.stdout)
         return page, cells
 
-    def check_refused(self, told, *inputs):
+    def check_refused(self, wanted, *inputs):
         """Runs the tool, which must end with status 3, print only a line with the reason, and leave no new file."""
         before = set(os.listdir(self.scratch))
         done = self.run_tool(*inputs)
         self.assertEqual((done.returncode, done.stdout), (3, b""), done.stderr)
         self.assertEqual(len(done.stderr.splitlines()), 1, done.stderr)
-        self.assertIn(told, done.stderr.decode())
+        self.assertIn(wanted, done.stderr.decode())
         self.assertEqual(set(os.listdir(self.scratch)), before)
 
 
@@ -76,26 +76,26 @@ class Pages(ToolTest):
         super().setUp()
         self.text, self.cells = self.written(MERGED, SHEET, VERDICTS)
         self.seen = Seen(self.text)
-        self.words = re.sub("[ \n]+", " ", "".join(self.seen.texts))
+        self.shown = re.sub("[ \n]+", " ", "".join(self.seen.texts))
 
     def test_the_fixture_is_what_the_rules_say(self):
         self.assertEqual(lines_of_verdicts.lines(content(MERGED)), content(VERDICTS))
 
     def test_counts_come_first(self):
-        start = self.words.index("6contradictions")
-        self.assertIn("6contradictions1consistent within rounding1with one fact", self.words)
-        self.assertLess(start, self.words.index("Auditor"))
+        start = self.shown.index("6contradictions")
+        self.assertIn("6contradictions1consistent within rounding1with one fact", self.shown)
+        self.assertLess(start, self.shown.index("Auditor"))
 
-    def test_periods_are_told_by_days(self):
-        self.assertIn("2023-01-01 to 2023-12-31", self.words)
-        self.assertIn("at the end of 2023-12-31", self.words)
-        self.assertNotIn("2024-01-01", self.words)
+    def test_periods_are_shown_by_days(self):
+        self.assertIn("2023-01-01 to 2023-12-31", self.shown)
+        self.assertIn("at the end of 2023-12-31", self.shown)
+        self.assertNotIn("2024-01-01", self.shown)
 
     def test_intervals_and_gaps_are_exact(self):
         for text in ("4.805", "4.815", "\u22121\u202f200.5", "exact", "4.75 NOK / shares4.95 NOK / shares"):
-            self.assertIn(text, self.words)
-        self.assertIn("No number fits both: there is a gap of 0.115 NOK / shares between 4.815 and 4.93.", self.words)
-        self.assertIn("there is a gap of 2\u202f399 NOK between \u22121\u202f199.5 and 1\u202f199.5.", self.words)
+            self.assertIn(text, self.shown)
+        self.assertIn("No number fits both: there is a gap of 0.115 NOK / shares between 4.815 and 4.93.", self.shown)
+        self.assertIn("there is a gap of 2\u202f399 NOK between \u22121\u202f199.5 and 1\u202f199.5.", self.shown)
 
     def test_only_numbers_have_a_line(self):
         self.assertEqual(self.seen.tags.count("svg"), 4 + 2 + 2 + 1)
@@ -141,7 +141,7 @@ class Pages(ToolTest):
 
 
 class Providers(ToolTest):
-    def test_who_said_a_value_is_told_by_expanded_facts(self):
+    def test_who_said_a_value_is_shown_by_expanded_facts(self):
         tree = json.loads(content(MERGED))
         kept = {"f1": tree["facts"]["f06"], "f2": tree["facts"]["f09"]}
         tree["facts"] = json.loads(json.dumps(kept).replace('"n1:', '"n4:').replace("n3:NOK/n4:shares", "n3:NOK/n1:shares"))

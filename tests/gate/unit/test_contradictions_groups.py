@@ -92,7 +92,7 @@ class Hints(unittest.TestCase):
         self.assertEqual([hint.phrase for hint in found], ["1,000 times smaller"])
 
 
-class Told(ToolTest):
+class Reported(ToolTest):
     """Runs the tool on facts that say who reports them. The providers are Alpha, Beta with two reports, and Gamma."""
 
     FILES = ("alpha.json", "half.json", "annual.json", "gamma.json")
@@ -143,10 +143,10 @@ class Told(ToolTest):
         page, *_ = self.run_on([[(("1", 0), (1, 2)), (("9", 0), (4,))], [(("5", 0), (1,)), (("7", 0), (2, 3))], [("x", (2,))]])
         table = page.split('<table class="providers"')[1].split("</table>")[0]
         rows = [re.findall(r"<bdi>(\w+)</bdi>|>(\d+)(?=<|\n)", row) for row in table.split("<tr>")[2:]]
-        told = [[name or count for name, count in row] for row in rows]
-        self.assertEqual(told, [["Alpha", "2", "1", "1", "0"], ["Beta", "3", "1", "0", "0"], ["Gamma", "1", "1", "2", "0"]])
+        found = [[name or count for name, count in row] for row in rows]
+        self.assertEqual(found, [["Alpha", "2", "1", "1", "0"], ["Beta", "3", "1", "0", "0"], ["Gamma", "1", "1", "2", "0"]])
 
-    def test_the_file_of_a_restatement_is_told(self):
+    def test_the_file_of_a_restatement_is_shown(self):
         page, cells, rows = self.run_on([[(("1", 0), (2,)), (("9", 0), (1, 3))]])
         self.assertEqual([cell["identifiers"] for cell in cells], ["Beta: i2f1", "Alpha: i1f2; Beta: i3f2"])
         self.assertEqual(rows[0]["provider: Beta"], "1; 9")
@@ -161,8 +161,8 @@ class Told(ToolTest):
         self.NAMES = [*names, *(f"P{number}" for number in range(all_rows.MOST_PROVIDERS))]
         page, _, listed = self.run_on(rows)
         self.NAMES = names
-        told = [(row["values"], row["decimals"], row["reported_by"]) for row in listed]
-        self.assertEqual(told, [("1; 9", "0; 2", "2 of 103"), ("x", "", "1 of 103")])
+        found = [(row["values"], row["decimals"], row["reported_by"]) for row in listed]
+        self.assertEqual(found, [("1; 9", "0; 2", "2 of 103"), ("x", "", "1 of 103")])
         self.assertNotIn("provider: Alpha", listed[0])
         self.assertIn("<th>Values\n<tr class=apart><td>1<td>", page)
 
@@ -187,8 +187,8 @@ class Told(ToolTest):
     def test_nil_is_not_the_text_nil(self):
         _, cells, rows = self.run_on([[((None, None), (1,)), (("9", 0), (2,))], [("nil", (1,)), ("x", (2,))], [("", (1,)), ("x", (2,))]])
         self.assertEqual([(cell["value"], cell["nil"]) for cell in cells[::2]], [("", "true"), ("nil", "false"), ("", "false")])
-        told = [(row["provider: Alpha"], row["nil_by"], row["not_reported_by"]) for row in rows]
-        self.assertEqual(told, [("", "Alpha", "Gamma"), ("nil", "", "Gamma"), ("", "", "Gamma")])
+        found = [(row["provider: Alpha"], row["nil_by"], row["not_reported_by"]) for row in rows]
+        self.assertEqual(found, [("", "Alpha", "Gamma"), ("nil", "", "Gamma"), ("", "", "Gamma")])
 
 
 if __name__ == "__main__":

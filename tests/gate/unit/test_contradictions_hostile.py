@@ -68,8 +68,8 @@ class Hostile(ToolTest):
             lines.append(f"{rank} {of[0]} {of[-1]} " + ("complete" if len(of) == 1 else f"inconsistent apart {of[0]} {of[-1]}"))
             sources += [f'{name} {1 + rank % len(providers)} "i"' for name in of]
         inputs = [merged, self.sheet, self.write("lines", "".join(f"{line}\n" for line in lines))]
-        told = self.write("sources", "".join(f"{line}\n" for line in sources))
-        return ["--sources", told, "--names", ",".join(providers), *["--near", self.near] * is_near, "-o", self.output, "--from", *inputs]
+        path = self.write("sources", "".join(f"{line}\n" for line in sources))
+        return ["--sources", path, "--names", ",".join(providers), *["--near", self.near] * is_near, "-o", self.output, "--from", *inputs]
 
     def rows_near(self):
         with open(self.near, encoding="utf-8-sig", newline="") as file:
@@ -106,20 +106,20 @@ class Hostile(ToolTest):
                 files = {path for path in words if os.path.exists(path)}
                 self.assertLess(peak, 30 * sum(map(os.path.getsize, files)) + 3_000_000)
 
-    def test_pairs_that_are_not_compared_are_told(self):
+    def test_pairs_that_are_not_compared_are_reported(self):
         facts = [number(1, unit=f"e:u{each:04}") for each in range(100)]
-        status, told = in_process.run(contradictions, *self.words(facts, is_near=True))
+        status, errors = in_process.run(contradictions, *self.words(facts, is_near=True))
         pairs = {tuple(row["fact"] for row in pair) for pair in zip(*[iter(self.rows_near())] * 2)}
         self.assertEqual(status, 1)
-        self.assertIn("contradictions: --near: 3950 pairs of rows were not compared", told)  # of 4950; 1000 are compared
+        self.assertIn("contradictions: --near: 3950 pairs of rows were not compared", errors)  # of 4950; 1000 are compared
         distances = {int(two[1:]) - int(one[1:]) for one, two in pairs}
         self.assertEqual(distances, {1, 3, 5, 7, 9, 11})  # only near rows; rows at an even distance share a provider
         self.assertLess(len(pairs), 1_001)
 
     def test_as_many_pairs_as_are_compared_are_all_listed(self):
         facts = [number(1, unit=f"e:u{each:04}") for each in range(45)]
-        status, told = in_process.run(contradictions, *self.words(facts, is_near=True))
-        self.assertEqual((status, told, len(self.rows_near())), (0, "", 2 * 22 * 23))
+        status, errors = in_process.run(contradictions, *self.words(facts, is_near=True))
+        self.assertEqual((status, errors, len(self.rows_near())), (0, "", 2 * 22 * 23))
 
     def test_the_page_has_eighty_characters_of_a_name_and_the_table_all(self):
         long = "z" * 5_000
@@ -128,9 +128,9 @@ class Hostile(ToolTest):
         self.sheet = self.write("sheet.json", json.dumps(sheet))
         facts = [{"dimensions": {**dimensions, "period": f"20{year}-01-01T00:00:00"}, "decimals": 1, "value": f"{value}"}
                  for year in range(10, 30) for value in (1, 2)]
-        status, told = in_process.run(contradictions, *self.words(facts))
+        status, errors = in_process.run(contradictions, *self.words(facts))
         page, table = content(self.page), content(self.table)
-        self.assertEqual((status, told, long[:81] in page, LONG_URI[:81] in page), (1, "", False, False))
+        self.assertEqual((status, errors, long[:81] in page, LONG_URI[:81] in page), (1, "", False, False))
         self.assertIn(f'<abbr title="{LONG_URI[:80]}.."><bdi>{long[:80]}..</bdi></abbr>', page)
         self.assertEqual((table.count(LONG_URI), table.count(long)), (40 * 5, 40 * 5))
 
@@ -169,12 +169,12 @@ class Hostile(ToolTest):
             self.assertEqual(line_of(cells), made.getvalue())
 
     def test_a_table_that_would_be_too_long_is_refused_before_it_is_written(self):
-        for limit, told in (("LONGEST_ROW", "one row"), ("LONGEST_TABLE", "a table")):
+        for limit, wanted in (("LONGEST_ROW", "one row"), ("LONGEST_TABLE", "a table")):
             with in_process.mock.patch.dict(in_process.sys.modules["contradicting.tables"].__dict__, {limit: 12_000}):
                 facts = [number(each, unit="l:a*l:b*l:c") for each in range(2)]
                 status, line = in_process.run(contradictions, *self.words(facts))
                 self.assertEqual((status, os.path.exists(self.output)), (3, False))
-                self.assertIn(told, line)
+                self.assertIn(wanted, line)
 
     def test_an_output_that_is_an_input_is_refused(self):
         words = self.words([number(1), number(2)])
@@ -183,9 +183,9 @@ class Hostile(ToolTest):
         os.symlink(self.sheet, self.listed)
         inside = [*words[:-1], self.write(os.path.join("out", "contradictions.csv"), "")]
         for changed in (words, inside, ["--near", self.sheet, *words], ["--near", self.page, *words]):
-            status, told = in_process.run(contradictions, *changed)
-            self.assertEqual(status, 2, told)
-            self.assertIn("an output is an input, or two outputs are one file", told)
+            status, errors = in_process.run(contradictions, *changed)
+            self.assertEqual(status, 2, errors)
+            self.assertIn("an output is an input, or two outputs are one file", errors)
         self.assertEqual({name: content(self.place(name)) for name in before}, before)
 
     def test_what_no_merged_text_has_is_a_sentence(self):
@@ -199,8 +199,8 @@ class Hostile(ToolTest):
             other = {**case, "dimensions": {**case["dimensions"], "unit": "e:z"}} if isinstance(case.get("dimensions"), dict) else case
             for is_near in (False, True):
                 words = self.lenient_words([case, case, other], is_near)
-                status, told = in_process.run(contradictions, *words)
-                self.assertEqual((status, len(told.splitlines())), (3, 1), (case, told))
+                status, errors = in_process.run(contradictions, *words)
+                self.assertEqual((status, len(errors.splitlines())), (3, 1), (case, errors))
 
     def lenient_words(self, facts, is_near):
         names = [f"f{rank}" for rank in range(1, len(facts) + 1)]

@@ -68,12 +68,12 @@ class Stubbed(ToolTest):
         run = [sys.executable, TOOL, "--program", self.program, *sheet, "-o", self.output, *words]
         return subprocess.run(run, capture_output=True, text=True, **options)
 
-    def refused_run(self, told, *words, status=3, **options):
+    def refused_run(self, wanted, *words, status=3, **options):
         """Runs the tool, which must end with this status, print the reason in its last line, and make or remove no file."""
         before = sorted(os.walk(self.scratch))
         done = self.run_on(*words, **options)
         self.assertEqual((done.returncode, done.stdout), (status, ""), done.stderr)
-        self.assertIn(told, done.stderr.splitlines()[-1])
+        self.assertIn(wanted, done.stderr.splitlines()[-1])
         self.assertEqual(len(done.stderr.splitlines()), 1 if status == 3 else 2, done.stderr)
         self.forget_log()
         self.assertEqual(sorted(os.walk(self.scratch)), before)
@@ -102,8 +102,8 @@ class Files(Stubbed):
                          ["contradictions.csv", "merged.json", "page.html", "refusals.txt", "sources.txt", "table.csv", "verdicts.txt"])
         self.assertEqual(content(os.path.join(self.output, "merged.json")), content(example("merged.json")))
         self.assertEqual(len(self.cells("table.csv")), 64)
-        told = {cell["fact"]: (cell["identifiers"], cell["reported_by"]) for cell in self.cells("contradictions.csv")}
-        self.assertEqual(told["f066"], ("issuer: f33; statfeed: TS08474", "2 of 3"))
+        found = {cell["fact"]: (cell["identifiers"], cell["reported_by"]) for cell in self.cells("contradictions.csv")}
+        self.assertEqual(found["f066"], ("issuer: f33; statfeed: TS08474", "2 of 3"))
         self.assertEqual(self.log(), [(command, REPORTS) for command in ("merge", "verdicts", "sources", "explain")])
         for text in ("<title>Contradictions</title>", "<h1>Contradictions</h1>", "<b>3</b>contradictions",
                      "<b>45</b>consistent within rounding", "<b>16</b>with one fact", "<dt>Reported by<dd>2 of 3"):
@@ -140,8 +140,8 @@ class Files(Stubbed):
 
     def test_names_are_those_of_the_files_or_are_given(self):
         self.run_on(f"A={REPORTS[0]}", f"B; \u00e4={REPORTS[1]}", f"A={REPORTS[2]}")
-        told = {cell["fact"]: (cell["identifiers"], cell["reported_by"]) for cell in self.cells("contradictions.csv")}
-        self.assertEqual((told["f066"], told["f065"][0][:6]), (("A: issuer.json, f33; A: statfeed.json, TS08474", "1 of 2"), "B; \u00e4: "))
+        found = {cell["fact"]: (cell["identifiers"], cell["reported_by"]) for cell in self.cells("contradictions.csv")}
+        self.assertEqual((found["f066"], found["f065"][0][:6]), (("A: issuer.json, f33; A: statfeed.json, TS08474", "1 of 2"), "B; \u00e4: "))
         page, row = content(self.page), self.cells("table.csv")[36]
         self.assertIn(f'<bdi>A: <bdi>issuer.json</bdi>, <span title="{REPORTS[0][:80]}', page)
         self.assertIn(f'<bdi>B; \u00e4 <span title="{REPORTS[1][:80]}', page)
@@ -210,29 +210,29 @@ class Refused(Stubbed):
                  (25, "ValueForm", 1.5, "values that are JSON numbers", "", ""),
                  (28, "DecimalsForm", "INF", "texts as decimals", ' as in "INF": ', ""),
                  (9, "Links", {}, "facts with links", "", " --drop-links"))
-        faults = [("told", {"number": number, "name": name, "part": part, "identifier": f"{place}"})
+        faults = [("a sentence", {"number": number, "name": name, "part": part, "identifier": f"{place}"})
                   for place in range(12) for number, name, part, *_ in kinds]
         self.refuses("report 1: 19 PeriodForm at fact 1\n", *faults)
-        told = self.run_on(*REPORTS).stderr.splitlines()
-        wanted = [f"contradictions: {REPORTS[0]}: 12 {words}{',' * bool(example)}{example or ': '}--normalise{option}"
-                  for *_, words, example, option in kinds]
-        self.assertEqual(told, wanted)
+        lines = self.run_on(*REPORTS).stderr.splitlines()
+        wanted = [f"contradictions: {REPORTS[0]}: 12 {phrase}{',' * bool(example)}{example or ': '}--normalise{option}"
+                  for *_, phrase, example, option in kinds]
+        self.assertEqual(lines, wanted)
         self.assertIn('<li><bdi>12 dates without a time, as in &quot;2023-12-31&quot;: --normalise --dates=xbrl21 mends this</bdi>', content(self.page))
-        told = self.run_on(*REPORTS, "--normalise", "--drop-notes").stderr.splitlines()
-        self.assertEqual([line.rpartition(": ")[2] for line in told if ": 12 " in line], ["--dates=xbrl21", "--zones=utc", "--drop-links"])
-        self.assertEqual(sum("told (and 11 more of this kind)" in line for line in told), 3)
+        lines = self.run_on(*REPORTS, "--normalise", "--drop-notes").stderr.splitlines()
+        self.assertEqual([line.rpartition(": ")[2] for line in lines if ": 12 " in line], ["--dates=xbrl21", "--zones=utc", "--drop-links"])
+        self.assertEqual(sum("a sentence (and 11 more of this kind)" in line for line in lines), 3)
 
     def test_a_report_that_cannot_be_explained_does_not_stop_the_run(self):
         self.refuses("report 1: 13 UnboundPrefix at fact 1\n")
-        told = "output: more than 1073741824 bytes; --most-output BYTES sets the bound\n"
-        self.prints("explain", "{", told, 3)
-        self.prints("explain_all", "{", told, 3)
+        line = "output: more than 1073741824 bytes; --most-output BYTES sets the bound\n"
+        self.prints("explain", "{", line, 3)
+        self.prints("explain_all", "{", line, 3)
         done = self.run_on(*REPORTS)
         self.assertEqual((done.returncode, done.stderr.splitlines()), (1, [
-            f"contradictions: repeated members are not listed: xbrlmerge explain: {told.strip()}",
-            f"contradictions: {REPORTS[0]}: 13 UnboundPrefix at fact 1 (xbrlmerge explain: {told.strip()})"]))
+            f"contradictions: repeated members are not listed: xbrlmerge explain: {line.strip()}",
+            f"contradictions: {REPORTS[0]}: 13 UnboundPrefix at fact 1 (xbrlmerge explain: {line.strip()})"]))
 
-    def test_repeated_members_of_accepted_reports_are_told(self):
+    def test_repeated_members_of_accepted_reports_are_shown(self):
         fault = {"report": 2, "number": None, "name": None, "identifier": "a", "part": "value", "sentence": '"value" is repeated'}
         self.prints("explain_all", (json.dumps(fault) + "\n") * 3, status=1)
         done = self.run_on(*REPORTS)
@@ -240,7 +240,7 @@ class Refused(Stubbed):
                          (1, f'contradictions: {REPORTS[1]}: fact "a": "value" is repeated (and 2 more of this kind)\n'))
         self.assertIn("; 1 report with repeated members; page: ", done.stdout)
 
-    def test_a_refusal_that_explain_does_not_know_is_told(self):
+    def test_a_refusal_that_explain_does_not_know_is_shown(self):
         self.refuses("report 2: 31 DisallowedDuplicates at document\n")
         self.assertIn(f"{REPORTS[1]}: 31 DisallowedDuplicates at document\n", self.run_on(*REPORTS).stderr)
 
@@ -248,11 +248,11 @@ class Refused(Stubbed):
         faults = [("", {"number": 16, "name": "UnknownConcept", "part": f"eg:N{number % 30}"}) for number in range(60)]
         faults.append(("", {"number": 17, "name": "UnknownDimension", "part": "eg:NAxis"}))
         self.refuses("report 1: 16 UnknownConcept at fact 1\n", *faults)
-        told = self.run_on(*REPORTS).stderr
-        self.assertIn("the sheet lacks 30 concepts: eg:N0, eg:N1, ", told)
-        self.assertIn("and 10 more\n", told)
-        self.assertIn("the sheet lacks 1 dimension: eg:NAxis\n", told)
-        self.assertIn("--taxonomy PACKAGE, in place of --sheet, makes a sheet that lists the", told)
+        errors = self.run_on(*REPORTS).stderr
+        self.assertIn("the sheet lacks 30 concepts: eg:N0, eg:N1, ", errors)
+        self.assertIn("and 10 more\n", errors)
+        self.assertIn("the sheet lacks 1 dimension: eg:NAxis\n", errors)
+        self.assertIn("--taxonomy PACKAGE, in place of --sheet, makes a sheet that lists the", errors)
         self.assertIn("eg:N29</p>", content(self.page))
 
 
@@ -264,9 +264,9 @@ class Prepared(Stubbed):
 
     def test_a_taxonomy_in_place_of_a_sheet(self):
         self.prints_nothing()
-        for more, status, told in (("", 0, ""), (FRACTION, 1, "1 omission from the taxonomy")):
+        for more, status, wanted in (("", 0, ""), (FRACTION, 1, "1 omission from the taxonomy")):
             done = self.run_on(*REPORTS, sheet=self.package(more))
-            self.assertEqual((done.returncode, told in done.stdout), (status, True), done)
+            self.assertEqual((done.returncode, wanted in done.stdout), (status, True), done)
             self.assertEqual(bool(done.stderr), bool(more))
             sheet = json.loads(content(os.path.join(self.output, "sheet.json")))
             self.assertEqual(sheet["concepts"], {"n1:Sales": "numeric"})
@@ -339,7 +339,7 @@ class BadInputs(Stubbed):
     def test_names_with_two_meanings(self):
         os.mkdir(self.place("other"))
         other = self.write(os.path.join("other", "issuer.json"), "{}")
-        for words, told in (
+        for words, wanted in (
             ([REPORTS[0], other], "both get the name issuer: write NAME=FILE for both"),
             ([f"issuer={REPORTS[1]}", other], "both get the name issuer"),
             ([REPORTS[0], f"issuer={other}"], "both get the name issuer"),
@@ -347,7 +347,7 @@ class BadInputs(Stubbed):
             ([f"={other}"], "an empty name or file"),
             (["A="], "an empty name or file"),
         ):
-            self.refused_run(told, *words, status=2)
+            self.refused_run(wanted, *words, status=2)
 
     def test_usage(self):
         for words in ([], [*REPORTS, "--sources", "x"], [*REPORTS, "--names", "a"], [*REPORTS, "--drop-links"], [*REPORTS, "--from", "a", "b", "c"],

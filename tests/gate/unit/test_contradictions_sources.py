@@ -20,16 +20,16 @@ class Sources(ToolTest):
     def words(self, lines=example("sources.txt"), names=NAMES):
         return ["--sources", lines, "--names", names]
 
-    def test_who_said_a_value_is_told_with_its_identifier(self):
+    def test_who_said_a_value_is_shown_with_its_identifier(self):
         page, cells = self.written(*self.inputs, *self.words())
-        told = {cell["fact"]: (cell["providers"], cell["identifiers"], cell["reported_by"]) for cell in cells}
-        self.assertEqual(told["f018"], ("issuer", "issuer: f56", "1 of 3"))
-        self.assertEqual(told["f019"], ("statfeed", "statfeed: TS08780", "1 of 3"))
-        self.assertEqual(told["f066"], ("issuer, statfeed", "issuer: f33; statfeed: TS08474", "2 of 3"))
+        found = {cell["fact"]: (cell["providers"], cell["identifiers"], cell["reported_by"]) for cell in cells}
+        self.assertEqual(found["f018"], ("issuer", "issuer: f56", "1 of 3"))
+        self.assertEqual(found["f019"], ("statfeed", "statfeed: TS08780", "1 of 3"))
+        self.assertEqual(found["f066"], ("issuer, statfeed", "issuer: f33; statfeed: TS08474", "2 of 3"))
         for text in ("<bdi>issuer f56</bdi>", "<bdi>statfeed TS08780</bdi>", "<dt>Reported by<dd>2 of 3", "of these reported by 1 of 3"):
             self.assertIn(text, page)
 
-    def test_a_row_that_one_provider_reports_is_told_apart(self):
+    def test_a_row_that_one_provider_reports_is_marked(self):
         self.written(*self.inputs, *self.words())
         with open(self.listed, encoding="utf-8-sig", newline="") as file:
             listed = {row["row"]: row for row in csv.DictReader(file)}
@@ -42,12 +42,12 @@ class Sources(ToolTest):
         page, _ = self.written(*self.inputs, *self.words())
         with open(self.listed, encoding="utf-8-sig", newline="") as file:
             listed = {row["row"]: row for row in csv.DictReader(file)}
-        told = {"issuer": ("41260", "0"), "ledgerline": ("", ""), "statfeed": ("41906", "0")}
-        for name, cells in told.items():
+        wanted = {"issuer": ("41260", "0"), "ledgerline": ("", ""), "statfeed": ("41906", "0")}
+        for name, cells in wanted.items():
             self.assertEqual((listed["12"][f"provider: {name}"], listed["12"][f"decimals: {name}"]), cells)
         self.assertEqual([listed["34"][key] for key in ("nil_by", "provider: issuer", "provider: statfeed", "verdict")],
                          ["issuer", "", "0", "inconsistent"])
-        self.assertEqual([listed["37"][f"provider: {name}"] for name in told], ["212640000", "211000000", "212640000"])
+        self.assertEqual([listed["37"][f"provider: {name}"] for name in wanted], ["212640000", "211000000", "212640000"])
         self.assertIn("<th>issuer<th>ledgerline<th>statfeed\n<tr><td>1<td>", page)
         row = next(part for part in page.split("<tr") if part.startswith(" class=apart><td>37<td>"))
         self.assertIn("<td>212\u202f640\u202f000&nbsp;<small>(\u22123)</small><td><span class=odd>211\u202f000\u202f000&nbsp;<small>(\u22126)", row)
@@ -55,8 +55,8 @@ class Sources(ToolTest):
 
     def test_a_provider_may_have_several_reports(self):
         _, cells = self.written(*self.inputs, *self.words(names="A,B,A"))
-        told = {cell["fact"]: (cell["identifiers"], cell["reported_by"]) for cell in cells}
-        self.assertEqual(told["f066"], ("A: f33, TS08474", "1 of 2"))
+        found = {cell["fact"]: (cell["identifiers"], cell["reported_by"]) for cell in cells}
+        self.assertEqual(found["f066"], ("A: f33, TS08474", "1 of 2"))
 
     def test_identifiers_are_texts(self):
         lines = content(example("sources.txt")).replace('"f56"', '"=<b>\\n\\u0000"')

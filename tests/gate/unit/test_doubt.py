@@ -175,8 +175,8 @@ class Doubt(unittest.TestCase):
             return file.read()
 
     def test_a_complete_page_passes(self):
-        told = ["doubt: the headline has 6 names and 20 lines", "doubt: the format has 0 names and 0 lines"]
-        self.assertEqual(self.problems(["Order", "added", "total", "paid", "IsPaid"], 20), (0, told))
+        wanted = ["doubt: the headline has 6 names and 20 lines", "doubt: the format has 0 names and 0 lines"]
+        self.assertEqual(self.problems(["Order", "added", "total", "paid", "IsPaid"], 20), (0, wanted))
 
     def test_a_field_does_not_hide_a_definition_of_its_name(self):
         found = [f"doubt: {SPECS_PATH}: `IsPaid` uses `paid` of {SPECS_PATH}, which is missing on the page"]
@@ -187,8 +187,8 @@ class Doubt(unittest.TestCase):
         law = "\n-- it is sent\nabbrev pub Sends : ℕ → Order → Type 0\nSends place order = place ≡ total order\n"
         self.tree.put(SPECS_PATH, SPECS + record + law)
         self.tree.put("crates/shop/src/sum.rt", CODE.replace("IsPaid order.now", "Sends 0 order.now").replace("IsPaid,", "Sends,"))
-        told = ["doubt: the headline has 5 names and 16 lines", "doubt: the format has 0 names and 0 lines"]
-        self.assertEqual(self.problems(["Order", "added", "total", "Sends"], 16), (0, told))
+        wanted = ["doubt: the headline has 5 names and 16 lines", "doubt: the format has 0 names and 0 lines"]
+        self.assertEqual(self.problems(["Order", "added", "total", "Sends"], 16), (0, wanted))
 
     def test_a_definition_that_no_contract_needs_is_named(self):
         found = [f"doubt: {SPECS_PATH}: no contract of the page needs `AllArePaid`"]

@@ -53,11 +53,11 @@ def pack(package, folder):
 
 
 class ToolTest(in_process.RoomTest):
-    def check_refused(self, status, told, *words):
+    def check_refused(self, status, wanted, *words):
         """Runs the tool, which must end with this status, print the reason, and print no sheet. Returns its lines."""
         done = run(*words)
         self.assertEqual((done.returncode, done.stdout), (status, b""), done.stderr)
-        self.assertIn(told, done.stderr.decode())
+        self.assertIn(wanted, done.stderr.decode())
         self.assertTrue(all(line.startswith(b"make_sheet: ") for line in done.stderr.splitlines()), done.stderr)
         return done.stderr.decode().splitlines()
 

@@ -101,11 +101,11 @@ class HostileTest(ToolTest):
                 made.writestr(path, text)
         return place
 
-    def refused(self, told, *words):
+    def refused(self, wanted, *words):
         """Runs the tool in this process. It must end with status 3 and print one line with the reason."""
         status, lines = in_process.run(make_sheet, *words)
         self.assertEqual((status, len(lines.splitlines())), (3, 1), lines)
-        self.assertIn(told, lines)
+        self.assertIn(wanted, lines)
 
 
 class Long(HostileTest):

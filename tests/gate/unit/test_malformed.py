@@ -49,8 +49,8 @@ class Kept(RoomTest):
         before = os.getcwd()
         self.addCleanup(os.chdir, before)
         with mock.patch.object(tools_malformed, "KINDS", {faulty: 1}):
-            _, (told,) = tools_malformed.play(7)
-        place = told.rpartition(" ")[2]
+            _, (fault,) = tools_malformed.play(7)
+        place = fault.rpartition(" ")[2]
         self.check(place)
         self.assertEqual(os.listdir(place), ["kept"])
 

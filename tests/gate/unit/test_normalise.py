@@ -50,8 +50,8 @@ class ToolTest(in_process.RoomTest):
         """Makes a stub program that refuses facts and, if `also` is given, the document. Returns the options that use the
         program."""
         os.makedirs(self.place("bin"), exist_ok=True)
-        told = [{"place": "fact 1", "identifier": fact, **dict(zip(("number", "name"), why.split()))} for fact, why in faults.items()]
-        self.write("bin/explain.out", "".join(json.dumps(fault) + "\n" for fault in [*told, *[also] * bool(also)]))
+        explained = [{"place": "fact 1", "identifier": fact, **dict(zip(("number", "name"), why.split()))} for fact, why in faults.items()]
+        self.write("bin/explain.out", "".join(json.dumps(fault) + "\n" for fault in [*explained, *[also] * bool(also)]))
         self.write("bin/explain.status", "1")
         return ["--drop-unreadable", "--program", in_process.stub_program(self.place("bin"))]
 
@@ -61,17 +61,17 @@ class ToolTest(in_process.RoomTest):
         with mock.patch.object(process, "MOST_CHARACTERS", sys.maxsize):
             self.run_tool(report, self.out, self.changes, *options)
         tree = read_json(self.out)
-        undo(tree, self.changes_told())
+        undo(tree, self.changes_listed())
         self.assertEqual(tree, read_json(report), "undoing the changes does not give the report")
-        status, told = self.run_tool(report, self.out, self.changes, *options)
-        self.assertIn(status, (0, 1), told)
-        out, changes = content(self.out), self.changes_told()
+        status, errors = self.run_tool(report, self.out, self.changes, *options)
+        self.assertIn(status, (0, 1), errors)
+        out, changes = content(self.out), self.changes_listed()
         self.assertEqual(status, int(any(change["loss"] for change in changes)))
         again = self.run_tool(self.write("again.json", out), self.place("out2"), self.place("changes2"), *options)
-        self.assertEqual((again, content(self.place("out2")), content(self.place("changes2"))), ((0, told), out, ""))
-        return status, told, out, changes
+        self.assertEqual((again, content(self.place("out2")), content(self.place("changes2"))), ((0, errors), out, ""))
+        return status, errors, out, changes
 
-    def changes_told(self):
+    def changes_listed(self):
         return [self.tree_of(line) for line in content(self.changes).splitlines()]
 
     def tree_of(self, text):
@@ -159,8 +159,8 @@ class Drawn(ToolTest):
             text = drawn_reports.tidy(chance)
             report = self.write("report.json", text)
             with self.subTest(seed=seed):
-                status, told, out, changes = self.normalised(report, "--sheet", self.sheet, *drawn_reports.OPTIONS)
-                self.assertEqual((status, told, changes), (0, "", []))
+                status, errors, out, changes = self.normalised(report, "--sheet", self.sheet, *drawn_reports.OPTIONS)
+                self.assertEqual((status, errors, changes), (0, "", []))
                 self.assertEqual(out, text_of(read_json(report)) + "\n")
 
     def test_rough_spellings_come_to_the_tidy_report(self):
@@ -169,8 +169,8 @@ class Drawn(ToolTest):
             tidy = drawn_reports.tidy(chance)
             rough = self.write("report.json", drawn_reports.roughened(chance, tidy))
             with self.subTest(seed=seed):
-                status, told, out, _ = self.normalised(rough, "--sheet", self.sheet)
-                self.assertEqual((status, told), (0, ""))
+                status, errors, out, _ = self.normalised(rough, "--sheet", self.sheet)
+                self.assertEqual((status, errors), (0, ""))
                 self.assertEqual(*(self.numbers_read(self.tree_of(text)) for text in (out, tidy)))
 
     def numbers_read(self, tree):
@@ -195,8 +195,8 @@ class Numbers(ToolTest):
         sheet = self.write("sheet.json", json.dumps(Docs.SHEET))
         fact = '{"value":%s,"dimensions":{"concept":"eg:A"}}' % token
         text = '{"documentInfo":{"namespaces":{"eg":"http://example.org/t"}},"facts":{"f":%s}}' % fact
-        _, told, out, _ = self.normalised(self.write("report.json", text), "--sheet", sheet)
-        return text_of(self.tree_of(out)["facts"]["f"]["value"]), told
+        _, errors, out, _ = self.normalised(self.write("report.json", text), "--sheet", sheet)
+        return text_of(self.tree_of(out)["facts"]["f"]["value"]), errors
 
     def test_letters_stay_and_no_float_is_made(self):
         for token in ("0.1", "100.50", "-0", "12345678901234567890.123", "1.000000000000000001"):
@@ -214,11 +214,11 @@ class Numbers(ToolTest):
         ):
             self.assertEqual(self.value_of(token), (f'"{plain}"', ""), token)
 
-    def test_exponents_beyond_are_left_and_told(self):
+    def test_exponents_beyond_are_left_and_reported(self):
         for token in ("1E18", "1E-19", "1.0000000000000000001e0", "1e999999999", "1e99999999999999999999", "1e-999999999"):
-            value, told = self.value_of(token)
+            value, errors = self.value_of(token)
             self.assertEqual(value, f'"{token}"')
-            self.assertIn("/facts/f/value is left: written without an exponent, it has more than 18 digits", told)
+            self.assertIn("/facts/f/value is left: written without an exponent, it has more than 18 digits", errors)
 
     def test_what_is_no_number_is_left(self):
         for token in ('"INF"', '"NaN"', '"1,000"', '"e5"', '"0x1E2"', '"\u0661E1"', "null", "{}", "[1]"):
@@ -229,8 +229,8 @@ class Periods(ToolTest):
     def period_of(self, period, *options):
         """Normalises a report with this period. Returns the new period, and the number of lines on standard error."""
         fact = '{"value":null,"dimensions":{"period":%s}}' % json.dumps(period)
-        _, told, out, _ = self.normalised(self.write("report.json", '{"facts":{"f":%s}}' % fact), *options)
-        return self.tree_of(out)["facts"]["f"]["dimensions"]["period"], len(told.splitlines())
+        _, errors, out, _ = self.normalised(self.write("report.json", '{"facts":{"f":%s}}' % fact), *options)
+        return self.tree_of(out)["facts"]["f"]["dimensions"]["period"], len(errors.splitlines())
 
     def test_fractions(self):
         for period, made in (
@@ -279,40 +279,40 @@ class Unreadable(ToolTest):
         self.report = self.write("report.json", '{"facts":{"f":{"value":5,"id":1},"g":{"value":6}}}')
 
     def test_a_refused_fact_has_one_change(self):
-        status, told, out, changes = self.normalised(self.report, "--sheet", self.sheet, *self.refusing({"f": "11 DimensionsMissing"}))
-        self.assertEqual((status, told, out), (1, "", '{"facts":{"g":{"value":"6"}}}\n'))
+        status, errors, out, changes = self.normalised(self.report, "--sheet", self.sheet, *self.refusing({"f": "11 DimensionsMissing"}))
+        self.assertEqual((status, errors, out), (1, "", '{"facts":{"g":{"value":"6"}}}\n'))
         self.assertEqual([(change["fact"], change["rule"], change.get("why")) for change in changes],
                          [("f", "drop-unreadable", "11 DimensionsMissing"), ("g", "value-text", None)])
 
-    def test_why_a_document_is_refused_is_told(self):
+    def test_why_a_document_is_refused_is_reported(self):
         options = self.refusing({}, place="document", identifier=None, number=2, name="MemberForm", sentence='"documentInfo" is missing')
-        status, told, out, _ = self.normalised(self.report, "--sheet", self.sheet, *options)
-        self.assertEqual((status, told), (0, 'normalise: the document is refused: 2 MemberForm: "documentInfo" is missing\n'))
+        status, errors, out, _ = self.normalised(self.report, "--sheet", self.sheet, *options)
+        self.assertEqual((status, errors), (0, 'normalise: the document is refused: 2 MemberForm: "documentInfo" is missing\n'))
         self.assertEqual(out, '{"facts":{"f":{"value":"5"},"g":{"value":"6"}}}\n')
 
-    def test_a_program_that_fails_is_told(self):
+    def test_a_program_that_fails_is_reported(self):
         options = self.refusing({})
         for name, text, why in (("explain.err", "error: unexpected argument '--format' found\n", "xbrlmerge explain: error: unexpected"),
                                 ("explain.err", "", "ended with status 3"), ("explain.status", "1", None)):
             self.write("bin/explain.status", "3")
             self.write(f"bin/{name}", text)
-            status, told = self.run_tool(self.report, self.out, self.changes, "--sheet", self.sheet, *options)
-            self.assertEqual((status, os.path.exists(self.out)), (3, False) if why else (0, True), told)
-            self.assertIn(why or "", told)
+            status, errors = self.run_tool(self.report, self.out, self.changes, "--sheet", self.sheet, *options)
+            self.assertEqual((status, os.path.exists(self.out)), (3, False) if why else (0, True), errors)
+            self.assertIn(why or "", errors)
         self.assertEqual(self.run_tool(self.report, self.out, self.changes, "--sheet", self.sheet, *options[:-1], self.place("no"))[0], 3)
 
 
 class BadInputs(ToolTest):
-    def check_refused(self, told, *words):
+    def check_refused(self, wanted, *words):
         """Runs the tool, which must end with status 3, print one line with the reason, and leave no new file."""
         before = set(os.listdir(self.scratch))
         status, lines = self.run_tool(*words)
         self.assertEqual((status, len(lines.splitlines())), (3, 1), lines)
-        self.assertIn(told, lines)
+        self.assertIn(wanted, lines)
         self.assertEqual(set(os.listdir(self.scratch)), before)
 
-    def check_report(self, told, text):
-        self.check_refused(told, self.write("bad.json", text), self.out, self.changes)
+    def check_report(self, wanted, text):
+        self.check_refused(wanted, self.write("bad.json", text), self.out, self.changes)
 
     def test_members_that_stand_twice(self):
         self.check_report('the member "a" is repeated in the root: 1 and 2.50', '{"a":1,"a":2.50}')

@@ -106,9 +106,9 @@ class Long(ToolTest):
 
     def test_sets_that_would_be_far_longer_are_refused(self):
         text = report({f"f{number}": fact("long:a eg:b", "eg:S") for number in range(400)})
-        status, told = self.run_tool(*self.words(text))
+        status, errors = self.run_tool(*self.words(text))
         self.assertEqual((status, os.listdir(self.scratch).count("out.json")), (3, 0))
-        self.assertIn("the names of its sets, with their URIs, add more than 16 times its length", told)
+        self.assertIn("the names of its sets, with their URIs, add more than 16 times its length", errors)
 
     def test_the_growth_of_sets_is_counted_in_bytes(self):
         facts = {f"f{number}": fact("wide:a", "eg:S") for number in range(100)}
@@ -132,9 +132,9 @@ class Exact(ToolTest):
         for moment in ("25:00:00", "24:00:01", "23:60:00", "23:59:60", "99:99:99"):
             for zone in ("Z", "+00:00", "-00:00", "+01:00"):
                 period = f"2023-12-31T{moment}{zone}"
-                _, told, out, changes = self.run_on({"f": fact(period=period)}, "--zones=utc")
+                _, errors, out, changes = self.run_on({"f": fact(period=period)}, "--zones=utc")
                 self.assertEqual((self.tree_of(out)["facts"]["f"]["dimensions"]["period"], changes), (period, []))
-                self.assertIn("is left", told)
+                self.assertIn("is left", errors)
 
     def test_white_space_is_that_of_the_format(self):
         odd = f"eg:B{SPACES}"
@@ -142,17 +142,17 @@ class Exact(ToolTest):
             "f": {"value": f"{SPACES}1", "dimensions": {"concept": f"eg:A{SPACES}", "unit": f"{SPACES}x:a"}},
             "g": fact(f"eg:C {odd}", "eg:S"),
         }
-        _, told, out, _ = self.run_on(facts)
+        _, errors, out, _ = self.run_on(facts)
         made = self.tree_of(out)["facts"]
-        self.assertEqual((made["f"], told), (facts["f"], ""))
+        self.assertEqual((made["f"], errors), (facts["f"], ""))
         self.assertEqual(made["g"]["value"], f"http://example.org/t#B{SPACES} http://example.org/t#C")
         changes = self.run_on({"h": fact("1", odd)}, "--drop-unknown")[3]
         self.assertIn("does not list {http://example.org/t}B", changes[0]["why"])
 
     def test_zero_has_no_exponent(self):
         for zero in ("0e999999999999999999999", "-0.000e-999999999999999999999", "0E" + "9" * 5_000):
-            _, told, out, _ = self.run_on({"f": fact(zero)})
-            self.assertEqual((self.tree_of(out)["facts"]["f"]["value"], told), ("0", ""))
+            _, errors, out, _ = self.run_on({"f": fact(zero)})
+            self.assertEqual((self.tree_of(out)["facts"]["f"]["value"], errors), ("0", ""))
 
     def test_the_changes_have_no_character_that_a_terminal_obeys(self):
         odd = "\x7f\x9b31m\u202e\u2028\ud83d\ude00".encode("utf-16", "surrogatepass").decode("utf-16")
@@ -164,9 +164,9 @@ class Exact(ToolTest):
 
     def test_lines_on_standard_error_have_none_either(self):
         facts = {"\x9b": fact(period="2023-12-31"), "\x7f": fact("1e99")}
-        told = self.run_on(facts)[1]
-        self.assertIn("/facts/\\u009b/dimensions/period is left", told)
-        self.assertTrue(told.replace("\n", "").isprintable())
+        errors = self.run_on(facts)[1]
+        self.assertIn("/facts/\\u009b/dimensions/period is left", errors)
+        self.assertTrue(errors.replace("\n", "").isprintable())
 
     def test_statuses_are_those_of_the_process(self):
         run = [sys.executable, TOOL]
@@ -215,21 +215,21 @@ NO_SHEETS = (
 class NoReports(ToolTest):
     """Files that are no reports or no sheets are refused, with the words of `xbrlmerge explain`."""
 
-    def check_told(self, told, *words):
+    def check_last_line(self, wanted, *words):
         status, lines = self.run_tool(*words)
         self.assertEqual((status, lines.count("\n"), os.path.exists(self.out)), (3, 1, False), lines)
-        self.assertTrue(lines.endswith(f"{told}\n"), (lines, told))
+        self.assertTrue(lines.endswith(f"{wanted}\n"), (lines, wanted))
 
     def test_each_kind_of_file(self):
-        for data, told in NO_REPORTS:
-            self.check_told(told, self.write("report.json", data), self.out, self.changes)
-        self.check_told("report.json: Is a directory", self.folder("report.json"), self.out, self.changes)
-        self.check_told("nowhere.json: No such file or directory", "nowhere.json", self.out, self.changes)
+        for data, wanted in NO_REPORTS:
+            self.check_last_line(wanted, self.write("report.json", data), self.out, self.changes)
+        self.check_last_line("report.json: Is a directory", self.folder("report.json"), self.out, self.changes)
+        self.check_last_line("nowhere.json: No such file or directory", "nowhere.json", self.out, self.changes)
 
     def test_each_kind_of_sheet(self):
         good = self.write("report.json", report({}))
-        for data, told in NO_SHEETS:
-            self.check_told(told, good, self.out, self.changes, "--sheet", self.write("sheet.json", data))
+        for data, wanted in NO_SHEETS:
+            self.check_last_line(wanted, good, self.out, self.changes, "--sheet", self.write("sheet.json", data))
 
     def folder(self, name):
         os.unlink(self.place(name))

@@ -32,16 +32,16 @@ class Maps(ToolTest):
 
     def mapped(self, facts, names):
         """Returns the facts and the namespaces of the changed report. All changes must be listed as losses of the map."""
-        status, told, out, changes = self.normalised(*self.words(facts, names))
-        self.assertEqual((status, told, {(change["rule"], change["loss"]) for change in changes}), (1, "", {("map", True)}))
+        status, errors, out, changes = self.normalised(*self.words(facts, names))
+        self.assertEqual((status, errors, {(change["rule"], change["loss"]) for change in changes}), (1, "", {("map", True)}))
         tree = json.loads(out)
         return tree["facts"], tree["documentInfo"]["namespaces"]
 
-    def check_refused(self, told, facts, names):
+    def check_refused(self, wanted, facts, names):
         report, *words = self.words(facts, names)
         status, line = self.run_tool(report, self.out, self.changes, *words)
         self.assertEqual((status, line.count("\n"), os.path.exists(self.out)), (3, 1, False), line)
-        self.assertIn(told, line)
+        self.assertIn(wanted, line)
 
     def test_a_namespace(self):
         facts = {"f": fact(**{"o:Reg": "o:North", "o:Sku": "o:x"}), "g": fact("o:X", "o:Q")}
@@ -107,8 +107,8 @@ class Long(ToolTest):
             names = {"concepts": {f"{{{old}}}A{each}": f"{{{new}}}B{each}" for each in range(20)}, "namespaces": {old: f"{old}/n"}}
             facts = {f"f{each}": fact(concept=f"o:A{each % 40}") for each in range(size)}
             report = self.write("report.json", json.dumps({"documentInfo": {"namespaces": {"o": old}}, "facts": facts}))
-            status, told = self.run_tool(report, self.out, self.changes, "--map", self.write("map.json", json.dumps(names)))
-            self.assertEqual((status, told), (1, ""))
+            status, errors = self.run_tool(report, self.out, self.changes, "--map", self.write("map.json", json.dumps(names)))
+            self.assertEqual((status, errors), (1, ""))
 
         self.assertLess(in_process.growth(run_at, 1_000), 9)
 
@@ -121,8 +121,8 @@ class OfProviders(Stubbed):
         words = ["--program", self.program, "--sheet", self.write("sheet.json", json.dumps(KINDS)), "-o", self.output, "--normalise"]
         self.assertEqual(in_process.run(contradictions, *words, "--map", f"B={names}", *own), (1, ""))
         with open(os.path.join(self.output, "changes.csv"), encoding="utf-8-sig", newline="") as file:
-            told = [(change["provider"], change["pointer"], change["rule"], change["loss"]) for change in csv.DictReader(file)]
-        self.assertEqual(told, [("B", "/documentInfo/namespaces", "map", "true")])
+            found = [(change["provider"], change["pointer"], change["rule"], change["loss"]) for change in csv.DictReader(file)]
+        self.assertEqual(found, [("B", "/documentInfo/namespaces", "map", "true")])
         for wrong in (["--map", "B"], ["--map", f"C={names}"], ["--map", f"B={names}", "--map", f"B={names}"], ["--map", f"={names}"]):
             self.assertEqual(in_process.run(contradictions, *words, *wrong, *own)[0], 2, wrong)
         self.assertEqual(in_process.run(contradictions, "--sheet", SHEET, "-o", self.output, "--map", f"issuer={names}", *REPORTS)[0], 2)

@@ -170,9 +170,9 @@ class Archives(Packages):
         with open(os.path.join(folder, "SHA256SUMS"), encoding="ascii") as file:
             sums = dict(reversed(line.split("  ")) for line in file.read().splitlines())
         self.assertEqual({*sums, "SHA256SUMS"}, {*os.listdir(folder)})
-        for name, told in sums.items():
+        for name, checksum in sums.items():
             with open(os.path.join(folder, name), "rb") as file:
-                self.assertEqual(hashlib.sha256(file.read()).hexdigest(), told)
+                self.assertEqual(hashlib.sha256(file.read()).hexdigest(), checksum)
 
 
 class Bill(Packages):
@@ -191,12 +191,12 @@ class Bill(Packages):
         self.assertEqual(ends - {"SPDXRef-DOCUMENT"}, {*parts})
 
     def test_the_page_of_a_crate_names_its_version(self):
-        for name, page, told in (("jiff_core", "after `jiff-core` 0.1.2 and `jiff` 0.2.39", "jiff-core 0.1.2"),
+        for name, page, wanted in (("jiff_core", "after `jiff-core` 0.1.2 and `jiff` 0.2.39", "jiff-core 0.1.2"),
                                  ("jiff_span", "from the crate `jiff` 0.2.39", "jiff 0.2.39"),
                                  ("clap", "with clap_builder 4.6.7: clap_lex 1.1.1", "clap_builder 4.6.7"),
                                  ("idna", "`tests/uts46.rs` of version 1.1.0, `idna_adapter` 1.2.2", "idna 1.1.0"),
                                  ("json", "compared with serde_json 1.0.154", "")):
-            self.assertEqual(kit.ported(name, page), told)
+            self.assertEqual(kit.ported(name, page), wanted)
 
     def test_the_files_of_a_crate_name_its_licences(self):
         self.assertEqual(kit.licence("", ["LICENSE-MIT", "LICENSE-APACHE", "LICENSE-UNICODE"]), "(MIT OR Apache-2.0) AND Unicode-3.0")

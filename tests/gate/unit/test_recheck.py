@@ -165,27 +165,27 @@ class Examples(in_process.RoomTest):
 
     def run_on(self, *words):
         """Runs the program in this process. Returns its status and what it prints on standard output."""
-        with mock.patch.object(sys, "argv", ["recheck", *words]), contextlib.redirect_stdout(io.StringIO()) as told:
-            return recheck.main(), told.getvalue()
+        with mock.patch.object(sys, "argv", ["recheck", *words]), contextlib.redirect_stdout(io.StringIO()) as printed:
+            return recheck.main(), printed.getvalue()
 
     def changed(self, name, old, new):
         """Runs the program after one change in a file. Returns its status and the lines about differences."""
         before = self.files[name]
         self.assertIn(old, before)
         self.files[name] = before.replace(old, new, 1)
-        status, told = self.run_on(*self.words())
+        status, printed = self.run_on(*self.words())
         self.files[name] = before
-        return status, told.splitlines()[:-1]
+        return status, printed.splitlines()[:-1]
 
 
 class Changes(Examples):
     def finds(self, name, changes):
         for kind, (old, new) in changes.items():
             with self.subTest(kind):
-                status, told = self.changed(name, old, new)
+                status, lines = self.changed(name, old, new)
                 self.assertEqual(status, 1)
-                self.assertTrue(all(line.startswith((f"{name}: ", "report ")) for line in told), told)
-                self.assertTrue(any(line.startswith(f"{name}: line ") for line in told), told)
+                self.assertTrue(all(line.startswith((f"{name}: ", "report ")) for line in lines), lines)
+                self.assertTrue(any(line.startswith(f"{name}: line ") for line in lines), lines)
 
     def test_the_examples_agree(self):
         self.assertEqual(self.run_on(*self.words()), (0, AGREE))
@@ -209,9 +209,9 @@ class Changes(Examples):
     def test_each_change_of_the_inputs_is_found(self):
         for kind, (name, old, new, text) in INPUTS.items():
             with self.subTest(kind):
-                status, told = self.changed(name, old, new)
+                status, lines = self.changed(name, old, new)
                 self.assertEqual(status, 1)
-                self.assertTrue(told[0].startswith(f"{text}: "), told)
+                self.assertTrue(lines[0].startswith(f"{text}: "), lines)
 
     def test_a_report_that_was_left_out_repeated_or_moved_is_found(self):
         for reports in (REPORTS[:2], REPORTS[1:], (*REPORTS, "issuer"), REPORTS[::-1]):
@@ -220,13 +220,13 @@ class Changes(Examples):
     def test_the_first_place_is_shown(self):
         self.files["verdicts"] = self.files["verdicts"].replace("apart f018 f019", "apart f018 f020")
         self.files["merged"] = self.files["merged"].replace('"value":"41260"', '"value":"41270"')
-        status, told = self.run_on(*self.words())
+        status, printed = self.run_on(*self.words())
         self.assertEqual(status, 1)
-        self.assertEqual([line.partition(": ")[::2] for line in told.splitlines()[:2]], [
+        self.assertEqual([line.partition(": ")[::2] for line in printed.splitlines()[:2]], [
             ("merged", "fact f018 is in no report"), ("report 1", "its fact f56 is not in the merged report")])
         self.assertIn("verdicts: line 12, character 40: '12 f018 f019 inconsistent apart f018 f020' should be"
-                      " '12 f018 f019 inconsistent apart f018 f019'\n", told)
-        self.assertTrue(told.endswith(": differ\n"))
+                      " '12 f018 f019 inconsistent apart f018 f019'\n", printed)
+        self.assertTrue(printed.endswith(": differ\n"))
 
     def test_a_refused_sheet_has_no_texts(self):
         self.files.update(sheet="{", merged="", verdicts="", sources="", refusals="sheet: 1 NotJson\n")
@@ -245,10 +245,10 @@ class Others(Examples):
         self.assertEqual([url for url in PLAIN_URLS if not recheck.PLAIN_URL.fullmatch(url)], [])
 
     def test_a_reference_more_is_found_if_all_are_plain(self):
-        _, told = self.changed("merged", *MERGED["a reference more"])
-        self.assertEqual(told[0], "merged: its reference https://norlake.example/taxonomy/2024.xsd is in no report")
+        _, lines = self.changed("merged", *MERGED["a reference more"])
+        self.assertEqual(lines[0], "merged: its reference https://norlake.example/taxonomy/2024.xsd is in no report")
 
-    def test_refusals_of_other_urls_are_taken_as_told(self):
+    def test_refusals_of_other_urls_are_taken_as_given(self):
         self.files["issuer"] = self.files["issuer"].replace(KEPT, "http://[")
         self.assertEqual(self.run_on(*self.words())[0], 0)
         self.files["refusals"] = "report 1: 7 TaxonomyUrl at document\n" + self.files["refusals"]
@@ -280,8 +280,8 @@ class Others(Examples):
 
     def test_printed_names_are_escaped(self):
         self.files["issuer"] = self.files["issuer"].replace('"f56"', '"\\u001b[31m\u202e\\n"').replace('"value":"41260"', '"value":"41261"')
-        told = self.run_on(*self.words())[1]
-        self.assertIn("report 1: its fact \\u001b[31m\\u202e\\n is not in the merged report\n", told)
+        printed = self.run_on(*self.words())[1]
+        self.assertIn("report 1: its fact \\u001b[31m\\u202e\\n is not in the merged report\n", printed)
 
     def test_hostile_files_end_with_a_sentence(self):
         words = self.words()

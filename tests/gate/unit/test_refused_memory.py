@@ -19,7 +19,7 @@ class FirstRuns(unittest.TestCase):
         """Counts the requests of a stand-in that runs these lines of sh. It tells that it made three requests."""
         stand_in = f"{self.room.name}/stand_in"
         with open(stand_in, "w", encoding="utf-8") as file:
-            file.write(f'#!/bin/sh\n{lines}\nstatus=$?\necho 3 >>"$REFUSE_TOLD"\nexit $status\n')
+            file.write(f'#!/bin/sh\n{lines}\nstatus=$?\necho 3 >>"$REFUSE_LOG"\nexit $status\n')
         os.chmod(stand_in, stat.S_IRWXU)
         subject = refused_memory.Subject("crate name", (stand_in,), os.devnull, None)
         if is_program:
