@@ -59,7 +59,7 @@ fn run_starts(alloc: Global, facts: &[Fact]) -> Result<Vec<usize>, AllocError>
     let mut starts = Vec::with_capacity(alloc, facts.len())?;
     let mut first = 0;
     for (i, fact) in facts.iter().enumerate() {
-        let is_alike = facts[first].dimensions == fact.dimensions;
+        let is_alike = i > 0 && facts[first].dimensions == fact.dimensions;
         first = if is_alike { first } else { i };
         starts.push(first)?;
     }
