@@ -1,3 +1,3 @@
 pub mod Reading
 pub mod Faults
-pub mod Told
+pub mod Printed

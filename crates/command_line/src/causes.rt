@@ -1,6 +1,6 @@
 //! Why a file cannot be read or written.
 
-use crate::inputs::STANDARD_INPUT;
+use crate::error::STANDARD_INPUT;
 use std::fs::{self, File, Metadata};
 use std::io::{Error, ErrorKind};
 use std::rt::Files;

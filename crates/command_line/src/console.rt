@@ -1,6 +1,6 @@
 ghost use Rattle.std.specs.Prelude.{◌≡◌, OnOk};
 ghost use Rattle.std.specs.Io.KnownBytes.{Appends};
-ghost use Rattle.command_line.specs.Told.{refusal_line, status_of};
+ghost use Rattle.command_line.specs.Printed.{refusal_line, status_of};
 
 use crate::error::{Error, Success};
 use oim_explain::Escaped;

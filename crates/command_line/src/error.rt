@@ -6,6 +6,9 @@ use oim_names::Reason;
 use oim_write::WriteFault;
 use std::alloc::{AllocError, AllocFailed};
 
+/// The name of standard input after `--reports-from` and in printed lines.
+pub(crate) const STANDARD_INPUT: &str = "-";
+
 /// The result of a command that ran to its end.
 #[derive(Drop)]
 pub(crate) enum Success {

@@ -1,11 +1,17 @@
 ghost use Rattle.std.specs.Prelude.{ℕ, List, IfOk, IfErr, ⊤};
 ghost use Rattle.command_line.specs.Faults.{IsReadError};
 
+use crate::causes::why_unread;
 use crate::error::Error;
-use crate::inputs::read_file;
+use oim_merge::{ReadFault, StdSource, read_all};
 use oim_write::Encoded;
 use std::alloc::Global;
+use std::fs::File;
+use std::io::Read;
 use std::rt::Files;
+
+/// The most bytes that a file may have.
+const MOST_BYTES: u32 = 2_147_483_648;
 
 /// Files that are read by name.
 pub(crate) trait Folder {
@@ -26,5 +32,38 @@ impl<F: Files> Folder for F {
 
     fn read_named<'n>(&self, alloc: Global, name: &'n str) -> Result<Encoded, Error<'n>> {
         read_file(alloc, self, name)
+    }
+}
+
+pub(crate) fn read_file<'n, F: Files>(
+    alloc: Global,
+    files: &F,
+    name: &'n str,
+) -> Result<Encoded, Error<'n>>
+    ensures { IfErr result IsReadError }
+{
+    let read = match File::open(files, name) {
+        Ok(file) => read_bytes(alloc, file, name),
+        Err(_) => Err(Error::Unread(name, None)),
+    };
+    match read {
+        Err(Error::Unread(..)) => Err(Error::Unread(name, why_unread(files, name))),
+        read => read,
+    }
+}
+
+/// Reads the file with this name to its end.
+pub(crate) fn read_bytes<'n, R: Read + Drop>(
+    alloc: Global,
+    reader: R,
+    name: &'n str,
+) -> Result<Encoded, Error<'n>>
+    ensures { IfErr result IsReadError }
+{
+    match read_all(alloc, &mut StdSource::new(reader), MOST_BYTES) {
+        Ok(bytes) => Ok(bytes),
+        Err(ReadFault::OutOfMemory) => Err(Error::OutOfMemory),
+        Err(ReadFault::TooLong) => Err(Error::TooLong(name)),
+        Err(ReadFault::Device(_)) => Err(Error::Unread(name, None)),
     }
 }

@@ -5,25 +5,17 @@ ghost use Rattle.oim_merge.specs.Traced.{traced};
 ghost use Rattle.command_line.specs.Faults.{IsReadError, IsSheetError};
 ghost use Rattle.command_line.specs.Reading.{AreRead, WithRead};
 
-use crate::causes::why_unread;
 use crate::console::Console;
 use crate::error::Error;
 use crate::folder::Folder;
 use oim_explain::kind_of_taxonomy;
-use oim_merge::{Consolidation, ReadFault, StdSource, TracedMerge, read_all};
+use oim_merge::{Consolidation, TracedMerge};
 use oim_names::Reason;
 use oim_report::Sheet;
 use oim_write::Encoded;
 use std::alloc::Global;
-use std::fs::File;
-use std::io::{Read, Write};
+use std::io::Write;
 use std::mem;
-use std::rt::Files;
-
-const MOST_BYTES: u32 = 2_147_483_648;
-
-/// The name of standard input after `--reports-from` and in printed lines.
-pub(crate) const STANDARD_INPUT: &str = "-";
 
 /// The inputs of a command, and its progress. The sink is not a field: if it were, the contract of
 /// each method would have to state that the sink is unchanged.
@@ -148,38 +140,5 @@ pub(crate) fn sheet_of<'n>(alloc: Global, bytes: &[u8]) -> Result<Sheet, Error<'
             explained: None,
             kind: kind_of_taxonomy(bytes),
         }),
-    }
-}
-
-pub(crate) fn read_file<'n, F: Files>(
-    alloc: Global,
-    files: &F,
-    name: &'n str,
-) -> Result<Encoded, Error<'n>>
-    ensures { IfErr result IsReadError }
-{
-    let read = match File::open(files, name) {
-        Ok(file) => read_bytes(alloc, file, name),
-        Err(_) => Err(Error::Unread(name, None)),
-    };
-    match read {
-        Err(Error::Unread(..)) => Err(Error::Unread(name, why_unread(files, name))),
-        read => read,
-    }
-}
-
-/// Reads the file with this name to its end.
-pub(crate) fn read_bytes<'n, R: Read + Drop>(
-    alloc: Global,
-    reader: R,
-    name: &'n str,
-) -> Result<Encoded, Error<'n>>
-    ensures { IfErr result IsReadError }
-{
-    match read_all(alloc, &mut StdSource::new(reader), MOST_BYTES) {
-        Ok(bytes) => Ok(bytes),
-        Err(ReadFault::OutOfMemory) => Err(Error::OutOfMemory),
-        Err(ReadFault::TooLong) => Err(Error::TooLong(name)),
-        Err(ReadFault::Device(_)) => Err(Error::Unread(name, None)),
     }
 }

@@ -10,6 +10,7 @@ mod error;
 mod folder;
 mod inputs;
 mod output;
+mod print_format;
 mod program;
 mod request;
 mod words;

@@ -1,6 +1,6 @@
-use crate::commands::rows::PrintFormat;
-use crate::error::Error;
-use crate::inputs::{STANDARD_INPUT, read_bytes, read_file};
+use crate::error::{Error, STANDARD_INPUT};
+use crate::folder::{read_bytes, read_file};
+use crate::print_format::PrintFormat;
 use oim_explain::Format;
 use oim_value::Level;
 use oim_write::{BOUND_PER_BYTE, Encoded, default_bound};

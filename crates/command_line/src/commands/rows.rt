@@ -3,6 +3,7 @@ ghost use Rattle.oim_write.specs.BoundedSink.{bounded_failures};
 
 use crate::arguments::{Building, FORMAT, command, flag, option, with, with_flag_of, with_reports};
 use crate::error::Error;
+use crate::print_format::PrintFormat;
 use clap::ArgMatches;
 use clap::builder::ValueParser;
 use oim_merge::{Consolidation, Fault, Merged, Refusals, SourceLines, TracedMerge, write_verdicts};
@@ -16,15 +17,6 @@ use std::mem;
 pub(crate) const VERDICTS: &str = "verdicts";
 
 pub(crate) const SOURCES: &str = "sources";
-
-/// The format of printed rows.
-#[derive(Clone, Copy, Debug)]
-pub(crate) enum PrintFormat {
-    /// Lines for people.
-    Lines,
-    /// JSON or CSV, for other programs.
-    Rows(RowFormat),
-}
 
 /// The option for CSV that a spreadsheet reads as UTF-8 and without formulas.
 const SPREADSHEET: &str = "spreadsheet";
