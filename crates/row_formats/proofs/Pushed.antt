@@ -1,3 +1,4 @@
+-- Fields of a CSV record that are pushed one after another, and one more record.
 use Rattle.std.proofs.Common.{◌≡◌, ℕ, suc, ◌+◌, Bool, List, [], ◌∷◌, ◌++◌, length, append_assoc, append-nil, sym, ap, ◌∙◌, arith}
 use Rattle.oim_value.specs.declared.value.Value.{Value}
 use Rattle.oim_dims.specs.DimensionSet.{DimensionSet}

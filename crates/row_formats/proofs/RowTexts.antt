@@ -1,3 +1,4 @@
+-- The rows of a base have one text as JSON and as CSV, and tell its verdicts.
 use Rattle.std.proofs.Common.{◌≡◌, ℕ, suc, Bool, true, false, List, [], ◌∷◌, ◌++◌, append_assoc, codes, length, refl, ap, subst, ◌∙◌, sym}
 use Rattle.std.proofs.lemmas.List.Elements.{All-cons, All-nil}
 use Rattle.std.specs.Fmt.{decimal}
