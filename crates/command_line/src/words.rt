@@ -12,7 +12,7 @@ use std::convert::AsStr;
 
 const PROGRAM: &str = "xbrlmerge";
 
-// Between releases, this constant is the next version with `-dev`. `tests/tools/test_version.py`
+// Between releases, this constant is the next version with `-dev`. `tests/gate/unit/test_version.py`
 // compares this version with the versions in other files.
 const VERSION: &str = "0.3.0-dev";
 

@@ -19,7 +19,7 @@ pub const OPEN_INFO: &str = r#"{"documentInfo":{"documentType":"https://xbrl.org
 /// Returns whether a call that returned want of memory may be repeated, and prints `refused` on
 /// standard error.
 ///
-/// Only `tests/refused_memory` refuses requests for memory. It sets the environment variable
+/// Only `tests/program/refused_memory` refuses requests for memory. It sets the environment variable
 /// `REFUSE` to the number of the request that it refuses, or to 0. In any other run, no request is
 /// refused. Then a call that returns want of memory has no reason, and its test must fail.
 pub fn may_repeat(rt: &HostRuntime) -> bool {

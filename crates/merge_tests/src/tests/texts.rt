@@ -12,7 +12,7 @@ use test_helpers::asked_again::{SHEET, joined, may_repeat};
 use test_helpers::expecting::Expecting;
 
 // After a refused request for memory, the call is repeated. A line on standard error reports the
-// refused request to `tests/refused_memory`.
+// refused request to `tests/program/refused_memory`.
 
 const LINE: &str = "\n";
 

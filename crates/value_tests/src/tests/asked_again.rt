@@ -1,4 +1,4 @@
-//! Calls that are repeated if `tests/refused_memory` refuses a request for memory.
+//! Calls that are repeated if `tests/program/refused_memory` refuses a request for memory.
 
 use oim_names::{Aliases, Copied, Name, Reason, Text};
 use std::alloc::AllocError;

@@ -10,7 +10,7 @@ use crate::output::{
 use crate::refusal_name::xbrlmerge_refusal_name;
 use std::test::Fail;
 
-// The tests make each call, and cause each status except `NO_MEMORY`, which `tests/c_abi` causes.
+// The tests make each call, and cause each status except `NO_MEMORY`, which `tests/program/c_abi` causes.
 
 const SHEET: &str = r#"{"namespaces":{"eg":"http://example.org/t"},"concepts":{"eg:A":"numeric"}}"#;
 
