@@ -1,5 +1,4 @@
--- Two texts of members that a comma joins are read as the members of both. Each text must have a member, and the first
--- text must end with a closing brace.
+-- Two texts of members that a comma joins are read as the members of both. Each text must have a member.
 use Rattle.std.proofs.Common.{◌≡◌, Bool, true, false, List, [], ◌∷◌, ◌++◌, fold, inl, inr, ◌⊎◌, refl, ap, ◌∙◌, subst, ℕ, suc, ◌-◌, ◌≤◌, Some, sym, arith, append_assoc, append-nil}
 use Rattle.std.proofs.lemmas.Bool.{false≢true}
 use Rattle.std.specs.Prelude.{⊤}
@@ -14,9 +13,8 @@ use Rattle.json.proofs.Printed.Trees.{value-json_tokens}
 use Rattle.json.proofs.Unique.Spelling.{value-json_tokens_back}
 use Rattle.json.proofs.Nesting.{value-depth}
 use Rattle.oim_report.specs.Pieces.{alone}
-use Rattle.oim_report.proofs.PieceTexts.{Closed}
 use Rattle.oim_report.specs.code.TapeValues.{one}
-use Rattle.oim_report.proofs.JsonLexemes.{NoQuote, AllGood, piece_of}
+use Rattle.oim_report.proofs.JsonLexemes.{NoQuote, AllGood, Delimited, piece_of}
 
 -- ---- the tokens of lexemes do not depend on the text that follows, unless this text begins with a colon or a token is bad
 
@@ -246,7 +244,7 @@ no_quote = (λ e. Prim.cc, (λ e. Prim.cc, tt))
 -- the lexemes of a text give the tokens of the members if no colon follows the text
 pub record Members_of (a : List ℕ) (ms : Members) : Type 0 where
   pub ls : List Lexeme
-  pub lexed : (b : List ℕ) → lex between (a ++ b) ≡ ls ++ lex between b
+  pub lexed : (b : List ℕ) → Delimited b → lex between (a ++ b) ≡ ls ++ lex between b
   pub goes : (more : List Lexeme) → begins_colon more ≡ false → punctuate fresh (ls ++ more) ≡ body ms ++ punctuate after_value more
 
 abbrev ending : List Lexeme
@@ -271,11 +269,11 @@ fresh_opened : (p : Place) (o : Bool) → Fits p o → p ≡ fresh → o ≡ tru
 fresh_opened fresh o f e = f
 fresh_opened p o f e = Prim.cc
 
-pub members_of : (d : ℕ) (a : List ℕ) (ms : Members) → Closed a → HasSome ms → Reads d a ms → Members_of a ms
-members_of d a ms c some e =
+pub members_of : (d : ℕ) (a : List ℕ) (ms : Members) → HasSome ms → Reads d a ms → Members_of a ms
+members_of d a ms some e =
     let good : NoBad (punctuate fresh (lex between (a ++ 125 ∷ 93 ∷ []))) = subst NoBad (sym (inner d a ms e)) (inner_good ms) in
-    let p = piece_of a (125 ∷ 93 ∷ []) no_quote c (good_lexemes fresh _ good) in
-    let front : lex between (a ++ 125 ∷ 93 ∷ []) ≡ p.ls ++ ending = p.lexed (125 ∷ 93 ∷ []) ∙ ap (λ l. p.ls ++ l) lex_ending in
+    let p = piece_of a (125 ∷ 93 ∷ []) no_quote refl (good_lexemes fresh _ good) in
+    let front : lex between (a ++ 125 ∷ 93 ∷ []) ≡ p.ls ++ ending = p.lexed (125 ∷ 93 ∷ []) refl ∙ ap (λ l. p.ls ++ l) lex_ending in
     let s = split fresh true p.ls ending refl refl (subst (λ l. NoBad (punctuate fresh l)) front good) in
     let at = closes_at s.end ms s.ts some (fresh_opened s.end (opened true s.ts) s.fits) (sym (s.goes ending refl) ∙ ap (punctuate fresh) (sym front) ∙ inner d a ms e) in
     record {
@@ -315,11 +313,11 @@ after_one ls = refl
 pub room : (d : ℕ) (a : List ℕ) (ms : Members) → Reads d a ms → suc (suc (members_depth ms)) ≤ d
 room d a ms e = let deep : depth (one ms) ≤ d = value-depth d (tokens (alone a)) [] (one ms) e in omega (arith, deep)
 
-pub joined : (d : ℕ) (a b : List ℕ) (ms ns : Members) → Closed a → HasSome ms → HasSome ns → Reads d a ms → Reads d b ns → Reads d (a ++ 44 ∷ b) (plus ms ns)
-joined d a b ms ns c some more e f =
-    let m = members_of d a ms c some e in
+pub joined : (d : ℕ) (a b : List ℕ) (ms ns : Members) → HasSome ms → HasSome ns → Reads d a ms → Reads d b ns → Reads d (a ++ 44 ∷ b) (plus ms ns)
+joined d a b ms ns some more e f =
+    let m = members_of d a ms some e in
     let tail = b ++ 125 ∷ 93 ∷ [] in
-    let lexemes : lex between ((a ++ 44 ∷ b) ++ 125 ∷ 93 ∷ []) ≡ m.ls ++ comma ∷ lex between tail = ap (lex between) (append_assoc a (44 ∷ b) (125 ∷ 93 ∷ [])) ∙ m.lexed (44 ∷ tail) ∙ ap (λ l. m.ls ++ l) (lex_comma tail) in
+    let lexemes : lex between ((a ++ 44 ∷ b) ++ 125 ∷ 93 ∷ []) ≡ m.ls ++ comma ∷ lex between tail = ap (lex between) (append_assoc a (44 ∷ b) (125 ∷ 93 ∷ [])) ∙ m.lexed (44 ∷ tail) refl ∙ ap (λ l. m.ls ++ l) (lex_comma tail) in
     let last : punctuate after_comma (lex between tail) ≡ members_tokens ns ++ end_array ∷ [] = behind_comma (lex between tail) (subst IsKeyed (sym (inner d b ns f)) (keyed ns (end_array ∷ []) more)) ∙ inner d b ns f in
     let all : punctuate fresh (lex between ((a ++ 44 ∷ b) ++ 125 ∷ 93 ∷ [])) ≡ members_tokens (plus ms ns) ++ end_array ∷ [] =
     ap (punctuate fresh) lexemes ∙ m.goes (comma ∷ lex between tail) refl ∙ ap (λ l. body ms ++ l) (after_one (lex between tail) ∙ last)

@@ -1,5 +1,5 @@
--- If a prefix ends with a closing brace, the rest has no quote, and all lexemes of the text are good, then the prefix has
--- the same lexemes before every other rest.
+-- If all lexemes of a text are good, the text is cut before a delimiter, and the rest has no quote, then the front has the same
+-- lexemes before every other rest that begins with a delimiter.
 use Rattle.std.proofs.Common.{◌≡◌, ℕ, suc, zero, ◌≤◌, Bool, true, false, cond, ◌&&◌, ◌||◌, ◌==◌, nat_lt, List, [], ◌∷◌, ◌++◌, length, Option, Some, None, option_and_then, refl, sym, ap, ◌∙◌, subst, arith, append_assoc}
 use Rattle.std.proofs.lemmas.Bool.{false≢true, true≢false, eqb-true, and_parts}
 use Rattle.std.proofs.lemmas.List.{length-append}
@@ -10,7 +10,6 @@ use Rattle.json.specs.Text.{code_unit, short_escape, is_high_surrogate, is_low_s
 use Rattle.json.specs.Word.{is_operator, is_space, word}
 use Rattle.json.specs.Lex.{Lexeme, token, Class, quote, backslash, operator, space, other, class, operator_lexeme, string_token, Mode, between, in_word, in_string, in_escape, lex_byte, lex}
 use Rattle.json.specs.Align.{is_good}
-use Rattle.oim_report.proofs.PieceTexts.{Closed}
 use Rattle.oim_report.proofs.JsonStrings.{turn, run, is_between, mode, Keeps, keeps-content, stays, hex_stays, all_hex, is_found, cases}
 use Rattle.oim_report.proofs.JsonWords.{is_end, each_end, word-front}
 
@@ -114,17 +113,18 @@ before (x ∷ xs) t (c ∷ q) r h e =
 
 -- ---- the end of a word
 
-closed_rest : (x : ℕ) (xs : List ℕ) → Closed (x ∷ xs) → Closed xs
-closed_rest x [] h = tt
-closed_rest x (y ∷ xs) h = h
+-- the text begins with a delimiter: an operator or white space
+abbrev pub Delimited : List ℕ → Type 0
+Delimited [] = ⊥
+Delimited (x ∷ xs) = is_end x ≡ true
 
+-- the text is the end of a word, and then a rest that is empty or begins with a delimiter
 record Stops (xs : List ℕ) : Type 0 where
   p : List ℕ
-  y : ℕ
   r : List ℕ
-  at : xs ≡ p ++ y ∷ r
-  is : is_end y ≡ true
-  lexed : (z : List ℕ) → lex in_word (p ++ y ∷ z) ≡ lex between (y ∷ z)
+  at : xs ≡ p ++ r
+  ends : (z : List ℕ) → Delimited z → Delimited (r ++ z)
+  lexed : (z : List ℕ) → Delimited z → lex in_word (p ++ z) ≡ lex between z
 
 passed : (q b o s : Bool) (x : ℕ) (xs : List ℕ) (k : Mode → List Lexeme) → (o || s) ≡ false
     → lex_byte in_word (cond q quote (cond b backslash (cond o operator (cond s space other)))) x xs k ≡ k in_word
@@ -141,16 +141,23 @@ unfolding lex
 end_word = each_end (λ x. (z : List ℕ) → lex in_word (x ∷ z) ≡ lex between (x ∷ z))
     (λ z. refl) (λ z. refl) (λ z. refl) (λ z. refl) (λ z. refl) (λ z. refl) (λ z. refl) (λ z. refl) (λ z. refl) (λ z. refl)
 
+word_ends : (z : List ℕ) → Delimited z → lex in_word z ≡ lex between z
+word_ends [] h = absurd h
+word_ends (x ∷ z) h = end_word x h z
+
 here : (x : ℕ) (xs : List ℕ) → is_end x ≡ true → Stops (x ∷ xs)
-here x xs e = record { p = []; y = x; r = xs; at = refl; is = e; lexed = end_word x e }
+here x xs e = record { p = []; r = x ∷ xs; at = refl; ends = λ z h. e; lexed = word_ends }
 
 later : (x : ℕ) (xs : List ℕ) → is_end x ≡ false → Stops xs → Stops (x ∷ xs)
-later x xs e s = record { p = x ∷ s.p; y = s.y; r = s.r; at = ap (λ l. x ∷ l) s.at; is = s.is; lexed = λ z. skip_word x (s.p ++ s.y ∷ z) e ∙ s.lexed z }
+later x xs e s = record { p = x ∷ s.p; r = s.r; at = ap (λ l. x ∷ l) s.at; ends = s.ends; lexed = λ z h. skip_word x (s.p ++ z) e ∙ s.lexed z h }
 
-stops : (xs : List ℕ) → Closed xs → (xs ≡ [] → ⊥) → Stops xs
-stops [] h ne = absurd (ne refl)
-stops (x ∷ []) h ne = here x [] (ap is_end h)
-stops (x ∷ y ∷ xs) h ne = cases (is_end x) _ (here x (y ∷ xs)) (λ e. later x (y ∷ xs) e (stops (y ∷ xs) h (λ k. Prim.cc)))
+stops : (xs : List ℕ) → Stops xs
+stops [] = record { p = []; r = []; at = refl; ends = λ z h. h; lexed = word_ends }
+stops (x ∷ xs) = cases (is_end x) _ (here x xs) (λ e. later x xs e (stops xs))
+
+word_before : (x : ℕ) (p z : List ℕ) → Delimited z → word (x ∷ (p ++ z)) ≡ word (x ∷ p)
+word_before x p [] h = absurd h
+word_before x p (y ∷ z) h = word-front y z h x p
 
 -- ---- pieces
 
@@ -161,7 +168,7 @@ AllGood (l ∷ ls) = AllGood ls
 
 pub record Piece (a : List ℕ) : Type 0 where
   pub ls : List Lexeme
-  pub lexed : (b : List ℕ) → lex between (a ++ b) ≡ ls ++ lex between b
+  pub lexed : (b : List ℕ) → Delimited b → lex between (a ++ b) ≡ ls ++ lex between b
 
 good_rest : (l : Lexeme) (ls : List Lexeme) → AllGood (l ∷ ls) → AllGood ls
 good_rest (token t) ls h = h.1
@@ -175,23 +182,15 @@ kept : (o o' : Option (List ℕ)) (s : List ℕ) → Keeps o o' → o ≡ Some s
 kept None o' s k e = Prim.cc
 kept (Some u) o' s k e = k ∙ e
 
-closed_drop : (p ys : List ℕ) → Closed (p ++ ys) → Closed ys
-closed_drop [] ys h = h
-closed_drop (x ∷ p) ys h = closed_drop p ys (closed_rest x (p ++ ys) h)
-
 lexc : (x : ℕ) (c : Class) → class x ≡ c → (ys : List ℕ) → lex between (x ∷ ys) ≡ lex_byte between c x ys (λ m. lex m ys)
 unfolding lex
 lexc x c e ys = ap (λ k. lex_byte between k x ys (λ m. lex m ys)) e
 
-not_alone : (x : ℕ) (xs : List ℕ) → class x ≡ other → Closed (x ∷ xs) → xs ≡ [] → ⊥
-not_alone x [] e h k = let is : class 125 ≡ other = ap class (sym h) ∙ e in Prim.cc
-not_alone x (y ∷ xs) e h k = Prim.cc
-
 abbrev Shorter : ℕ → List ℕ → Type 0
-Shorter n t = (r : List ℕ) → length r ≤ n → Closed r → AllGood (lex between (r ++ t)) → Piece r
+Shorter n t = (r : List ℕ) → length r ≤ n → AllGood (lex between (r ++ t)) → Piece r
 
-at_quote : (n x : ℕ) (xs t : List ℕ) → length (x ∷ xs) ≤ suc n → NoQuote t → Closed (x ∷ xs) → class x ≡ quote → AllGood (lex_byte between quote x (xs ++ t) (λ m. lex m (xs ++ t))) → Shorter n t → Piece (x ∷ xs)
-at_quote n x xs t le nq c e h ih =
+at_quote : (n x : ℕ) (xs t : List ℕ) → length (x ∷ xs) ≤ suc n → NoQuote t → class x ≡ quote → AllGood (lex_byte between quote x (xs ++ t) (λ m. lex m (xs ++ t))) → Shorter n t → Piece (x ∷ xs)
+at_quote n x xs t le nq e h ih =
     let s = good_string (content plain (xs ++ t)) h.0 in
     let l = closes plain (xs ++ t) s.0 s.1 in
     let f = before xs t l.q l.r nq l.at in
@@ -201,42 +200,42 @@ at_quote n x xs t le nq c e h ih =
     let behind : (z : List ℕ) → lex in_string (xs ++ z) ≡ lex between (r ++ z) = λ z. ap (lex in_string) (split z) ∙ l.lexed (r ++ z) in
     let long : length xs ≡ length (l.q ++ 34 ∷ r) = ap length f.1 in
     let short : length r ≤ n = omega (arith, long, length-append l.q (34 ∷ r)) in
-    let rest = ih r short (closed_drop (l.q ++ 34 ∷ []) r (subst Closed (f.1 ∙ sym (append_assoc l.q (34 ∷ []) r)) (closed_rest x xs c))) (subst AllGood (behind t) h.1) in
+    let rest = ih r short (subst AllGood (behind t) h.1) in
     let same : (b : List ℕ) → content plain (xs ++ b) ≡ Some s.0 = λ b. ap (content plain) (sym (front b)) ∙ kept _ _ s.0 (keeps-content plain (l.q ++ 34 ∷ []) (r ++ t) (r ++ b) l.ends) (ap (content plain) (front t) ∙ s.1) in
     record {
       ls = token (string s.0) ∷ rest.ls;
-      lexed = λ b. lexc x quote e (xs ++ b) ∙ (λ i. token (string_token (same b i)) ∷ (behind b ∙ rest.lexed b) i);
+      lexed = λ b d. lexc x quote e (xs ++ b) ∙ (λ i. token (string_token (same b i)) ∷ (behind b ∙ rest.lexed b d) i);
     }
 
-at_word : (n x : ℕ) (xs t : List ℕ) → length (x ∷ xs) ≤ suc n → Closed (x ∷ xs) → class x ≡ other → AllGood (lex_byte between other x (xs ++ t) (λ m. lex m (xs ++ t))) → Shorter n t → Piece (x ∷ xs)
-at_word n x xs t le c e h ih =
-    let s = stops xs (closed_rest x xs c) (not_alone x xs e c) in
-    let split : (z : List ℕ) → xs ++ z ≡ s.p ++ s.y ∷ (s.r ++ z) = λ z. ap (λ y. y ++ z) s.at ∙ append_assoc s.p (s.y ∷ s.r) z in
-    let behind : (z : List ℕ) → lex in_word (xs ++ z) ≡ lex between (s.y ∷ (s.r ++ z)) = λ z. ap (lex in_word) (split z) ∙ s.lexed (s.r ++ z) in
-    let long : length xs ≡ length (s.p ++ s.y ∷ s.r) = ap length s.at in
-    let short : length (s.y ∷ s.r) ≤ n = omega (arith, long, length-append s.p (s.y ∷ s.r)) in
-    let rest = ih (s.y ∷ s.r) short (closed_drop s.p (s.y ∷ s.r) (subst Closed s.at (closed_rest x xs c))) (subst AllGood (behind t) h.1) in
-    let same : (b : List ℕ) → word (x ∷ (xs ++ b)) ≡ word (x ∷ s.p) = λ b. ap (λ l. word (x ∷ l)) (split b) ∙ word-front s.y (s.r ++ b) s.is x s.p in
+at_word : (n x : ℕ) (xs t : List ℕ) → length (x ∷ xs) ≤ suc n → Delimited t → class x ≡ other → AllGood (lex_byte between other x (xs ++ t) (λ m. lex m (xs ++ t))) → Shorter n t → Piece (x ∷ xs)
+at_word n x xs t le dt e h ih =
+    let s = stops xs in
+    let split : (z : List ℕ) → xs ++ z ≡ s.p ++ (s.r ++ z) = λ z. ap (λ y. y ++ z) s.at ∙ append_assoc s.p s.r z in
+    let behind : (z : List ℕ) → Delimited z → lex in_word (xs ++ z) ≡ lex between (s.r ++ z) = λ z d. ap (lex in_word) (split z) ∙ s.lexed (s.r ++ z) (s.ends z d) in
+    let long : length xs ≡ length (s.p ++ s.r) = ap length s.at in
+    let short : length s.r ≤ n = omega (arith, long, length-append s.p s.r) in
+    let rest = ih s.r short (subst AllGood (behind t dt) h.1) in
+    let same : (b : List ℕ) → Delimited b → word (x ∷ (xs ++ b)) ≡ word (x ∷ s.p) = λ b d. ap (λ l. word (x ∷ l)) (split b) ∙ word_before x s.p (s.r ++ b) (s.ends b d) in
     record {
       ls = token (word (x ∷ s.p)) ∷ rest.ls;
-      lexed = λ b. lexc x other e (xs ++ b) ∙ (λ i. token (same b i) ∷ (behind b ∙ rest.lexed b) i);
+      lexed = λ b d. lexc x other e (xs ++ b) ∙ (λ i. token (same b d i) ∷ (behind b d ∙ rest.lexed b d) i);
     }
 
-at_class : (k : Class) (n x : ℕ) (xs t : List ℕ) → length (x ∷ xs) ≤ suc n → NoQuote t → Closed (x ∷ xs) → class x ≡ k → AllGood (lex_byte between k x (xs ++ t) (λ m. lex m (xs ++ t))) → Shorter n t → Piece (x ∷ xs)
-at_class quote n x xs t le nq c e h ih = at_quote n x xs t le nq c e h ih
-at_class backslash n x xs t le nq c e h ih = absurd (false≢true h.0)
-at_class operator n x xs t le nq c e h ih =
-    let rest = ih xs (omega arith) (closed_rest x xs c) (good_rest (operator_lexeme x) _ h) in
-    record { ls = operator_lexeme x ∷ rest.ls; lexed = λ b. lexc x operator e (xs ++ b) ∙ ap (λ l. operator_lexeme x ∷ l) (rest.lexed b) }
-at_class space n x xs t le nq c e h ih =
-    let rest = ih xs (omega arith) (closed_rest x xs c) h in
-    record { ls = rest.ls; lexed = λ b. lexc x space e (xs ++ b) ∙ rest.lexed b }
-at_class other n x xs t le nq c e h ih = at_word n x xs t le c e h ih
+at_class : (k : Class) (n x : ℕ) (xs t : List ℕ) → length (x ∷ xs) ≤ suc n → NoQuote t → Delimited t → class x ≡ k → AllGood (lex_byte between k x (xs ++ t) (λ m. lex m (xs ++ t))) → Shorter n t → Piece (x ∷ xs)
+at_class quote n x xs t le nq dt e h ih = at_quote n x xs t le nq e h ih
+at_class backslash n x xs t le nq dt e h ih = absurd (false≢true h.0)
+at_class operator n x xs t le nq dt e h ih =
+    let rest = ih xs (omega arith) (good_rest (operator_lexeme x) _ h) in
+    record { ls = operator_lexeme x ∷ rest.ls; lexed = λ b d. lexc x operator e (xs ++ b) ∙ ap (λ l. operator_lexeme x ∷ l) (rest.lexed b d) }
+at_class space n x xs t le nq dt e h ih =
+    let rest = ih xs (omega arith) h in
+    record { ls = rest.ls; lexed = λ b d. lexc x space e (xs ++ b) ∙ rest.lexed b d }
+at_class other n x xs t le nq dt e h ih = at_word n x xs t le dt e h ih
 
-piece : (n : ℕ) (a t : List ℕ) → length a ≤ n → NoQuote t → Closed a → AllGood (lex between (a ++ t)) → Piece a
-piece n [] t le nq c g = record { ls = []; lexed = λ b. refl }
-piece zero (x ∷ xs) t le nq c g = let no : ⊥ = omega arith in absurd no
-piece (suc n) (x ∷ xs) t le nq c g = at_class (class x) n x xs t le nq c refl (subst AllGood (lexc x (class x) refl (xs ++ t)) g) (λ r l d k. piece n r t l nq d k)
+piece : (n : ℕ) (a t : List ℕ) → length a ≤ n → NoQuote t → Delimited t → AllGood (lex between (a ++ t)) → Piece a
+piece n [] t le nq dt g = record { ls = []; lexed = λ b d. refl }
+piece zero (x ∷ xs) t le nq dt g = let no : ⊥ = omega arith in absurd no
+piece (suc n) (x ∷ xs) t le nq dt g = at_class (class x) n x xs t le nq dt refl (subst AllGood (lexc x (class x) refl (xs ++ t)) g) (λ r l k. piece n r t l nq dt k)
 
-pub piece_of : (a t : List ℕ) → NoQuote t → Closed a → AllGood (lex between (a ++ t)) → Piece a
+pub piece_of : (a t : List ℕ) → NoQuote t → Delimited t → AllGood (lex between (a ++ t)) → Piece a
 piece_of a t = piece (length a) a t (omega arith)

@@ -55,6 +55,8 @@ pub mod JoinedMembers
 pub mod PieceTexts
 pub mod PiecesInTurn
 pub mod TapedFacts
+pub mod TapedTrees
+pub mod BesideFacts
 pub mod Outlines
 pub mod FoundInOrder
 pub mod DimensionRuns

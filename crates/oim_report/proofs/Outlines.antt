@@ -1,8 +1,5 @@
 -- If the parts of a document can be read, the whole document is read with the members of all parts.
-use Rattle.std.proofs.Common.{◌≡◌, ℕ, ◌≤◌, true, List, [], ◌∷◌, ◌++◌, Some, option_map, option_and_then, refl, sym, ap, ◌∙◌, subst, arith, append_assoc, append-nil, codes, Option, None, Less, Equal, Greater}
-use Rattle.std.specs.Ordering.{nat_cmp, match_ordering}
-use Rattle.std.specs.Cmp.Lexicographic.{slice_cmp}
-use Rattle.std.proofs.lemmas.Cmp.{nat_list_cmp_total, tied_itself}
+use Rattle.std.proofs.Common.{◌≡◌, ℕ, ◌≤◌, true, List, [], ◌∷◌, ◌++◌, Some, option_map, option_and_then, refl, sym, ap, ◌∙◌, subst, arith, append_assoc, append-nil, codes, Option, None}
 use Rattle.json.specs.Token.{Token, begin_object, end_object, key, string}
 use Rattle.json.specs.Text.{content}
 use Rattle.json.specs.Word.{is_space}
@@ -13,16 +10,17 @@ use Rattle.json.specs.Json as j
 use Rattle.json.proofs.Printed.Trees.{value-json_tokens}
 use Rattle.serde_json.specs.Read.{of_json, of_members, max_depth, read}
 use Rattle.serde_json.specs.Data.{Data, object, Members, no_members, member, put}
-use Rattle.serde_json.specs.Find.{get, get_member}
 use Rattle.serde_json.specs.Data as d
-use Rattle.oim_report.specs.Pieces.{IsPiece, put_all, one_data}
-use Rattle.oim_report.specs.code.Pieces.{AreSpaces, facts_key, IsOutline, AfterSpaces, BeforeSpaces, IsEnd, IsTail, IsSplit, IsBeside, with_before, with_behind}
+use Rattle.oim_report.specs.Pieces.{IsPiece, put_all}
+use Rattle.oim_report.specs.code.Pieces.{Adds, AreSpaces, facts_key, IsLike, IsOutline, AfterSpaces, BeforeSpaces, IsEnd, IsTail, IsSplit, IsBeside, with_before, with_behind}
 use Rattle.oim_report.proofs.PieceTexts.{facts_text}
 use Rattle.oim_report.specs.code.TapeValues.{Ascends}
-use Rattle.oim_report.proofs.JsonWords.{each_space}
+use Rattle.oim_report.proofs.JsonWords.{is_end, each_space}
+use Rattle.oim_report.proofs.JsonLexemes.{Delimited}
 use Rattle.oim_report.proofs.JoinedMembers.{body, plus, closed_body, depth-plus, HasSome, Members_of, members_of, IsKeyed, behind_comma, lex_comma, after_one, room}
-use Rattle.oim_report.proofs.PiecesInTurn.{some_read, ends_closed, read_as, both_pieces}
-use Rattle.oim_report.proofs.PutMembers.{both_found, Lacks, lacks_parts, put_all_later, put_onto, rising_found, rising_stays}
+use Rattle.oim_report.proofs.PiecesInTurn.{some_read, read_as}
+use Rattle.oim_report.proofs.PutMembers.{both_found, rising_found, rising_stays}
+use Rattle.oim_report.proofs.BesideFacts.{facts_added}
 
 -- ---- a document's text denotes the members before and after `facts`, and the member `facts` with the members of all pieces
 
@@ -78,12 +76,19 @@ lex_brace b = refl
 lex_end : (s : List ℕ) → AreSpaces s → lex between s ≡ []
 lex_end s h = ap (lex between) (sym (append-nil s)) ∙ lex_spaces s [] h ∙ lex_nothing
 
+behind_spaces : (s b : List ℕ) → AreSpaces s → Delimited b → Delimited (s ++ b)
+behind_spaces [] b h d = d
+behind_spaces (x ∷ s) b h d = space_ends x h.0
+  where
+    space_ends : (x : ℕ) → is_space x ≡ true → is_end x ≡ true
+    space_ends = each_space (λ x. is_end x ≡ true) refl refl refl refl
+
 -- ---- texts of members, by their tokens
 
 led : (s a : List ℕ) (ms : j.Members) → AreSpaces s → Members_of a ms → Members_of (s ++ a) ms
 led s a ms h m = record {
   ls = m.ls;
-  lexed = λ b. ap (lex between) (append_assoc s a b) ∙ lex_spaces s (a ++ b) h ∙ m.lexed b;
+  lexed = λ b d. ap (lex between) (append_assoc s a b) ∙ lex_spaces s (a ++ b) h ∙ m.lexed b d;
   goes = m.goes;
 }
 
@@ -98,9 +103,9 @@ keyed_body (j.member k v ms) ts h = tt
 both_members : (a s b : List ℕ) (ms ns : j.Members) → AreSpaces s → HasSome ns → Members_of a ms → Members_of b ns → Members_of (a ++ (s ++ 44 ∷ b)) (plus ms ns)
 both_members a s b ms ns h some m n = record {
   ls = m.ls ++ comma ∷ n.ls;
-  lexed = λ c.
-      ap (lex between) (append_assoc a (s ++ 44 ∷ b) c ∙ ap (λ l. a ++ l) (append_assoc s (44 ∷ b) c)) ∙ m.lexed (s ++ 44 ∷ (b ++ c))
-      ∙ ap (λ l. m.ls ++ l) (lex_spaces s _ h ∙ lex_comma (b ++ c) ∙ ap (λ l. comma ∷ l) (n.lexed c)) ∙ sym (append_assoc m.ls (comma ∷ n.ls) (lex between c));
+  lexed = λ c d.
+      ap (lex between) (append_assoc a (s ++ 44 ∷ b) c ∙ ap (λ l. a ++ l) (append_assoc s (44 ∷ b) c)) ∙ m.lexed (s ++ 44 ∷ (b ++ c)) (behind_spaces s _ h refl)
+      ∙ ap (λ l. m.ls ++ l) (lex_spaces s _ h ∙ lex_comma (b ++ c) ∙ ap (λ l. comma ∷ l) (n.lexed c d)) ∙ sym (append_assoc m.ls (comma ∷ n.ls) (lex between c));
   goes = λ more f.
       let last = n.goes more f in
       let is_keyed : IsKeyed (punctuate fresh (n.ls ++ more)) = subst IsKeyed (sym last) (keyed_body ns (punctuate after_value more) some) in
@@ -117,11 +122,11 @@ wrapped s3 s4 f s5 fs h3 h4 h5 m =
     let opened = s4 ++ 123 ∷ inside in
     record {
       ls = token (string k) ∷ colon ∷ token begin_object ∷ (m.ls ++ token end_object ∷ []);
-      lexed = λ c.
+      lexed = λ c d.
           ap (lex between) (append_assoc facts_key (s3 ++ 58 ∷ opened) c) ∙ lex_facts ((s3 ++ 58 ∷ opened) ++ c) ∙ ap (λ l. token (string k) ∷ l)
           (ap (lex between) (append_assoc s3 (58 ∷ opened) c) ∙ lex_spaces s3 _ h3 ∙ lex_colon (opened ++ c) ∙ ap (λ l. colon ∷ l)
           (ap (lex between) (append_assoc s4 (123 ∷ inside) c) ∙ lex_spaces s4 _ h4 ∙ lex_brace (inside ++ c) ∙ ap (λ l. token begin_object ∷ l)
-          (ap (lex between) (append_assoc f shut c) ∙ m.lexed (shut ++ c)
+          (ap (lex between) (append_assoc f shut c) ∙ m.lexed (shut ++ c) (subst Delimited (sym (append_assoc s5 (125 ∷ []) c)) (behind_spaces s5 _ h5 refl))
           ∙ ap (λ l. m.ls ++ l) (ap (lex between) (append_assoc s5 (125 ∷ []) c) ∙ lex_spaces s5 _ h5 ∙ lex_close c)
           ∙ sym (append_assoc m.ls (token end_object ∷ []) (lex between c)))));
       goes = λ more e.
@@ -147,7 +152,7 @@ piece_gives a found p =
     let r = read_as a found p.reads in
     let some = some_read r.ms found r.gives p.some in
     let deep = room max_depth a r.ms r.reads in
-    record { ms = r.ms; members = members_of max_depth a r.ms (ends_closed a p.closed) some r.reads; some = some; gives = r.gives; shallow = omega (arith, deep) }
+    record { ms = r.ms; members = members_of max_depth a r.ms some r.reads; some = some; gives = r.gives; shallow = omega (arith, deep) }
 
 pub less_deep : (a : List ℕ) (found : d.Members) → Gives a 125 found → Gives a 126 found
 less_deep a found g = let deep = g.shallow in record { ms = g.ms; members = g.members; some = g.some; gives = g.gives; shallow = omega (arith, deep) }
@@ -186,25 +191,11 @@ document_gives s0 m s7 s8 found h0 h7 h8 g =
     let deepest : depth all ≤ max_depth = omega (arith, deep) in
     let shut : lex between (s7 ++ 125 ∷ s8) ≡ token end_object ∷ [] = lex_spaces s7 _ h7 ∙ lex_close s8 ∙ ap (λ l. token end_object ∷ l) (lex_end s8 h8) in
     let inside : punctuate fresh (lex between (m ++ (s7 ++ 125 ∷ s8))) ≡ members_tokens g.ms =
-    ap (punctuate fresh) (g.members.lexed _ ∙ ap (λ l. g.members.ls ++ l) shut) ∙ g.members.goes (token end_object ∷ []) refl
+    ap (punctuate fresh) (g.members.lexed _ (behind_spaces s7 _ h7 refl) ∙ ap (λ l. g.members.ls ++ l) shut) ∙ g.members.goes (token end_object ∷ []) refl
     ∙ ap (λ l. body g.ms ++ l) (punctuate_close [] ∙ ap (λ l. end_object ∷ l) ended) ∙ sym (closed_body g.ms) in
     let parsed : value max_depth (tokens (s0 ++ 123 ∷ (m ++ (s7 ++ 125 ∷ s8)))) ≡ Some (all, []) =
     ap (value max_depth) (tokens_spaces s0 _ h0 ∙ lex_open _ ∙ ap (λ l. begin_object ∷ l) inside ∙ sym (append-nil _)) ∙ value-json_tokens all max_depth [] deepest in
     ap (λ o. option_and_then of_json (option_and_then (λ p. j.if_last p.0 p.1) o)) parsed ∙ ap (option_map d.object) g.gives
-
--- ---- if a look-up finds nothing, the key is missing
-
-not_equal : (q l : List ℕ) (d : Data) (r : Option Data) → match_ordering (slice_cmp nat_cmp q l) r (Some d) r ≡ None → (q ≡ l → ⊥) × (r ≡ None)
-not_equal q l d r e =
-    elim (slice_cmp nat_cmp q l) as (λ o. slice_cmp nat_cmp q l ≡ o → match_ordering o r (Some d) r ≡ None → (q ≡ l → ⊥) × (r ≡ None)) [
-      | Less ↦ λ o h. ((λ s. let same : Equal ≡ Less = sym (tied_itself nat_list_cmp_total l) ∙ ap (λ m. slice_cmp nat_cmp m l) (sym s) ∙ o in absurd (Prim.cc)), h)
-      | Equal ↦ λ o h. absurd (Prim.cc)
-      | Greater ↦ λ o h. ((λ s. let same : Equal ≡ Greater = sym (tied_itself nat_list_cmp_total l) ∙ ap (λ m. slice_cmp nat_cmp m l) (sym s) ∙ o in absurd (Prim.cc)), h)
-    ] refl e
-
-pub lacks : (q : List ℕ) (ms : Members) → get_member q ms ≡ None → Lacks q ms
-lacks q no_members e = tt
-lacks q (member l d ms) e = let n = not_equal q l d (get_member q ms) e in (n.0, lacks q ms n.1)
 
 -- ---- the steps of the split
 
@@ -223,6 +214,9 @@ tail_is text t1 t2 front facts rest behind a b s t ends = record {
 
 -- ---- the whole document
 
+pub rising_piece : (a : List ℕ) (found : Members) → IsPiece a found → Ascends found
+rising_piece a found p = let r = read_as a found p.reads in rising_found r.ms no_members found r.gives tt
+
 own_rest : (s3 s4 f s5 r : List ℕ) → facts_text s3 s4 f s5 ++ r ≡ facts_key ++ (s3 ++ 58 ∷ (s4 ++ 123 ∷ (f ++ (s5 ++ 125 ∷ r))))
 own_rest s3 s4 f s5 r =
     let inside = f ++ (s5 ++ 125 ∷ []) in
@@ -239,81 +233,57 @@ before_rest : (b : Option (List ℕ)) (s1 x q : List ℕ) → with_before b s1 x
 before_rest None s1 x q = refl
 before_rest (Some b) s1 x q = append_assoc b (s1 ++ 44 ∷ x) q ∙ ap (λ l. b ++ l) (append_assoc s1 (44 ∷ x) q)
 
-pub together : (text facts : List ℕ) (before behind : Option (List ℕ)) (s : IsSplit text before facts behind)
-    → text ≡ s.head_is.s0 ++ 123 ∷ (with_before before s.head_is.s1 (s.head_is.s2 ++ with_behind (facts_text s.tail_is.s3 s.tail_is.s4 facts s.tail_is.s5) s.tail_is.ends.s6 behind) ++ (s.tail_is.ends.s7 ++ 125 ∷ s.tail_is.ends.s8))
+-- the text of all members
+abbrev inside_of : {text facts : List ℕ} {before behind : Option (List ℕ)} → IsSplit text before facts behind → List ℕ
+inside_of {text} {facts} {before} {behind} s =
+    let t = s.tail_is in
+    with_behind (with_before before s.head_is.s1 (s.head_is.s2 ++ facts_text t.s3 t.s4 facts t.s5)) t.ends.s6 behind
+
+together : (text facts : List ℕ) (before behind : Option (List ℕ)) (s : IsSplit text before facts behind) → text ≡ s.head_is.s0 ++ 123 ∷ (inside_of s ++ (s.tail_is.ends.s7 ++ 125 ∷ s.tail_is.ends.s8))
 together text facts before behind s =
     let h = s.head_is in
     let t = s.tail_is in
     let z = t.ends in
     let own = facts_text t.s3 t.s4 facts t.s5 in
     let r = z.s7 ++ 125 ∷ z.s8 in
-    let w = with_behind own z.s6 behind in
-    let last : facts_key ++ s.tail ≡ w ++ r = ap (λ l. facts_key ++ l) t.splits ∙ sym (own_rest t.s3 t.s4 facts t.s5 t.rest) ∙ ap (λ l. own ++ l) z.splits ∙ behind_rest own z.s6 r behind in
-    s.splits ∙ (λ i. h.splits i ++ last i) ∙ append_assoc h.s0 (123 ∷ with_before before h.s1 h.s2) (w ++ r)
-    ∙ ap (λ l. h.s0 ++ 123 ∷ l) (before_rest before h.s1 h.s2 (w ++ r) ∙ ap (with_before before h.s1) (sym (append_assoc h.s2 w r)) ∙ sym (before_rest before h.s1 (h.s2 ++ w) r))
+    let rest = with_behind [] z.s6 behind ++ r in
+    let front = with_before before h.s1 h.s2 in
+    let last : facts_key ++ s.tail ≡ own ++ rest = ap (λ l. facts_key ++ l) t.splits ∙ sym (own_rest t.s3 t.s4 facts t.s5 t.rest) ∙ ap (λ l. own ++ l) z.splits in
+    s.splits ∙ (λ i. h.splits i ++ last i) ∙ append_assoc h.s0 (123 ∷ front) (own ++ rest)
+    ∙ ap (λ l. h.s0 ++ 123 ∷ l) (sym (append_assoc front own rest) ∙ ap (λ l. l ++ rest) (before_rest before h.s1 h.s2 own) ∙ behind_rest (with_before before h.s1 (h.s2 ++ own)) z.s6 r behind)
 
--- ---- the result
+front_gives : (before : Option (List ℕ)) (s1 s2 own : List ℕ) (ms : Members) (d : Data) → AreSpaces s1 → AreSpaces s2 → IsBeside before ms → Gives own 126 (member (codes "facts") d no_members)
+    → Gives (with_before before s1 (s2 ++ own)) 126 (put (codes "facts") d ms)
+front_gives None s1 s2 own ms d h1 h2 e g = subst (λ l. Gives (s2 ++ own) 126 (put (codes "facts") d l)) (sym e) (led_gives s2 own 126 _ h2 g)
+front_gives (Some b) s1 s2 own ms d h1 h2 p g = both_give b s1 (s2 ++ own) 126 ms _ h1 (less_deep b ms (piece_gives b ms p)) (led_gives s2 own 126 _ h2 g)
 
-rising_piece : (a : List ℕ) (found : Members) → IsPiece a found → Ascends found
-rising_piece a found p = let r = read_as a found p.reads in rising_found r.ms no_members found r.gives tt
+back_gives : (behind : Option (List ℕ)) (s6 a : List ℕ) (found ns : Members) → AreSpaces s6 → IsBeside behind ns → Gives a 126 found → Gives (with_behind a s6 behind) 126 (put_all ns found)
+back_gives None s6 a found ns h e g = subst (λ l. Gives a 126 (put_all l found)) (sym e) g
+back_gives (Some b) s6 a found ns h p g = both_give a s6 b 126 found ns h g (less_deep b ns (piece_gives b ns p))
 
-only_one : (a : List ℕ) (found more : Members) → IsPiece a found → IsPiece a more → found ≡ more
-only_one a found more p q = let same : Some (one_data found) ≡ Some (one_data more) = sym p.reads ∙ q.reads in Prim.cc
+document_read : (text facts : List ℕ) (before behind : Option (List ℕ)) (ms ns fs : Members) → IsSplit text before facts behind → IsBeside before ms → IsBeside behind ns → IsPiece facts fs
+    → read text ≡ Some (object (put_all ns (put (codes "facts") (object fs) ms)))
+document_read text facts before behind ms ns fs s is also p =
+    let h = s.head_is in
+    let t = s.tail_is in
+    let z = t.ends in
+    let own = facts_give t.s3 t.s4 facts t.s5 fs t.are.0 t.are.1 t.are.2 (piece_gives facts fs p) in
+    ap read (together text facts before behind s)
+    ∙ document_gives h.s0 _ z.s7 z.s8 _ h.are.0 z.are.1 z.are.2 (back_gives behind z.s6 _ _ ns z.are.0 also (front_gives before h.s1 h.s2 _ ms (object fs) h.are.1 h.are.2 is own))
 
-module _ (text facts : List ℕ) (fs : Members) (p : IsPiece facts fs) where
-  abbrev own_member : Members
-  own_member = member (codes "facts") (object fs) no_members
+stays : (before : Option (List ℕ)) (ms : Members) → IsBeside before ms → put_all ms no_members ≡ ms
+stays None ms e = ap (λ l. put_all l no_members) e ∙ sym e
+stays (Some b) ms p = rising_stays ms (rising_piece b ms p)
 
-  facts_first : (before behind : Option (List ℕ)) (s : IsSplit text before facts behind) → Gives (facts_text s.tail_is.s3 s.tail_is.s4 facts s.tail_is.s5) 126 own_member
-  facts_first before behind s = let t = s.tail_is in facts_give t.s3 t.s4 facts t.s5 fs t.are.0 t.are.1 t.are.2 (piece_gives facts fs p)
-
-  before_only : (b : List ℕ) (found : Members) → IsSplit text (Some b) facts None → IsPiece b found → read text ≡ Some (object (put (codes "facts") (object fs) found))
-  before_only b found s q =
-      let h = s.head_is in
-      let z = s.tail_is.ends in
-      let own = facts_text s.tail_is.s3 s.tail_is.s4 facts s.tail_is.s5 in
-      ap read (together text facts (Some b) None s)
-      ∙ document_gives h.s0 _ z.s7 z.s8 (put_all own_member found) h.are.0 z.are.1 z.are.2
-      (both_give b h.s1 (h.s2 ++ own) 126 found own_member h.are.1 (less_deep b found (piece_gives b found q)) (led_gives h.s2 own 126 own_member h.are.2 (facts_first (Some b) None s)))
-
-  behind_facts : (before : Option (List ℕ)) (e : List ℕ) (found : Members) (s : IsSplit text before facts (Some e)) → IsPiece e found
-      → Gives (s.head_is.s2 ++ with_behind (facts_text s.tail_is.s3 s.tail_is.s4 facts s.tail_is.s5) s.tail_is.ends.s6 (Some e)) 126 (put_all found own_member)
-  behind_facts before e found s q =
-      let own = facts_text s.tail_is.s3 s.tail_is.s4 facts s.tail_is.s5 in
-      led_gives s.head_is.s2 _ 126 (put_all found own_member) s.head_is.are.2
-      (both_give own s.tail_is.ends.s6 e 126 own_member found s.tail_is.ends.are.0 (facts_first before (Some e) s) (less_deep e found (piece_gives e found q)))
-
-  later : (e : List ℕ) (found : Members) → IsPiece e found → Lacks (codes "facts") found → put_all found own_member ≡ put (codes "facts") (object fs) found
-  later e found q lack = put_all_later (codes "facts") (object fs) found no_members lack ∙ ap (put (codes "facts") (object fs)) (rising_stays found (rising_piece e found q))
-
-  behind_only : (e : List ℕ) (found : Members) → IsSplit text None facts (Some e) → IsPiece e found → Lacks (codes "facts") found → read text ≡ Some (object (put (codes "facts") (object fs) found))
-  behind_only e found s q lack =
-      let h = s.head_is in
-      let z = s.tail_is.ends in
-      ap read (together text facts None (Some e) s)
-      ∙ document_gives h.s0 _ z.s7 z.s8 (put_all found own_member) h.are.0 z.are.1 z.are.2 (behind_facts None e found s q)
-      ∙ ap (λ l. Some (object l)) (later e found q lack)
-
-  on_both_sides : (b e : List ℕ) (found more : Members) → IsSplit text (Some b) facts (Some e) → IsPiece b found → IsPiece e more → Lacks (codes "facts") (put_all more found)
-      → read text ≡ Some (object (put (codes "facts") (object fs) (put_all more found)))
-  on_both_sides b e found more s q v lack =
-      let h = s.head_is in
-      let z = s.tail_is.ends in
-      let lacking = (lacks_parts (codes "facts") more found lack).0 in
-      ap read (together text facts (Some b) (Some e) s)
-      ∙ document_gives h.s0 _ z.s7 z.s8 (put_all (put_all more own_member) found) h.are.0 z.are.1 z.are.2
-      (both_give b h.s1 _ 126 found (put_all more own_member) h.are.1 (less_deep b found (piece_gives b found q)) (behind_facts (Some b) e more s v))
-      ∙ ap (λ l. Some (object l)) (ap (λ l. put_all l found) (later e more v lacking) ∙ put_onto (codes "facts") (object fs) more found (rising_piece e more v))
-
-  pub document_read : (before behind : Option (List ℕ)) (found : Members) → IsSplit text before facts behind → IsBeside before behind found → Lacks (codes "facts") found → read text ≡ Some (object (put (codes "facts") (object fs) found))
-  document_read None None found s is lack = absurd is
-  document_read (Some b) None found s is lack = before_only b found s is
-  document_read None (Some t) found s is lack = behind_only t found s is lack
-  document_read (Some b) (Some t) found s is lack =
-      let same = only_one (b ++ 44 ∷ t) found (put_all is.more is.found) is.both (both_pieces b t is.found is.more is.first is.second) in
-      on_both_sides b t is.found is.more s is.first is.second (subst (Lacks (codes "facts")) same lack) ∙ ap (λ l. Some (object (put (codes "facts") (object fs) l))) (sym same)
-
-pub outline_is : (text facts : List ℕ) (before behind : Option (List ℕ)) (found : Members) (tree : Data) → IsSplit text before facts behind → IsBeside before behind found → tree ≡ object found → get (codes "facts") tree ≡ None → IsOutline text tree facts
-outline_is text facts before behind found tree s is e none =
-    let lack = lacks (codes "facts") found (ap (get (codes "facts")) (sym e) ∙ none) in
-    (found, e, (λ fs p. document_read text facts fs p before behind found s is lack))
+pub outline_is : (text facts : List ℕ) (before behind : Option (List ℕ)) (ms ns one kept : Members) (tree : Data) → IsSplit text before facts behind → IsBeside before ms → Adds ms no_members one → IsBeside behind ns → Adds ns one kept → tree ≡ object kept
+    → IsOutline text tree facts
+outline_is text facts before behind ms ns one kept tree s is adds also more e =
+    let first = subst (λ l. IsLike l one None) (stays before ms is) (adds no_members None (record { known = refl; info = refl; facts = refl })) in (
+      kept,
+      e,
+      (λ fs p. (
+        put_all ns (put (codes "facts") (object fs) ms),
+        document_read text facts before behind ms ns fs s is also p,
+        more (put (codes "facts") (object fs) ms) (Some (object fs)) (facts_added (object fs) ms one first),
+      )),
+    )

@@ -1,6 +1,5 @@
 -- Pieces: how `serde_json` reads them, and the members of pieces that are read one after another.
-use Rattle.std.proofs.Common.{◌≡◌, ℕ, List, [], Option, Some, option_and_then, refl, ap, ◌∙◌, zero, suc, ◌-◌, ◌∷◌, ◌++◌, length, slice_get, Vec, BTreeMap, String, Global, sym, arith, option_to_list, option_map, subst, append_assoc, append-nil, Less, Equal, Greater}
-use Rattle.std.proofs.lemmas.List.{length-append}
+use Rattle.std.proofs.Common.{◌≡◌, ℕ, List, [], Option, Some, option_and_then, refl, ap, ◌∙◌, ◌∷◌, ◌++◌, sym, option_map, subst, append_assoc, append-nil, Less, Equal, Greater}
 use Rattle.std.specs.Ordering.{nat_cmp, match_ordering}
 use Rattle.std.specs.Cmp.Lexicographic.{slice_cmp}
 use Rattle.json.specs.Token.{Token}
@@ -9,13 +8,10 @@ use Rattle.json.specs.Json.{Json, Items, value, if_last}
 use Rattle.json.specs.Json as j
 use Rattle.serde_json.specs.Data.{Data, no_items, item, array, Members, object, no_members, member, put}
 use Rattle.serde_json.specs.Read.{of_json, of_items, of_members, number_of, max_depth, read}
-use Rattle.serde_json.specs.View.{view, items_view, members_view}
-use Rattle.serde_json.specs.declared.value.Value.{Value, Array, Object}
 use Rattle.serde_json.specs.Data as d
-use Rattle.serde_json.proofs.Views.{Entry, view-Array, view-Object}
-use Rattle.oim_report.specs.Pieces.{alone, one_data, HasMember, EndsWithBrace, IsPiece, put_all}
+use Rattle.oim_report.specs.Pieces.{alone, one_data, HasMember, IsPiece, put_all}
 use Rattle.oim_report.specs.code.TapeValues.{one, Ascends}
-use Rattle.oim_report.proofs.PieceTexts.{Closed, append}
+use Rattle.oim_report.proofs.PieceTexts.{append}
 use Rattle.oim_report.proofs.JoinedMembers.{Reads, HasSome, plus, joined}
 use Rattle.oim_report.proofs.Accepted.{map_some, and_then_some}
 use Rattle.oim_report.proofs.PutMembers.{both_found, ascends_put, put_onto}
@@ -87,57 +83,16 @@ some_read j.no_members d.no_members e h = h
 some_read j.no_members (d.member k x found) e h = absurd (Prim.cc)
 some_read (j.member k v ms) found e h = tt
 
--- ---- a piece, and the value that `serde_json` returns for it
-
-closed_at : (xs : List ℕ) (n : ℕ) → suc n ≡ length xs → slice_get xs n ≡ Some 125 → EndsWithBrace xs
-closed_at (x ∷ []) zero l h = Prim.cc
-closed_at (x ∷ y ∷ xs) (suc n) l h = closed_at (y ∷ xs) n (omega (arith, l)) h
-closed_at xs n l h = absurd (omega (arith, l))
-
-pub closed_last : (xs : List ℕ) → slice_get xs (length xs - 1) ≡ Some 125 → EndsWithBrace xs
-closed_last [] h = absurd (Prim.cc)
-closed_last (x ∷ xs) h = closed_at (x ∷ xs) _ (omega arith) h
-
-has_member : (es : List Entry) → (length es ≡ 0 → ⊥) → HasMember (members_view es)
-has_member [] h = absurd (h refl)
-has_member (e ∷ es) h = tt
-
-pub piece_read : (piece : List ℕ) (v : Value) (es : List Entry) → EndsWithBrace piece → read (alone piece) ≡ Some (view v) → view v ≡ one_data (members_view es) → (length es ≡ 0 → ⊥) → IsPiece piece (members_view es)
-piece_read piece v es last e one some = record { closed = last; some = has_member es some; reads = e ∙ ap (λ y. Some y) one }
-
-last_only : (rest : List Value) (x : Value) → length (rest ++ x ∷ []) ≡ 1 → rest ++ x ∷ [] ≡ x ∷ []
-last_only [] x l = refl
-last_only (y ∷ rest) x l = absurd (omega (arith, l, length-append rest (x ∷ [])))
-
-pub taken_object : (value : Value) (v : Vec Value Global) (rest : List Value) (r : Option Value) (x : Value) (m : BTreeMap (String Global) Value) → value ≡ Array v → v.items ≡ rest ++ option_to_list r → r ≡ Some x → x ≡ Object m → length v.items ≡ 1
-    → view value ≡ one_data (members_view m.entries)
-taken_object value v rest r x m a e s o l =
-    let items : v.items ≡ rest ++ Object m ∷ [] = e ∙ ap (λ q. rest ++ option_to_list q) (s ∙ ap (λ y. Some y) o) in
-    ap view a ∙ view-Array v ∙ ap (λ vs. array (items_view vs)) (items ∙ last_only rest (Object m) (ap length (sym items) ∙ l)) ∙ ap (λ d. array (item d no_items)) (view-Object m)
-
 -- ---- two texts of members, joined by a comma, as `serde_json` reads them
 
-pub joined_as : (a b : List ℕ) (found more : Members) → Closed a → HasMember found → HasMember more → ReadAs a found → ReadAs b more → ReadAs (a ++ 44 ∷ b) (put_all more found)
-joined_as a b found more closed some some_more r s = record {
+pub joined_as : (a b : List ℕ) (found more : Members) → HasMember found → HasMember more → ReadAs a found → ReadAs b more → ReadAs (a ++ 44 ∷ b) (put_all more found)
+joined_as a b found more some some_more r s = record {
   ms = plus r.ms s.ms;
-  reads = joined max_depth a b r.ms s.ms closed (some_read r.ms found r.gives some) (some_read s.ms more s.gives some_more) r.reads s.reads;
+  reads = joined max_depth a b r.ms s.ms (some_read r.ms found r.gives some) (some_read s.ms more s.gives some_more) r.reads s.reads;
   gives = both_found r.ms s.ms found more r.gives s.gives;
 }
 
 -- ---- pieces that are read one after another
-
-pub ends_closed : (xs : List ℕ) → EndsWithBrace xs → Closed xs
-ends_closed [] h = absurd h
-ends_closed (x ∷ []) h = h
-ends_closed (x ∷ y ∷ xs) h = ends_closed (y ∷ xs) h
-
-ends_later : (x : ℕ) (xs : List ℕ) → EndsWithBrace xs → EndsWithBrace (x ∷ xs)
-ends_later x [] h = absurd h
-ends_later x (y ∷ xs) h = h
-
-ends_behind : (xs ys : List ℕ) → EndsWithBrace ys → EndsWithBrace (xs ++ ys)
-ends_behind [] ys h = h
-ends_behind (x ∷ xs) ys h = ends_later x (xs ++ ys) (ends_behind xs ys h)
 
 pub has_put : (k : List ℕ) (d : Data) (ms : Members) → HasMember (put k d ms)
 has_put k d no_members = tt
@@ -159,9 +114,8 @@ read_back a found r =
 
 pub both_pieces : (a b : List ℕ) (found more : Members) → IsPiece a found → IsPiece b more → IsPiece (a ++ 44 ∷ b) (put_all more found)
 both_pieces a b found more p q = record {
-  closed = ends_behind a (44 ∷ b) (ends_later 44 b q.closed);
   some = has_put_all more found p.some;
-  reads = read_back (a ++ 44 ∷ b) (put_all more found) (joined_as a b found more (ends_closed a p.closed) p.some q.some (read_as a found p.reads) (read_as b more q.reads));
+  reads = read_back (a ++ 44 ∷ b) (put_all more found) (joined_as a b found more p.some q.some (read_as a found p.reads) (read_as b more q.reads));
 }
 
 put_append : (ms ns onto : Members) → put_all (append ms ns) onto ≡ put_all ns (put_all ms onto)

@@ -247,21 +247,3 @@ of_members-plus (j.member k v ms) ns old = after (of_json v) (λ d. of_members-p
 
 pub both_found : (ms ns : j.Members) (found more : Members) → of_members ms no_members ≡ Some found → of_members ns no_members ≡ Some more → of_members (plus ms ns) no_members ≡ Some (put_all more found)
 both_found ms ns found more e f = of_members-plus ms ns no_members ∙ ap (option_and_then (of_members ns)) e ∙ found_onto ns more found f
-
--- ---- an object without the key
-
-lacks_put : (q k : List ℕ) (d : Data) (ms : Members) → Lacks q (put k d ms) → (q ≡ k → ⊥) × Lacks q ms
-lacks_put q k d no_members h = (h.0, tt)
-lacks_put q k d (member l e ms) h =
-    elim (cmp k l) as (λ o. cmp k l ≡ o → Lacks q (match_ordering o (member k d (member l e ms)) (member l d ms) (member l e (put k d ms))) → (q ≡ k → ⊥) × Lacks q (member l e ms)) [
-      | Less ↦ λ o h. h
-      | Equal ↦ λ o h. ((λ e. h.0 (e ∙ exact_bytes k l o)), h)
-      | Greater ↦ λ o h. let rest = lacks_put q k d ms h.1 in (rest.0, (h.0, rest.1))
-    ] refl h
-
-pub lacks_parts : (q : List ℕ) (ms onto : Members) → Lacks q (put_all ms onto) → Lacks q ms × Lacks q onto
-lacks_parts q no_members onto h = (tt, h)
-lacks_parts q (member k d ms) onto h =
-    let rest = lacks_parts q ms (put k d onto) h in
-    let here = lacks_put q k d onto rest.1 in
-    ((here.0, rest.0), here.1)

@@ -13,14 +13,14 @@ use Rattle.serde_json.specs.Data.{Data, null, boolean, string, array, no_items, 
 use Rattle.serde_json.specs.Read.{of_json, of_items, of_members, max_depth}
 use Rattle.oim_dims.specs.declared.fact.Fact.{Fact}
 use Rattle.oim_report.specs.code.TapeValues.{Ascends, AreData, IsRead, one}
-use Rattle.oim_report.specs.Pieces.{alone, HasMember, EndsWithBrace, IsPiece, put_all}
+use Rattle.oim_report.specs.Pieces.{alone, HasMember, IsPiece, put_all}
 use Rattle.oim_report.specs.code.FoundFacts.{AreFound, HaveOneMore}
 use Rattle.oim_report.proofs.PieceTexts.{append}
 use Rattle.oim_report.specs.code.Scope.{Scope}
 use Rattle.oim_report.proofs.Accepted.{map_some}
 use Rattle.oim_report.proofs.PutMembers.{ascends_put}
 use Rattle.oim_report.proofs.JoinedMembers.{Reads}
-use Rattle.oim_report.proofs.PiecesInTurn.{ReadAs, has_put, has_put_all, read_back}
+use Rattle.oim_report.proofs.PiecesInTurn.{has_put, has_put_all, read_back}
 use Rattle.oim_report.proofs.FoundInOrder.{found_by, found_one}
 
 -- ---- the members of an object on a tape, while they are read one after another
@@ -141,12 +141,15 @@ within_levels text v e levels =
     let spelled : tokens text ≡ json_tokens v ++ [] = value-json_tokens_back j.max_depth (tokens text) [] v (last_only (value j.max_depth (tokens text)) v e) in
     ap (value max_depth) spelled ∙ value-json_tokens v max_depth [] levels
 
-pub taped_piece : (piece : List ℕ) (vs : j.Members) (ms : Members) → EndsWithBrace piece → document (alone piece) ≡ Some (one vs) → AreData vs ms → HasMember ms → IsPiece piece (put_all ms no_members)
-taped_piece piece vs ms closed e are some =
-    let low = shallow vs ms are in
+pub taped_piece : (piece : List ℕ) (vs : j.Members) (ms : Members) → document (alone piece) ≡ Some (one vs) → of_members vs no_members ≡ Some ms → members_depth vs ≤ 125 → HasMember ms → IsPiece piece ms
+taped_piece piece vs ms e gives low some =
     let reads : Reads max_depth piece vs = within_levels (alone piece) (one vs) e (omega (arith, low)) in
-    let read : ReadAs piece (put_all ms no_members) = record { ms = vs; reads = reads; gives = members_put vs ms no_members are } in
-    record { closed = closed; some = still ms some; reads = read_back piece (put_all ms no_members) read }
+    record { some = some; reads = read_back piece ms (record { ms = vs; reads = reads; gives = gives }) }
+
+pub piece_of_facts : (piece : List ℕ) (vs : j.Members) (ms : Members) → document (alone piece) ≡ Some (one vs) → AreData vs ms → HasMember ms → IsPiece piece (put_all ms no_members)
+piece_of_facts piece vs ms e are some =
+    let low = shallow vs ms are in
+    taped_piece piece vs (put_all ms no_members) e (members_put vs ms no_members are) (omega (arith, low)) (still ms some)
   where
     still : (ms : Members) → HasMember ms → HasMember (put_all ms no_members)
     still no_members h = h

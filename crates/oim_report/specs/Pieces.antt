@@ -14,15 +14,8 @@ abbrev pub HasMember : Members → Type 0
 HasMember no_members = ⊥
 HasMember (member k d ms) = ⊤
 
--- the last byte is a closing brace
-abbrev pub EndsWithBrace : List ℕ → Type 0
-EndsWithBrace [] = ⊥
-EndsWithBrace (x ∷ []) = x ≡ 125
-EndsWithBrace (x ∷ y ∷ xs) = EndsWithBrace (y ∷ xs)
-
--- the piece is the text of these members; there is at least one member, and the piece ends with a closing brace
+-- the piece is the text of these members; there is at least one member
 pub record IsPiece (piece : List ℕ) (found : Members) : Type 0 where
-  pub closed : EndsWithBrace piece
   pub some : HasMember found
   pub reads : read (alone piece) ≡ Some (one_data found)
 

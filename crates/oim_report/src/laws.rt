@@ -198,9 +198,9 @@ pub fn least_is_answered()
     ensures { LeastIsAnswered }
 {}
 
-/// Suppose that two pieces can each be read alone, and that each has a member and ends with a
-/// closing brace. With a comma between them, they are read as the members of both pieces (RFC 8259,
-/// section 4; `serde_json` keeps the last value of a repeated key).
+/// Suppose that two pieces can each be read alone, and that each has a member. With a comma between
+/// them, they are read as the members of both pieces (RFC 8259, section 4; `serde_json` keeps the
+/// last value of a repeated key).
 pub fn pieces_are_the_whole()
     ensures { PiecesAreTheWhole }
 {}

@@ -1,7 +1,8 @@
 //! Reads a long report in pieces.
 
+pub(crate) mod beside;
 pub(crate) mod cuts;
 pub(crate) mod not_in_pieces;
 pub(crate) mod outline;
-pub(crate) mod piece;
 pub(crate) mod piece_facts;
+pub(crate) mod taped_tree;

@@ -1,9 +1,12 @@
 -- How the members of `facts` are cut into pieces, and how a document is split around `facts` (own).
-use Rattle.std.specs.Prelude.{◌≡◌, ℕ, codes, List, [], ◌∷◌, ◌++◌, true, Option, Some, None, ⊤}
+use Rattle.std.specs.Prelude.{◌≡◌, ℕ, codes, List, [], ◌∷◌, ◌++◌, true, false, Option, Some, None, ⊤}
 use Rattle.json.specs.Word.{is_space}
-use Rattle.serde_json.specs.Data.{Data, object, Members, put}
+use Rattle.serde_json.specs.Data.{Data, object, Members, no_members}
+use Rattle.serde_json.specs.Find.{get_member}
 use Rattle.serde_json.specs.Read.{read}
-use Rattle.oim_report.specs.Pieces.{IsPiece}
+use Rattle.oim_report.specs.Info.{root_keys}
+use Rattle.oim_report.specs.Json.{any_member, is_unknown}
+use Rattle.oim_report.specs.Pieces.{IsPiece, put_all}
 
 -- a piece, followed by a comma and the rest if there is a rest
 abbrev pub with_rest : List ℕ → Option (List ℕ) → List ℕ
@@ -75,21 +78,21 @@ pub record IsSplit (text : List ℕ) (before : Option (List ℕ)) (facts : List 
   pub head_is : IsHead head before
   pub tail_is : IsTail tail facts behind
 
--- each text is a piece; joined by a comma, both texts are a piece with the members `all`
-pub record AreBoth (before behind : List ℕ) (all : Members) : Type 0 where
-  pub found : Members
-  pub more : Members
-  pub first : IsPiece before found
-  pub second : IsPiece behind more
-  pub both : IsPiece (before ++ 44 ∷ behind) all
+-- the members before or after `facts`, if there are any
+abbrev pub IsBeside : Option (List ℕ) → Members → Type 0
+IsBeside None ms = ms ≡ no_members
+IsBeside (Some text) ms = IsPiece text ms
 
--- the members before and after `facts`; there is at least one such member
-abbrev pub IsBeside : Option (List ℕ) → Option (List ℕ) → Members → Type 0
-IsBeside None None found = ⊥
-IsBeside (Some before) None found = IsPiece before found
-IsBeside None (Some behind) found = IsPiece behind found
-IsBeside (Some before) (Some behind) found = AreBoth before behind found
+-- the members `all` have no unknown key, the same `documentInfo` as `kept`, and `own` at the key `facts`
+pub record IsLike (all kept : Members) (own : Option Data) : Type 0 where
+  pub known : any_member (is_unknown root_keys) all ≡ false
+  pub info : get_member (codes "documentInfo") all ≡ get_member (codes "documentInfo") kept
+  pub facts : get_member (codes "facts") all ≡ own
 
--- if `facts` is a piece, `text` is read as `tree` with the members of this piece at the key `facts`
+-- members that are like `old` are like `new` with the members `ms`
+abbrev pub Adds : Members → Members → Members → Type 0
+Adds ms old new = (all : Members) (own : Option Data) → IsLike all old own → IsLike (put_all ms all) new own
+
+-- if `facts` is a piece, `text` is read as an object that is like `tree` and has the members of this piece as its facts
 abbrev pub IsOutline : List ℕ → Data → List ℕ → Type 0
-IsOutline text tree facts = (before : Members) × (tree ≡ object before) × ((found : Members) → IsPiece facts found → read text ≡ Some (object (put (codes "facts") (object found) before)))
+IsOutline text tree facts = (kept : Members) × (tree ≡ object kept) × ((found : Members) → IsPiece facts found → (all : Members) × (read text ≡ Some (object all)) × IsLike all kept (Some (object found)))

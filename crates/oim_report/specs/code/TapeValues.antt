@@ -1,12 +1,14 @@
 -- The JSON values on a tape, with the data and the parts of a fact that they denote (own).
-use Rattle.std.specs.Prelude.{◌≡◌, ℕ, ◌≤◌, List, false, Some, ⊤}
+use Rattle.std.specs.Prelude.{◌≡◌, ℕ, ◌≤◌, List, false, Option, Some, ⊤}
 use Rattle.json.specs.Json as json
-use Rattle.json.specs.Tree.{depth}
+use Rattle.json.specs.Tree.{depth, members_depth}
 use Rattle.serde_json.specs.Data.{Data, object, Members, no_members, member, put}
-use Rattle.serde_json.specs.Read.{of_json}
+use Rattle.serde_json.specs.Read.{of_json, of_members}
 use Rattle.oim_report.specs.Json.{Given, given}
 use Rattle.oim_report.specs.FactMembers.{DimensionMembers, FactMembers, dimension_parts, parts_of, fact_parts}
+use Rattle.oim_report.specs.Pieces.{HasMember}
 use Rattle.oim_report.specs.PlainJson.{IsBefore}
+use Rattle.oim_report.specs.code.Pieces.{Adds, IsLike}
 
 -- the keys ascend in byte order
 abbrev pub Ascends : Members → Type 0
@@ -53,6 +55,27 @@ pub record IsFactObject (v : json.Json) (parts : FactMembers) : Type 0 where
   pub reads : of_json v ≡ Some found
   pub are : fact_parts found ≡ Some parts
   pub flat : depth v ≤ 17
+
+-- the value is read as this data and has n levels at most
+pub record IsReadAs (n : ℕ) (v : json.Json) (found : Data) : Type 0 where
+  pub reads : of_json v ≡ Some found
+  pub flat : depth v ≤ n
+
+-- the value has 125 levels at most; members that are like `old` are like `new` after the value is put at the key
+pub record IsAdded (key : List ℕ) (v : json.Json) (old new : Members) : Type 0 where
+  pub found : Data
+  pub reads : of_json v ≡ Some found
+  pub flat : depth v ≤ 125
+  pub adds : (all : Members) (own : Option Data) → IsLike all old own → IsLike (put key found all) new own
+
+-- there is at least one member, and each value has 125 levels at most; members that are like `old` are like `new` with these
+-- members
+pub record AreAdded (vs : json.Members) (old new : Members) : Type 0 where
+  pub ms : Members
+  pub reads : of_members vs no_members ≡ Some ms
+  pub some : HasMember ms
+  pub adds : Adds ms old new
+  pub flat : members_depth vs ≤ 125
 
 -- an array with one object
 abbrev pub one : json.Members → json.Json

@@ -1,7 +1,8 @@
-ghost use Rattle.std.specs.Prelude.{◌≡◌, ◌⊎◌, Some, None, IfOk, IfErr, IfSome, codes, map, is_some, option_map, bytes_eq};
+ghost use Rattle.std.specs.Prelude.{◌≡◌, ◌⊎◌, Some, None, IfOk, IfErr, IfSome, map, is_some, option_map, bytes_eq};
 ghost use Rattle.std.specs.List.{list_any};
-ghost use Rattle.serde_json.specs.Data.{Members, null, object, put};
+ghost use Rattle.serde_json.specs.Data.{Members, null, object};
 ghost use Rattle.oim_report.specs.Pieces.{IsPiece};
+ghost use Rattle.oim_report.specs.code.Pieces.{IsLike};
 ghost use Rattle.serde_json.specs.View.{view, members_view};
 ghost use Rattle.oim_report.specs.Json.{without_mark, json, object_at, within, any_in, has_member, has_colon, is_unknown, is_no_object, is_no_array};
 ghost use Rattle.oim_report.specs.Shown.{unknown_in};
@@ -28,9 +29,9 @@ pub(crate) fn read_json(alloc: Global, bytes: &[u8]) -> Result<Value, Reason>
 }
 
 pub(crate) fn read_json_outline(alloc: Global, bytes: &[u8]) -> Result<Outline<'_>, NotInPieces>
-    ensures { IfOk result (λ o. (before : Members) × (view o.tree ≡ object before)
-        × ((found : Members) → IsPiece o.facts.now found
-        → json bytes.now ≡ Some (object (put (codes "facts") (object found) before)))) }
+    ensures { IfOk result (λ o. (kept : Members) × (view o.tree ≡ object kept)
+        × ((found : Members) → IsPiece o.facts.now found → (all : Members)
+        × (json bytes.now ≡ Some (object all)) × IsLike all kept (Some (object found)))) }
 {
     match str::from_utf8(after_mark(bytes)) {
         Ok(text) => read_outline(alloc, text),

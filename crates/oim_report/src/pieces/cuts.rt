@@ -84,7 +84,7 @@ fn front_end(bytes: &[u8]) -> usize
     at
 }
 
-fn back_start(bytes: &[u8]) -> usize
+pub(crate) fn back_start(bytes: &[u8]) -> usize
     ensures bound { result ≤ length bytes.now }
     ensures spaces { AreSpaces (drop result bytes.now) }
 {

@@ -32,16 +32,6 @@ impl From<Reason> for NotInPieces {
     }
 }
 
-impl From<serde_json::Error> for NotInPieces {
-    fn from(error: serde_json::Error) -> NotInPieces {
-        if error.is_memory() {
-            NotInPieces::Memory(AllocError)
-        } else {
-            NotInPieces::NeedsTree
-        }
-    }
-}
-
 impl From<json::Error> for NotInPieces {
     fn from(error: json::Error) -> NotInPieces {
         match error {

@@ -1,22 +1,22 @@
 ghost use Rattle.std.specs.Prelude.{Some, IfOk, IfSome, option_map};
-ghost use Rattle.serde_json.specs.View.{view, members_view};
-ghost use Rattle.oim_report.specs.code.Pieces.{AreBoth, IsBeside, IsEnd, IsHead, IsOutline, IsSplit, IsTail};
+ghost use Rattle.serde_json.specs.View.{view};
+ghost use Rattle.oim_report.specs.code.Pieces.{IsEnd, IsHead, IsOutline, IsSplit, IsTail};
 
-use crate::pieces::cuts::{cut_at, strip_back, strip_front, trim_back};
+use crate::pieces::beside::read_beside;
+use crate::pieces::cuts::{back_start, cut_at, strip_back, strip_front, trim_back};
 use crate::pieces::not_in_pieces::NotInPieces;
-use crate::pieces::piece::read_piece;
 use serde_json::{Map, Value};
 use std::alloc::Global;
 
-// `guess_end` looks for the end of `facts` only in this many of the last bytes of a document, not
-// counting white space at the end. This number is used if `facts` is the first member.
+// `guess_end` first looks for the end of `facts` only in this many of the last bytes of a document,
+// not counting white space at the end. This number is used if `facts` is the first member.
 const SEARCHED_IF_FIRST: usize = 4_096;
 
 // Used if members precede `facts`: usually nothing follows then, so a longer search would only cost
 // time.
 const SEARCHED_IF_LATER: usize = 256;
 
-/// A document without its member `facts`, and the text of the members of `facts`.
+/// An object with the member `documentInfo` of a document, and the text of the members of `facts`.
 #[derive(Drop)]
 pub(crate) struct Outline<'t> {
     pub(crate) tree: Value,
@@ -39,14 +39,13 @@ pub(crate) fn read_outline(alloc: Global, text: &str) -> Result<Outline<'_>, Not
     let Some(split) = split_document(text) else {
         return Err(NotInPieces::NeedsTree);
     };
-    let tree = Value::Object(read_beside(alloc, split.before, split.behind)?);
-    match tree.get("facts") {
-        Some(_) => Err(NotInPieces::NeedsTree),
-        None => Ok(Outline {
-            tree,
-            facts: split.facts,
-        }),
-    }
+    let mut members = Map::new(alloc);
+    read_beside(alloc, split.before, &mut members)?;
+    read_beside(alloc, split.behind, &mut members)?;
+    Ok(Outline {
+        tree: Value::Object(members),
+        facts: split.facts,
+    })
 }
 
 fn split_document(text: &str) -> Option<Split<'_>>
@@ -106,9 +105,22 @@ fn split_end(text: &str) -> Option<Option<&str>>
     Some(Some(strip_front(front, ",")?))
 }
 
-// Guesses the index of the brace that closes `facts`: the leftmost closing brace or bracket that is
-// not inside another pair. The last byte is skipped, because it closes the document.
+// Guesses the index of the brace that closes `facts`. If no fact seems to end before it, all bytes
+// are searched.
 fn guess_end(bytes: &[u8], searched: usize) -> usize {
+    let end = guess_within(bytes, searched);
+    let front = bytes.get(..end).unwrap_or(&[]);
+    let facts = front.get(..back_start(front)).unwrap_or(&[]);
+    if bytes.get(end) == Some(&b'}') && facts.ends_with(b"}") {
+        end
+    } else {
+        guess_within(bytes, bytes.len())
+    }
+}
+
+// Returns the index of the leftmost closing brace or bracket that is not inside another pair. The
+// last byte is skipped, because it closes the document.
+fn guess_within(bytes: &[u8], searched: usize) -> usize {
     let mut end = 0;
     let mut depth: usize = 0;
     let mut in_text = false;
@@ -127,38 +139,4 @@ fn guess_end(bytes: &[u8], searched: usize) -> usize {
         }
     }
     end
-}
-
-fn read_beside(
-    alloc: Global,
-    before: Option<&str>,
-    behind: Option<&str>,
-) -> Result<Map<String, Value>, NotInPieces>
-    ensures { IfOk result
-        (λ m. IsBeside (option_map (λ t. t.now) before.entry) (option_map (λ t. t.now) behind.entry) (members_view m.entries)) }
-{
-    let mut buffer = String::new(alloc);
-    match (before, behind) {
-        (Some(before), Some(behind)) => read_both(alloc, &mut buffer, before, behind),
-        (Some(before), None) => read_piece(alloc, &mut buffer, before),
-        (None, Some(behind)) => read_piece(alloc, &mut buffer, behind),
-        (None, None) => Err(NotInPieces::NeedsTree),
-    }
-}
-
-fn read_both(
-    alloc: Global,
-    buffer: &mut String,
-    before: &str,
-    behind: &str,
-) -> Result<Map<String, Value>, NotInPieces>
-    ensures { IfOk result (λ m. AreBoth before.now behind.now (members_view m.entries)) }
-{
-    let _before = read_piece(alloc, buffer, before)?;
-    let _behind = read_piece(alloc, buffer, behind)?;
-    let mut both = String::new(alloc);
-    both.push_str(before)?;
-    both.push_str(",")?;
-    both.push_str(behind)?;
-    read_piece(alloc, buffer, both.as_str())
 }

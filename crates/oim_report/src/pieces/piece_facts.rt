@@ -1,10 +1,10 @@
-ghost use Rattle.std.specs.Prelude.{◌≡◌, IfOk, IfSome, OnOk};
+ghost use Rattle.std.specs.Prelude.{◌≡◌, IfOk, IfSome, OnOk, Some, string_bytes};
 ghost use Rattle.json.specs.Find.{BeginsWith, InMembers};
-ghost use Rattle.json.specs.Json.{Json};
+ghost use Rattle.json.specs.Json.{Json, document};
 ghost use Rattle.json.specs.Json as spec;
 ghost use Rattle.serde_json.specs.Data as tree;
 ghost use Rattle.serde_json.specs.Data.{no_members};
-ghost use Rattle.oim_report.specs.Pieces.{put_all, HasMember, IsPiece};
+ghost use Rattle.oim_report.specs.Pieces.{alone, put_all, HasMember, IsPiece};
 ghost use Rattle.oim_report.specs.code.FoundFacts.{AreFound, HaveOneMore};
 ghost use Rattle.oim_report.specs.code.TapeValues.{AreData, one};
 ghost use Rattle.oim_report.specs.code.UriIndices.{AreUriIndices};
@@ -15,9 +15,10 @@ use crate::fact::fact_reader::FactReader;
 use crate::limits::{MOST_KEPT_BYTES, PIECE_BYTES};
 use crate::pieces::cuts::split_piece;
 use crate::pieces::not_in_pieces::NotInPieces;
-use crate::pieces::piece::{ends_with_brace, fill_alone};
 use json::{Element, Members, Scratch, Tape};
-use std::alloc::Global;
+use std::alloc::{AllocError, Global};
+
+const SPARE_NODES: usize = 64;
 
 /// The text of a piece and the scratch memory of its tape. They are reused for later pieces and
 /// reports.
@@ -83,21 +84,40 @@ fn read_piece_facts(
         × AreFound reader.old.sheet reader.old.aliases ms f.identifiers.items f.facts.items) }
     ensures indices { IfOk result (λ f. AreUriIndices reader.old.aliases f.facts.items f.indices.items) }
 {
-    if !ends_with_brace(piece) {
-        return Err(NotInPieces::NeedsTree);
-    }
-    // `json` ignores a refusal when it requests memory for all nodes, so enough is requested here
-    let nodes = Vec::with_capacity(alloc, (piece.len() / 2).min(PIECE_BYTES))?;
-    fill_alone(&mut buffers.text, piece)?;
-    let PieceBuffers { text, scratch } = buffers;
-    let tape = Tape::parse(text.as_str(), scratch, nodes)?;
+    let tape = parse_piece(alloc, buffers, piece)?;
     let Some(members) = only_object(&tape.root()) else {
         return Err(NotInPieces::NeedsTree);
     };
     read_members(alloc, reader, members)
 }
 
-fn only_object<'t, 'a>(root: &Element<'t, 'a>) -> Option<Members<'t, 'a>>
+/// Parses an array with one object, whose members are the piece.
+pub(crate) fn parse_piece<'b>(
+    alloc: Global,
+    buffers: &'b mut PieceBuffers,
+    piece: &str,
+) -> Result<Tape<'b>, NotInPieces>
+    ensures { IfOk result (λ tape. (v : Json) × (document (alone piece.now) ≡ Some v) × BeginsWith tape v) }
+{
+    // `json` ignores a refusal when it requests memory for all nodes, so enough is requested here. A
+    // short piece may have more than one node for two bytes.
+    let nodes = Vec::with_capacity(alloc, (piece.len() / 2 + SPARE_NODES).min(PIECE_BYTES))?;
+    fill_alone(&mut buffers.text, piece)?;
+    let PieceBuffers { text, scratch } = buffers;
+    Ok(Tape::parse(text.as_str(), scratch, nodes)?)
+}
+
+// Sets `buffer` to an array with one object, whose members are the piece.
+fn fill_alone(buffer: &mut String, piece: &str) -> Result<(), AllocError>
+    ensures { OnOk result (string_bytes buffer.new ≡ alone piece.now) }
+{
+    buffer.clear();
+    buffer.push_str("[{")?;
+    buffer.push_str(piece)?;
+    buffer.push_str("}]")
+}
+
+pub(crate) fn only_object<'t, 'a>(root: &Element<'t, 'a>) -> Option<Members<'t, 'a>>
     ensures { (v : Json) → BeginsWith root.now v → IfSome result
         (λ m. (vs : spec.Members) × (v ≡ one vs) × InMembers m vs) }
 {

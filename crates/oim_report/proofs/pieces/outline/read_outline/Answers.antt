@@ -1,13 +1,18 @@
-use Rattle.std.proofs.Common.{option_map, sym}
+use Rattle.std.proofs.Common.{option_map, subst}
 use Rattle.serde_json.specs.View.{view, members_view}
 use Rattle.serde_json.specs.declared.value.Value.{Object}
 use Rattle.serde_json.proofs.Views.{view-Object}
+use Rattle.oim_report.specs.code.Pieces.{Adds}
 use Rattle.oim_report.proofs.Outlines.{outline_is}
 use Rattle.oim_report.proofs.pieces.outline.read_outline.Goals as goal
 
 pub returns : goal.returns
 returns c =
     let split = c.in-Some.split in
-    let beside = c.in_ok-read_beside.field-0 in
-    outline_is c.args.text.now split.facts.now (option_map (λ t. t.now) split.before) (option_map (λ t. t.now) split.behind) (members_view beside.entries) (view (Object beside))
-    c.in-Some.ensures c.in_ok-read_beside.ensures (view-Object beside) (sym c.in-None.ensures)
+    let one = c.in_ok-read_beside.ensures in
+    let two = c.in_ok-read_beside-2.ensures in
+    let first = members_view c.read_beside.new.tree.entries in
+    let last = c.read_beside-2.new.tree in
+    let adds = subst (λ es. Adds one.0 (members_view es) first) c.new-members.ensures.empty one.2 in
+    outline_is c.args.text.now split.facts.now (option_map (λ t. t.now) split.before) (option_map (λ t. t.now) split.behind) one.0 two.0 first (members_view last.entries) (view (Object last))
+    c.in-Some.ensures one.1 adds two.1 two.2 (view-Object last)

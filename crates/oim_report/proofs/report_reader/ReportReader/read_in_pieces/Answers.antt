@@ -39,8 +39,9 @@ pub returns-clause-ok : goal.returns-clause-ok
 returns-clause-ok c =
     let sheet = c.self.inside.facts.sheet in
     let tree = view c.in_ok-outline.outline.tree in
-    let o = c.in_ok-outline.ensures in
     let said = c.in_ok-identifiers.ensures.found in
+    let o = c.in_ok-outline.ensures in
+    let whole = o.2 said.0 said.1 in
     let read = found_said c.turn_to.new.self.sheet c.turn_to.new.self.aliases said.0 _ _ said.2 in
     let accepted = c.in_ok-info.ensures.accepted in
     let aliases = c.in_ok-info.ensures.aliases in
@@ -49,16 +50,17 @@ returns-clause-ok c =
     let turned = ap (λ (s : Scope). facts_said s.sheet s.aliases said.0) c.turn_to.ensures ∙ ap (λ bs. facts_said sheet bs said.0) aliases in
     let above : is_lt (level_cmp c.in_ok-info.info.level (level_of c.in_ok-identifiers.field-0.facts.items)) ≡ false = ap (λ fs. is_lt (level_cmp c.in_ok-info.info.level (level_of fs))) (sym c.as_slice-3.ensures.value) ∙ sym c.is_above.ensures ∙ c.if-is_above.false in
     ap (λ s. outcome s c.args.bytes.now) (sym c.self.view_is)
-    ∙ whole_outcome sheet c.args.bytes.now tree o.0 said.0 c.in_ok-identifiers.field-0.facts.items c.in_ok-info.info.references.items c.in_ok-info.info.level o.1 (o.2 said.0 said.1)
+    ∙ whole_outcome sheet c.args.bytes.now tree o.0 said.0 whole.0 c.in_ok-identifiers.field-0.facts.items c.in_ok-info.info.references.items c.in_ok-info.info.level o.1 whole.2 whole.1
     accepted (sym turned ∙ read) references level above
     ∙ ap Ok (sym c.new-report.ensures.document)
 
 pub returns-clause-identifiers : goal.returns-clause-identifiers
 returns-clause-identifiers c =
-    let o = c.in_ok-outline.ensures in
     let said = c.in_ok-identifiers.ensures.found in
-    ap (option_map tree_identifiers) (o.2 said.0 said.1)
-    ∙ ap (λ ms. Some (identifiers_in (entries ms))) (facts_same o.0 said.0)
+    let o = c.in_ok-outline.ensures in
+    let whole = o.2 said.0 said.1 in
+    ap (option_map tree_identifiers) whole.1
+    ∙ ap (λ ms. Some (identifiers_in (entries ms))) (facts_same o.0 said.0 whole.0 whole.2)
     ∙ ap (λ ks. Some ks) (keys_found c.turn_to.new.self.sheet c.turn_to.new.self.aliases said.0 _ _ said.2)
 
 pub order_of-requires : goal.order_of-requires
