@@ -1,17 +1,17 @@
 -- Facts that were found in a text, sorted by their identifiers.
-use Rattle.std.proofs.Common.{◌≡◌, ℕ, List, [], ◌∷◌, Bool, false, Option, Some, None, Result, Ok, Err, refl, sym, ap, ◌∙◌, subst, codes, not, is_none, option_and_then, if◌then◌else◌, IfOk, IfSome, IsUtf8, unwrap_or, suc, ◌+◌, ◌<◌, ◌++◌, length, get_or, drop, map, true, cond, String, Global, string_bytes, arith, append_assoc, append-nil, zero, slice_get, string_cmp, Ordering, Less, Equal, Greater}
+use Rattle.std.proofs.Common.{◌≡◌, ℕ, List, [], ◌∷◌, Bool, false, Some, None, Result, Ok, Err, refl, sym, ap, ◌∙◌, subst, codes, not, is_none, option_and_then, if◌then◌else◌, IfOk, IsUtf8, unwrap_or, suc, ◌+◌, ◌<◌, ◌++◌, length, get_or, drop, map, true, cond, String, Global, string_bytes, arith, append_assoc, append-nil, string_cmp, Ordering, Less, Equal, Greater}
 use Rattle.std.proofs.lemmas.Bool.{or_parts, or_from, false≢true}
 use Rattle.std.specs.Ordering.{nat_cmp, match_ordering, is_lt}
 use Rattle.std.specs.Cmp.Lexicographic.{slice_cmp}
 use Rattle.std.specs.BTreeMap.{insert_entry}
+use Rattle.std.specs.FinMap.{FinMap}
 use Rattle.std.proofs.lemmas.List.{drop_more, length-append, length-map, map-append}
 use Rattle.serde_json.specs.Data.{Data, object, Members, no_items, put, no_members, member}
 use Rattle.serde_json.specs.Find.{get, as_array, as_object}
 use Rattle.serde_json.specs.Read.{read}
 use Rattle.oim_names.specs.declared.reason.Reason.TheVariants.{MemberForm, UnknownMember, DocumentType, Namespace, BaseUrl, TaxonomyUrl, Feature, DisallowedDuplicates}
-use Rattle.oim_names.specs.Bindings.{Binding, uri_at}
-use Rattle.oim_names.specs.QName.{QName}
-use Rattle.oim_names.specs.declared.reason.Reason.{Reason}
+use Rattle.oim_names.specs.Bindings.{Binding}
+use Rattle.oim_value.specs.ValueOrder.{name_cmp}
 use Rattle.oim_value.specs.Level.{level_cmp}
 use Rattle.oim_value.specs.declared.level.Level.{Level}
 use Rattle.oim_value.specs.declared.level.Level.TheVariants.{All as AllLevel}
@@ -34,14 +34,11 @@ use Rattle.oim_report.specs.code.TapeValues.{Ascends}
 use Rattle.oim_report.specs.PlainJson.{IsBefore}
 use Rattle.oim_report.specs.code.FoundFacts.{AreFound, is_above, rise_after}
 use Rattle.oim_report.specs.Identifiers.{identifiers_in}
-use Rattle.oim_report.specs.FactMembers.{DimensionMembers, FactMembers, HasForm}
-use Rattle.oim_report.specs.Said.{fact_of, said_concept}
-use Rattle.oim_report.specs.code.UriIndices.{AreUriIndices, ShareUris, concept_in}
+use Rattle.oim_report.specs.code.Ranks.{AreRanks, IsRank}
 use Rattle.oim_report.proofs.DocumentHolds.{document_least, has_misshapen_part, has_other_type, has_unknown_part, info_refusal, shape_refusal}
 use Rattle.oim_report.proofs.EachRefusal.{first_holding, first_refusal, none_of}
 use Rattle.oim_report.proofs.PutMembers.{before_all, rising_stays}
 use Rattle.oim_report.proofs.Texts.{passes}
-use Rattle.oim_report.proofs.Accepted.{is_said}
 
 -- ---- a report that is read in pieces has the outcome of the whole report
 
@@ -262,63 +259,37 @@ taken_one part xs left old taken v e o =
 pub longer : {V : Type 0} (taken : List V) (ss : List (String Global)) (v : V) (s : String Global) → length taken ≡ length ss → length (taken ++ v ∷ []) ≡ length (ss ++ s ∷ [])
 longer taken ss v s l = length-append taken (v ∷ []) ∙ ap (λ n. n + 1) l ∙ sym (length-append ss (s ∷ []))
 
--- ---- indices of bindings in place of the URIs of concepts
+-- ---- the ranks of the concepts of facts
 
-pub none_indexed : (bs : List Binding) (fs : List Fact) (ps : List (Option ℕ)) → fs ≡ [] → ps ≡ [] → AreUriIndices bs fs ps
-none_indexed bs fs ps f p = subst (λ l. AreUriIndices bs l ps) (sym f) (subst (AreUriIndices bs []) (sym p) tt)
+module _ {K : Type 0} (m : FinMap name_cmp K) where
+  pub none_ranked : (fs : List Fact) (rs : List ℕ) → fs ≡ [] → rs ≡ [] → AreRanks m fs rs
+  none_ranked fs rs f r = subst (λ l. AreRanks m l rs) (sym f) (subst (AreRanks m []) (sym r) tt)
 
-pub indices_append : (bs : List Binding) (fs gs : List Fact) (ps qs : List (Option ℕ)) → AreUriIndices bs fs ps → AreUriIndices bs gs qs → AreUriIndices bs (fs ++ gs) (ps ++ qs)
-indices_append bs [] gs [] qs h k = k
-indices_append bs (f ∷ fs) gs (p ∷ ps) qs h k = (h.0, indices_append bs fs gs ps qs h.1 k)
-indices_append bs fs gs ps qs h k = absurd h
+  pub ranks_append : (fs gs : List Fact) (rs ss : List ℕ) → AreRanks m fs rs → AreRanks m gs ss → AreRanks m (fs ++ gs) (rs ++ ss)
+  ranks_append [] gs [] ss h k = k
+  ranks_append (f ∷ fs) gs (r ∷ rs) ss h k = (h.0, ranks_append fs gs rs ss h.1 k)
+  ranks_append fs gs rs ss h k = absurd h
 
-pub indices_push : (bs : List Binding) (fs more : List Fact) (ps indices : List (Option ℕ)) (f : Fact) (p : Option ℕ) → more ≡ fs ++ f ∷ [] → indices ≡ ps ++ p ∷ [] → IfSome p (λ i. uri_at bs i ≡ Some f.dimensions.concept.uri) → AreUriIndices bs fs ps → AreUriIndices bs more indices
-indices_push bs fs more ps indices f p m e is h = subst (λ l. AreUriIndices bs l indices) (sym m) (subst (AreUriIndices bs (fs ++ f ∷ [])) (sym e) (indices_append bs fs (f ∷ []) ps (p ∷ []) h (is, tt)))
+  pub ranked_by : (fs gs : List Fact) (rs ss : List ℕ) → gs ≡ fs → ss ≡ rs → AreRanks m fs rs → AreRanks m gs ss
+  ranked_by fs gs rs ss e k h = subst (λ l. AreRanks m l ss) (sym e) (subst (AreRanks m fs) (sym k) h)
 
-index_at : (bs : List Binding) (fs : List Fact) (ps : List (Option ℕ)) (i p : ℕ) (f : Fact) → AreUriIndices bs fs ps → slice_get ps i ≡ Some (Some p) → slice_get fs i ≡ Some f → uri_at bs p ≡ Some f.dimensions.concept.uri
-index_at bs (g ∷ fs) (q ∷ ps) zero p f h e k =
-    let index : q ≡ Some p = ap (λ o. unwrap_or o q) e in
-    let fact : g ≡ f = ap (λ o. unwrap_or o g) k in
-    subst (λ (x : Fact). uri_at bs p ≡ Some x.dimensions.concept.uri) fact (subst (λ o. IfSome o (λ j. uri_at bs j ≡ Some g.dimensions.concept.uri)) index h.0)
-index_at bs (g ∷ fs) (q ∷ ps) (suc i) p f h e k = index_at bs fs ps i p f h.1 e k
-index_at bs fs ps i p f h e k = absurd (Prim.cc)
+  -- facts that are stored by identifier, each with its rank
+  abbrev AreRanked : List (String Global × (Fact × ℕ)) → Type 0
+  AreRanked es = AreRanks m (map (λ e. e.1.0) es) (map (λ e. e.1.1) es)
 
-pub share_uris : (bs : List Binding) (fs : List Fact) (ps : List (Option ℕ)) → AreUriIndices bs fs ps → ShareUris fs ps
-share_uris bs fs ps h i j p f g at_i at_j first second =
-    ap (λ o. unwrap_or o f.dimensions.concept.uri) (sym (index_at bs fs ps i p f h at_i first) ∙ index_at bs fs ps j p g h at_j second)
+  ranked_put : (s : String Global) (v : Fact × ℕ) (es : List (String Global × (Fact × ℕ))) → IsRank m v.0.dimensions.concept v.1 → AreRanked es → AreRanked (insert_entry string_cmp es s v)
+  ranked_put s v [] is h = (is, tt)
+  ranked_put s v (x ∷ es) is h =
+      elim (string_cmp s x.0) as (λ o. AreRanked (match_ordering o ((s, v) ∷ x ∷ es) ((x.0, v) ∷ es) (x ∷ insert_entry string_cmp es s v))) [
+        | Less ↦ (is, h)
+        | Equal ↦ (is, h.1)
+        | Greater ↦ (h.0, ranked_put s v es is h.1)
+      ]
 
--- ---- facts that are stored by identifier, each with its index
+  ranked_all : (ss : List (String Global)) (vs : List (Fact × ℕ)) (fs : List Fact) (rs : List ℕ) (es : List (String Global × (Fact × ℕ))) → AreRanks m (map (λ v. v.0) vs ++ fs) (map (λ v. v.1) vs ++ rs) → AreRanked es → AreRanked (put_entries ss vs es)
+  ranked_all [] vs fs rs es h k = k
+  ranked_all (s ∷ ss) [] fs rs es h k = k
+  ranked_all (s ∷ ss) (v ∷ vs) fs rs es h k = ranked_all ss vs fs rs (insert_entry string_cmp es s v) h.1 (ranked_put s v es h.0 k)
 
-abbrev AreIndexed : List Binding → List (String Global × (Fact × Option ℕ)) → Type 0
-AreIndexed bs es = AreUriIndices bs (map (λ e. e.1.0) es) (map (λ e. e.1.1) es)
-
-indexed_put : (bs : List Binding) (s : String Global) (v : Fact × Option ℕ) (es : List (String Global × (Fact × Option ℕ))) → IfSome v.1 (λ i. uri_at bs i ≡ Some v.0.dimensions.concept.uri) → AreIndexed bs es → AreIndexed bs (insert_entry string_cmp es s v)
-indexed_put bs s v [] is h = (is, tt)
-indexed_put bs s v (x ∷ es) is h =
-    elim (string_cmp s x.0) as (λ o. AreIndexed bs (match_ordering o ((s, v) ∷ x ∷ es) ((x.0, v) ∷ es) (x ∷ insert_entry string_cmp es s v))) [
-      | Less ↦ (is, h)
-      | Equal ↦ (is, h.1)
-      | Greater ↦ (h.0, indexed_put bs s v es is h.1)
-    ]
-
-indexed_all : (bs : List Binding) (ss : List (String Global)) (vs : List (Fact × Option ℕ)) (fs : List Fact) (ps : List (Option ℕ)) (es : List (String Global × (Fact × Option ℕ))) → AreUriIndices bs (map (λ v. v.0) vs ++ fs) (map (λ v. v.1) vs ++ ps) → AreIndexed bs es → AreIndexed bs (put_entries ss vs es)
-indexed_all bs [] vs fs ps es h k = k
-indexed_all bs (s ∷ ss) [] fs ps es h k = k
-indexed_all bs (s ∷ ss) (v ∷ vs) fs ps es h k = indexed_all bs ss vs fs ps (insert_entry string_cmp es s v) h.1 (indexed_put bs s v es h.0 k)
-
-pub all_indexed : (bs : List Binding) (ss : List (String Global)) (facts fs : List Fact) (indices ps : List (Option ℕ)) (taken : List (Fact × Option ℕ)) (es : List (String Global × (Fact × Option ℕ))) → AreUriIndices bs facts indices → facts ≡ map (λ v. v.0) taken ++ fs → indices ≡ map (λ v. v.1) taken ++ ps → es ≡ put_entries ss taken [] → AreUriIndices bs (map (λ e. e.1.0) es) (map (λ e. e.1.1) es)
-all_indexed bs ss facts fs indices ps taken es h f p k = subst (AreIndexed bs) (sym k) (indexed_all bs ss taken fs ps [] (subst (AreUriIndices bs (map (λ v. v.0) taken ++ fs)) p (subst (λ l. AreUriIndices bs l indices) f h)) tt)
-
-pub indexed_by : (bs : List Binding) (fs gs : List Fact) (ps qs : List (Option ℕ)) → gs ≡ fs → qs ≡ ps → AreUriIndices bs fs ps → AreUriIndices bs gs qs
-indexed_by bs fs gs ps qs e k h = subst (λ l. AreUriIndices bs l qs) (sym e) (subst (AreUriIndices bs fs) (sym k) h)
-
--- ---- facts that are read
-
--- the parts of a fact that was read name its concept
-pub concept_read : (sheet : Sheet) (bs : List Binding) (p : FactMembers) (ds : DimensionMembers) (read : Result Fact Reason) → HasForm p ds → IfOk read (λ f. fact_of sheet bs p ds ≡ Some f) → IfOk read (λ f. concept_in bs p ≡ Some f.dimensions.concept)
-concept_read sheet bs p ds (Ok f) form said = ap (option_and_then (λ (x : DimensionMembers). said_concept bs x.concept)) form.there ∙ (is_said sheet bs p ds f said).each.concept
-concept_read sheet bs p ds (Err r) form said = tt
-
-pub index_read : (bs : List Binding) (parts : FactMembers) (f : Fact) (p : Option ℕ) → IfSome p (λ i. (q : QName) → concept_in bs parts ≡ Some q → uri_at bs i ≡ Some q.uri) → concept_in bs parts ≡ Some f.dimensions.concept → IfSome p (λ i. uri_at bs i ≡ Some f.dimensions.concept.uri)
-index_read bs parts f None h said = tt
-index_read bs parts f (Some i) h said = h f.dimensions.concept said
+  pub all_ranked : (ss : List (String Global)) (facts fs : List Fact) (ranks rs : List ℕ) (taken : List (Fact × ℕ)) (es : List (String Global × (Fact × ℕ))) → AreRanks m facts ranks → facts ≡ map (λ v. v.0) taken ++ fs → ranks ≡ map (λ v. v.1) taken ++ rs → es ≡ put_entries ss taken [] → AreRanks m (map (λ e. e.1.0) es) (map (λ e. e.1.1) es)
+  all_ranked ss facts fs ranks rs taken es h f r k = subst AreRanked (sym k) (ranked_all ss taken fs rs [] (subst (AreRanks m (map (λ v. v.0) taken ++ fs)) r (subst (λ l. AreRanks m l ranks) f h)) tt)

@@ -1,5 +1,5 @@
 -- A map of names has the same entries as its groups. Each group has the names of one namespace.
-use Rattle.std.proofs.Common.{◌≡◌, ℕ, List, [], ◌∷◌, ◌++◌, Bool, true, false, cond, Option, Some, None, String, string_bytes, refl, sym, ap, subst, ◌∙◌, ◌≢◌, IfSome, OnOk, OnErr, Result, Ok, Err, option_map, bytes_eq, is_some, Bor, unwrap_or, Less, Equal, Greater, string_cmp}
+use Rattle.std.proofs.Common.{◌≡◌, ℕ, List, [], ◌∷◌, ◌++◌, Bool, true, false, cond, Option, Some, None, String, string_bytes, refl, sym, ap, subst, ◌∙◌, ◌≢◌, IfSome, OnOk, OnErr, Result, Ok, Err, option_map, option_and_then, bytes_eq, is_some, Bor, unwrap_or, Less, Equal, Greater, string_cmp}
 use Rattle.std.specs.List.{AllByRecursion}
 use Rattle.std.specs.List.Sorted.{IsStrictlySortedBy}
 use Rattle.std.specs.Map.{keys_of, values_of, lookup, remove_entry, update}
@@ -18,7 +18,7 @@ use Rattle.std.specs.FinMap as map
 use Rattle.oim_names.specs.QName.{QName, name_cmp, exact_name}
 use Rattle.oim_names.specs.Bindings.{Binding, uri_of}
 use Rattle.oim_names.proofs.Bytes.{same_bytes, bytes_eq-refl, bytes_not_eq, other_bytes}
-use Rattle.oim_report.specs.code.Groups.{AreGroups, IsGroup, IsGroupOf, grouped_entries, in_group, with_group, HasEach}
+use Rattle.oim_report.specs.code.Groups.{AreGroups, IsGroup, grouped_entries, with_group}
 use Rattle.oim_report.proofs.SheetEntries.{name_total, first_of, first_of-none}
 
 abbrev pub name : List ℕ → List ℕ → QName
@@ -26,6 +26,9 @@ name u l = record { uri = u; local_part = l }
 
 pub tied_bytes : (s t : List ℕ) → is_eq (slice_cmp nat_cmp s t) ≡ true → s ≡ t
 tied_bytes s t h = exact_bytes s t ((Equal-is (slice_cmp nat_cmp s t)).0 h)
+
+abbrev pub in_group : {K Y : Type 0} → Option (BTreeMap (String Y) (QName × K)) → List ℕ → Option (QName × K)
+in_group group l = option_and_then (λ g. get_by_text g l) group
 
 -- ---- the order of names
 
@@ -56,7 +59,7 @@ module _ {K Y : Type 0} where
   abbrev pub AreNamed : List ℕ → List (String Y × (QName × K)) → Type 0
   AreNamed u es = AllByRecursion (λ e. e.1.0 ≡ name u (string_bytes e.0)) es
 
-  abbrev AreNamedGroups : List (String Y × Group K Y) → Type 0
+  abbrev pub AreNamedGroups : List (String Y × Group K Y) → Type 0
   AreNamedGroups es = AllByRecursion (λ e. IsGroup (string_bytes e.0) e.1) es
 
   -- ---- one group
@@ -75,14 +78,6 @@ module _ {K Y : Type 0} where
   find_elsewhere u l v (e ∷ es) h apart =
       ap (λ b. cond b (Some e.1.1) (find name_cmp (name u l) (values_of es))) (ap (λ n. is_eq (name_cmp (name u l) n)) h.0 ∙ other_uri u l v (string_bytes e.0) apart)
       ∙ find_elsewhere u l v es h.1 apart
-
-  pub named_here : (u l : List ℕ) (es : List (String Y × (QName × K))) → AreNamed u es → IfSome (at_text l es) (λ e. e.0 ≡ name u l)
-  named_here u l [] h = tt
-  named_here u l (e ∷ es) h =
-      elim (is_eq (slice_cmp nat_cmp l (string_bytes e.0))) as (λ b. is_eq (slice_cmp nat_cmp l (string_bytes e.0)) ≡ b → IfSome (cond b (Some e.1) (at_text l es)) (λ f. f.0 ≡ name u l)) [
-        | true ↦ λ t. h.0 ∙ ap (name u) (sym (tied_bytes l (string_bytes e.0) t))
-        | false ↦ λ _. named_here u l es h.1
-      ] refl
 
   -- ---- several groups
 
@@ -117,10 +112,6 @@ module _ {K Y : Type 0} where
         | false ↦ λ _. group_named u es h.1
       ] refl
 
-  named_in : (u l : List ℕ) (group : Option (Group K Y)) → IfSome group (IsGroup u) → IfSome (in_group group l) (λ e. e.0 ≡ name u l)
-  named_in u l None h = tt
-  named_in u l (Some g) h = named_here u l g.entries h
-
   abbrev pub map_of : BTreeMap (String Y) (Group K Y) → FinMap name_cmp K
   map_of m = map.from_entries (grouped_entries m.entries)
 
@@ -130,9 +121,6 @@ module _ {K Y : Type 0} where
 
     pub is_group : (u : List ℕ) → IfSome (get_by_text m u) (IsGroup u)
     is_group u = group_named u m.entries are.each
-
-    pub is_group_of : (u : List ℕ) → IsGroupOf (map_of m) u (get_by_text m u)
-    is_group_of u l = (sym (get_grouped u l), named_in u l (get_by_text m u) (is_group u))
 
   -- ---- a group is removed, or set
 
@@ -182,21 +170,6 @@ module _ {K Y : Type 0} where
         | false ↦ refl
       ]
       ∙ ap (cond (bytes_eq t u) (option_map (λ e. e.1) (in_group o l))) (sym (get_grouped m are_m u l))
-
--- ---- a name that was found
-
-module _ {K : Type 0} where
-  pub found_kind : (r : Option (Bor QName × K)) (o : Option (QName × K)) → option_map (λ e. (e.0.now, e.1)) r ≡ o → option_map (λ e. e.1) r ≡ option_map (λ e. e.1) o
-  found_kind None o h = ap (option_map (λ e. e.1)) h
-  found_kind (Some e) o h = ap (option_map (λ e. e.1)) h
-
-  pub found_name : (r : Option (Bor QName × K)) (o : Option (QName × K)) (q : QName) → option_map (λ e. (e.0.now, e.1)) r ≡ o → IfSome o (λ e. e.0 ≡ q) → IfSome r (λ e. e.0.now ≡ q)
-  found_name None o q h is = tt
-  found_name (Some e) o q h is = subst (λ p. IfSome p (λ e. e.0 ≡ q)) (sym h) is
-
-  pub found_named : (r : Option (Bor QName × K)) (o : Option QName) (n : QName) → IfSome r (λ e. e.0.now ≡ n) → o ≡ Some n → IfSome r (λ e. o ≡ Some e.0.now)
-  found_named None o n is named = tt
-  found_named (Some e) o n is named = named ∙ ap Some (sym is)
 
 pub each_after : {X Y E : Type 0} (P : List ℕ → X → Type 0) (m n : BTreeMap (String Y) X) (p : List ℕ) (k : String Y) (x : X) (r : Result (Option X) E) → OnOk r (Updates string_cmp m n k (Some x)) → OnErr r (IsUnchanged m n) → string_bytes k ≡ p
     → ((q : List ℕ) (y : X) → get_by_text m q ≡ Some y → P q y) → P p x → (q : List ℕ) (y : X) → get_by_text n q ≡ Some y → P q y
@@ -329,66 +302,6 @@ module _ {K Y : Type 0} (g : Group K Y) (m : FinMap name_cmp K) (no_names : g.en
   pub none_there : (u : List ℕ) → IsGroup u g × HasNone m u
   none_there u = (subst (AreNamed u) (sym no_names) tt, λ l. ap (λ n. map.get n (name u l)) no_others ∙ get-empty name_cmp (name u l))
 
--- ---- two maps from names to kinds are equal if each contains the entries of the other
-
 pub all_push : {X : Type 0} (P : X → Type 0) (xs : List X) (x : X) → AllByRecursion P xs → P x → AllByRecursion P (xs ++ x ∷ [])
 all_push P [] x all p = (p, tt)
 all_push P (y ∷ ys) x all p = (all.0, all_push P ys x all.1 p)
-
-module _ {Y X : Type 0} (P : List ℕ → X → Type 0) where
-  at_found : (t : List ℕ) (es : List (String Y × X)) (x : X) → AllByRecursion (λ e. P (string_bytes e.0) e.1) es → at_text t es ≡ Some x → P t x
-  at_found t [] x all found = absurd (cc)
-  at_found t (e ∷ es) x all found =
-      elim (is_eq (slice_cmp nat_cmp t (string_bytes e.0))) as (λ b. is_eq (slice_cmp nat_cmp t (string_bytes e.0)) ≡ b → cond b (Some e.1) (at_text t es) ≡ Some x → P t x) [
-        | true ↦ λ same is. subst (P t) (same_Some e.1 x is) (subst (λ u. P u e.1) (sym (tied_bytes t (string_bytes e.0) same)) all.0)
-        | false ↦ λ _ is. at_found t es x all.1 is
-      ] refl found
-
-module _ {K Y : Type 0} where
-  abbrev pub kind_in : Option (Group K Y) → List ℕ → Option K
-  kind_in group l = option_map (λ e. e.1) (in_group group l)
-
-  abbrev pub IsThere : Option (Group K Y) → List ℕ → QName × K → Type 0
-  IsThere group l e = kind_in group l ≡ Some e.1
-
-  pub each_there : (group : Option (Group K Y)) (other : Group K Y) → AllByRecursion (λ e. IsThere group (string_bytes e.0) e.1) other.entries → HasEach group other
-  each_there group other all l k is =
-      elim (get_by_text other l) as (λ o. get_by_text other l ≡ o → option_map (λ e. e.1) o ≡ Some k → kind_in group l ≡ Some k) [
-        | None ↦ λ _ none. absurd (cc)
-        | Some e ↦ λ found same. at_found (IsThere group) l other.entries e all found ∙ same
-      ] refl is
-
-  abbrev pub HasGroup : FinMap name_cmp K → List ℕ → Group K Y → Type 0
-  HasGroup m u g = (l : List ℕ) (k : K) → option_map (λ e. e.1) (get_by_text g l) ≡ Some k → map.get m (name u l) ≡ Some k
-
-  pub group_within : (m : FinMap name_cmp K) (gs : BTreeMap (String Y) (Group K Y)) → AreGroups gs → (u : List ℕ) (g : Group K Y) → get_by_text gs u ≡ Some g
-      → ((q : QName) (k : K) → map.get (map_of gs) q ≡ Some k → map.get m q ≡ Some k) → HasGroup m u g
-  group_within m gs are u g found within l k is = within (name u l) k (get_grouped gs are u l ∙ ap (λ o. kind_in o l) found ∙ is)
-
-  pub has_group : (m : FinMap name_cmp K) (u v : List ℕ) (own : Option (Group K Y)) (g : Group K Y) → v ≡ u → IsGroupOf m v own → HasGroup m u g → HasEach own g
-  has_group m u v own g same is has l k found = (is l).0 ∙ ap (λ w. map.get m (name w l)) same ∙ has l k found
-
-  pub group_has : (m : FinMap name_cmp K) (u v : List ℕ) (own : Option (Group K Y)) (g : Group K Y) → v ≡ u → IsGroupOf m v own → HasEach own g → HasGroup m u g
-  group_has m u v own g same is each l k found = ap (λ w. map.get m (name w l)) (sym same) ∙ sym (is l).0 ∙ each l k found
-
-  pub all_within : (m : FinMap name_cmp K) (gs : BTreeMap (String Y) (Group K Y)) → AreGroups gs → AllByRecursion (λ e. HasGroup m (string_bytes e.0) e.1) gs.entries
-      → (q : QName) (k : K) → map.get (map_of gs) q ≡ Some k → map.get m q ≡ Some k
-  all_within m gs are all q k is =
-      elim (get_by_text gs q.uri) as (λ o. get_by_text gs q.uri ≡ o → kind_in o q.local_part ≡ Some k → map.get m q ≡ Some k) [
-        | None ↦ λ _ none. absurd (cc)
-        | Some g ↦ λ found same. at_found (HasGroup m) q.uri gs.entries g all found q.local_part k same
-      ] refl (sym (get_grouped gs are q.uri q.local_part) ∙ is)
-
-module _ {K : Type 0} where
-  abbrev pub IsWithin : FinMap name_cmp K → FinMap name_cmp K → Type 0
-  IsWithin m n = (q : QName) (k : K) → map.get m q ≡ Some k → map.get n q ≡ Some k
-
-  pub within_both : (m n : FinMap name_cmp K) → IsWithin m n → IsWithin n m → m ≡ n
-  within_both m n there back = same_map name_total exact_name m n (λ q.
-      elim (map.get m q) as (λ o. map.get m q ≡ o → o ≡ map.get n q) [
-        | Some k ↦ λ is. sym (there q k is)
-        | None ↦ λ none. elim (map.get n q) as (λ o. map.get n q ≡ o → None ≡ o) [
-          | None ↦ λ _. refl
-          | Some k ↦ λ is. sym none ∙ back q k is
-        ] refl
-      ] refl)

@@ -26,6 +26,7 @@ pub mod Documents
 pub mod KeyedFacts
 pub mod SheetEntries
 pub mod Grouped
+pub mod Ranks
 pub mod OneDocument
 pub mod MemberOrder
 pub mod WrittenTexts

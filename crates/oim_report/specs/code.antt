@@ -7,10 +7,10 @@ pub mod Groups
 pub mod JsonMember
 pub mod KindLaws
 pub mod Pieces
+pub mod Ranks
 pub mod MemberTests
 pub mod Scope
 pub mod SeenMembers
 pub mod SheetCode
 pub mod TapeValues
 pub mod TextCache
-pub mod UriIndices

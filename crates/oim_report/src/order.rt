@@ -1,30 +1,30 @@
-ghost use Rattle.std.specs.Prelude.{◌≡◌, ℕ, Some, IfOk, IsTrue, length, slice_get};
+ghost use Rattle.std.specs.Prelude.{◌≡◌, ℕ, Some, IfOk, IfSome, IsTrue, length, slice_get};
+ghost use Rattle.std.specs.Ordering.{nat_cmp};
 ghost use Rattle.std.specs.List.{range_with_len};
 ghost use Rattle.std.specs.List.Sorted.{IsPermutation};
 ghost use Rattle.oim_dims.specs.FactOrder.{fact_cmp};
 ghost use Rattle.oim_report.specs.Report.{IsOrderOf, index_cmp};
 ghost use Rattle.oim_report.specs.code.DimensionRuns.{HaveDimensionsOf};
-ghost use Rattle.oim_report.specs.code.UriIndices.{ShareUris};
+ghost use Rattle.oim_report.specs.code.Ranks.{OrderConcepts};
 
 use oim_dims::{Fact, has_long_uri, likely_order};
 use std::alloc::{AllocError, Global};
 use std::cmp::Ordering;
 
-/// Returns the indices of the facts, in ascending order of the facts. `indices` may be shorter than
-/// the list of facts. Where it has the same index for two facts, their concepts have one URI, which
-/// is then not compared.
+/// Returns the indices of the facts, in ascending order of the facts. `ranks` is empty, or it has
+/// the rank of each fact's concept. Then ranks are compared instead of concepts.
 pub(crate) fn order_of(
     alloc: Global,
     facts: &[Fact],
-    indices: &[Option<usize>],
+    ranks: &[usize],
 ) -> Result<Vec<usize>, AllocError>
-    requires { ShareUris facts.now indices.now }
+    requires { OrderConcepts ranks.now facts.now }
     ensures { IfOk result (λ order. IsOrderOf facts.now order.items) }
 {
     let mut order = indices_of(alloc, facts)?;
     let starts = run_starts(alloc, facts)?;
     let starts = starts.as_slice();
-    order.sort_unstable_by(|i, j| compared(facts, starts, indices, *i, *j));
+    order.sort_unstable_by(|i, j| compared(facts, starts, ranks, *i, *j));
     Ok(order)
 }
 
@@ -66,42 +66,54 @@ fn run_starts(alloc: Global, facts: &[Fact]) -> Result<Vec<usize>, AllocError>
     Ok(starts)
 }
 
-// Compares only the values of facts in one run, and no URIs of concepts in one namespace.
-fn compared(
-    facts: &[Fact],
-    starts: &[usize],
-    indices: &[Option<usize>],
-    i: usize,
-    j: usize,
-) -> Ordering
+// Compares ranks instead of concepts, and only the values of facts in one run.
+fn compared(facts: &[Fact], starts: &[usize], ranks: &[usize], i: usize, j: usize) -> Ordering
     requires starts { HaveDimensionsOf facts.now starts.now }
-    requires indices { ShareUris facts.now indices.now }
+    requires ranks { OrderConcepts ranks.now facts.now }
     ensures { result ≡ index_cmp facts.now i j }
 {
     match (facts.get(i), facts.get(j)) {
-        (Some(one), Some(other)) if same_at(starts, i, j) => one.value.cmp(&other.value),
-        (Some(one), Some(other)) if share_uri(indices, i, j) => compared_in_namespace(one, other),
+        (Some(one), Some(other)) => match rank_order(ranks, i, j) {
+            Some(Ordering::Equal) if same_at(starts, i, j) => one.value.cmp(&other.value),
+            Some(Ordering::Equal) => compared_in_concept(one, other),
+            Some(Ordering::Less) => Ordering::Less,
+            Some(Ordering::Greater) => Ordering::Greater,
+            None if same_at(starts, i, j) => one.value.cmp(&other.value),
+            None => one.cmp(other),
+        },
         _ => facts.get(i).cmp(&facts.get(j)),
     }
 }
 
-fn compared_in_namespace(one: &Fact, other: &Fact) -> Ordering
-    requires { one.now.dimensions.concept.uri ≡ other.now.dimensions.concept.uri }
-    ensures { result ≡ fact_cmp one.now other.now }
+fn rank_order(ranks: &[usize], i: usize, j: usize) -> Option<Ordering>
+    ensures { IfSome result (λ o. (r s : ℕ) × (slice_get ranks.now i ≡ Some r) × (slice_get ranks.now j ≡ Some s) × (o ≡ nat_cmp r s)) }
 {
-    let (name, next) = (one.dimensions.concept(), other.dimensions.concept());
-    match name.local().cmp(next.local()) {
-        Ordering::Equal => one.cmp(other),
-        unequal => unequal,
-    }
+    Some(ranks.get(i)?.cmp(ranks.get(j)?))
 }
 
-fn share_uri(indices: &[Option<usize>], i: usize, j: usize) -> bool
-    ensures { IsTrue result → (p : ℕ) × (slice_get indices.now i ≡ Some (Some p)) × (slice_get indices.now j ≡ Some (Some p)) }
+fn compared_in_concept(one: &Fact, other: &Fact) -> Ordering
+    requires { one.now.dimensions.concept ≡ other.now.dimensions.concept }
+    ensures { result ≡ fact_cmp one.now other.now }
 {
-    match (indices.get(i), indices.get(j)) {
-        (Some(Some(one)), Some(Some(other))) => one == other,
-        _ => false,
+    match one.dimensions.entity().cmp(&other.dimensions.entity()) {
+        Ordering::Equal => {}
+        unequal => return unequal,
+    }
+    match one.dimensions.period().cmp(&other.dimensions.period()) {
+        Ordering::Equal => {}
+        unequal => return unequal,
+    }
+    match one.dimensions.unit().cmp(&other.dimensions.unit()) {
+        Ordering::Equal => {}
+        unequal => return unequal,
+    }
+    match one.dimensions.language().cmp(&other.dimensions.language()) {
+        Ordering::Equal => {}
+        unequal => return unequal,
+    }
+    match one.dimensions.members().cmp(other.dimensions.members()) {
+        Ordering::Equal => one.value.cmp(&other.value),
+        unequal => unequal,
     }
 }
 

@@ -185,9 +185,9 @@ impl<'s> ReportReader<'s> {
         let FoundFacts {
             identifiers,
             facts,
-            indices,
+            ranks,
         } = found?;
-        let order = order_of(alloc, facts.as_slice(), indices.as_slice())?;
+        let order = order_of(alloc, facts.as_slice(), ranks.as_slice())?;
         if is_above(info.level, facts.as_slice(), order.as_slice()) {
             return Err(NotInPieces::NeedsTree);
         }

@@ -1,5 +1,6 @@
 pub(crate) mod kind;
 pub(crate) mod name_table;
+pub(crate) mod ranked_names;
 pub(crate) mod sheet_form;
 
 ghost use Rattle.std.specs.Prelude.{◌≡◌, ◌⊎◌, ◌↔◌, Some, Ok, Err, IsTrue, IfOk, IfErr, IfSome, option_map};
@@ -14,7 +15,8 @@ use crate::concept_kind::ConceptKind;
 use crate::dimension_kind::DimensionKind;
 use crate::document::json_tree::{object_at, read_json};
 use crate::document::namespaces::read_namespaces;
-use crate::sheet::name_table::{NameTable, read_table};
+use crate::sheet::name_table::read_table;
+use crate::sheet::ranked_names::RankedNames;
 use crate::sheet::sheet_form::{check_form, check_names};
 use oim_names::{Aliases, Name, Reason};
 use serde_json::Value;
@@ -24,8 +26,8 @@ use std::marker::Model;
 /// The concepts and taxonomy-defined dimensions that reports may use, each with its kind.
 #[derive(Debug, Drop)]
 pub struct Sheet {
-    concepts: NameTable<ConceptKind>,
-    dimensions: NameTable<DimensionKind>,
+    concepts: RankedNames<ConceptKind>,
+    dimensions: RankedNames<DimensionKind>,
 }
 
 impl Model for Sheet {
@@ -92,13 +94,13 @@ impl Sheet {
         Some(self.dimensions.find(name.uri(), name.local())?.1)
     }
 
-    pub(crate) fn concepts(&self) -> &NameTable<ConceptKind>
+    pub(crate) fn concepts(&self) -> &RankedNames<ConceptKind>
         ensures { result.now ≡ self.now.concepts }
     {
         &self.concepts
     }
 
-    pub(crate) fn dimensions(&self) -> &NameTable<DimensionKind>
+    pub(crate) fn dimensions(&self) -> &RankedNames<DimensionKind>
         ensures { result.now ≡ self.now.dimensions }
     {
         &self.dimensions
@@ -122,7 +124,8 @@ pub(crate) fn find_named_concept<'s>(
     ensures name { IfSome result (λ c. named aliases.now text.now ≡ Some c.0.now) }
 {
     let (uri, local) = aliases.resolve(text).ok()?;
-    sheet.concepts().find(uri, local)
+    let (name, kind, _rank) = sheet.concepts().find(uri, local)?;
+    Some((name, kind))
 }
 
 pub(crate) fn find_dimension<'s>(
@@ -134,5 +137,6 @@ pub(crate) fn find_dimension<'s>(
     ensures name { IfSome result (λ d. named aliases.now text.now ≡ Some d.0.now) }
 {
     let (uri, local) = aliases.resolve(text).ok()?;
-    sheet.dimensions().find(uri, local)
+    let (name, kind, _rank) = sheet.dimensions().find(uri, local)?;
+    Some((name, kind))
 }

@@ -1,13 +1,12 @@
 -- The meanings of texts that were read (own).
-use Rattle.std.specs.Prelude.{◌≡◌, ◌⊎◌, ℕ, List, String, true, Option, Some, None, Ok, IfSome, option_and_then}
+use Rattle.std.specs.Prelude.{◌≡◌, ◌⊎◌, ℕ, List, true, Option, Some, None, Ok, IfSome, option_and_then}
 use Rattle.std.specs.Str.{bytes_eq, str_to_ascii_lowercase}
 use Rattle.std.specs.HashMap.{get_by_text}
-use Rattle.std.specs.BTreeMap.{BTreeMap, get_by_text as group_at}
+use Rattle.std.specs.BTreeMap.{get_by_text as span_at}
 use Rattle.std.specs.Borrow.{Bor}
 use Rattle.std.specs.FinMap as map
 use Rattle.std.specs.FinMap.{FinMap}
 use Rattle.std.specs.Map.{update}
-use Rattle.std.specs.Option.{option_copied}
 use Rattle.oim_names.specs.Bindings.{Binding, uri_of}
 use Rattle.oim_names.specs.Expansion.{Expands, ExpandsEntity}
 use Rattle.oim_names.specs.QName.{QName}
@@ -21,7 +20,7 @@ use Rattle.oim_dims.specs.declared.period.Period.{Period}
 use Rattle.oim_dims.specs.declared.period.Period.TheVariants.{Forever}
 use Rattle.oim_report.specs.Names.{named}
 use Rattle.oim_report.specs.Sheet.{Sheet}
-use Rattle.oim_report.specs.code.Groups.{IsGroupOf}
+use Rattle.oim_report.specs.code.Ranks.{IsRank, IsSpan}
 use Rattle.oim_report.specs.declared.fact.text_cache.NameCache.{NameCache}
 use Rattle.oim_report.specs.declared.fact.text_cache.TextCache.{TextCache}
 use Rattle.oim_report.specs.declared.fact.text_cache.TextCaches.{TextCaches}
@@ -39,23 +38,23 @@ pub record IsTextCache {A : Type 0} (R : List ℕ → A → Type 0) (g : TextCac
 abbrev pub concept_with : QName → List (QName × Member) → DimensionSet
 concept_with concept members = record { concept = concept; entity = None; period = Forever; unit = None; language = None; members = members }
 
--- ---- the listed names that texts spell under one set of prefixes, and the group of names for each prefix
+-- ---- the listed names that texts spell under one set of prefixes, and the span of names for each prefix
 
 module _ {K : Type 0} (m : FinMap name_cmp K) (bs : List Binding) where
   abbrev pub kind_of : List ℕ → Option K
   kind_of t = option_and_then (map.get m) (named bs t)
 
-  -- the text spells this name, which the map has with this kind
-  abbrev pub NamesListed : List ℕ → Bor QName × K → Type 0
-  NamesListed t e = (named bs t ≡ Some e.0.now) × (kind_of t ≡ Some e.1)
+  -- the text spells this name, which the map has with this kind and this rank
+  abbrev pub NamesListed : List ℕ → Bor QName × K × ℕ → Type 0
+  NamesListed t e = (named bs t ≡ Some e.0.now) × (kind_of t ≡ Some e.1) × IsRank m e.0.now e.2
 
-  -- if the prefix is bound to a URI, the group has exactly the names that the map has with this URI
-  abbrev pub IsReached : {Y : Type 0} → List ℕ → Option (Bor (BTreeMap (String Y) (QName × K))) → Type 0
-  IsReached p group = (u : List ℕ) → uri_of bs p ≡ Some u → IsGroupOf m u (option_copied group)
+  -- if the prefix is bound to a URI, the names with this URI have this span
+  abbrev pub IsReached : List ℕ → ℕ × ℕ → Type 0
+  IsReached p span = (u : List ℕ) → uri_of bs p ≡ Some u → IsSpan (map.entries m) u span
 
   pub record IsNameCache (c : NameCache K) : Type 0 where
     pub texts : IsTextCache NamesListed c.texts
-    pub groups : (p : List ℕ) (group : Option (Bor (BTreeMap (String _) (QName × K)))) → group_at c.groups p ≡ Some group → IsReached p group
+    pub spans : (p : List ℕ) (span : ℕ × ℕ) → span_at c.spans p ≡ Some span → IsReached p span
 
 -- ---- the meanings of texts under one sheet and one set of prefixes
 

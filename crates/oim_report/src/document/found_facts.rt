@@ -4,7 +4,7 @@ ghost use Rattle.std.specs.String.{string_cmp};
 ghost use Rattle.oim_names.specs.Bindings.{Binding};
 ghost use Rattle.serde_json.specs.Data.{Members, no_members};
 ghost use Rattle.oim_report.specs.code.FoundFacts.{AreFound, rise_after};
-ghost use Rattle.oim_report.specs.code.UriIndices.{AreUriIndices};
+ghost use Rattle.oim_report.specs.code.Ranks.{AreRanks};
 ghost use Rattle.oim_report.specs.Pieces.{put_all};
 ghost use Rattle.oim_report.specs.Sheet.{Sheet as ASheet};
 
@@ -14,38 +14,38 @@ use std::alloc::{AllocError, Global};
 use std::collections::BTreeMap;
 
 /// The facts of one or more pieces, with their identifiers, in the order of the text. Identifiers
-/// may be repeated. For each fact, `indices` has what `FactReader::uri_index` returned.
+/// may be repeated. For each fact, `ranks` has the rank of its concept in the sheet.
 #[derive(Drop)]
 pub(crate) struct FoundFacts {
     pub(crate) identifiers: Vec<String>,
     pub(crate) facts: Vec<Fact>,
-    pub(crate) indices: Vec<Option<usize>>,
+    pub(crate) ranks: Vec<usize>,
 }
 
-// A fact with its entry in `indices`.
-type IndexedFact = (Fact, Option<usize>);
+// A fact with the rank of its concept.
+type RankedFact = (Fact, usize);
 
 impl FoundFacts {
     pub(crate) fn new(alloc: Global) -> FoundFacts
         ensures identifiers { result.identifiers.items ≡ [] }
         ensures facts { result.facts.items ≡ [] }
-        ensures indices { result.indices.items ≡ [] }
+        ensures ranks { result.ranks.items ≡ [] }
     {
         FoundFacts {
             identifiers: Vec::new(alloc),
             facts: Vec::new(alloc),
-            indices: Vec::new(alloc),
+            ranks: Vec::new(alloc),
         }
     }
 
     fn reserve(&mut self, count: usize) -> Result<(), AllocError>
         ensures identifiers { OnOk result (self.new.identifiers.items ≡ self.old.identifiers.items) }
         ensures facts { OnOk result (self.new.facts.items ≡ self.old.facts.items) }
-        ensures indices { OnOk result (self.new.indices.items ≡ self.old.indices.items) }
+        ensures ranks { OnOk result (self.new.ranks.items ≡ self.old.ranks.items) }
     {
         self.identifiers.reserve(count)?;
         self.facts.reserve(count)?;
-        self.indices.reserve(count)
+        self.ranks.reserve(count)
     }
 
     /// Adds a fact at the end.
@@ -53,15 +53,15 @@ impl FoundFacts {
         &mut self,
         identifier: String,
         fact: Fact,
-        index: Option<usize>,
+        rank: usize,
     ) -> Result<(), AllocError>
         ensures identifiers { OnOk result (self.new.identifiers.items ≡ self.old.identifiers.items ++ identifier ∷ []) }
         ensures facts { OnOk result (self.new.facts.items ≡ self.old.facts.items ++ fact ∷ []) }
-        ensures indices { OnOk result (self.new.indices.items ≡ self.old.indices.items ++ index ∷ []) }
+        ensures ranks { OnOk result (self.new.ranks.items ≡ self.old.ranks.items ++ rank ∷ []) }
     {
         self.facts.push(fact)?;
         self.identifiers.push(identifier)?;
-        self.indices.push(index)?;
+        self.ranks.push(rank)?;
         Ok(())
     }
 
@@ -69,16 +69,16 @@ impl FoundFacts {
     pub(crate) fn append(&mut self, more: FoundFacts) -> Result<(), AllocError>
         ensures identifiers { OnOk result (self.new.identifiers.items ≡ self.old.identifiers.items ++ more.identifiers.items) }
         ensures facts { OnOk result (self.new.facts.items ≡ self.old.facts.items ++ more.facts.items) }
-        ensures indices { OnOk result (self.new.indices.items ≡ self.old.indices.items ++ more.indices.items) }
+        ensures ranks { OnOk result (self.new.ranks.items ≡ self.old.ranks.items ++ more.ranks.items) }
     {
         let FoundFacts {
             mut identifiers,
             mut facts,
-            mut indices,
+            mut ranks,
         } = more;
         self.identifiers.append(&mut identifiers)?;
         self.facts.append(&mut facts)?;
-        self.indices.append(&mut indices)
+        self.ranks.append(&mut ranks)
     }
 
     /// Sorts the facts by their identifiers in byte order. If an identifier is repeated, only its
@@ -87,8 +87,8 @@ impl FoundFacts {
         ensures found { IfOk result (λ f. (sheet : ASheet) (bs : List Binding) (ms : Members) →
             AreFound sheet bs ms self.identifiers.items self.facts.items →
             AreFound sheet bs (put_all ms no_members) f.identifiers.items f.facts.items) }
-        ensures indices { IfOk result (λ f. (bs : List Binding) →
-            AreUriIndices bs self.facts.items self.indices.items → AreUriIndices bs f.facts.items f.indices.items) }
+        ensures ranks { IfOk result (λ f. (sheet : ASheet) →
+            AreRanks sheet.concepts self.facts.items self.ranks.items → AreRanks sheet.concepts f.facts.items f.ranks.items) }
     {
         if rise(self.identifiers.as_slice()) {
             return Ok(self);
@@ -117,25 +117,25 @@ fn rise(identifiers: &[String]) -> bool
 fn by_identifier(
     alloc: Global,
     read: FoundFacts,
-) -> Result<BTreeMap<String, IndexedFact>, NotInPieces>
+) -> Result<BTreeMap<String, RankedFact>, NotInPieces>
     ensures found { IfOk result (λ m. (sheet : ASheet) (bs : List Binding) (ms : Members) →
         AreFound sheet bs ms read.identifiers.items read.facts.items →
         AreFound sheet bs (put_all ms no_members) (map (λ e. e.0) m.entries) (map (λ e. e.1.0) m.entries)) }
-    ensures indices { IfOk result (λ m. (bs : List Binding) →
-        AreUriIndices bs read.facts.items read.indices.items →
-        AreUriIndices bs (map (λ e. e.1.0) m.entries) (map (λ e. e.1.1) m.entries)) }
+    ensures ranks { IfOk result (λ m. (sheet : ASheet) →
+        AreRanks sheet.concepts read.facts.items read.ranks.items →
+        AreRanks sheet.concepts (map (λ e. e.1.0) m.entries) (map (λ e. e.1.1) m.entries)) }
 {
     let mut found = BTreeMap::new(alloc);
     let mut facts = read.facts.into_iter();
-    let mut indices = read.indices.into_iter();
+    let mut ranks = read.ranks.into_iter();
     for identifier in read.identifiers {
         let Some(fact) = facts.next() else {
             return Err(NotInPieces::NeedsTree);
         };
-        let Some(index) = indices.next() else {
+        let Some(rank) = ranks.next() else {
             return Err(NotInPieces::NeedsTree);
         };
-        put(&mut found, identifier, (fact, index))?;
+        put(&mut found, identifier, (fact, rank))?;
     }
     Ok(found)
 }
@@ -152,15 +152,15 @@ fn put<T: Drop>(
     Ok(())
 }
 
-fn found_in(alloc: Global, found: BTreeMap<String, IndexedFact>) -> Result<FoundFacts, AllocError>
+fn found_in(alloc: Global, found: BTreeMap<String, RankedFact>) -> Result<FoundFacts, AllocError>
     ensures { IfOk result (λ f. (f.identifiers.items ≡ map (λ e. e.0) found.entries)
         × (f.facts.items ≡ map (λ e. e.1.0) found.entries)
-        × (f.indices.items ≡ map (λ e. e.1.1) found.entries)) }
+        × (f.ranks.items ≡ map (λ e. e.1.1) found.entries)) }
 {
     let mut all = FoundFacts::new(alloc);
     all.reserve(found.len())?;
-    for (identifier, (fact, index)) in found {
-        all.push(identifier, fact, index)?;
+    for (identifier, (fact, rank)) in found {
+        all.push(identifier, fact, rank)?;
     }
     Ok(all)
 }

@@ -2,11 +2,9 @@ ghost use Rattle.std.specs.Prelude.{◌≡◌, ◌≢◌, ◌+◌, ◌≤◌, �
 ghost use Rattle.oim_dims.specs.declared.fact.Fact.{Fact as AFact};
 ghost use Rattle.serde_json.specs.Data.{Data};
 ghost use Rattle.serde_json.specs.View.{view, members_view};
-ghost use Rattle.oim_names.specs.Bindings.{uri_at};
-ghost use Rattle.oim_names.specs.QName.{QName};
 ghost use Rattle.oim_report.specs.code.JsonMember.{seen};
 ghost use Rattle.oim_report.specs.code.TextCache.{concept_with};
-ghost use Rattle.oim_report.specs.code.UriIndices.{concept_in};
+ghost use Rattle.oim_report.specs.code.Ranks.{IsRank};
 ghost use Rattle.oim_report.specs.code.SeenMembers.{seen_defined, seen_dimensions, seen_parts};
 ghost use Rattle.oim_report.specs.Info.{facts_of};
 ghost use Rattle.oim_report.specs.Outcome.{at, fact_outcome, facts_said};
@@ -30,7 +28,7 @@ use crate::place::Place;
 use crate::refusal::Refusal;
 use crate::sheet::Sheet;
 use oim_dims::{Dimensions, Fact, Member};
-use oim_names::{Aliases, Copied, Name, Reason, Text, split_name};
+use oim_names::{Aliases, Copied, Name, Reason, Text};
 use serde_json::{Map, Value};
 use std::alloc::{AllocError, Global};
 use std::marker::Model;
@@ -117,7 +115,7 @@ impl<'s> FactReader<'s> {
             return Err(self.least_fault(object)?);
         };
         match self.read_parts(&parts) {
-            Ok(fact) => Ok(fact),
+            Ok((fact, _rank)) => Ok(fact),
             Err(Reason::OutOfMemory) => Err(Reason::OutOfMemory),
             Err(_) => Err(self.least_fault(object)?),
         }
@@ -141,14 +139,14 @@ impl<'s> FactReader<'s> {
         }
     }
 
-    /// Reads a fact from the parts of its object. An error other than `OutOfMemory` shows only that
-    /// the parts are those of no fact, not why.
-    pub(crate) fn read_parts(&mut self, parts: &FactMembers<'_>) -> Result<Fact, Reason>
+    /// Reads a fact from the parts of its object. Returns the fact with the rank of its concept in
+    /// the sheet. An error other than `OutOfMemory` shows only that the parts are those of no fact,
+    /// not why.
+    pub(crate) fn read_parts(&mut self, parts: &FactMembers<'_>) -> Result<(Fact, usize), Reason>
         ensures same { self.new ≡ self.old }
         ensures ok { IfOk result (λ f. (d : Data) → fact_parts d ≡ Some (seen_parts parts.now)
-            → fact_outcome self.old.sheet self.old.aliases d ≡ Ok f) }
-        ensures concept { IfOk result (λ f. concept_in self.old.aliases (seen_parts parts.now)
-            ≡ Some f.dimensions.concept) }
+            → fact_outcome self.old.sheet self.old.aliases d ≡ Ok f.0) }
+        ensures rank { IfOk result (λ f. IsRank self.old.sheet.concepts f.0.dimensions.concept f.1) }
         ensures errors { IfErr result (λ r. (r ≡ Reason.OutOfMemory)
             ⊎ ((d : Data) → fact_parts d ≡ Some (seen_parts parts.now)
             → (f : AFact) → fact_outcome self.old.sheet self.old.aliases d ≢ Ok f)) }
@@ -159,36 +157,26 @@ impl<'s> FactReader<'s> {
         self.read_content(parts, dimensions)
     }
 
-    /// Returns the index of the binding of the concept's prefix, if the aliases have it in their
-    /// cache. Facts with one index have concepts in one namespace.
-    pub(crate) fn uri_index(&self, parts: &FactMembers<'_>) -> Option<usize>
-        ensures { IfSome result (λ index. (q : QName) → concept_in self.now.aliases (seen_parts parts.now) ≡ Some q
-            → uri_at self.now.aliases index ≡ Some q.uri) }
-    {
-        let concept = parts.dimensions.as_ref()?.concept;
-        let (prefix, _local) = split_name(concept.text()?);
-        self.aliases.index_of(prefix)
-    }
-
     fn read_content(
         &mut self,
         parts: &FactMembers<'_>,
         dimensions: &DimensionMembers<'_>,
-    ) -> Result<Fact, Reason>
+    ) -> Result<(Fact, usize), Reason>
         ensures same { self.new ≡ self.old }
         ensures said { let p = seen_parts parts.now in
             let ds = seen_dimensions dimensions.now in
-            IfOk result (λ f. fact_of self.old.sheet self.old.aliases p ds ≡ Some f) }
+            IfOk result (λ f. fact_of self.old.sheet self.old.aliases p ds ≡ Some f.0) }
+        ensures rank { IfOk result (λ f. IsRank self.old.sheet.concepts f.0.dimensions.concept f.1) }
         ensures errors { let p = seen_parts parts.now in
             let ds = seen_dimensions dimensions.now in
             IfErr result (λ r. (r ≡ Reason.OutOfMemory) ⊎ (fact_of self.old.sheet self.old.aliases p ds ≡ None)) }
     {
-        let Some((name, kind)) = self.find_concept(dimensions.concept)? else {
+        let Some((name, kind, rank)) = self.find_concept(dimensions.concept)? else {
             return Err(Reason::UnknownConcept);
         };
         let dimensions = self.read_dimension_set(name, kind, dimensions)?;
         let value = read_value(self.alloc, &self.aliases, kind, parts.value, parts.decimals)?;
-        Ok(Fact { dimensions, value })
+        Ok((Fact { dimensions, value }, rank))
     }
 
     // Owns the unfinished dimensions, so `read_content` owns only finished ones.
@@ -213,12 +201,14 @@ impl<'s> FactReader<'s> {
     fn find_concept(
         &mut self,
         concept: JsonMember<'_>,
-    ) -> Result<Option<(&'s Name, ConceptKind)>, AllocError>
+    ) -> Result<Option<(&'s Name, ConceptKind, usize)>, AllocError>
         ensures same { self.new ≡ self.old }
         ensures kind { IfOk result (λ found. option_map (λ c. c.1) found
             ≡ concept_kind self.old.sheet self.old.aliases (seen concept.entry)) }
         ensures name { IfOk result (λ found. IfSome found
             (λ c. said_concept self.old.aliases (seen concept.entry) ≡ Some c.0.now)) }
+        ensures rank { IfOk result
+            (λ found. IfSome found (λ c. IsRank self.old.sheet.concepts c.0.now c.2)) }
     {
         let Some(text) = concept.text() else {
             return Ok(None);
@@ -285,7 +275,8 @@ impl<'s> FactReader<'s> {
             IfErr result (λ r. (r ≡ Reason.OutOfMemory) ⊎ (said_member self.old.aliases kind (seen member.entry) ≡ None)) }
     {
         let dimensions = self.sheet.dimensions();
-        let Some((name, kind)) = self.caches.dimensions.find(dimensions, &self.aliases, key)? else {
+        let found = self.caches.dimensions.find(dimensions, &self.aliases, key)?;
+        let Some((name, kind, _rank)) = found else {
             return Err(Reason::UnknownDimension);
         };
         let member = self.read_member(kind, member)?;

@@ -1,16 +1,18 @@
 ghost use Rattle.std.specs.Prelude.{◌≡◌, ℕ, List, Some, None, IfOk, IfSome, option_map, option_copied};
+ghost use Rattle.std.specs.FinMap as map;
 ghost use Rattle.std.specs.FinMap.{FinMap};
-ghost use Rattle.oim_names.specs.Bindings.{Binding};
+ghost use Rattle.oim_names.specs.Bindings.{Binding, uri_of};
 ghost use Rattle.oim_value.specs.ValueOrder.{name_cmp};
 ghost use Rattle.oim_report.specs.Names.{named};
 ghost use Rattle.oim_report.specs.Sheet.{Sheet};
-ghost use Rattle.oim_report.specs.code.TextCache.{Adds, AreTextCaches, IsNameCache, IsReached, kind_of, meaning};
+ghost use Rattle.oim_report.specs.code.Ranks.{IsRank, IsSpan};
+ghost use Rattle.oim_report.specs.code.TextCache.{Adds, AreTextCaches, IsNameCache, kind_of, meaning};
 
 use crate::concept_kind::ConceptKind;
 use crate::dimension_kind::DimensionKind;
 use crate::limits::{MOST_MEANING_BYTES, MOST_MEANINGS};
 use crate::sheet::kind::Kind;
-use crate::sheet::name_table::{Group, NameTable, find_in};
+use crate::sheet::ranked_names::RankedNames;
 use oim_dims::{Period, Unit};
 use oim_names::{Aliases, Name, Text, split_name};
 use std::alloc::{AllocError, Global};
@@ -59,16 +61,15 @@ impl<T: Drop> TextCache<T> {
     }
 }
 
-/// Finds which name of a sheet a text spells, under one set of prefixes. Groups are cached by
-/// prefix, so that later names with the same prefix are found without a search by URI.
+/// Finds which name of a sheet a text spells, under one set of prefixes. Spans are cached by prefix,
+/// so that later names with the same prefix are found without a search by URI.
 #[derive(Drop)]
 pub(crate) struct NameCache<'s, K: Kind> {
     alloc: Global,
-    /// The texts that spell a name of the sheet, each with the name and its kind.
-    pub(crate) texts: TextCache<(&'s Name, K)>,
-    /// The bound prefixes that were looked up, each with the sheet's group for its namespace, if
-    /// the sheet has that group.
-    pub(crate) groups: BTreeMap<String, Option<&'s Group<K>>>,
+    /// The texts that spell a name of the sheet, each with the name, its kind and its rank.
+    pub(crate) texts: TextCache<(&'s Name, K, usize)>,
+    /// The bound prefixes that were looked up, each with the span of its namespace.
+    pub(crate) spans: BTreeMap<String, (usize, usize)>,
 }
 
 impl<'s, K: Kind> NameCache<'s, K> {
@@ -78,57 +79,58 @@ impl<'s, K: Kind> NameCache<'s, K> {
         NameCache {
             alloc,
             texts: TextCache::new(alloc),
-            groups: BTreeMap::new(alloc),
+            spans: BTreeMap::new(alloc),
         }
     }
 
     pub(crate) fn find(
         &mut self,
-        table: &'s NameTable<K>,
+        names: &'s RankedNames<K>,
         aliases: &Aliases,
         text: &str,
-    ) -> Result<Option<(&'s Name, K)>, AllocError>
-        requires known { IsNameCache table.now aliases.now self.old }
+    ) -> Result<Option<(&'s Name, K, usize)>, AllocError>
+        requires known { IsNameCache names.now aliases.now self.old }
         ensures kind { IfOk result
-            (λ found. option_map (λ e. e.1) found ≡ kind_of table.now aliases.now text.now) }
+            (λ found. option_map (λ e. e.1) found ≡ kind_of names.now aliases.now text.now) }
         ensures name { IfOk result
             (λ found. IfSome found (λ e. named aliases.now text.now ≡ Some e.0.now)) }
-        ensures known { IsNameCache table.now aliases.now self.new }
+        ensures rank { IfOk result (λ found. IfSome found (λ e. IsRank names.now e.0.now e.2)) }
+        ensures known { IsNameCache names.now aliases.now self.new }
     {
         if let Some(known) = self.texts.find(text) {
-            return Ok(Some((known.0, known.1)));
+            return Ok(Some((known.0, known.1, known.2)));
         }
-        let Ok((_uri, local)) = aliases.resolve(text) else {
+        let Ok((uri, local)) = aliases.resolve(text) else {
             return Ok(None);
         };
         let (prefix, _local) = split_name(text);
-        let found = find_in(self.group(table, aliases, prefix)?, local);
-        if let Some((name, kind)) = &found {
-            self.texts.add(text, (*name, *kind))?;
+        let span = self.span(names, aliases, prefix, uri)?;
+        let found = names.find_in(uri, span, local);
+        if let Some((name, kind, rank)) = &found {
+            self.texts.add(text, (*name, *kind, *rank))?;
         }
         Ok(found)
     }
 
-    fn group(
+    fn span(
         &mut self,
-        table: &'s NameTable<K>,
+        names: &RankedNames<K>,
         aliases: &Aliases,
         prefix: &str,
-    ) -> Result<Option<&'s Group<K>>, AllocError>
-        requires known { IsNameCache table.now aliases.now self.old }
-        ensures reached { IfOk result (IsReached table.now aliases.now prefix.now) }
-        ensures known { IsNameCache table.now aliases.now self.new }
+        uri: &str,
+    ) -> Result<(usize, usize), AllocError>
+        requires known { IsNameCache names.now aliases.now self.old }
+        requires bound { uri_of aliases.now prefix.now ≡ Some uri.now }
+        ensures span { IfOk result (IsSpan (map.entries names.now) uri.now) }
+        ensures known { IsNameCache names.now aliases.now self.new }
     {
-        if let Some(known) = self.groups.get(prefix) {
+        if let Some(known) = self.spans.get(prefix) {
             return Ok(*known);
         }
-        let Some(uri) = aliases.uri(prefix) else {
-            return Ok(None);
-        };
-        let group = table.group(uri);
+        let span = names.span(uri);
         let key = String::from_str(self.alloc, prefix)?;
-        self.groups.insert(key, group)?;
-        Ok(group)
+        self.spans.insert(key, span)?;
+        Ok(span)
     }
 }
 

@@ -7,7 +7,7 @@ ghost use Rattle.serde_json.specs.Data.{no_members};
 ghost use Rattle.oim_report.specs.Pieces.{alone, put_all, HasMember, IsPiece};
 ghost use Rattle.oim_report.specs.code.FoundFacts.{AreFound, HaveOneMore};
 ghost use Rattle.oim_report.specs.code.TapeValues.{AreData, one};
-ghost use Rattle.oim_report.specs.code.UriIndices.{AreUriIndices};
+ghost use Rattle.oim_report.specs.code.Ranks.{AreRanks};
 
 use crate::document::found_facts::FoundFacts;
 use crate::fact::fact_members::FactMembers;
@@ -56,7 +56,7 @@ pub(crate) fn read_facts_in_pieces(
     ensures same { reader.new ≡ reader.old }
     ensures found { IfOk result (λ f. (objects : tree.Members) × IsPiece text.now objects
         × AreFound reader.old.sheet reader.old.aliases objects f.identifiers.items f.facts.items) }
-    ensures indices { IfOk result (λ f. AreUriIndices reader.old.aliases f.facts.items f.indices.items) }
+    ensures ranks { IfOk result (λ f. AreRanks reader.old.sheet.concepts f.facts.items f.ranks.items) }
 {
     let mut found = FoundFacts::new(alloc);
     let mut left = text;
@@ -82,7 +82,7 @@ fn read_piece_facts(
     ensures same { reader.new ≡ reader.old }
     ensures found { IfOk result (λ f. (ms : tree.Members) × IsPiece piece.now (put_all ms no_members)
         × AreFound reader.old.sheet reader.old.aliases ms f.identifiers.items f.facts.items) }
-    ensures indices { IfOk result (λ f. AreUriIndices reader.old.aliases f.facts.items f.indices.items) }
+    ensures ranks { IfOk result (λ f. AreRanks reader.old.sheet.concepts f.facts.items f.ranks.items) }
 {
     let tape = parse_piece(alloc, buffers, piece)?;
     let Some(members) = only_object(&tape.root()) else {
@@ -138,7 +138,7 @@ fn read_members(
     ensures found { (vs : spec.Members) → InMembers members.entry vs
         → IfOk result (λ f. (ms : tree.Members) × AreData vs ms × HasMember ms
         × AreFound reader.old.sheet reader.old.aliases ms f.identifiers.items f.facts.items) }
-    ensures indices { IfOk result (λ f. AreUriIndices reader.old.aliases f.facts.items f.indices.items) }
+    ensures ranks { IfOk result (λ f. AreRanks reader.old.sheet.concepts f.facts.items f.ranks.items) }
 {
     let mut found = FoundFacts::new(alloc);
     while let Some((key, object)) = members.next() {
@@ -160,12 +160,11 @@ fn read_member(
     ensures same { reader.new ≡ reader.old }
     ensures found { OnOk result (HaveOneMore reader.old.sheet reader.old.aliases key.now object.now
         found.old.identifiers.items found.new.identifiers.items found.old.facts.items found.new.facts.items) }
-    ensures indices { OnOk result (AreUriIndices reader.old.aliases found.old.facts.items found.old.indices.items
-        → AreUriIndices reader.old.aliases found.new.facts.items found.new.indices.items) }
+    ensures ranks { OnOk result (AreRanks reader.old.sheet.concepts found.old.facts.items found.old.ranks.items
+        → AreRanks reader.old.sheet.concepts found.new.facts.items found.new.ranks.items) }
 {
     let parts = FactMembers::of_element(alloc, object)?;
-    let index = reader.uri_index(&parts);
-    let fact = reader.read_parts(&parts)?;
-    found.push(String::from_str(alloc, key)?, fact, index)?;
+    let (fact, rank) = reader.read_parts(&parts)?;
+    found.push(String::from_str(alloc, key)?, fact, rank)?;
     Ok(())
 }

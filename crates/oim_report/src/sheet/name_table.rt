@@ -1,16 +1,16 @@
-ghost use Rattle.std.specs.Prelude.{◌≡◌, ◌⊎◌, ◌↔◌, ℕ, List, [], true, false, IsTrue, IfErr, IfOk, IfSome, if◌then◌else◌, OnOk, OnErr, Some, None, bytes_eq, option_map, string_bytes, option_copied};
+ghost use Rattle.std.specs.Prelude.{◌≡◌, ◌⊎◌, ℕ, List, [], true, false, IfErr, IfOk, IfSome, if◌then◌else◌, OnOk, OnErr, Some, None, bytes_eq, option_map, string_bytes};
 ghost use Rattle.std.specs.BTreeMap.{get_by_text};
 ghost use Rattle.std.specs.FinMap as map;
 ghost use Rattle.serde_json.specs.View.{view, members_view};
-ghost use Rattle.oim_names.specs.QName.{QName};
 ghost use Rattle.oim_report.specs.Json.{members};
 ghost use Rattle.oim_report.specs.Names.{names_refusal};
 ghost use Rattle.oim_report.specs.Sheet.{has_bad_kind, key_names, kind_in, listed};
-ghost use Rattle.oim_report.specs.code.Groups.{HasEach, IsGroup, IsGroupOf, in_group};
+ghost use Rattle.oim_report.specs.code.Groups.{IsGroup};
 ghost use Rattle.oim_report.specs.code.SheetCode.{Unfinished};
 
 use crate::fact::json_member::JsonMember;
 use crate::sheet::kind::Kind;
+use crate::sheet::ranked_names::RankedNames;
 use oim_names::{Aliases, Name, Reason, split_name};
 use serde_json::{Map, Value};
 use std::alloc::{AllocError, Global};
@@ -21,8 +21,7 @@ use std::mem::replace;
 /// The names of one namespace and their kinds, by local part.
 pub(crate) type Group<K> = BTreeMap<String, (Name, K)>;
 
-/// The concepts or the dimensions of a sheet with their kinds, in one group per namespace. A search
-/// compares URIs only to find the group.
+/// Names and their kinds, in one group per namespace.
 #[derive(Debug, Drop)]
 pub(crate) struct NameTable<K: Kind> {
     groups: BTreeMap<String, Group<K>>,
@@ -53,12 +52,6 @@ impl<K: Kind> NameTable<K> {
         }
     }
 
-    pub(crate) fn group(&self, uri: &str) -> Option<&Group<K>>
-        ensures { IsGroupOf self.now uri.now (option_copied result) }
-    {
-        self.groups.get(uri)
-    }
-
     pub(crate) fn take(&mut self, alloc: Global, uri: &str) -> Group<K>
         ensures names { IsGroup uri.now result }
         ensures kinds { (l : List ℕ) → option_map (λ e. e.1) (get_by_text result l)
@@ -80,62 +73,11 @@ impl<K: Kind> NameTable<K> {
         Ok(())
     }
 
-    #[tactic(auto, using(crate::proofs::Grouped::found_kind, crate::proofs::Grouped::found_name))]
-    pub(crate) fn find(&self, uri: &str, local: &str) -> Option<(&Name, K)>
-        ensures kind { option_map (λ e. e.1) result
-            ≡ map.get self.now (record { uri = uri.now; local_part = local.now }) }
-        ensures name { IfSome result
-            (λ e. e.0.now ≡ record { uri = uri.now; local_part = local.now }) }
+    fn ranked(self, alloc: Global) -> Result<RankedNames<K>, AllocError>
+        ensures { IfOk result (λ names. names ≡ self) }
     {
-        find_in(self.group(uri), local)
-    }
-
-    pub(crate) fn same_as(&self, other: &Self) -> bool
-        ensures { IsTrue result ↔ (self.now ≡ other.now) }
-    {
-        self.is_within(other) && other.is_within(self)
-    }
-
-    fn is_within(&self, other: &Self) -> bool
-        ensures { IsTrue result ↔ ((q : QName) (k : K) → map.get self.now q ≡ Some k → map.get other.now q ≡ Some k) }
-    {
-        for (uri, group) in self.groups.iter() {
-            if !has_each(other.group(uri.as_str()), group) {
-                return false;
-            }
-        }
-        true
-    }
-}
-
-pub(crate) fn find_in<'s, K: Kind>(
-    group: Option<&'s Group<K>>,
-    local: &str,
-) -> Option<(&'s Name, K)>
-    ensures { option_map (λ e. (e.0.now, e.1)) result ≡ in_group (option_copied group.entry) local.now }
-{
-    let (name, kind) = group?.get(local)?;
-    Some((name, *kind))
-}
-
-fn has_each<K: Kind>(group: Option<&Group<K>>, other: &Group<K>) -> bool
-    ensures { IsTrue result ↔ HasEach (option_copied group.entry) other.now }
-{
-    for (local, entry) in other.iter() {
-        if !has_kind(group, local.as_str(), entry.1) {
-            return false;
-        }
-    }
-    true
-}
-
-fn has_kind<K: Kind>(group: Option<&Group<K>>, local: &str, kind: K) -> bool
-    ensures { IsTrue result
-        ↔ (option_map (λ e. e.1) (in_group (option_copied group.entry) local.now) ≡ Some kind) }
-{
-    match find_in(group, local) {
-        Some((_name, known)) => known.is(kind),
-        None => false,
+        let NameTable { groups } = self;
+        RankedNames::of_groups(alloc, groups)
     }
 }
 
@@ -236,17 +178,17 @@ impl<K: Kind> NameTableBuilder<K> {
         self.put(name, kind)
     }
 
-    pub(crate) fn into_table(self) -> Result<NameTable<K>, AllocError>
-        ensures { IfOk result (λ table. table ≡ self.names) }
+    pub(crate) fn into_names(self) -> Result<RankedNames<K>, AllocError>
+        ensures { IfOk result (λ names. names ≡ self.names) }
     {
         let NameTableBuilder {
-            alloc: _,
+            alloc,
             uri,
             group,
             mut others,
         } = self;
         others.set(uri, group)?;
-        Ok(others)
+        others.ranked(alloc)
     }
 }
 
@@ -254,7 +196,7 @@ pub(crate) fn read_table<K: Kind>(
     alloc: Global,
     aliases: &Aliases,
     object: Option<&Map<String, Value>>,
-) -> Result<NameTable<K>, Reason>
+) -> Result<RankedNames<K>, Reason>
     requires { let ms = members (option_map (λ m. members_view m.now.entries) object) in
         names_refusal aliases.now (key_names ms) ≡ None }
     ensures listed { let ms = members (option_map (λ m. members_view m.now.entries) object.entry) in
@@ -266,7 +208,7 @@ pub(crate) fn read_table<K: Kind>(
         × (has_bad_kind K.kind_named K.same_kind aliases.now ms ≡ true))) }
 {
     let Some(members) = object else {
-        return Ok(NameTable::new(alloc));
+        return Ok(RankedNames::new(alloc));
     };
     let mut gathered = NameTableBuilder::new(alloc);
     let mut last = None;
@@ -283,7 +225,7 @@ pub(crate) fn read_table<K: Kind>(
             return Err(Reason::SheetKind);
         }
     }
-    Ok(gathered.into_table()?)
+    Ok(gathered.into_names()?)
 }
 
 // Keys are in byte order, so keys with the same prefix are adjacent, and the group changes at most

@@ -1,4 +1,4 @@
-use Rattle.std.proofs.Common.{◌≡◌, ◌++◌, ◌∷◌, ℕ, List, [], Option, String, Global, map, sym, ap, ◌∙◌, append-nil, append_assoc}
+use Rattle.std.proofs.Common.{◌≡◌, ◌++◌, ◌∷◌, ℕ, List, [], String, Global, map, sym, ap, ◌∙◌, append-nil, append_assoc}
 use Rattle.oim_dims.specs.declared.fact.Fact.{Fact}
 use Rattle.oim_report.proofs.document.found_facts.found_in.Goals as goal
 
@@ -13,16 +13,16 @@ loop-identifier-init c =
     let es = c.into_iter-identifier-iterator.result in
     let kept = c.in_ok-reserve.ensures in
     let none = c.new-all.ensures in
-    (ap (λ l. l ++ map (λ e. e.0) es) (kept.identifiers ∙ none.identifiers), ap (λ l. l ++ map (λ e. e.1.0) es) (kept.facts ∙ none.facts), ap (λ l. l ++ map (λ e. e.1.1) es) (kept.indices ∙ none.indices))
+    (ap (λ l. l ++ map (λ e. e.0) es) (kept.identifiers ∙ none.identifiers), ap (λ l. l ++ map (λ e. e.1.0) es) (kept.facts ∙ none.facts), ap (λ l. l ++ map (λ e. e.1.1) es) (kept.ranks ∙ none.ranks))
 
 pub loop-identifier-preserved : goal.loop-identifier-preserved
 loop-identifier-preserved c =
     let l = c.loop-identifier in
     let pushed = c.in_ok-push.ensures in
-    let e : String Global × (Fact × Option ℕ) = (c.in-Some.identifier, (c.in-Some.fact, c.in-Some.index)) in (
+    let e : String Global × (Fact × ℕ) = (c.in-Some.identifier, (c.in-Some.fact, c.in-Some.rank)) in (
       one_on (λ e. e.0) _ _ _ e _ c.next.new.self pushed.identifiers c.in-Some.ensures.steps l.invariant.0,
       one_on (λ e. e.1.0) _ _ _ e _ c.next.new.self pushed.facts c.in-Some.ensures.steps l.invariant.1,
-      one_on (λ e. e.1.1) _ _ _ e _ c.next.new.self pushed.indices c.in-Some.ensures.steps l.invariant.2,
+      one_on (λ e. e.1.1) _ _ _ e _ c.next.new.self pushed.ranks c.in-Some.ensures.steps l.invariant.2,
     )
 
 pub returns : goal.returns

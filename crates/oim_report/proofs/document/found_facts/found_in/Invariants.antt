@@ -6,4 +6,4 @@ abbrev pub invariant-loop-identifier : goal.invariant-loop-identifier
 invariant-loop-identifier l =
     (l.all.identifiers.items ++ map (λ e. e.0) l.identifier-iterator ≡ map (λ e. e.0) l.initial.identifier-iterator)
     × (l.all.facts.items ++ map (λ e. e.1.0) l.identifier-iterator ≡ map (λ e. e.1.0) l.initial.identifier-iterator)
-    × (l.all.indices.items ++ map (λ e. e.1.1) l.identifier-iterator ≡ map (λ e. e.1.1) l.initial.identifier-iterator)
+    × (l.all.ranks.items ++ map (λ e. e.1.1) l.identifier-iterator ≡ map (λ e. e.1.1) l.initial.identifier-iterator)

@@ -1,6 +1,5 @@
 use Rattle.std.proofs.Common.{rules, ◌≡◌, string_bytes}
-use Rattle.oim_report.specs.code.SeenMembers.{seen_parts}
-use Rattle.oim_report.proofs.FoundInOrder.{index_read, indices_push}
+use Rattle.oim_report.proofs.FoundInOrder.{ranked_by, ranks_append}
 use Rattle.oim_report.proofs.pieces.piece_facts.read_member.Goals as goal
 
 pub returns-clause-found : goal.returns-clause-found
@@ -9,7 +8,7 @@ returns-clause-found c =
     let key : string_bytes id ≡ c.args.key.now = search rules in
     record {
       id = id;
-      fact = c.in_ok-fact.fact;
+      fact = c.in_ok-fact.field-0.0;
       is_key = key;
       pushed = c.in_ok-push.ensures.identifiers;
       added = c.in_ok-push.ensures.facts;
@@ -18,10 +17,8 @@ returns-clause-found c =
           record { found = o.found; reads = o.reads; flat = o.flat; says = c.in_ok-fact.ensures.ok o.found o.are };
     }
 
-pub returns-clause-indices : goal.returns-clause-indices
-returns-clause-indices c =
-    let bs = c.args.reader.now.aliases in
+pub returns-clause-ranks : goal.returns-clause-ranks
+returns-clause-ranks c h =
+    let m = c.args.reader.now.sheet.concepts in
     let found = c.args.found.now in
-    let fact = c.in_ok-fact.fact in
-    let index = index_read bs (seen_parts c.in_ok-parts.parts) fact c.uri_index-index.result c.uri_index-index.ensures c.in_ok-fact.ensures.concept in
-    indices_push bs found.facts.items _ found.indices.items _ fact c.uri_index-index.result c.in_ok-push.ensures.facts c.in_ok-push.ensures.indices index
+    ranked_by m _ _ _ _ c.in_ok-push.ensures.facts c.in_ok-push.ensures.ranks (ranks_append m found.facts.items _ found.ranks.items _ h (c.in_ok-fact.ensures.rank, tt))

@@ -1,23 +1,23 @@
 use Rattle.std.proofs.Common.{rules, ◌≡◌, [], refl, ◌∙◌, subst}
 use Rattle.oim_report.specs.code.Scope.{Scope}
 use Rattle.oim_report.specs.code.FoundFacts.{HaveOneMore}
-use Rattle.oim_report.specs.code.UriIndices.{AreUriIndices}
-use Rattle.oim_report.proofs.FoundInOrder.{none_indexed}
+use Rattle.oim_report.specs.code.Ranks.{AreRanks}
+use Rattle.oim_report.proofs.FoundInOrder.{none_ranked}
 use Rattle.oim_report.proofs.TapedFacts.{none_reading, one_read, all_found, found_some}
 use Rattle.oim_report.proofs.pieces.piece_facts.read_members.Goals as goal
 
 pub loop-key-init : goal.loop-key-init
-loop-key-init c = ((λ vs here. none_reading c.args.reader.now vs c.args.members _ _ c.new-found.ensures.identifiers c.new-found.ensures.facts here), refl, none_indexed c.args.reader.now.aliases _ _ c.new-found.ensures.facts c.new-found.ensures.indices)
+loop-key-init c = ((λ vs here. none_reading c.args.reader.now vs c.args.members _ _ c.new-found.ensures.identifiers c.new-found.ensures.facts here), refl, none_ranked c.args.reader.now.sheet.concepts _ _ c.new-found.ensures.facts c.new-found.ensures.ranks)
 
 pub loop-key-preserved : goal.loop-key-preserved
 loop-key-preserved c =
     let s = c.args.reader.now in
     let l = c.loop-key in
     let more = subst (λ (r : Scope). HaveOneMore r.sheet r.aliases c.in-Some.key.now c.in-Some.object l.found.identifiers.items c.read_member.new.found.identifiers.items l.found.facts.items c.read_member.new.found.facts.items) l.invariant.1 c.in_ok-read_member.ensures.found in
-    let indices = subst (λ (r : Scope). AreUriIndices r.aliases l.found.facts.items l.found.indices.items → AreUriIndices r.aliases c.read_member.new.found.facts.items c.read_member.new.found.indices.items) l.invariant.1 c.in_ok-read_member.ensures.indices in (
+    let ranks = subst (λ (r : Scope). AreRanks r.sheet.concepts l.found.facts.items l.found.ranks.items → AreRanks r.sheet.concepts c.read_member.new.found.facts.items c.read_member.new.found.ranks.items) l.invariant.1 c.in_ok-read_member.ensures.ranks in (
       (λ vs here. one_read s vs _ _ _ _ _ _ (c.in-Some.key.now, c.in-Some.object) c.in-Some.ensures.value more (l.invariant.0 vs here)),
       c.read_member.ensures.same ∙ l.invariant.1,
-      indices l.invariant.2,
+      ranks l.invariant.2,
     )
 
 pub returns-clause-found : goal.returns-clause-found
@@ -27,5 +27,5 @@ returns-clause-found c = λ vs here.
     let some : c.loop-key.found.facts.items ≡ [] → ⊥ = search rules in
     (all.0, all.1, found_some s all.0 _ _ all.2 some, all.2)
 
-pub returns-clause-indices : goal.returns-clause-indices
-returns-clause-indices c = c.loop-key.invariant.2
+pub returns-clause-ranks : goal.returns-clause-ranks
+returns-clause-ranks c = c.loop-key.invariant.2

@@ -10,9 +10,10 @@ use Rattle.oim_report.specs.Outcome.{facts_said, outcome}
 use Rattle.oim_report.specs.code.Scope.{Scope}
 use Rattle.oim_report.proofs.AcceptedFacts.{facts_fit}
 use Rattle.oim_report.proofs.Documents.{bindings_are_namespaces}
-use Rattle.oim_report.proofs.FoundInOrder.{facts_same, whole_outcome, found_said, keys_found, share_uris}
+use Rattle.oim_report.proofs.FoundInOrder.{facts_same, whole_outcome, found_said, keys_found}
+use Rattle.oim_report.proofs.Ranks.{order_concepts}
 use Rattle.oim_report.proofs.ReferenceTexts.{references_kept}
-use Rattle.oim_report.specs.code.UriIndices.{ShareUris}
+use Rattle.oim_report.specs.code.Ranks.{OrderConcepts}
 use Rattle.oim_report.proofs.report_reader.ReportReader.read_in_pieces.Goals as goal
 
 pub new-report-requires-clause-facts : goal.new-report-requires-clause-facts
@@ -66,5 +67,5 @@ returns-clause-identifiers c =
 pub order_of-requires : goal.order_of-requires
 order_of-requires c =
     let f = c.in_ok-identifiers.field-0 in
-    let shared = share_uris c.turn_to.new.self.aliases f.facts.items f.indices.items c.in_ok-identifiers.ensures.indices in
-    subst (λ fs. ShareUris fs c.as_slice-2.result.now) (sym c.as_slice.ensures.value) (subst (ShareUris f.facts.items) (sym c.as_slice-2.ensures.value) shared)
+    let ordered = order_concepts c.turn_to.new.self.sheet.concepts f.facts.items f.ranks.items c.in_ok-identifiers.ensures.ranks in
+    subst (OrderConcepts c.as_slice-2.result.now) (sym c.as_slice.ensures.value) (subst (λ rs. OrderConcepts rs f.facts.items) (sym c.as_slice-2.ensures.value) ordered)

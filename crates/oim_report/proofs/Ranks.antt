@@ -1,0 +1,313 @@
+-- The names of a sheet in ascending order, and their ranks.
+use Rattle.std.proofs.Common.{◌≡◌, inl, inr, ℕ, zero, suc, ◌<◌, ◌≤◌, ◌+◌, List, [], ◌∷◌, ◌++◌, Bool, true, false, cond, Some, None, option_map, String, string_bytes, length, get_or, slice_get, map, refl, sym, ap, subst, ◌∙◌, arith, ◌&&◌, T, Ordering, Less, Equal, Greater, string_cmp, append_assoc, append-nil, is_lt}
+use Rattle.std.specs.List.{AllByRecursion, AllWithin}
+use Rattle.std.specs.List.Sorted.{IsPartitionPoint, IsPartitionedBy, IsStrictlySortedBy}
+use Rattle.std.specs.Map.{keys_of, values_of}
+use Rattle.std.specs.BTreeMap.{IsOrdered, values}
+use Rattle.std.specs.Ordering.{is_eq, is_le, nat_cmp, ordering_reverse, ordering_then}
+use Rattle.std.specs.Cmp.{alike_right, tied_itself, nat_cmp_total}
+use Rattle.std.specs.Cmp.Lexicographic.{slice_cmp}
+use Rattle.std.specs.FinMap as map
+use Rattle.std.specs.FinMap.{FinMap, find, is_sorted, entries_sorted, entries-insert, len-entries, len-empty}
+use Rattle.std.specs.FinMap.Entries.{below_all, by_order, put}
+use Rattle.std.proofs.lemmas.Bool.{cases_lt, cases_order, cond_below, false≢true}
+use Rattle.std.proofs.lemmas.Cmp.{nat_list_cmp_total}
+use Rattle.std.proofs.lemmas.List.{get_or-map, length-map, map-append}
+use Rattle.std.proofs.lemmas.Map.Lookups.{exact_bytes}
+use Rattle.std.proofs.lemmas.Map.Keys.{sorted_head, sorted_tail, Less-from_sorted}
+use Rattle.std.proofs.lemmas.Option.{same_Some, slice_get-get_or, slice_get-map, slice_get_within, get_or_from_slice_get}
+use Rattle.oim_names.specs.QName.{QName, exact_name, name_cmp}
+use Rattle.oim_dims.specs.declared.fact.Fact.{Fact}
+use Rattle.oim_report.specs.code.Groups.{grouped_entries}
+use Rattle.oim_report.specs.code.Ranks.{AreRanks, IsRank, IsSpan, OrderConcepts}
+use Rattle.oim_report.proofs.Grouped.{AreNamed, AreNamedGroups, Group, name}
+use Rattle.oim_report.proofs.SheetEntries.{name_total}
+
+-- ---- the names of all groups, one group after another, ascend
+
+all_append : {X : Type 0} (P : X → Type 0) (xs ys : List X) → AllByRecursion P xs → AllByRecursion P ys → AllByRecursion P (xs ++ ys)
+all_append P [] ys a b = b
+all_append P (x ∷ xs) ys a b = (a.0, all_append P xs ys a.1 b)
+
+abbrev IsBelow : QName → List QName → Type 0
+IsBelow q = AllByRecursion (λ p. name_cmp q p ≡ Less)
+
+rising_append : (xs ys : List QName) → IsStrictlySortedBy name_cmp xs → IsStrictlySortedBy name_cmp ys → AllByRecursion (λ x. IsBelow x ys) xs → IsStrictlySortedBy name_cmp (xs ++ ys)
+unfolding IsStrictlySortedBy
+rising_append [] ys a b c = b
+rising_append (x ∷ xs) ys a b c = (all_append (λ p. name_cmp x p ≡ Less) xs ys a.0 c.0, rising_append xs ys a.1 b c.1)
+
+module _ {K Y : Type 0} where
+  below_local : (u l : List ℕ) (es : List (String Y × (QName × K))) → AreNamed u es → AllByRecursion (λ k. slice_cmp nat_cmp l (string_bytes k) ≡ Less) (keys_of es) → IsBelow (name u l) (keys_of (values_of es))
+  below_local u l [] h below = tt
+  below_local u l (e ∷ es) h below =
+      (ap (name_cmp (name u l)) h.0 ∙ ap (λ r. ordering_then r (slice_cmp nat_cmp l (string_bytes e.0))) (tied_itself nat_list_cmp_total u) ∙ below.0, below_local u l es h.1 below.1)
+
+  group_rises : (u : List ℕ) (es : List (String Y × (QName × K))) → AreNamed u es → IsStrictlySortedBy string_cmp (keys_of es) → IsStrictlySortedBy name_cmp (keys_of (values_of es))
+  unfolding IsStrictlySortedBy
+  group_rises u [] h rise = tt
+  group_rises u (e ∷ es) h rise = (subst (λ q. IsBelow q (keys_of (values_of es))) (sym h.0) (below_local u (string_bytes e.0) es h.1 rise.0), group_rises u es h.1 rise.1)
+
+  below_group : (q : QName) (v : List ℕ) (es : List (String Y × (QName × K))) → AreNamed v es → slice_cmp nat_cmp q.uri v ≡ Less → IsBelow q (keys_of (values_of es))
+  below_group q v [] h less = tt
+  below_group q v (e ∷ es) h less = (ap (name_cmp q) h.0 ∙ ap (λ r. ordering_then r (slice_cmp nat_cmp q.local_part (string_bytes e.0))) less, below_group q v es h.1 less)
+
+  abbrev names_in : List (String Y × Group K Y) → List QName
+  names_in es = keys_of (grouped_entries es)
+
+  names_parts : (e : String Y × Group K Y) (es : List (String Y × Group K Y)) → names_in (e ∷ es) ≡ keys_of (values e.1) ++ names_in es
+  names_parts e es = map-append (λ (n : QName × K). n.0) (values e.1) (grouped_entries es)
+
+  below_groups : (q : QName) (es : List (String Y × Group K Y)) → AllByRecursion (λ k. slice_cmp nat_cmp q.uri (string_bytes k) ≡ Less) (keys_of es) → AreNamedGroups es → IsBelow q (names_in es)
+  below_groups q [] below h = tt
+  below_groups q (e ∷ es) below h =
+      subst (IsBelow q) (sym (names_parts e es))
+      (all_append (λ p. name_cmp q p ≡ Less) (keys_of (values e.1)) (names_in es) (below_group q (string_bytes e.0) e.1.entries h.0 below.0) (below_groups q es below.1 h.1))
+
+  each_below : (k : String Y) (es : List (String Y × (QName × K))) (rest : List (String Y × Group K Y)) → AreNamed (string_bytes k) es → AllByRecursion (λ y. string_cmp k y ≡ Less) (keys_of rest) → AreNamedGroups rest → AllByRecursion (λ q. IsBelow q (names_in rest)) (keys_of (values_of es))
+  each_below k [] rest h below named = tt
+  each_below k (e ∷ es) rest h below named =
+      (subst (λ q. IsBelow q (names_in rest)) (sym h.0) (below_groups (name (string_bytes k) (string_bytes e.0)) rest below named), each_below k es rest h.1 below named)
+
+  abbrev pub AreOrdered : List (String Y × Group K Y) → Type 0
+  AreOrdered es = AllByRecursion (λ e. IsOrdered string_cmp e.1) es
+
+  pub groups_rise : (es : List (String Y × Group K Y)) → IsStrictlySortedBy string_cmp (keys_of es) → AreNamedGroups es → AreOrdered es → IsStrictlySortedBy name_cmp (names_in es)
+  unfolding IsStrictlySortedBy
+  groups_rise [] rise h inner = tt
+  groups_rise (e ∷ es) rise h inner =
+      subst (IsStrictlySortedBy name_cmp) (sym (names_parts e es))
+      (rising_append (keys_of (values e.1)) (names_in es) (group_rises (string_bytes e.0) e.1.entries h.0 inner.0) (groups_rise es rise.1 h.1 inner.1) (each_below e.0 e.1.entries es h.0 rise.0 h.1))
+
+  pub grouped_push : (es : List (String Y × Group K Y)) (e : String Y × Group K Y) → grouped_entries (es ++ e ∷ []) ≡ grouped_entries es ++ values e.1
+  grouped_push [] e = append-nil (values e.1)
+  grouped_push (f ∷ es) e = ap (λ l. values f.1 ++ l) (grouped_push es e) ∙ sym (append_assoc (values f.1) (grouped_entries es) (values e.1))
+
+-- ---- the entries of a map are an ascending list that it is made of
+
+and_both : (a b : Bool) → T (a && b) → T a × T b
+and_both true b h = (tt, h)
+and_both false b h = absurd h
+
+is_less : (r : Ordering) → T (is_lt r) → r ≡ Less
+is_less Less h = refl
+is_less Equal h = absurd h
+is_less Greater h = absurd h
+
+module _ {K : Type 0} where
+  abbrev pub Rises : List (QName × K) → Type 0
+  Rises es = IsStrictlySortedBy name_cmp (keys_of es)
+
+  pub none_rise : (es : List (QName × K)) → es ≡ [] → Rises es
+  unfolding IsStrictlySortedBy
+  none_rise es none = subst Rises (sym none) tt
+
+  all_below : (q : QName) (es : List (QName × K)) → T (below_all name_cmp q es) → IsBelow q (keys_of es)
+  all_below q [] h = tt
+  all_below q (e ∷ es) h = let both = and_both (is_lt (name_cmp q e.0)) (below_all name_cmp q es) h in (is_less (name_cmp q e.0) both.0, all_below q es both.1)
+
+  rises : (es : List (QName × K)) → T (is_sorted name_cmp es) → Rises es
+  unfolding IsStrictlySortedBy
+  rises [] h = tt
+  rises (e ∷ es) h = let both = and_both (below_all name_cmp e.0 es) (is_sorted name_cmp es) h in (all_below e.0 es both.0, rises es both.1)
+
+  pub keys_rise : (m : FinMap name_cmp K) → Rises (map.entries m)
+  keys_rise m = rises (map.entries m) (entries_sorted m)
+
+  put_first : (e : QName × K) (es : List (QName × K)) → IsBelow e.0 (keys_of es) → put name_cmp e.0 e.1 es ≡ e ∷ es
+  put_first e [] below = refl
+  put_first e (f ∷ es) below = ap (λ r. by_order r (e ∷ f ∷ es) ((f.0, e.1) ∷ es) (f ∷ put name_cmp e.0 e.1 es)) below.0
+
+  no_length : (es : List (QName × K)) → length es ≡ 0 → es ≡ []
+  no_length [] h = refl
+  no_length (e ∷ es) h = absurd (omega (arith, h))
+
+  pub entries_rising : (es : List (QName × K)) → Rises es → map.entries (map.from_entries {R = name_cmp} es) ≡ es
+  entries_rising [] h = no_length (map.entries map.empty) (sym (len-entries map.empty) ∙ len-empty name_cmp K)
+  entries_rising (e ∷ es) h =
+      entries-insert name_total (map.from_entries es) e.0 e.1 ∙ ap (put name_cmp e.0 e.1) (entries_rising es (sorted_tail name_cmp e.0 (keys_of es) h)) ∙ put_first e es (sorted_head name_cmp e.0 (keys_of es) h)
+
+  pub same_entries : (es fs : List (QName × K)) (m n : FinMap name_cmp K) → Rises es → Rises fs → map.from_entries es ≡ m → map.from_entries fs ≡ n → m ≡ n → es ≡ fs
+  same_entries es fs m n rise rises is are same = sym (entries_rising es rise) ∙ ap map.entries (is ∙ same ∙ sym are) ∙ entries_rising fs rises
+
+  -- ---- a name at an index of an ascending list
+
+  below_at : (q : QName) (es : List (QName × K)) (i : ℕ) (e : QName × K) → IsBelow q (keys_of es) → slice_get es i ≡ Some e → name_cmp q e.0 ≡ Less
+  below_at q (x ∷ es) zero e h at = subst (λ (y : QName × K). name_cmp q y.0 ≡ Less) (same_Some x e at) h.0
+  below_at q (x ∷ es) (suc i) e h at = below_at q es i e h.1 at
+  below_at q [] i e h at = absurd (Prim.cc)
+
+  pub find_at : (es : List (QName × K)) (i : ℕ) (e : QName × K) → Rises es → slice_get es i ≡ Some e → find name_cmp e.0 es ≡ Some e.1
+  find_at (x ∷ es) zero e h at = subst (λ (y : QName × K). find name_cmp y.0 (x ∷ es) ≡ Some y.1) (same_Some x e at) (ap (λ r. cond (is_eq r) (Some x.1) (find name_cmp x.0 es)) (tied_itself name_total x.0))
+  find_at (x ∷ es) (suc i) e h at =
+      let above : name_cmp e.0 x.0 ≡ Greater = name_total.antisymm e.0 x.0 ∙ ap ordering_reverse (below_at x.0 es i e (sorted_head name_cmp x.0 (keys_of es) h) at) in
+      ap (λ r. cond (is_eq r) (Some x.1) (find name_cmp e.0 es)) above ∙ find_at es i e (sorted_tail name_cmp x.0 (keys_of es) h) at
+  find_at [] i e h at = absurd (Prim.cc)
+
+  pub missing : (q : QName) (es : List (QName × K)) → ((i : ℕ) (d : QName × K) → i < length es → is_eq (name_cmp q (get_or es i d).0) ≡ false) → find name_cmp q es ≡ None
+  missing q [] h = refl
+  missing q (e ∷ es) h = ap (λ b. cond b (Some e.1) (find name_cmp q es)) (h zero e (omega arith)) ∙ missing q es (λ i d within. h (suc i) d (omega (arith, within)))
+
+  names_rise : (es : List (QName × K)) (i j : ℕ) (d : QName × K) → Rises es → i < j → j < length es → name_cmp (get_or es i d).0 (get_or es j d).0 ≡ Less
+  names_rise es i j d rise less within =
+      let at : (k : ℕ) → k < length es → (get_or es k d).0 ≡ get_or (keys_of es) k d.0 = λ k here. sym (get_or-map (λ (e : QName × K). e.0) es k d d.0 here) in
+      let long : j < length (keys_of es) = subst (λ n. j < n) (sym (length-map es (λ (e : QName × K). e.0))) within in
+      (λ k. name_cmp (at i (omega (arith, less, within)) k) (at j within k)) ∙ Less-from_sorted name_cmp (keys_of es) i j d.0 rise less long
+
+-- ---- the span of a namespace
+
+lower : (test : Ordering → Bool) → test Less ≡ true → test Greater ≡ false → (s t u : List ℕ) → slice_cmp nat_cmp s t ≡ Less → test (slice_cmp nat_cmp t u) ≡ true → test (slice_cmp nat_cmp s u) ≡ true
+lower test pass no s t u less h =
+    elim (slice_cmp nat_cmp t u) as (λ r. slice_cmp nat_cmp t u ≡ r → test r ≡ true → test (slice_cmp nat_cmp s u) ≡ true) [
+      | Less ↦ λ below _. ap test (nat_list_cmp_total.trans s t u less below) ∙ pass
+      | Equal ↦ λ same _. ap test (sym (alike_right nat_list_cmp_total t u s same) ∙ less) ∙ pass
+      | Greater ↦ λ _ k. absurd (false≢true (sym no ∙ k))
+    ] refl h
+
+lower_name : (test : Ordering → Bool) → test Less ≡ true → test Greater ≡ false → (p q : QName) (u : List ℕ) → name_cmp p q ≡ Less → test (slice_cmp nat_cmp q.uri u) ≡ true → test (slice_cmp nat_cmp p.uri u) ≡ true
+lower_name test pass no p q u less h =
+    elim (slice_cmp nat_cmp p.uri q.uri) as (λ r. slice_cmp nat_cmp p.uri q.uri ≡ r → ordering_then r (slice_cmp nat_cmp p.local_part q.local_part) ≡ Less → test (slice_cmp nat_cmp p.uri u) ≡ true) [
+      | Less ↦ λ below _. lower test pass no p.uri q.uri u below h
+      | Equal ↦ λ same _. ap test (nat_list_cmp_total.congr p.uri q.uri u same) ∙ h
+      | Greater ↦ λ _ k. absurd (Prim.cc)
+    ] refl less
+
+lt_is : (r : Ordering) → is_lt r ≡ true → r ≡ Less
+lt_is Less h = refl
+lt_is Equal h = absurd (false≢true h)
+lt_is Greater h = absurd (false≢true h)
+
+eq_is : (r : Ordering) → is_lt r ≡ false → is_le r ≡ true → r ≡ Equal
+eq_is Less h k = absurd (false≢true (sym h))
+eq_is Equal h k = refl
+eq_is Greater h k = absurd (false≢true k)
+
+gt_is : (r : Ordering) → is_le r ≡ false → r ≡ Greater
+gt_is Less h = absurd (false≢true (sym h))
+gt_is Equal h = absurd (false≢true (sym h))
+gt_is Greater h = refl
+
+module _ {K : Type 0} (es : List (QName × K)) (u : List ℕ) (rise : Rises es) where
+  abbrev pub passes : (Ordering → Bool) → QName × K → Bool
+  passes test e = test (slice_cmp nat_cmp e.0.uri u)
+
+  pub parted : (test : Ordering → Bool) → test Less ≡ true → test Greater ≡ false → IsPartitionedBy (passes test) es
+  parted test pass no i j d upto within h = elim (cases_order i j) [
+    | inl same ↦ subst (λ k. passes test (get_or es k d) ≡ true) (sym same) h
+    | inr (inl less) ↦ lower_name test pass no (get_or es i d).0 (get_or es j d).0 u (names_rise es i j d rise less within) h
+    | inr (inr more) ↦ absurd (omega (arith, upto, more))
+  ]
+
+  pub span_of : (first end : ℕ) → IsPartitionPoint (λ e. passes is_lt e ≡ true) (λ e. passes is_lt e ≡ false) es first → IsPartitionPoint (λ e. passes is_le e ≡ true) (λ e. passes is_le e ≡ false) es end → end ≤ length es → IsSpan es u (first, end)
+  span_of first end one two bound = record {
+    bound = bound;
+    before = λ k d low high. lt_is _ (one.0 k d low high);
+    here = λ k d low high. exact_bytes (get_or es k d).0.uri u (eq_is _ (one.1 k d low (omega (arith, high, bound))) (two.0 k d (omega arith) high));
+    behind = λ k d low high. gt_is _ (two.1 k d low high);
+  }
+
+-- ---- a search by halving
+
+module _ {K : Type 0} (es : List (QName × K)) (q : QName) (span : ℕ × ℕ) where
+  -- the name can only be between the two indices
+  pub record IsSearched (low high : ℕ) : Type 0 where
+    pub from : span.0 ≤ low
+    pub upto : high ≤ span.1
+    pub below : AllWithin (λ e. name_cmp e.0 q ≡ Less) es 0 low
+    pub above : AllWithin (λ e. name_cmp e.0 q ≡ Greater) es high (length es)
+
+  module _ (is : IsSpan es q.uri span) where
+    pub search_all : IsSearched span.0 span.1
+    search_all = record {
+      from = omega arith;
+      upto = omega arith;
+      below = λ k d low high. ap (λ r. ordering_then r (slice_cmp nat_cmp (get_or es k d).0.local_part q.local_part)) (is.before k d low high);
+      above = λ k d low high. ap (λ r. ordering_then r (slice_cmp nat_cmp (get_or es k d).0.local_part q.local_part)) (is.behind k d low high);
+    }
+
+    module _ (low high middle : ℕ) (e : QName × K) (s : IsSearched low high) (there : slice_get es middle ≡ Some e) (from : low ≤ middle) (upto : middle < high) where
+      in_list : middle < length es
+      in_list = slice_get_within es middle e there
+
+      uri_is : e.0.uri ≡ q.uri
+      uri_is = sym (ap (λ (x : QName × K). x.0.uri) (get_or_from_slice_get es middle e e there)) ∙ is.here middle e (omega (arith, from, s.from)) (omega (arith, upto, s.upto))
+
+      pub by_local : name_cmp e.0 q ≡ slice_cmp nat_cmp e.0.local_part q.local_part
+      by_local = ap (λ r. ordering_then r (slice_cmp nat_cmp e.0.local_part q.local_part)) (ap (λ v. slice_cmp nat_cmp v q.uri) uri_is ∙ tied_itself nat_list_cmp_total q.uri)
+
+      is_it : (d : QName × K) → (get_or es middle d).0 ≡ e.0
+      is_it d = ap (λ (x : QName × K). x.0) (get_or_from_slice_get es middle e d there)
+
+      pub named : slice_cmp nat_cmp e.0.local_part q.local_part ≡ Equal → e.0 ≡ q
+      named same = exact_name e.0 q (by_local ∙ same)
+
+      module _ (rise : Rises es) where
+        pub go_up : slice_cmp nat_cmp e.0.local_part q.local_part ≡ Less → IsSearched (middle + 1) high
+        go_up less = record {
+          from = omega (arith, from, s.from);
+          upto = s.upto;
+          below = λ k d low high. elim (cases_order k middle) [
+            | inl same ↦ subst (λ n. name_cmp (get_or es n d).0 q ≡ Less) (sym same) (ap (λ n. name_cmp n q) (is_it d) ∙ by_local ∙ less)
+            | inr (inl before) ↦ name_total.trans (get_or es k d).0 (get_or es middle d).0 q (names_rise es k middle d rise before in_list) (ap (λ n. name_cmp n q) (is_it d) ∙ by_local ∙ less)
+            | inr (inr behind) ↦ absurd (omega (arith, high, behind))
+          ];
+          above = s.above;
+        }
+
+        pub go_down : slice_cmp nat_cmp e.0.local_part q.local_part ≡ Greater → IsSearched low middle
+        go_down more = record {
+          from = s.from;
+          upto = omega (arith, upto, s.upto);
+          below = s.below;
+          above = λ k d low high.
+              let here : name_cmp q (get_or es middle d).0 ≡ Less = name_total.antisymm q (get_or es middle d).0 ∙ ap ordering_reverse (ap (λ n. name_cmp n q) (is_it d) ∙ by_local ∙ more) in
+              let less : name_cmp q (get_or es k d).0 ≡ Less = elim (cases_order k middle) [
+                | inl same ↦ subst (λ n. name_cmp q (get_or es n d).0 ≡ Less) (sym same) here
+                | inr (inl before) ↦ absurd (omega (arith, low, before))
+                | inr (inr behind) ↦ name_total.trans q (get_or es middle d).0 (get_or es k d).0 here (names_rise es middle k d rise behind high)
+              ] in
+              name_total.antisymm (get_or es k d).0 q ∙ ap ordering_reverse less;
+        }
+
+  pub search_none : (low high : ℕ) → IsSearched low high → high ≤ low → find name_cmp q es ≡ None
+  search_none low high s met = missing q es (λ i d within. elim (cases_lt i low) [
+    | inl before ↦ ap is_eq (name_total.antisymm q (get_or es i d).0 ∙ ap ordering_reverse (s.below i d (omega arith) before))
+    | inr behind ↦ ap is_eq (name_total.antisymm q (get_or es i d).0 ∙ ap ordering_reverse (s.above i d (omega (arith, behind, met)) within))
+  ])
+
+module _ {K : Type 0} (m : FinMap name_cmp K) where
+  pub entries_read : (es read : List (QName × K)) → Rises es → map.from_entries es ≡ m → read ≡ es → map.entries m ≡ read
+  entries_read es read rise is same = sym (ap map.entries is) ∙ entries_rising es rise ∙ sym same
+
+  pub entry_at : (read : List (QName × K)) → map.entries m ≡ read → (i : ℕ) (e : QName × K) → i < length (map.entries m) → e ≡ get_or read i e → slice_get (map.entries m) i ≡ Some e
+  entry_at read all i e within at =
+      ap (λ xs. slice_get xs i) all ∙ slice_get-get_or read i e (subst (λ xs. i < length xs) all within) ∙ ap Some (sym at)
+
+  pub rank_of : (i : ℕ) (e : QName × K) → slice_get (map.entries m) i ≡ Some e → IsRank m e.0 i
+  rank_of i e there = slice_get-map (λ (x : QName × K). x.0) (map.entries m) i ∙ ap (option_map (λ (x : QName × K). x.0)) there
+
+-- ---- ranks are ordered as names are
+
+rising_at : (names : List QName) (r s : ℕ) (p q : QName) → IsStrictlySortedBy name_cmp names → r < s → slice_get names r ≡ Some p → slice_get names s ≡ Some q → name_cmp p q ≡ Less
+rising_at names r s p q rise less first second =
+    (λ i. name_cmp (sym (get_or_from_slice_get names r p p first) i) (sym (get_or_from_slice_get names s q p second) i)) ∙ Less-from_sorted name_cmp names r s p rise less (slice_get_within names s q second)
+
+in_order : (names : List QName) (r s : ℕ) (p q : QName) → IsStrictlySortedBy name_cmp names → slice_get names r ≡ Some p → slice_get names s ≡ Some q → nat_cmp r s ≡ name_cmp p q
+in_order names r s p q rise first second = elim (cases_order r s) [
+  | inl same ↦
+      let is : p ≡ q = same_Some p q (sym first ∙ ap (slice_get names) same ∙ second) in
+      ap (nat_cmp r) (sym same) ∙ tied_itself nat_cmp_total r ∙ sym (ap (name_cmp p) (sym is) ∙ tied_itself name_total p)
+  | inr (inl less) ↦ sym (cond_below r s Less _ less) ∙ sym (rising_at names r s p q rise less first second)
+  | inr (inr more) ↦
+      nat_cmp_total.antisymm r s ∙ ap ordering_reverse (sym (cond_below s r Less _ more) ∙ sym (rising_at names s r q p rise more second first)) ∙ sym (name_total.antisymm p q)
+]
+
+module _ {K : Type 0} (m : FinMap name_cmp K) where
+  rank_at : (fs : List Fact) (rs : List ℕ) (i r : ℕ) (f : Fact) → AreRanks m fs rs → slice_get rs i ≡ Some r → slice_get fs i ≡ Some f → IsRank m f.dimensions.concept r
+  rank_at (g ∷ fs) (s ∷ rs) zero r f h rank fact = subst (λ (x : Fact). IsRank m x.dimensions.concept r) (same_Some g f fact) (subst (IsRank m g.dimensions.concept) (same_Some s r rank) h.0)
+  rank_at (g ∷ fs) (s ∷ rs) (suc i) r f h rank fact = rank_at fs rs i r f h.1 rank fact
+  rank_at fs rs i r f h rank fact = absurd (Prim.cc)
+
+  pub order_concepts : (fs : List Fact) (rs : List ℕ) → AreRanks m fs rs → OrderConcepts rs fs
+  order_concepts fs rs h i j r s f g first second here there =
+      in_order (map.keys m) r s f.dimensions.concept g.dimensions.concept (keys_rise m) (rank_at fs rs i r f h first here) (rank_at fs rs j s g h second there)

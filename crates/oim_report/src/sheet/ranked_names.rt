@@ -1,0 +1,135 @@
+ghost use Rattle.std.specs.Prelude.{◌≡◌, ◌++◌, ◌↔◌, IfOk, OnOk, IsTrue};
+ghost use Rattle.std.specs.BTreeMap.{IsOrdered, values};
+ghost use Rattle.std.specs.FinMap as map;
+ghost use Rattle.std.specs.String.{string_cmp};
+ghost use Rattle.oim_report.specs.code.Groups.{AreGroups, grouped_entries};
+ghost use Rattle.oim_report.specs.code.Ranks.{IsFound, IsSpan};
+
+use crate::sheet::kind::Kind;
+use crate::sheet::name_table::Group;
+use oim_names::Name;
+use std::alloc::{AllocError, Global};
+use std::cmp::Ordering;
+use std::collections::BTreeMap;
+use std::marker::Model;
+
+/// The concepts or the dimensions of a sheet with their kinds, in ascending order of names. The
+/// rank of a name is its index, so ranks are ordered as names are. The names of one namespace are
+/// adjacent: their indices are a span.
+#[derive(Debug, Drop)]
+pub(crate) struct RankedNames<K: Kind> {
+    names: Vec<(Name, K)>,
+}
+
+impl<K: Kind> Model for RankedNames<K> {
+    ghost use Rattle.std.specs.FinMap as map;
+    ghost use Rattle.std.specs.FinMap.{FinMap};
+    ghost use Rattle.std.specs.List.Sorted.{IsStrictlySortedBy};
+    ghost use Rattle.std.specs.Map.{keys_of};
+    ghost use Rattle.oim_value.specs.ValueOrder.{name_cmp};
+    ghost use Rattle.oim_report.specs.code.SheetCode.{name_table_code};
+
+    ghost Value = { FinMap name_cmp K };
+
+    ghost coded = { name_table_code K.code };
+
+    ghost view = { λ a. map.from_entries a.names.items };
+
+    ghost invariant = { λ a. IsStrictlySortedBy name_cmp (keys_of a.names.items) };
+}
+
+impl<K: Kind> RankedNames<K> {
+    pub(crate) fn new(alloc: Global) -> Self
+        ensures { result ≡ map.empty }
+    {
+        RankedNames {
+            names: Vec::new(alloc),
+        }
+    }
+
+    pub(crate) fn of_groups(
+        alloc: Global,
+        groups: BTreeMap<String, Group<K>>,
+    ) -> Result<Self, AllocError>
+        requires { AreGroups groups }
+        ensures { IfOk result (λ names. names ≡ map.from_entries (grouped_entries groups.entries)) }
+    {
+        let mut names = Vec::new(alloc);
+        for (_uri, group) in groups {
+            push_all(&mut names, group)?;
+        }
+        Ok(RankedNames { names })
+    }
+
+    /// Returns the span of a namespace's names. Only this call compares URIs.
+    pub(crate) fn span(&self, uri: &str) -> (usize, usize)
+        ensures { IsSpan (map.entries self.now) uri.now result }
+    {
+        let names = self.names.as_slice();
+        let first = names.partition_point(|entry| entry.0.uri() < uri);
+        let end = names.partition_point(|entry| entry.0.uri() <= uri);
+        (first, end)
+    }
+
+    /// Finds a name of the namespace with this span. Returns the name with its kind and its rank.
+    pub(crate) fn find_in(
+        &self,
+        _uri: &str,
+        span: (usize, usize),
+        local: &str,
+    ) -> Option<(&Name, K, usize)>
+        requires { IsSpan (map.entries self.now) _uri.now span }
+        ensures { IsFound self.now (record { uri = _uri.now; local_part = local.now }) result }
+    {
+        let names = self.names.as_slice();
+        let (mut low, mut high) = span;
+        while low < high {
+            let middle = low + (high - low) / 2;
+            let entry = &names[middle];
+            match entry.0.local().cmp(local) {
+                Ordering::Less => low = middle + 1,
+                Ordering::Equal => return Some((&entry.0, entry.1, middle)),
+                Ordering::Greater => high = middle,
+            }
+        }
+        None
+    }
+
+    pub(crate) fn find(&self, uri: &str, local: &str) -> Option<(&Name, K, usize)>
+        ensures { IsFound self.now (record { uri = uri.now; local_part = local.now }) result }
+    {
+        self.find_in(uri, self.span(uri), local)
+    }
+
+    pub(crate) fn same_as(&self, other: &Self) -> bool
+        ensures { IsTrue result ↔ (self.now ≡ other.now) }
+    {
+        let names = self.names.as_slice();
+        let others = other.names.as_slice();
+        if names.len() != others.len() {
+            return false;
+        }
+        for (i, entry) in names.iter().enumerate() {
+            if !is_same(entry, &others[i]) {
+                return false;
+            }
+        }
+        true
+    }
+}
+
+fn is_same<K: Kind>(one: &(Name, K), other: &(Name, K)) -> bool
+    ensures { IsTrue result ↔ (one.now ≡ other.now) }
+{
+    one.0 == other.0 && one.1.is(other.1)
+}
+
+fn push_all<K: Kind>(names: &mut Vec<(Name, K)>, group: Group<K>) -> Result<(), AllocError>
+    ensures names { OnOk result (names.new.items ≡ names.old.items ++ values group) }
+    ensures ordered { OnOk result (IsOrdered string_cmp group) }
+{
+    for (_local, entry) in group {
+        names.push(entry)?;
+    }
+    Ok(())
+}
