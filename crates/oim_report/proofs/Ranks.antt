@@ -157,17 +157,17 @@ module _ {K : Type 0} where
 -- ---- the span of a namespace
 
 lower : (test : Ordering → Bool) → test Less ≡ true → test Greater ≡ false → (s t u : List ℕ) → slice_cmp nat_cmp s t ≡ Less → test (slice_cmp nat_cmp t u) ≡ true → test (slice_cmp nat_cmp s u) ≡ true
-lower test pass no s t u less h =
+lower test pass fails s t u less h =
     elim (slice_cmp nat_cmp t u) as (λ r. slice_cmp nat_cmp t u ≡ r → test r ≡ true → test (slice_cmp nat_cmp s u) ≡ true) [
       | Less ↦ λ below _. ap test (nat_list_cmp_total.trans s t u less below) ∙ pass
       | Equal ↦ λ same _. ap test (sym (alike_right nat_list_cmp_total t u s same) ∙ less) ∙ pass
-      | Greater ↦ λ _ k. absurd (false≢true (sym no ∙ k))
+      | Greater ↦ λ _ k. absurd (false≢true (sym fails ∙ k))
     ] refl h
 
 lower_name : (test : Ordering → Bool) → test Less ≡ true → test Greater ≡ false → (p q : QName) (u : List ℕ) → name_cmp p q ≡ Less → test (slice_cmp nat_cmp q.uri u) ≡ true → test (slice_cmp nat_cmp p.uri u) ≡ true
-lower_name test pass no p q u less h =
+lower_name test pass fails p q u less h =
     elim (slice_cmp nat_cmp p.uri q.uri) as (λ r. slice_cmp nat_cmp p.uri q.uri ≡ r → ordering_then r (slice_cmp nat_cmp p.local_part q.local_part) ≡ Less → test (slice_cmp nat_cmp p.uri u) ≡ true) [
-      | Less ↦ λ below _. lower test pass no p.uri q.uri u below h
+      | Less ↦ λ below _. lower test pass fails p.uri q.uri u below h
       | Equal ↦ λ same _. ap test (nat_list_cmp_total.congr p.uri q.uri u same) ∙ h
       | Greater ↦ λ _ k. absurd (Prim.cc)
     ] refl less
@@ -192,9 +192,9 @@ module _ {K : Type 0} (es : List (QName × K)) (u : List ℕ) (rise : Rises es) 
   passes test e = test (slice_cmp nat_cmp e.0.uri u)
 
   pub parted : (test : Ordering → Bool) → test Less ≡ true → test Greater ≡ false → IsPartitionedBy (passes test) es
-  parted test pass no i j d upto within h = elim (cases_order i j) [
+  parted test pass fails i j d upto within h = elim (cases_order i j) [
     | inl same ↦ subst (λ k. passes test (get_or es k d) ≡ true) (sym same) h
-    | inr (inl less) ↦ lower_name test pass no (get_or es i d).0 (get_or es j d).0 u (names_rise es i j d rise less within) h
+    | inr (inl less) ↦ lower_name test pass fails (get_or es i d).0 (get_or es j d).0 u (names_rise es i j d rise less within) h
     | inr (inr more) ↦ absurd (omega (arith, upto, more))
   ]
 

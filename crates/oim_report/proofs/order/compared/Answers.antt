@@ -52,7 +52,7 @@ compared_in_concept-requires c =
     let w = c.in-Some-Some in
     let first = seen_at facts c.args.i c.get.result w.one c.get.ensures.lookup.3 w.is-0 in
     let second = seen_at facts c.args.j c.get-2.result w.other c.get-2.ensures.lookup.3 w.is-1 in
-    exact_name w.one.now.dimensions.concept w.other.now.dimensions.concept (sym (ranked facts c.args.i c.args.j w.one.now w.other.now first second c.args.ranks.now c.rank_order.result Equal c.rank_order.ensures c.in-Some-Equal-2.is c.requires.ranks))
+    exact_name w.one.now.dimensions.concept w.other.now.dimensions.concept (sym (ranked facts c.args.i c.args.j w.one.now w.other.now first second c.args.ranks.now c.rank_order.result Equal c.rank_order.ensures (c.in-Some-Equal.is ∙ ap Some c.in-Some-Equal.field-0-is) c.requires.ranks))
 
 pub returns-in-Some-Equal : goal.returns-in-Some-Equal
 returns-in-Some-Equal c =
@@ -76,7 +76,7 @@ returns-in-Some-Less c =
     let w = c.in-Some-Some in
     let first = seen_at facts c.args.i c.get.result w.one c.get.ensures.lookup.3 w.is-0 in
     let second = seen_at facts c.args.j c.get-2.result w.other c.get-2.ensures.lookup.3 w.is-1 in
-    by_rank w.one.now w.other.now Less (ranked facts c.args.i c.args.j w.one.now w.other.now first second c.args.ranks.now c.rank_order.result Less c.rank_order.ensures c.in-Some-Less.is c.requires.ranks) (λ e. false≢true (sym (ap is_lt e))) ∙ at_both facts c.args.i c.args.j w.one.now w.other.now first second
+    by_rank w.one.now w.other.now Less (ranked facts c.args.i c.args.j w.one.now w.other.now first second c.args.ranks.now c.rank_order.result Less c.rank_order.ensures (c.in-Some-Less.is ∙ ap Some c.in-Some-Less.field-0-is) c.requires.ranks) (λ e. false≢true (sym (ap is_lt e))) ∙ at_both facts c.args.i c.args.j w.one.now w.other.now first second
 
 pub returns-in-Some-Greater : goal.returns-in-Some-Greater
 returns-in-Some-Greater c =
@@ -84,7 +84,7 @@ returns-in-Some-Greater c =
     let w = c.in-Some-Some in
     let first = seen_at facts c.args.i c.get.result w.one c.get.ensures.lookup.3 w.is-0 in
     let second = seen_at facts c.args.j c.get-2.result w.other c.get-2.ensures.lookup.3 w.is-1 in
-    by_rank w.one.now w.other.now Greater (ranked facts c.args.i c.args.j w.one.now w.other.now first second c.args.ranks.now c.rank_order.result Greater c.rank_order.ensures c.in-Some-Greater.is c.requires.ranks) (λ e. false≢true (sym (ap is_gt e))) ∙ at_both facts c.args.i c.args.j w.one.now w.other.now first second
+    by_rank w.one.now w.other.now Greater (ranked facts c.args.i c.args.j w.one.now w.other.now first second c.args.ranks.now c.rank_order.result Greater c.rank_order.ensures (c.in-Some-Greater.is ∙ ap Some c.in-Some-Greater.field-0-is) c.requires.ranks) (λ e. false≢true (sym (ap is_gt e))) ∙ at_both facts c.args.i c.args.j w.one.now w.other.now first second
 
 pub returns-in-None : goal.returns-in-None
 returns-in-None c =

@@ -8,7 +8,7 @@ returns-clause-found c =
     let key : string_bytes id ≡ c.args.key.now = search rules in
     record {
       id = id;
-      fact = c.in_ok-fact.field-0.0;
+      fact = c.in_ok-fact.fact;
       is_key = key;
       pushed = c.in_ok-push.ensures.identifiers;
       added = c.in_ok-push.ensures.facts;
