@@ -69,7 +69,6 @@ module _ (concept entity period unit language members value : Ordering) (tied : 
   pub by_values : entity ≡ Equal → period ≡ Equal → unit ≡ Equal → language ≡ Equal → members ≡ Equal → value ≡ by_parts
   by_values e p u l m = ap (λ o. ordering_then o value) (sym m) ∙ by_last e p u l
 
-
 pub own : (facts : List Fact) (i : ℕ) (f : Fact) → i < length facts → f ≡ get_or facts i f → dimensions_at facts i ≡ Some f.dimensions
 own facts i f within at = ap (option_map (λ (x : Fact). x.dimensions)) (slice_get-get_or facts i f within ∙ ap (λ x. Some x) (sym at))
 

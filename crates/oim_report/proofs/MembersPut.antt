@@ -18,7 +18,7 @@ use Rattle.oim_report.specs.Json.{Given, given, given_of, any_member, has_colon,
 use Rattle.oim_report.specs.FactMembers.{DimensionMembers, FactMembers, core_keys, fact_keys, defined_in, dimension_parts, parts_of}
 use Rattle.oim_report.specs.ReadBack.{with_given}
 use Rattle.oim_report.specs.code.TapeValues.{Ascends, IsSoFar}
-use Rattle.oim_report.specs.declared.fact.json_member.JsonMember.{JsonMember}
+use Rattle.oim_report.specs.declared.json_values.json_member.JsonMember.{JsonMember}
 use Rattle.oim_report.specs.code.JsonMember.{seen}
 use Rattle.oim_report.specs.code.SeenMembers.{seen_defined, seen_dimensions}
 use Rattle.oim_report.specs.declared.fact.fact_members.DimensionMembers.{DimensionMembers as LentDimensions}

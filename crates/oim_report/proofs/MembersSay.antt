@@ -25,7 +25,7 @@ use Rattle.oim_report.specs.Json.{Given, nil, text}
 use Rattle.oim_report.specs.Names.{comes_again, named}
 use Rattle.oim_report.specs.Said.{dimension_names, members_with, said_member, said_members}
 use Rattle.oim_report.specs.Sheet.{Sheet, dimension_kind}
-use Rattle.oim_report.specs.declared.fact.json_member.JsonMember.{JsonMember}
+use Rattle.oim_report.specs.declared.json_values.json_member.JsonMember.{JsonMember}
 use Rattle.oim_report.specs.code.JsonMember.{seen}
 use Rattle.oim_report.specs.code.SeenMembers.{seen_defined}
 use Rattle.oim_report.proofs.Accepted.{and_then_some, map_some}

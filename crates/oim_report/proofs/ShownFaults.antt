@@ -33,8 +33,8 @@ use Rattle.oim_report.specs.Json.{any_in, any_member, entries, members, has_colo
 use Rattle.oim_report.specs.Namespaces.{binds_nothing}
 use Rattle.oim_report.specs.declared.concept_kind.ConceptKind.TheVariants.{Name}
 use Rattle.oim_report.specs.Sheet.{Sheet, same_concept_kind, key_names, sheet_concepts, sheet_dimensions, sheet_holds, sheet_names, sheet_namespaces}
-use Rattle.oim_report.specs.declared.findings.part.Part.{Part}
-use Rattle.oim_report.specs.declared.findings.part.Part.TheVariants.{Nothing}
+use Rattle.oim_report.specs.declared.part.Part.{Part}
+use Rattle.oim_report.specs.declared.part.Part.TheVariants.{Nothing}
 use Rattle.oim_report.specs.Least.{least}
 use Rattle.oim_report.proofs.Naming.{stands, expanded}
 use Rattle.oim_report.proofs.SheetEntries.{name_total}

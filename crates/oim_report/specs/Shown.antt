@@ -14,8 +14,8 @@ use Rattle.oim_value.specs.ValueOrder.{name_cmp}
 use Rattle.serde_json.specs.Data.{Data, Items, no_items, item, Members}
 use Rattle.serde_json.specs.Find.{as_object, get, get_member}
 use Rattle.serde_json.specs.View.{view}
-use Rattle.oim_report.specs.declared.findings.part.Part.{Part}
-use Rattle.oim_report.specs.declared.findings.part.Part.TheVariants.{Nothing, Whole, Missing, NoObject, NoArray, NoText, Key, KeyIn, Name, Entity, Value, Member, Two}
+use Rattle.oim_report.specs.declared.part.Part.{Part}
+use Rattle.oim_report.specs.declared.part.Part.TheVariants.{Nothing, Whole, Missing, NoObject, NoArray, NoText, Key, KeyIn, Name, Entity, Value, Member, Two}
 use Rattle.oim_report.specs.Holds.{declared, declares_no_level, document_base_url, document_holds, holds, is_misfit, is_no_reference, is_some_and, is_unlisted, names, no_text}
 use Rattle.oim_report.specs.Info.{info, info_keys, namespaces_of, root_keys, taxonomy_of}
 use Rattle.oim_report.specs.Json.{entries, is_no_array, is_no_object, is_object, is_unknown, members, object_at}

@@ -2,7 +2,7 @@
 
 pub(crate) mod beside;
 pub(crate) mod cuts;
-pub(crate) mod not_in_pieces;
+pub(crate) mod found_facts;
 pub(crate) mod outline;
 pub(crate) mod piece_facts;
 pub(crate) mod taped_tree;

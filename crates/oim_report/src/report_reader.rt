@@ -5,14 +5,15 @@ ghost use Rattle.oim_report.specs.Identifiers.{identifiers};
 ghost use Rattle.oim_report.specs.Outcome.{at, outcome, tree_outcome};
 
 use crate::document::duplicates::is_above;
-use crate::document::found_facts::FoundFacts;
 use crate::document::identifiers::{identifiers_of, texts_of};
 use crate::document::info::read_info;
-use crate::document::json_tree::{read_json, read_json_outline};
 use crate::fact::fact_reader::{FactReader, read_facts};
+use crate::json_values::json_tree::read_json;
 use crate::limits::PIECE_BYTES;
+use crate::not_in_pieces::NotInPieces;
 use crate::order::order_of;
-use crate::pieces::not_in_pieces::NotInPieces;
+use crate::pieces::found_facts::FoundFacts;
+use crate::pieces::outline::read_json_outline;
 use crate::pieces::piece_facts::{PieceBuffers, read_facts_in_pieces};
 use crate::place::Place;
 use crate::refusal::Refusal;

@@ -1,7 +1,9 @@
 pub(crate) mod kind;
 pub(crate) mod name_table;
 pub(crate) mod ranked_names;
+pub(crate) mod same_names;
 pub(crate) mod sheet_form;
+pub(crate) mod sheet_part;
 
 ghost use Rattle.std.specs.Prelude.{◌≡◌, ◌⊎◌, ◌↔◌, Some, Ok, Err, IsTrue, IfOk, IfErr, IfSome, option_map};
 ghost use Rattle.std.specs.FinMap as map;
@@ -13,8 +15,8 @@ ghost use Rattle.oim_report.specs.Sheet.{dimension_kind, sheet_of, sheet_outcome
 
 use crate::concept_kind::ConceptKind;
 use crate::dimension_kind::DimensionKind;
-use crate::document::json_tree::{object_at, read_json};
 use crate::document::namespaces::read_namespaces;
+use crate::json_values::json_tree::{object_at, read_json};
 use crate::sheet::name_table::read_table;
 use crate::sheet::ranked_names::RankedNames;
 use crate::sheet::sheet_form::{check_form, check_names};

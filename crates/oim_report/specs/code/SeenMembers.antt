@@ -1,7 +1,7 @@
 -- The values that the code's borrowed parts represent (own).
 use Rattle.std.specs.Prelude.{List, ℕ, map, option_map}
 use Rattle.std.specs.Borrow.{Bor}
-use Rattle.oim_report.specs.declared.fact.json_member.JsonMember.{JsonMember}
+use Rattle.oim_report.specs.declared.json_values.json_member.JsonMember.{JsonMember}
 use Rattle.oim_report.specs.declared.fact.fact_members.DimensionMembers.{DimensionMembers as LentDimensions}
 use Rattle.oim_report.specs.declared.fact.fact_members.FactMembers.{FactMembers as LentFact}
 use Rattle.oim_report.specs.code.JsonMember.{seen}

@@ -5,8 +5,8 @@ ghost use Rattle.oim_report.specs.Info.{base_url_said};
 ghost use Rattle.oim_report.specs.References.{base_url, is_web};
 ghost use Rattle.oim_report.specs.code.Findings.{is_base_refused};
 
-use crate::document::json_tree::within;
-use crate::fact::json_member::JsonMember;
+use crate::json_values::json_member::JsonMember;
+use crate::json_values::json_tree::within;
 use crate::limits::MOST_REFERENCE_BYTES;
 use oim_names::Reason;
 use serde_json::Value;

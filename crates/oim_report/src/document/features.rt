@@ -4,8 +4,8 @@ ghost use Rattle.serde_json.specs.View.{view};
 ghost use Rattle.oim_report.specs.code.JsonMember.{seen};
 ghost use Rattle.oim_report.specs.Info.{declarations, features_of, is_allowed_duplicates, said_level};
 
-use crate::document::json_tree::within;
-use crate::fact::json_member::JsonMember;
+use crate::json_values::json_member::JsonMember;
+use crate::json_values::json_tree::within;
 use oim_names::{Aliases, RESERVED_URI, Reason, split_name};
 use oim_value::Level;
 use serde_json::Value;

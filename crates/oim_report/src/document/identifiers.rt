@@ -3,7 +3,7 @@ ghost use Rattle.serde_json.specs.View.{view};
 ghost use Rattle.oim_report.specs.Identifiers.{identifiers, tree_identifiers};
 ghost use Rattle.oim_report.specs.Json.{json};
 
-use crate::document::json_tree::{object_at, read_json};
+use crate::json_values::json_tree::{object_at, read_json};
 use oim_names::{Reason, Text};
 use serde_json::Value;
 use std::alloc::{AllocError, Global};

@@ -10,11 +10,11 @@ ghost use Rattle.oim_report.specs.code.Findings.{is_text};
 
 use crate::document::base_url::read_base_url;
 use crate::document::features::read_level;
-use crate::document::json_tree::{is_no_array, is_no_object, object_at, unknown_in, within};
 use crate::document::namespaces::read_namespaces;
 use crate::document::references::read_taxonomy;
-use crate::fact::json_member::JsonMember;
-use crate::findings::part::Part;
+use crate::json_values::json_member::JsonMember;
+use crate::json_values::json_tree::{is_no_array, is_no_object, object_at, unknown_in, within};
+use crate::part::Part;
 use oim_names::{Aliases, Reason, Text};
 use oim_value::Level;
 use serde_json::Value;

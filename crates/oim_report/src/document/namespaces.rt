@@ -1,15 +1,16 @@
 ghost use Rattle.std.specs.Prelude.{◌≡◌, ◌⊎◌, [], true, false, if◌then◌else◌, Some, None, IfOk, IfErr, option_map};
 ghost use Rattle.std.specs.List.{find};
 ghost use Rattle.oim_names.specs.Bindings.{is_refused_binding};
+ghost use Rattle.oim_names.specs.Expansion.{a_name, refuses};
 ghost use Rattle.serde_json.specs.View.{view, members_view};
 ghost use Rattle.oim_report.specs.Info.{bindings_of, namespaces_of};
 ghost use Rattle.oim_report.specs.Json.{any_in, entries, members};
 ghost use Rattle.oim_report.specs.Namespaces.{binds_nothing, bindings_in};
 ghost use Rattle.oim_report.specs.Shown.{entry, seen};
 
-use crate::document::json_tree::within;
-use crate::fact::json_member::JsonMember;
-use crate::findings::part::Part;
+use crate::json_values::json_member::JsonMember;
+use crate::json_values::json_tree::within;
+use crate::part::Part;
 use crate::refusal::unless_memory;
 use oim_names::{Aliases, Reason};
 use serde_json::{Map, Value};
@@ -96,4 +97,11 @@ fn is_no_binding(alloc: Global, prefix: &str, uri: &str) -> Result<bool, AllocEr
     let mut alone = Aliases::new(alloc);
     let bound = unless_memory(alone.add(prefix, uri))?;
     Ok(bound.is_none())
+}
+
+#[tactic(auto, using(oim_names::proofs::NameTests::told))]
+pub(crate) fn is_refused(aliases: &Aliases, text: &str, reason: Reason) -> bool
+    ensures { result ≡ refuses reason aliases.now (a_name text.now) }
+{
+    aliases.name_refusal(text) == Some(reason)
 }

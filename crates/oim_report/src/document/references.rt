@@ -6,8 +6,8 @@ ghost use Rattle.oim_report.specs.Info.{said_reference, said_references, taxonom
 ghost use Rattle.oim_report.specs.References.{is_reference_refused, is_within_limit, is_text_within_limit, is_web, kept, web_text, web_url};
 
 use crate::document::base_url::{BaseUrl, is_web};
-use crate::document::json_tree::within;
-use crate::fact::json_member::JsonMember;
+use crate::json_values::json_member::JsonMember;
+use crate::json_values::json_tree::within;
 use crate::limits::MOST_REFERENCE_BYTES;
 use oim_names::{Reason, Text};
 use serde_json::Value;

@@ -14,8 +14,8 @@ ghost use Rattle.oim_report.specs.code.JsonMember.{seen};
 ghost use Rattle.oim_report.specs.code.TextCache.{IsTextCache, TextSaysLanguage, TextSaysPeriod, TextSaysUnit};
 
 use crate::concept_kind::ConceptKind;
-use crate::fact::json_member::JsonMember;
 use crate::fact::text_cache::TextCache;
+use crate::json_values::json_member::JsonMember;
 use oim_dims::{Period, Unit, read_language, read_period, read_unit};
 use oim_names::{Aliases, Copied, Name, Reason, Text};
 use oim_value::{Decimals, Value, read_fixed};

@@ -15,11 +15,11 @@ ghost use Rattle.oim_report.specs.code.JsonMember.{seen};
 ghost use Rattle.oim_report.specs.code.SeenMembers.{seen_defined, seen_dimensions, seen_parts};
 ghost use Rattle.oim_report.specs.code.TapeValues.{Ascends, AreDimensions, IsFactObject, IsPut};
 
-use crate::document::json_tree::{has_colon, has_member, is_no_object, unknown_in};
-use crate::fact::json_member::JsonMember;
-use crate::fact::skipped::skip_value;
+use crate::json_values::json_member::JsonMember;
+use crate::json_values::json_tree::{has_colon, has_member, is_no_object, unknown_in};
+use crate::json_values::skipped::skip_value;
 use crate::limits::{MOST_INSERTED, MOST_SKIPPED_LEVELS};
-use crate::pieces::not_in_pieces::NotInPieces;
+use crate::not_in_pieces::NotInPieces;
 use json::Element;
 use serde_json::{Map, Value};
 use std::alloc::{AllocError, Global};

@@ -15,15 +15,15 @@ ghost use Rattle.oim_report.specs.Sheet.{dimension_kind};
 
 use crate::concept_kind::ConceptKind;
 use crate::dimension_kind::DimensionKind;
-use crate::document::json_tree::object_at;
 use crate::fact::fact_content::{
     cached_entity, cached_language, cached_name, cached_period, cached_unit, read_value,
 };
 use crate::fact::fact_members::{DimensionMembers, FactMembers, well_formed};
-use crate::fact::json_member::JsonMember;
+use crate::fact::fact_part::FactInScope;
 use crate::fact::text_cache::TextCaches;
-use crate::findings::fact_part::FactInScope;
-use crate::findings::fault_list::Faults;
+use crate::fault_list::Faults;
+use crate::json_values::json_member::JsonMember;
+use crate::json_values::json_tree::object_at;
 use crate::place::Place;
 use crate::refusal::Refusal;
 use crate::sheet::Sheet;

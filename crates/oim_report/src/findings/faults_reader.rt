@@ -11,11 +11,11 @@ ghost use Rattle.oim_report.specs.Least.{told};
 ghost use Rattle.oim_report.specs.Outcome.{at, tree_outcome};
 ghost use Rattle.oim_report.specs.Least.{is_shown};
 
+use crate::document::document_part::document_part;
 use crate::document::info::read_info;
-use crate::document::json_tree::{object_at, read_json};
-use crate::findings::document_part::document_part;
-use crate::findings::fact_part::FactInScope;
-use crate::findings::fault_list::Faults;
+use crate::fact::fact_part::FactInScope;
+use crate::fault_list::Faults;
+use crate::json_values::json_tree::{object_at, read_json};
 use crate::place::Place;
 use crate::refusal::{Refusal, unless_memory};
 use crate::report_reader::ReportReader;

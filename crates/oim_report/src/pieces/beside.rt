@@ -9,10 +9,10 @@ ghost use Rattle.serde_json.specs.View.{members_view};
 ghost use Rattle.oim_report.specs.code.Pieces.{Adds, IsBeside};
 ghost use Rattle.oim_report.specs.code.TapeValues.{AreAdded, IsAdded};
 
-use crate::document::json_tree::has_colon;
-use crate::fact::skipped::skip_value;
+use crate::json_values::json_tree::has_colon;
+use crate::json_values::skipped::skip_value;
 use crate::limits::MOST_LEVELS;
-use crate::pieces::not_in_pieces::NotInPieces;
+use crate::not_in_pieces::NotInPieces;
 use crate::pieces::piece_facts::{PieceBuffers, only_object, parse_piece};
 use crate::pieces::taped_tree::tree_of;
 use json::{Element, Members};

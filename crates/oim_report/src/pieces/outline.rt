@@ -1,12 +1,17 @@
-ghost use Rattle.std.specs.Prelude.{Some, IfOk, IfSome, option_map};
+ghost use Rattle.std.specs.Prelude.{◌≡◌, Some, IfOk, IfSome, option_map};
+ghost use Rattle.serde_json.specs.Data.{Members, object};
 ghost use Rattle.serde_json.specs.View.{view};
-ghost use Rattle.oim_report.specs.code.Pieces.{IsEnd, IsHead, IsOutline, IsSplit, IsTail};
+ghost use Rattle.oim_report.specs.Json.{json};
+ghost use Rattle.oim_report.specs.Pieces.{IsPiece};
+ghost use Rattle.oim_report.specs.code.Pieces.{IsEnd, IsHead, IsLike, IsOutline, IsSplit, IsTail};
 
+use crate::json_values::json_tree::after_mark;
+use crate::not_in_pieces::NotInPieces;
 use crate::pieces::beside::read_beside;
 use crate::pieces::cuts::{back_start, cut_at, strip_back, strip_front, trim_back};
-use crate::pieces::not_in_pieces::NotInPieces;
 use serde_json::{Map, Value};
 use std::alloc::Global;
+use std::str;
 
 // `guess_end` first looks for the end of `facts` only in this many of the last bytes of a document,
 // not counting white space at the end. This number is used if `facts` is the first member.
@@ -29,6 +34,17 @@ struct Split<'t> {
     before: Option<&'t str>,
     facts: &'t str,
     behind: Option<&'t str>,
+}
+
+pub(crate) fn read_json_outline(alloc: Global, bytes: &[u8]) -> Result<Outline<'_>, NotInPieces>
+    ensures { IfOk result (λ o. (kept : Members) × (view o.tree ≡ object kept)
+        × ((found : Members) → IsPiece o.facts.now found → (all : Members)
+        × (json bytes.now ≡ Some (object all)) × IsLike all kept (Some (object found)))) }
+{
+    match str::from_utf8(after_mark(bytes)) {
+        Ok(text) => read_outline(alloc, text),
+        Err(_) => Err(NotInPieces::NeedsTree),
+    }
 }
 
 /// Splits a document. If `facts` of the result can be parsed as a piece, the whole document can be

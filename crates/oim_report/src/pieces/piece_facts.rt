@@ -9,12 +9,12 @@ ghost use Rattle.oim_report.specs.code.FoundFacts.{AreFound, HaveOneMore};
 ghost use Rattle.oim_report.specs.code.TapeValues.{AreData, one};
 ghost use Rattle.oim_report.specs.code.Ranks.{AreRanks};
 
-use crate::document::found_facts::FoundFacts;
 use crate::fact::fact_members::FactMembers;
 use crate::fact::fact_reader::FactReader;
 use crate::limits::{MOST_KEPT_BYTES, PIECE_BYTES};
+use crate::not_in_pieces::NotInPieces;
 use crate::pieces::cuts::split_piece;
-use crate::pieces::not_in_pieces::NotInPieces;
+use crate::pieces::found_facts::FoundFacts;
 use json::{Element, Members, Scratch, Tape};
 use std::alloc::{AllocError, Global};
 

@@ -8,7 +8,7 @@ ghost use Rattle.serde_json.specs.Data as tree;
 ghost use Rattle.serde_json.specs.View.{view, items_view, members_view};
 ghost use Rattle.oim_report.specs.code.TapeValues.{IsReadAs};
 
-use crate::pieces::not_in_pieces::NotInPieces;
+use crate::not_in_pieces::NotInPieces;
 use json::{Element, Items, Members};
 use serde_json::{Map, Value};
 use std::alloc::Global;

@@ -8,7 +8,7 @@ ghost use Rattle.oim_report.specs.Sheet.{has_bad_kind, key_names, kind_in, liste
 ghost use Rattle.oim_report.specs.code.Groups.{IsGroup};
 ghost use Rattle.oim_report.specs.code.SheetCode.{Unfinished};
 
-use crate::fact::json_member::JsonMember;
+use crate::json_values::json_member::JsonMember;
 use crate::sheet::kind::Kind;
 use crate::sheet::ranked_names::RankedNames;
 use oim_names::{Aliases, Name, Reason, split_name};

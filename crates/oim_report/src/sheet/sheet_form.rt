@@ -8,9 +8,9 @@ ghost use Rattle.oim_report.specs.Names.{names_refusal, refuses_some};
 ghost use Rattle.oim_report.specs.Sheet.{key_names, sheet_holds};
 ghost use Rattle.oim_report.specs.Shown.{name, nothing, seen, sheet_shown};
 
-use crate::document::json_tree::{is_no_object, object_at, unknown_in};
-use crate::findings::name_part::is_refused;
-use crate::findings::part::Part;
+use crate::document::namespaces::is_refused;
+use crate::json_values::json_tree::{is_no_object, object_at, unknown_in};
+use crate::part::Part;
 use oim_names::{Aliases, Reason};
 use serde_json::{Map, Value};
 

@@ -26,14 +26,19 @@ answers R (Some x) (Some y) = refl
 -- the parts in the order in which dimension sets are compared
 abbrev concepts : DimensionSet → DimensionSet → Ordering
 concepts d e = name_cmp d.concept e.concept
+
 abbrev entities : DimensionSet → DimensionSet → Ordering
 entities d e = option_cmp name_cmp d.entity e.entity
+
 abbrev periods : DimensionSet → DimensionSet → Ordering
 periods d e = derived_period.it d.period e.period
+
 abbrev units : DimensionSet → DimensionSet → Ordering
 units d e = option_cmp unit_cmp d.unit e.unit
+
 abbrev languages : DimensionSet → DimensionSet → Ordering
 languages d e = option_cmp (slice_cmp nat_cmp) d.language e.language
+
 abbrev members : DimensionSet → DimensionSet → Ordering
 members d e = slice_cmp (λ (x y : QName × Member). ordering_then (name_cmp x.0 y.0) (derived_member.it x.1 y.1)) d.members e.members
 

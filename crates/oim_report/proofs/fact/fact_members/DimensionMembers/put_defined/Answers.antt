@@ -1,5 +1,5 @@
 use Rattle.std.proofs.Common.{◌≡◌, ℕ, List, Bor, sym, ap, ◌∙◌, insert}
-use Rattle.oim_report.specs.declared.fact.json_member.JsonMember.{JsonMember}
+use Rattle.oim_report.specs.declared.json_values.json_member.JsonMember.{JsonMember}
 use Rattle.oim_report.specs.ReadBack.{with_given}
 use Rattle.oim_report.specs.code.JsonMember.{seen}
 use Rattle.oim_report.specs.code.SeenMembers.{seen_defined}

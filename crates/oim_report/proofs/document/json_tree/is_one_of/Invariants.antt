@@ -1,6 +1,0 @@
-use Rattle.std.proofs.Common.{◌≡◌, map, drop, bytes_eq}
-use Rattle.std.specs.List.{list_any}
-use Rattle.oim_report.proofs.document.json_tree.is_one_of.Given as goal
-
-abbrev pub invariant-loop-name : goal.invariant-loop-name
-invariant-loop-name l = list_any (λ k. bytes_eq k l.key) (map (λ s. s.now) (drop l.name-index l.known)) ≡ list_any (λ k. bytes_eq k l.key) (map (λ s. s.now) l.known)

@@ -1,0 +1,13 @@
+use Rattle.std.proofs.Common.{◌≡◌}
+use Rattle.std.specs.Prelude.{codes}
+use Rattle.std.specs.List.{find}
+use Rattle.serde_json.specs.View.{view, members_view}
+use Rattle.oim_names.specs.Expansion.{refuses}
+use Rattle.oim_report.specs.Json.{members, object_at}
+use Rattle.oim_report.specs.code.MemberTests.{names_in}
+use Rattle.oim_report.proofs.fact.fact_part.FactInScope.refused_dimension.Given as goal
+
+abbrev pub invariant-loop-key : goal.invariant-loop-key
+invariant-loop-key l =
+    let first = find (refuses l.reason l.self.aliases.now) in
+    first (names_in l.self.sheet.now l.self.aliases.now (members_view l.key-iterator)) ≡ first (names_in l.self.sheet.now l.self.aliases.now (members (object_at (codes "dimensions") (view l.self.object.now))))

@@ -1,5 +1,0 @@
-use Rattle.oim_report.proofs.JsonTexts.{given_text}
-use Rattle.oim_report.proofs.fact.json_member.JsonMember.of_text.Goals as goal
-
-pub returns : goal.returns
-returns c = given_text c.args.text.now c.utf8.text

@@ -1,9 +1,0 @@
-use Rattle.std.proofs.Common.{◌≡◌, option_map}
-use Rattle.serde_json.specs.View.{members_view}
-use Rattle.oim_report.specs.Json.{members}
-use Rattle.oim_report.specs.Shown.{kindless}
-use Rattle.oim_report.proofs.findings.sheet_part.first_without_kind.Given as goal
-
-abbrev pub invariant-loop-key : goal.invariant-loop-key
-invariant-loop-key g l =
-    kindless g.K.Kind.kind_named g.K.Kind.same_kind (members_view l.key-iterator) ≡ kindless g.K.Kind.kind_named g.K.Kind.same_kind (members (option_map (λ m. members_view m.now.entries) l.fn.entries))
