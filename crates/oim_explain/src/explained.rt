@@ -1,10 +1,11 @@
 use super::escaped::Escaped;
 use super::file_kind::{kind_of_sheet, kind_of_tree, kind_of_unread};
-use super::finding::{Finding, Meaning, Subject};
+use super::finding::{Finding, Meaning};
 use super::lines::{Explained, Input, Lines};
 use super::nesting::is_too_deep;
 use super::repeated::push_repeated;
 use super::sheet_names::SheetNames;
+use super::subject::Subject;
 use oim_names::{Aliases, Reason};
 use oim_report::{
     MOST_LEVELS, Part, Place, Refusal, Sheet, after_mark, document_part, fact_part, facts_apart,

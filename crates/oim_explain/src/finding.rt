@@ -1,18 +1,11 @@
 use super::escaped::{Escaped, front_of};
 use super::format_keys::object_with;
 use super::sentence::{around, push_alone, push_limit};
+use super::subject::Subject;
 use oim_names::Reason;
 use oim_report::Part;
 use serde_json::Value;
 use std::alloc::{AllocError, Global};
-
-#[derive(Clone, Copy)]
-pub(crate) enum Subject<'a> {
-    Sheet,
-    Report,
-    /// The number and the identifier of a fact.
-    Fact(u64, &'a str),
-}
 
 #[derive(Clone, Copy)]
 pub(crate) struct Finding<'a> {

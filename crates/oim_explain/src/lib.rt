@@ -18,6 +18,7 @@ mod nesting;
 mod repeated;
 mod sentence;
 mod sheet_names;
+mod subject;
 
 pub use escaped::Escaped;
 pub use explained::{explain, explain_repeated, explain_sheet};

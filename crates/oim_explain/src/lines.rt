@@ -1,5 +1,6 @@
 use super::escaped::Escaped;
-use super::finding::{Finding, Subject, push_text};
+use super::finding::{Finding, push_text};
+use super::subject::Subject;
 use json::{Error, Scratch, Writer};
 use oim_names::Reason;
 use oim_report::{Part, Place};

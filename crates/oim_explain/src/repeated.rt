@@ -1,5 +1,6 @@
-use super::finding::{Subject, push_text};
+use super::finding::push_text;
 use super::lines::Lines;
+use super::subject::Subject;
 use json::{Error, Scratch, Value};
 use oim_report::after_mark;
 use std::alloc::{AllocError, Global};

@@ -3,7 +3,7 @@ ghost use Rattle.oim_report.specs.Identifiers.{identifiers};
 ghost use Rattle.oim_report.specs.Outcome.{outcome};
 ghost use Rattle.oim_merge.specs.Added.{added, begun, with_report};
 ghost use Rattle.oim_merge.specs.Lines.{line_text};
-ghost use Rattle.oim_merge.specs.VerdictCalls.{ListStops, Lists};
+ghost use Rattle.oim_merge.specs.VerdictCalls.{ListStops, ListingStops, Lists, ListsVerdicts};
 ghost use Rattle.oim_merge.specs.Run.{Consolidates, ConsolidationStops, Stops, Writes, failures_after_run};
 ghost use Rattle.oim_merge.specs.Sources.{mentions_of};
 ghost use Rattle.oim_merge.specs.code.Outcomes.{IsOutcome};
@@ -42,6 +42,26 @@ pub fn consolidate<S: Sink>(
     ensures failures { S.failures out.new ≡ failures_after_run result (S.failures out.old) }
 {
     Consolidation::of(alloc, sheet, reports)?.finish(allow, out)
+}
+
+/// Merges reports under a sheet and appends one line to the sink for each dimension set, in the
+/// order of the sets (own). A line contains the number of the set (from 1), the identifiers of the
+/// set's first and last facts, and the verdict with its evidence. Returns the refusals with the
+/// numbers of their reports, from 1.
+///
+/// Errors: `Device` if the sink failed; `OutOfMemory`.
+pub fn verdict_lines<S: Sink>(
+    alloc: Global,
+    sheet: &Sheet,
+    reports: &[Encoded],
+    out: &mut S,
+) -> Result<Refusals, Fault>
+    requires { S.failures out.old < 2 ^ 64 - 1 }
+    ensures ok { IfOk result (ListsVerdicts sheet.now reports.now (S.told out.old) (S.told out.new)) }
+    ensures err { IfErr result (ListingStops sheet.now reports.now (S.told out.old) (S.told out.new)) }
+    ensures failures { S.failures out.new ≡ failures_after_run result (S.failures out.old) }
+{
+    Consolidation::of(alloc, sheet, reports)?.finish_lines(out)
 }
 
 /// Merges reports one at a time. A consolidation stores the facts and references of the accepted

@@ -26,7 +26,7 @@ mod verdict_rows;
 
 // merging
 pub use bundle::consolidate_bundle;
-pub use consolidation::{Consolidation, Merged, consolidate};
+pub use consolidation::{Consolidation, Merged, consolidate, verdict_lines};
 pub use fault::Fault;
 pub use refusals::Refusals;
 // verdicts, sources of facts, checks, and round trips
@@ -35,7 +35,7 @@ pub use mentions::IndexedMention;
 pub use source_format::{SourceFormat, SourceLines};
 pub use traced_merge::{TracedMerge, source_lines};
 pub use verdict_format::{Identifiers, JudgedRow, VerdictFormat};
-pub use verdict_rows::{verdict_lines, write_verdicts};
+pub use verdict_rows::write_verdicts;
 // replicas
 pub use event::Event;
 pub use events::{Events, ReplayFault, read_events};

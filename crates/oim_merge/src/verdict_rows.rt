@@ -3,39 +3,17 @@ ghost use Rattle.fact_base.specs.Rows.{rows_of};
 ghost use Rattle.oim_write.specs.Sink.{failures_after_write, written_of};
 ghost use Rattle.oim_merge.specs.Judged.{IsJudged, names_of};
 ghost use Rattle.oim_merge.specs.Lines.{evidence_text};
-ghost use Rattle.oim_merge.specs.VerdictCalls.{ListStops, ListingStops, Lists, ListsVerdicts};
+ghost use Rattle.oim_merge.specs.VerdictCalls.{ListStops, Lists};
 ghost use Rattle.oim_merge.specs.code.BufferedRows.{BreaksRows, PassesRows};
 ghost use Rattle.oim_merge.specs.Run.{failures_after_run};
 
-use crate::consolidation::Consolidation;
 use crate::fault::Fault;
 use crate::refusals::Refusals;
 use crate::verdict_format::{Identifiers, JudgedRow, VerdictFormat};
 use fact_base::{Base, Evidence};
-use oim_report::Sheet;
 use oim_value::write_units;
-use oim_write::{Encoded, Scratch, Sink, SinkBuffer, WriteFault};
+use oim_write::{Scratch, Sink, SinkBuffer, WriteFault};
 use std::alloc::{AllocError, Global};
-
-/// Merges reports under a sheet and appends one line to the sink for each dimension set, in the
-/// order of the sets (own). A line contains the number of the set (from 1), the identifiers of the
-/// set's first and last facts, and the verdict with its evidence. Returns the refusals with the
-/// numbers of their reports, from 1.
-///
-/// Errors: `Device` if the sink failed; `OutOfMemory`.
-pub fn verdict_lines<S: Sink>(
-    alloc: Global,
-    sheet: &Sheet,
-    reports: &[Encoded],
-    out: &mut S,
-) -> Result<Refusals, Fault>
-    requires { S.failures out.old < 2 ^ 64 - 1 }
-    ensures ok { IfOk result (ListsVerdicts sheet.now reports.now (S.told out.old) (S.told out.new)) }
-    ensures err { IfErr result (ListingStops sheet.now reports.now (S.told out.old) (S.told out.new)) }
-    ensures failures { S.failures out.new ≡ failures_after_run result (S.failures out.old) }
-{
-    Consolidation::of(alloc, sheet, reports)?.finish_lines(out)
-}
 
 /// The format of the lines that `verdict_lines` writes.
 #[derive(Clone, Copy, Debug)]

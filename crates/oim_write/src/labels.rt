@@ -1,22 +1,12 @@
 ghost use Rattle.std.specs.Prelude.{◌≡◌, ◌∷◌, ◌++◌, IfOk, OnOk, string_bytes};
 ghost use Rattle.oim_write.specs.Rank.{padded, width};
 
-use crate::prefix_table::PrefixTable;
 use itoa::Buffer;
 use oim_names::Text;
 use std::alloc::{AllocError, Global};
 
 /// The initial capacity of a label in bytes; few labels are longer.
 pub(crate) const LABEL_CAPACITY: usize = 16;
-
-/// The prefixes of the names in a text, the number of digits in each identifier, and the text of a
-/// row's concept.
-#[derive(Clone, Copy)]
-pub(crate) struct Labels<'t> {
-    pub table: &'t PrefixTable,
-    pub digits: usize,
-    pub concept: &'t str,
-}
 
 /// Returns a fact's identifier in a canonical text: the letter `f`, then the fact's rank, padded
 /// with zeros to as many digits as `count` has (own). Ranks begin at 1. If the rank has more digits

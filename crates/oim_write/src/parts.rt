@@ -8,7 +8,7 @@ ghost use Rattle.oim_write.specs.Rank.{padded};
 ghost use Rattle.oim_write.specs.Tree.{name_text, prefix};
 
 use crate::fact_text::write_fact;
-use crate::labels::{Labels, push_label};
+use crate::labels::push_label;
 use crate::prefix_table::PrefixTable;
 use crate::scratch::Scratch;
 use json::Writer;
@@ -19,6 +19,15 @@ use std::alloc::{AllocError, Global};
 use std::mem;
 
 // These functions write parts of the canonical text. If memory is refused, `text` may lose bytes.
+
+/// The prefixes of the names in a text, the number of digits in each identifier, and the text of a
+/// row's concept.
+#[derive(Clone, Copy)]
+pub(crate) struct Labels<'t> {
+    pub table: &'t PrefixTable,
+    pub digits: usize,
+    pub concept: &'t str,
+}
 
 /// The text before the declared level.
 const TYPE_AND_FEATURE: &[u8] =

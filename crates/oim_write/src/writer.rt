@@ -9,8 +9,8 @@ ghost use Rattle.oim_write.specs.Tree.{name_text};
 
 use crate::concept_texts::ConceptTexts;
 use crate::encoded::Encoded;
-use crate::labels::{Labels, width_of};
-use crate::parts::{append_fact, append_reference, head};
+use crate::labels::width_of;
+use crate::parts::{Labels, append_fact, append_reference, head};
 use crate::prefix_table::PrefixTable;
 use crate::scratch::Scratch;
 use crate::sink::{Sink, StdSink};
