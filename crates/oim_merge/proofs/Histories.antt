@@ -1,7 +1,6 @@
 -- A base depends only on the set of its documents, and its text is read as its body. The facts of a canonical report ascend strictly.
 use Rattle.std.proofs.Common.{◌≡◌, inl, ⊎_elim, [], ◌∷◌, ◌++◌, append-nil, Result, Ok, Err, refl, sym, ap, subst, ◌∙◌, ℕ, ◌+◌, ◌<◌, Bool, true, false, not, List, get_or, length, inr, arith, zero-add}
 use Rattle.std.specs.Prelude.{Contains, ◌↔◌, IsTrue, EachIndex}
-use Rattle.merge_laws.specs.Members.{SameMembers}
 use Rattle.oim_value.specs.declared.level.Level.TheVariants.{All as AllLevel}
 use Rattle.oim_dims.proofs.Orders.{fact_cmp_exact, fact_cmp_total}
 use Rattle.oim_dims.specs.FactOrder.{fact_cmp}
@@ -18,7 +17,7 @@ use Rattle.fact_base.proofs.Sets.{is_set_of}
 use Rattle.fact_base.proofs.TextOrder.{text_cmp_exact, text_cmp_total}
 use Rattle.oim_merge.proofs.ReadsBack.{canonical_reads_back, earlier_reads_back}
 use Rattle.oim_write.specs.Bytes.{canonical}
-use Rattle.oim_merge.specs.History.{History, fresh, took, joined, body_of, documents_of, EarlierTextsGiveBodies, HistoriesAreForgotten, HistoriesGiveBodies, MergedTextsMerge, TextsGiveBodies}
+use Rattle.oim_merge.specs.History.{fresh, took, joined, documents_of, EarlierTextsGiveBodies, HistoriesAreForgotten, HistoriesGiveBodies, MergedTextsMerge, TextsGiveBodies}
 use Rattle.oim_merge.specs.ReadBack.{MergedTextsAreCanonical, document_at}
 use Rattle.std.specs.List.{All, IsAllAdjacentAnswer, range_with_len}
 use Rattle.std.specs.List.Sorted.{IsSorted, IsStrictlyIncreasing, IsStrictlySortedBy}

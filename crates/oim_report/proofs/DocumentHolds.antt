@@ -1,5 +1,5 @@
 -- A test of a document's conditions in two groups finds the lowest-numbered condition that applies.
-use Rattle.std.proofs.Common.{◌≡◌, ℕ, suc, List, [], ◌∷◌, length, map, Bool, true, false, not, ◌||◌, ◌&&◌, cond, refl, sym, ap, ◌∙◌, arith, ◌≢◌, ◌⊎◌, inl, inr, ◌==◌, subst, Result, Ok, Err, ◌↔◌}
+use Rattle.std.proofs.Common.{◌≡◌, ℕ, suc, List, [], ◌∷◌, length, map, Bool, true, false, not, ◌||◌, ◌&&◌, cond, refl, sym, ap, ◌∙◌, arith, ◌≢◌, ◌⊎◌, inl, inr, ◌==◌, Result, Ok, Err, ◌↔◌}
 use Rattle.std.specs.Prelude.{Option, Some, None, bytes_eq, codes, if◌then◌else◌, is_none, is_some, nat_lt, option_and_then, option_map, IfOk, IfErr, IsTrue}
 use Rattle.std.specs.Option.{option_map_or, option_flatten, unwrap_or}
 use Rattle.std.specs.List.{filter, find, list_any}
@@ -207,10 +207,6 @@ from_some o b h = refl
 pub flat : {A : Type 0} (o : Option (Option A)) → option_flatten o ≡ unwrap_or o None
 flat None = refl
 flat (Some o) = refl
-
-pub holds_of : {A : Type 0} (read : Result A Reason) (P : A → Type 0) (a : A) → Some a ≡ result_ok read → IfOk read P → P a
-holds_of (Ok b) P a is h = let same : a ≡ b = cc in subst P (sym same) h
-holds_of (Err r) P a is h = absurd (cc)
 
 pub nothing_said : {A B : Type 0} (read : Result A Reason) (said : Option B) (other : Reason) → None ≡ result_ok read → read ≢ Err OutOfMemory → IfErr read (λ r. (r ≡ OutOfMemory) ⊎ ((r ≡ other) × (said ≡ None))) → said ≡ None
 nothing_said (Ok a) said other is ne h = absurd (cc)

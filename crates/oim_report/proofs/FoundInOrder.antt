@@ -219,10 +219,6 @@ goes_on l s ss e = ap (λ b. cond b (rise_after (Some (string_bytes s)) ss) fals
 pub stops : (l s : String Global) (ss : List (String Global)) → is_lt (string_cmp l s) ≡ false → rise_after (Some (string_bytes l)) (s ∷ ss) ≡ false
 stops l s ss e = ap (λ b. cond b (rise_after (Some (string_bytes s)) ss) false) e
 
-pub one_further : (ms : Members) (k : List ℕ) (d : Data) (ns : Members) → append (append ms (member k d no_members)) ns ≡ append ms (member k d ns)
-one_further no_members k d ns = refl
-one_further (member l e ms) k d ns = ap (member l e) (one_further ms k d ns)
-
 pub at_index : {X : Type 0} (xs : List X) (i : ℕ) (x : X) → i < length xs → x ≡ get_or xs i x → drop i xs ≡ x ∷ drop (i + 1) xs
 at_index xs i x l e = drop_more xs i x l ∙ ap (λ y. y ∷ drop (i + 1) xs) (sym e)
 

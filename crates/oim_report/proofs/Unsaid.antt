@@ -1,17 +1,15 @@
 -- If the code cannot read a part of a fact object, and no request for memory was refused, the part denotes nothing.
-use Rattle.std.proofs.Common.{◌≡◌, ◌⊎◌, inl, inr, ⊎_elim, ℕ, ℤ, List, Bool, true, false, not, ◌&&◌, cond, Ok, Err, refl, sym, ap, subst, ◌∙◌, Option, Some, None, IsTrue, if◌then◌else◌, option_and_then, option_map}
-use Rattle.std.specs.Result.{result_ok}
+use Rattle.std.proofs.Common.{◌≡◌, ◌⊎◌, inl, inr, ⊎_elim, ℕ, ℤ, List, Bool, true, false, not, ◌&&◌, cond, Ok, refl, sym, ap, ◌∙◌, Option, Some, None, IsTrue, if◌then◌else◌, option_and_then, option_map}
 use Rattle.oim_names.specs.Bindings.{Binding}
 use Rattle.oim_names.specs.Expansion.{entity_refusal, name_refusal, refusal_as}
 use Rattle.oim_names.specs.QName.{is_entity, is_name}
 use Rattle.oim_names.specs.declared.reason.Reason.{Reason}
-use Rattle.oim_names.specs.declared.reason.Reason.TheVariants.{OutOfMemory, NumberForm, NumberDigits, LanguageForm}
+use Rattle.oim_names.specs.declared.reason.Reason.TheVariants.{OutOfMemory, NumberForm, NumberDigits}
 use Rattle.oim_names.proofs.Refusals.{named_kept}
 use Rattle.oim_value.specs.Number.{is_number, is_short, number_refusal}
 use Rattle.oim_value.specs.Units.{units_of}
 use Rattle.oim_value.specs.declared.value.Value.{Value}
 use Rattle.oim_value.specs.declared.value.Value.TheVariants.{Number}
-use Rattle.oim_dims.specs.DimensionSet.{DimensionSet}
 use Rattle.oim_dims.specs.Language.{is_language}
 use Rattle.oim_dims.specs.Unit.{unit_refusal}
 use Rattle.oim_dims.specs.declared.fact.Fact.{Fact}
@@ -21,13 +19,13 @@ use Rattle.oim_report.specs.declared.concept_kind.ConceptKind.{ConceptKind}
 use Rattle.oim_report.specs.declared.concept_kind.ConceptKind.TheVariants.{Numeric}
 use Rattle.oim_report.specs.FactMembers.{DimensionMembers, FactMembers, HasForm, fact_parts}
 use Rattle.oim_report.specs.Holds.{holds}
-use Rattle.oim_report.specs.Json.{Given, text}
+use Rattle.oim_report.specs.Json.{text}
 use Rattle.oim_report.specs.Least.{least}
 use Rattle.oim_report.specs.Names.{named, named_as}
 use Rattle.oim_report.specs.Outcome.{fact_outcome}
-use Rattle.oim_report.specs.Said.{fact_of, said_dimensions, said_entity, said_fact, said_language, said_members, said_unit, text_said}
+use Rattle.oim_report.specs.Said.{fact_of, said_entity, said_fact, said_language, said_unit, text_said}
 use Rattle.oim_report.specs.Sheet.{Sheet}
-use Rattle.oim_report.proofs.Accepted.{EachSays, each_says, ok_or}
+use Rattle.oim_report.proofs.Accepted.{ok_or}
 use Rattle.oim_report.proofs.FreeMembers.{language_free}
 use Rattle.oim_report.proofs.Naming.{stands}
 use Rattle.oim_report.proofs.UnitSays.{unit_says}
@@ -38,9 +36,6 @@ Stops said r = (r ≡ OutOfMemory) ⊎ (said ≡ None)
 pub none_unless : {A : Type 0} (o : Option A) → ((a : A) → o ≡ Some a → ⊥) → o ≡ None
 none_unless None never = refl
 none_unless (Some a) never = absurd (never a refl)
-
-pub stops_with : {A B : Type 0} (o : Option A) (p : Option B) (r : Reason) → (o ≡ None → p ≡ None) → Stops o r → Stops p r
-stops_with o p r gives stops = ⊎_elim (λ memory. inl memory) (λ none. inr (gives none)) stops
 
 was_true : (b : Bool) → not b ≡ false → b ≡ true
 was_true true e = refl
@@ -77,21 +72,8 @@ number_unsaid bs kind places t r numeric refused =
 
 -- ---- the dimensions and the fact
 
-pub dimensions_unsaid : {A : Type 0} (sheet : Sheet) (bs : List Binding) (kind : ConceptKind) (ds : DimensionMembers) (part : Option A) (r : Reason)
-    → ((d : DimensionSet) → EachSays sheet bs kind ds d → (a : A) × (part ≡ Some a)) → Stops part r → Stops (said_dimensions sheet bs kind ds) r
-dimensions_unsaid sheet bs kind ds part r each stops =
-    stops_with part (said_dimensions sheet bs kind ds) r
-    (λ none. none_unless (said_dimensions sheet bs kind ds) (λ d e. let some = each d (each_says sheet bs kind ds d e) in let no = sym none ∙ some.1 in cc))
-    stops
-
 pub fact_unsaid : (sheet : Sheet) (bs : List Binding) (d : Data) (p : FactMembers) (ds : DimensionMembers) (f : Fact) → fact_parts d ≡ Some p → HasForm p ds → fact_of sheet bs p ds ≡ None → fact_outcome sheet bs d ≡ Ok f → ⊥
 fact_unsaid sheet bs d p ds f are form none said =
     let some = ok_or (least (holds sheet bs d)) (option_and_then (said_fact sheet bs) (fact_parts d)) f said in
     let no : None ≡ Some f = sym (ap (option_and_then (said_fact sheet bs)) are ∙ ap (option_and_then (fact_of sheet bs p)) form.there ∙ none) ∙ some in
-    cc
-
-pub parts_unsaid : (sheet : Sheet) (bs : List Binding) (d : Data) (f : Fact) → fact_parts d ≡ None → fact_outcome sheet bs d ≡ Ok f → ⊥
-parts_unsaid sheet bs d f none said =
-    let some = ok_or (least (holds sheet bs d)) (option_and_then (said_fact sheet bs) (fact_parts d)) f said in
-    let no : None ≡ Some f = sym (ap (option_and_then (said_fact sheet bs)) none) ∙ some in
     cc

@@ -1,5 +1,5 @@
 -- A sink that is given bytes again and again stays within its bound.
-use Rattle.std.proofs.Common.{◌≡◌, ℕ, ◌<◌, true, List, [], ◌∷◌, ◌++◌, take, append-nil, ⊎_elim, Option, Some, None, Result, Ok, Err, sym, subst, ◌∙◌, arith}
+use Rattle.std.proofs.Common.{◌≡◌, ℕ, ◌<◌, List, [], ◌∷◌, ◌++◌, take, append-nil, ⊎_elim, Option, Some, None, Result, Ok, Err, sym, subst, ◌∙◌, arith}
 use Rattle.std.proofs.KnownBytes.{Appends-nil, Appends-trans}
 use Rattle.std.proofs.lemmas.Bool.{cases_lt}
 use Rattle.std.proofs.lemmas.List.{length-take-le, length-append}
@@ -11,10 +11,6 @@ kept_appends : (old new : Option (List ℕ)) → Keeps old new → Appends old n
 kept_appends None new keeps = tt
 kept_appends (Some xs) None keeps = keeps
 kept_appends (Some xs) (Some ys) keeps = keeps ∙ sym (append-nil xs)
-
--- an overrun is counted only if there is no room left
-no_room : (left : ℕ) (bytes : List ℕ) → overruns left bytes ≡ true → left ≡ 0
-no_room left bytes is = grind arith
 
 counts_full : (old new : Bounded) (bytes : List ℕ) (result : Result ℕ SinkError) → Puts old new bytes result → old.overruns < new.overruns → old.left ≡ 0
 counts_full old new bytes result puts more = grind arith

@@ -2,7 +2,7 @@ use Rattle.std.proofs.Common.{◌≡◌, ◌^◌, ◌&&◌, Bool, true, false, c
 use Rattle.std.specs.Float.{binary64, float_is_finite}
 use Rattle.fast_float.specs.Text.{Parts, digits_of, nearest, with_sign}
 use Rattle.serde_json.specs.Data.{Num, unsigned, negative, float}
-use Rattle.serde_json.specs.Read.{float_of, is_integer, number_from}
+use Rattle.serde_json.specs.Read.{is_integer, number_from}
 use Rattle.oim_report.proofs.json_values.json_member.is_finite.Goals as goal
 
 either : (b : Bool) (x y : Num) (f : Bool) → f ≡ true → (found : Num) × (cond b (Some x) (cond f (Some y) None) ≡ Some found)

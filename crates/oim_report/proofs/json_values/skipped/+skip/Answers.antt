@@ -1,8 +1,5 @@
-use Rattle.std.proofs.Common.{◌≡◌, List, None, Some, Result, OnOk, option_map, refl, sym, ap, ◌∙◌, subst, arith}
-use Rattle.std.proofs.lemmas.Result.{on_ok_weaker}
+use Rattle.std.proofs.Common.{◌≡◌, OnOk, option_map, sym, ap, ◌∙◌, subst, arith}
 use Rattle.json.specs.Json as j
-use Rattle.json.specs.Json.{Json}
-use Rattle.json.specs.Find.{as_array, as_number, as_object}
 use Rattle.serde_json.specs.Data.{object}
 use Rattle.oim_report.specs.code.TapeValues.{IsRead}
 use Rattle.oim_report.proofs.TapedFacts.{begun, one_member, all_read, one_skipped, all_skipped, number_skipped, plain_skipped}

@@ -1,4 +1,4 @@
-use Rattle.std.proofs.Common.{◌≡◌, ◌≤◌, arith, refl, sym, ◌∙◌, Some, IfSome, subst}
+use Rattle.std.proofs.Common.{◌≡◌, ◌≤◌, arith, refl, ◌∙◌}
 use Rattle.xbrlmerge_c.specs.Answers.{NoRow}
 use Rattle.xbrlmerge_c.specs.Calls.{IsSheetRefused, Lists}
 use Rattle.xbrlmerge_c.specs.Ends.{reports_at}
