@@ -1,1 +1,5 @@
 pub mod Readings
+pub mod Ends
+pub mod Faults
+pub mod Replicas
+pub mod Requests

@@ -1,7 +1,12 @@
--- The errors of reading a file (own).
-use Rattle.std.specs.Prelude.{⊤}
+-- The errors of reading a file, and the faults of the libraries as errors of the command line (own).
+use Rattle.std.specs.Prelude.{◌≡◌, ◌⊎◌, None, Result, IsErrAnd, ⊤}
+use Rattle.oim_merge.specs.declared.events.ReplayFault.{ReplayFault}
+use Rattle.oim_merge.specs.declared.events.ReplayFault.TheVariants as schedule
+use Rattle.oim_merge.specs.declared.fault.Fault.{Fault}
+use Rattle.oim_merge.specs.declared.fault.Fault.TheVariants as fault
 use Rattle.command_line.specs.declared.error.Error.{Error}
 use Rattle.command_line.specs.declared.error.Error.TheVariants as error
+use Rattle.command_line.specs.declared.error.Success.{Success}
 
 -- a file was not read
 abbrev pub IsReadError : Error → Type 0
@@ -14,3 +19,45 @@ IsReadError _ = ⊥
 abbrev pub IsSheetError : Error → Type 0
 IsSheetError (error.Sheet reason explained kind) = ⊤
 IsSheetError e = IsReadError e
+
+-- a file was not read, or a line of the schedule is refused
+abbrev pub IsEventError : Error → Type 0
+IsEventError (error.Event line) = ⊤
+IsEventError e = IsReadError e
+
+-- no row is too loose
+abbrev pub IsNotLoose : Error → Type 0
+IsNotLoose (error.TooLoose row refused) = ⊥
+IsNotLoose _ = ⊤
+
+-- a file was not written
+abbrev pub IsWriteError : Error → Type 0
+IsWriteError (error.Unwritten name why) = ⊤
+IsWriteError error.OutOfMemory = ⊤
+IsWriteError _ = ⊥
+
+-- the device failed, or the text is too long
+abbrev pub IsOutputFault : Error → Type 0
+IsOutputFault (error.Device written) = ⊤
+IsOutputFault (error.TooMuch most) = ⊤
+IsOutputFault _ = ⊥
+
+-- the result of a run, or the fault of its output
+abbrev pub IsDoneOrFault : Result Success Error → Result Success Error → Type 0
+IsDoneOrFault done result = (result ≡ done) ⊎ IsErrAnd result IsOutputFault
+
+-- the result of a run, or that its file was not written
+abbrev pub IsDoneOrUnwritten : Result Success Error → Result Success Error → Type 0
+IsDoneOrUnwritten done result = (result ≡ done) ⊎ IsErrAnd result IsWriteError
+
+-- ---- faults of the libraries
+
+abbrev pub error_of : Fault → Error
+error_of (fault.OutOfMemory written) = error.OutOfMemory
+error_of (fault.Device written) = error.Device written
+error_of (fault.TooLoose row refused) = error.TooLoose row refused
+error_of (fault.Sheet reason) = error.Sheet reason None None
+
+abbrev pub error_of_events : ReplayFault → Error
+error_of_events schedule.OutOfMemory = error.OutOfMemory
+error_of_events (schedule.BadEvent line) = error.Event line

@@ -1,7 +1,8 @@
 -- What the program prints on standard error, and its exit status (own).
-use Rattle.std.specs.Prelude.{ℕ, zero, suc, List, [], ◌∷◌, ◌++◌, codes, Result, Ok, Err}
+use Rattle.std.specs.Prelude.{ℕ, zero, suc, List, [], ◌∷◌, ◌++◌, codes, flat_map, Option, Some, None, Result, Ok, Err, String, string_bytes}
 use Rattle.std.specs.Fmt.{decimal}
 use Rattle.oim_names.specs.Reasons.{entry_of}
+use Rattle.oim_names.specs.declared.reason.Reason.{Reason}
 use Rattle.oim_report.specs.declared.place.Place.{Place}
 use Rattle.oim_report.specs.declared.place.Place.TheVariants as place
 use Rattle.oim_report.specs.declared.refusal.Refusal.{Refusal}
@@ -34,7 +35,7 @@ abbrev pub status_of : Result Success Error → ℕ
 status_of (Ok success) = status_of_success success
 status_of (Err error) = status_of_error error
 
--- ---- the line of a refusal
+-- ---- the lines of refusals
 
 abbrev pub place_text : Place → List ℕ
 place_text place.Document = codes "document"
@@ -44,3 +45,34 @@ abbrev pub refusal_line : ℕ × Refusal → List ℕ
 refusal_line told =
     let entry = entry_of told.1.reason in
     codes "report " ++ (decimal told.0 ++ (codes ": " ++ (decimal entry.number ++ 32 ∷ (entry.name ++ (codes " at " ++ (place_text told.1.place ++ 10 ∷ []))))))
+
+abbrev pub refusal_lines : List (ℕ × Refusal) → List ℕ
+refusal_lines refusals = flat_map refusal_line refusals
+
+-- ---- the lines of errors, without names of files and the text of clap
+
+abbrev pub error_line : Error → Option (List ℕ)
+error_line (error.Event line) = Some (codes "event " ++ (decimal line ++ codes ": refused\n"))
+error_line (error.Device written) = Some (codes "device: " ++ (decimal written ++ codes " bytes written\n"))
+error_line (error.TooMuch most) = Some (codes "output: more than " ++ (decimal most ++ codes " bytes; --most-output BYTES sets the bound\n"))
+error_line error.OutOfMemory = Some (codes "out of memory\n")
+error_line _ = None
+
+abbrev pub sheet_line : Reason → List ℕ
+sheet_line reason = codes "sheet: " ++ (decimal (entry_of reason).number ++ 32 ∷ ((entry_of reason).name ++ 10 ∷ []))
+
+-- the line of `explain` for a sheet
+abbrev pub explained_lines : {Z : Type 0} → Option (String Z) → List ℕ
+explained_lines None = []
+explained_lines (Some lines) = string_bytes lines
+
+abbrev pub error_lines : Error → Option (List ℕ)
+error_lines (error.TooLoose row refused) = Some (refusal_lines refused ++ (codes "too loose: row " ++ (decimal row ++ 10 ∷ [])))
+error_lines (error.Sheet reason explained kind) = Some (sheet_line reason ++ explained_lines explained)
+error_lines e = error_line e
+
+-- what is printed at the end of a run, if no second lines are asked for
+abbrev pub lines_of : Result Success Error → Option (List ℕ)
+lines_of (Ok (success.Refusals refusals)) = Some (refusal_lines refusals)
+lines_of (Ok (success.Faults faults)) = Some []
+lines_of (Err e) = error_lines e

@@ -1,9 +1,10 @@
 //! The commands, in the files of the folder `commands`.
 
-ghost use Rattle.std.specs.Prelude.{◌≡◌, ◌-◌, ◌^◌, ◌<◌, IfOk, OnOk};
+ghost use Rattle.std.specs.Prelude.{◌≡◌, ◌-◌, ◌^◌, ◌<◌, false, OnOk};
 ghost use Rattle.oim_write.specs.BoundedSink.{bounded_failures};
-ghost use Rattle.oim_merge.specs.Run.{Consolidates};
-ghost use Rattle.command_line.specs.Reading.{WithRead};
+ghost use Rattle.command_line.specs.Endings.{Ends, Never, Puts};
+ghost use Rattle.command_line.specs.Runs.{CommandEnds, PrintsHelp, RequestEnds};
+ghost use Rattle.command_line.specs.declared.request.Subcommand.TheVariants.{Merge, Verdicts, Sources};
 
 pub(crate) mod check;
 pub(crate) mod explain;
@@ -14,11 +15,13 @@ pub(crate) mod rows;
 use crate::error::{Error, Success};
 use crate::folder::Folder;
 use crate::inputs::Inputs;
+use crate::print_format::PrintFormat;
 use crate::request::{Request, Subcommand};
 use oim_merge::{Refusals, consolidate_bundle};
 use oim_report::Sheet;
 use oim_value::Level;
-use oim_write::{BoundedSink, Sink, WriteFault, put_all};
+use oim_write::{BoundedSink, Sink, put_all};
+use std::alloc::Global;
 use std::io::Write;
 
 /// Runs the request and writes its output to `out`. After an error, the output may be incomplete.
@@ -28,22 +31,34 @@ pub(crate) fn execute<'n, F: Folder, E: Write, S: Sink>(
     out: &mut BoundedSink<S>,
 ) -> Result<Success, Error<'n>>
     requires { bounded_failures (S.failures out.old.sink) out.old.overruns < 2 ^ 64 - 1 }
+    ensures ends { RequestEnds (F.gives inputs.old.files.now) inputs.old.bundle.now inputs.old.names.now request.now
+        (S.told out.old.sink) (S.told out.new.sink) result }
+    ensures console { inputs.old.console.is_terminal ≡ false → inputs.new.console ≡ inputs.old.console }
 {
     match request {
         Request::Bundle => {
             Ok(Success::Refusals(consolidate_bundle(inputs.alloc, inputs.bundle, out)?))
         }
-        Request::Help(text) => {
-            let text = format!(in inputs.alloc; "{text}")?;
-            put_text(out, text.as_str())?;
-            Ok(Success::Refusals(Refusals::new(inputs.alloc)))
-        }
+        Request::Help(text) => put_help(inputs.alloc, text, out),
         Request::Explain(sheet, format) => explain::run(sheet, *format, inputs, out),
         Request::Under(sheet, subcommand) => {
             let sheet = inputs.read_sheet(sheet)?;
             Ok(Success::Refusals(execute_under(&sheet, *subcommand, inputs, out)?))
         }
     }
+}
+
+fn put_help<'n, S: Sink>(
+    alloc: Global,
+    text: &clap::Error,
+    out: &mut S,
+) -> Result<Success, Error<'n>>
+    requires { S.failures out.old < 2 ^ 64 - 1 }
+    ensures { Ends PrintsHelp (S.told out.old) (S.told out.new) Never result }
+{
+    let text = format!(in alloc; "{text}")?;
+    put_text(out, text.as_str())?;
+    Ok(Success::Refusals(Refusals::new(alloc)))
 }
 
 /// Reads the reports and writes the output of the subcommand to `out`. Returns the refusals (for
@@ -55,19 +70,14 @@ fn execute_under<'n, F: Folder, E: Write, S: Sink>(
     out: &mut BoundedSink<S>,
 ) -> Result<Refusals, Error<'n>>
     requires { bounded_failures (S.failures out.old.sink) out.old.overruns < 2 ^ 64 - 1 }
+    ensures ends { CommandEnds (F.gives inputs.old.files.now) inputs.old.names.now sheet.now subcommand.entry
+        (S.told out.old.sink) (S.told out.new.sink) result }
+    ensures console { inputs.old.console.is_terminal ≡ false → inputs.new.console ≡ inputs.old.console }
 {
     match subcommand {
         Subcommand::Merge(allow) => run_merge(allow, sheet, inputs, out),
-        Subcommand::Verdicts(format) => {
-            let consolidation = inputs.consolidate(sheet)?;
-            out.raise(inputs.take_allowance());
-            rows::put_verdicts(inputs.alloc, consolidation, format, out)
-        }
-        Subcommand::Sources(format) => {
-            let merge = inputs.trace(sheet)?;
-            out.raise(inputs.take_allowance());
-            Ok(rows::put_sources(merge, format, inputs.names, out)?)
-        }
+        Subcommand::Verdicts(format) => run_verdicts(format, sheet, inputs, out),
+        Subcommand::Sources(format) => run_sources(format, sheet, inputs, out),
         Subcommand::Check(report) => check::run(report, sheet, inputs, out),
         Subcommand::Replay(replicas, events) => replay::run(replicas, events, sheet, inputs, out),
     }
@@ -81,18 +91,55 @@ fn run_merge<'n, F: Folder, E: Write, S: Sink>(
     out: &mut S,
 ) -> Result<Refusals, Error<'n>>
     requires { S.failures out.old < 2 ^ 64 - 1 }
-    ensures { IfOk result (λ told. WithRead (F.gives inputs.old.files.now) inputs.old.names.now
-        (λ reports. Consolidates sheet.now reports allow (S.told out.old) (S.told out.new) told)) }
+    ensures ends { CommandEnds (F.gives inputs.old.files.now) inputs.old.names.now sheet.now (Merge allow)
+        (S.told out.old) (S.told out.new) result }
+    ensures console { inputs.old.console.is_terminal ≡ false → inputs.new.console ≡ inputs.old.console }
 {
     Ok(inputs.consolidate(sheet)?.finish_last(allow, out)?)
 }
 
-fn put_text<S: Sink>(out: &mut S, text: &str) -> Result<(), WriteFault>
+/// Reads the reports, in order, and writes the verdicts on the facts of the accepted ones to `out`.
+fn run_verdicts<'n, F: Folder, E: Write, S: Sink>(
+    format: PrintFormat,
+    sheet: &Sheet,
+    inputs: &mut Inputs<'n, F, E>,
+    out: &mut BoundedSink<S>,
+) -> Result<Refusals, Error<'n>>
+    requires { bounded_failures (S.failures out.old.sink) out.old.overruns < 2 ^ 64 - 1 }
+    ensures ends { CommandEnds (F.gives inputs.old.files.now) inputs.old.names.now sheet.now (Verdicts format)
+        (S.told out.old.sink) (S.told out.new.sink) result }
+    ensures console { inputs.old.console.is_terminal ≡ false → inputs.new.console ≡ inputs.old.console }
+{
+    let consolidation = inputs.consolidate(sheet)?;
+    out.raise(inputs.take_allowance());
+    rows::put_verdicts(inputs.alloc, consolidation, format, out)
+}
+
+/// Reads the reports, in order, and writes the sources of the facts of the accepted ones to `out`.
+fn run_sources<'n, F: Folder, E: Write, S: Sink>(
+    format: PrintFormat,
+    sheet: &Sheet,
+    inputs: &mut Inputs<'n, F, E>,
+    out: &mut BoundedSink<S>,
+) -> Result<Refusals, Error<'n>>
+    requires { bounded_failures (S.failures out.old.sink) out.old.overruns < 2 ^ 64 - 1 }
+    ensures ends { CommandEnds (F.gives inputs.old.files.now) inputs.old.names.now sheet.now (Sources format)
+        (S.told out.old.sink) (S.told out.new.sink) result }
+    ensures console { inputs.old.console.is_terminal ≡ false → inputs.new.console ≡ inputs.old.console }
+{
+    let names = inputs.names;
+    let merge = inputs.trace(sheet)?;
+    out.raise(inputs.take_allowance());
+    rows::put_sources(merge, format, names, out)
+}
+
+fn put_text<'n, S: Sink>(out: &mut S, text: &str) -> Result<(), Error<'n>>
     requires { S.failures out.old < 2 ^ 64 - 1 }
-    ensures { OnOk result (S.failures out.new ≡ S.failures out.old) }
+    ensures put { Puts text.now (S.told out.old) (S.told out.new) result }
+    ensures failures { OnOk result (S.failures out.new ≡ S.failures out.old) }
 {
     match put_all(out, text.as_bytes()) {
         Ok(()) => Ok(()),
-        Err(taken) => Err(WriteFault::Device(taken as u64)),
+        Err(taken) => Err(Error::Device(taken as u64)),
     }
 }

@@ -1,6 +1,6 @@
-ghost use Rattle.std.specs.Prelude.{◌≡◌, OnOk};
+ghost use Rattle.std.specs.Prelude.{◌≡◌, false, IfSome, IsTrue, OnOk};
 ghost use Rattle.std.specs.Io.KnownBytes.{Appends};
-ghost use Rattle.command_line.specs.Printed.{refusal_line, status_of};
+ghost use Rattle.command_line.specs.Printed.{error_line, error_lines, explained_lines, lines_of, refusal_line, refusal_lines, sheet_line, status_of};
 
 use crate::error::{Error, Success};
 use oim_explain::Escaped;
@@ -25,6 +25,14 @@ const BACK: &str = "\r";
 
 const CLEARED: &str = "\r\x1b[K";
 
+/// How many of all reports, and how many bytes, were read.
+#[derive(Clone, Copy)]
+pub(crate) struct Progress {
+    pub read: usize,
+    pub all: usize,
+    pub bytes: u64,
+}
+
 /// Standard error. If it is a terminal and `is_quiet` is not set, one line shows how many reports
 /// and megabytes were read. Failed writes are ignored.
 #[derive(Drop)]
@@ -35,8 +43,8 @@ pub(crate) struct Console<E> {
     /// True if a second line is printed for a refusal or a fault.
     pub is_verbose: bool,
     is_shown: bool,
-    read: usize,
-    bytes: u64,
+    /// True if each write of `tell` so far succeeded.
+    is_whole: bool,
 }
 
 impl<E: Write> Console<E> {
@@ -47,8 +55,7 @@ impl<E: Write> Console<E> {
             is_quiet: false,
             is_verbose: is_terminal,
             is_shown: false,
-            read: 0,
-            bytes: 0,
+            is_whole: true,
         }
     }
 
@@ -60,23 +67,23 @@ impl<E: Write> Console<E> {
         );
     }
 
-    pub(crate) fn add(&mut self, bytes: usize) {
-        self.read = self.read.saturating_add(1);
-        self.bytes = self.bytes.saturating_add(bytes as u64);
-    }
-
-    /// Prints the progress line over the previous one, unless the line is suppressed or standard
-    /// error is not a terminal. `all` is the number of all reports.
-    pub(crate) fn show(&mut self, all: usize) {
+    /// Prints how much was read over the previous progress line, unless the line is suppressed or
+    /// standard error is not a terminal.
+    pub(crate) fn show(&mut self, progress: Progress)
+        ensures { self.old.is_terminal ≡ false → self.new ≡ self.old }
+    {
         if self.is_terminal && !self.is_quiet {
-            let (read, megabytes) = (self.read, self.bytes / 1_000_000);
+            let Progress { read, all, bytes } = progress;
+            let megabytes = bytes / 1_000_000;
             let _ = write!(self.err, "{BACK}{read} of {all} reports, {megabytes} MB");
             self.is_shown = true;
         }
     }
 
-    pub(crate) fn clear(&mut self) {
-        if self.is_shown {
+    pub(crate) fn clear(&mut self)
+        ensures { self.old.is_terminal ≡ false → self.new ≡ self.old }
+    {
+        if self.is_terminal && self.is_shown {
             let _ = write!(self.err, "{CLEARED}");
             self.is_shown = false;
         }
@@ -85,16 +92,13 @@ impl<E: Write> Console<E> {
     /// Erases the progress line, prints the refused reports or the error, if there are any, and
     /// returns the exit status. `files` has the names of the reports; it is empty for a bundle.
     pub(crate) fn tell(&mut self, done: &Result<Success, Error<'_>>, files: &[&str]) -> u8
-        ensures { result ≡ status_of done.now }
+        ensures status { result ≡ status_of done.now }
+        ensures lines { self.old.is_terminal ≡ false → self.old.is_verbose ≡ false → IsTrue self.new.is_whole →
+            IfSome (lines_of done.now) (Appends (E.contents self.old.err) (E.contents self.new.err)) }
     {
         self.clear();
-        match done {
-            Ok(Success::Refusals(refusals)) => {
-                print_refusals(&mut self.err, self.is_verbose, refusals, files);
-            }
-            Ok(Success::Faults(_)) => {}
-            Err(error) => print_error(&mut self.err, self.is_verbose, error, files),
-        }
+        let is_whole = print_done(&mut self.err, self.is_verbose, done, files);
+        self.is_whole = self.is_whole && is_whole;
         status(done)
     }
 }
@@ -111,17 +115,48 @@ fn status(done: &Result<Success, Error<'_>>) -> u8
     }
 }
 
-// File names are escaped, because a line end in a name could fake a line.
+// The functions below return true if each write succeeded. File names are escaped, because a line end
+// in a name could fake a line.
 
-fn print_refusals<E: Write>(err: &mut E, is_verbose: bool, refusals: &Refusals, files: &[&str]) {
+fn print_done<E: Write>(
+    err: &mut E,
+    is_verbose: bool,
+    done: &Result<Success, Error<'_>>,
+    files: &[&str],
+) -> bool
+    ensures { is_verbose ≡ false → IsTrue result →
+        IfSome (lines_of done.now) (Appends (E.contents err.old) (E.contents err.new)) }
+{
+    match done {
+        Ok(Success::Refusals(refusals)) => print_refusals(err, is_verbose, refusals, files),
+        Ok(Success::Faults(_)) => true,
+        Err(error) => print_error(err, is_verbose, error, files),
+    }
+}
+
+fn print_refusals<E: Write>(
+    err: &mut E,
+    is_verbose: bool,
+    refusals: &Refusals,
+    files: &[&str],
+) -> bool
+    ensures { is_verbose ≡ false → IsTrue result →
+        Appends (E.contents err.old) (E.contents err.new) (refusal_lines refusals.now) }
+{
+    let mut is_whole = true;
     for (report, refusal) in refusals.as_slice() {
-        let _ = print_refusal(err, *report, refusal);
-        match files.get(report.saturating_sub(1) as usize) {
-            Some(file) if is_verbose => {
-                let _ = writeln!(err, "File: {}", Escaped(file));
-            }
-            _ => {}
+        let is_printed = print_refusal(err, *report, refusal).is_ok();
+        is_whole = is_whole && is_printed;
+        if is_verbose {
+            print_name(err, *report, files);
         }
+    }
+    is_whole
+}
+
+fn print_name<E: Write>(err: &mut E, report: u64, files: &[&str]) {
+    if let Some(file) = files.get(report.saturating_sub(1) as usize) {
+        let _ = writeln!(err, "File: {}", Escaped(file));
     }
 }
 
@@ -139,36 +174,48 @@ fn print_refusal<E: Write>(err: &mut E, report: u64, refusal: &Refusal) -> io::R
 /// Prints why the program stopped. If a row is above the allowed level, the refused reports are
 /// printed first. Why a file failed and the kind of a refused sheet are printed only if
 /// `is_verbose`, and only if they are known.
-fn print_error<E: Write>(err: &mut E, is_verbose: bool, error: &Error<'_>, files: &[&str]) {
-    let _ = match error {
-        Error::Usage(error) => write!(err, "{error}"),
+fn print_error<E: Write>(err: &mut E, is_verbose: bool, error: &Error<'_>, files: &[&str]) -> bool
+    ensures { is_verbose ≡ false → IsTrue result →
+        IfSome (error_lines error.now) (Appends (E.contents err.old) (E.contents err.new)) }
+{
+    match error {
+        Error::TooLoose(row, refused) => {
+            let is_whole = print_refusals(err, is_verbose, refused, files);
+            let is_printed = writeln!(err, "too loose: row {row}").is_ok();
+            is_whole && is_printed
+        }
         Error::Unread(file, why) => {
-            let _ = print_file(err, file, "cannot be read");
-            print_why(err, is_verbose, *why)
+            let is_printed = print_file(err, file, "cannot be read").is_ok();
+            let is_whole = print_why(err, is_verbose, *why).is_ok();
+            is_printed && is_whole
         }
-        Error::TooLong(file) => print_file(err, file, "too long"),
-        Error::NoNames(file) => print_file(err, file, "names no report"),
         Error::Unwritten(file, why) => {
-            let _ = print_file(err, file, "cannot be written");
-            print_why(err, is_verbose, *why)
+            let is_printed = print_file(err, file, "cannot be written").is_ok();
+            let is_whole = print_why(err, is_verbose, *why).is_ok();
+            is_printed && is_whole
         }
-        Error::Event(line) => writeln!(err, "event {line}: refused"),
         Error::Sheet {
             reason,
             explained,
             kind,
         } => {
-            let _ = print_sheet(err, *reason);
-            match (explained, kind) {
-                (Some(lines), _) => write!(err, "{lines}"),
-                (None, Some(kind)) if is_verbose => writeln!(err, "The file looks like {kind}."),
-                _ => Ok(()),
-            }
+            let is_printed = print_sheet(err, *reason).is_ok();
+            let is_whole = print_kind(err, is_verbose, explained, *kind).is_ok();
+            is_printed && is_whole
         }
-        Error::TooLoose(row, refused) => {
-            print_refusals(err, is_verbose, refused, files);
-            writeln!(err, "too loose: row {row}")
-        }
+        error => print_line(err, error).is_ok(),
+    }
+}
+
+/// Prints an error that has one line.
+fn print_line<E: Write>(err: &mut E, error: &Error<'_>) -> io::Result<()>
+    ensures { OnOk result (IfSome (error_line error.now) (Appends (E.contents err.old) (E.contents err.new))) }
+{
+    match error {
+        Error::Usage(error) => write!(err, "{error}"),
+        Error::TooLong(file) => print_file(err, file, "too long"),
+        Error::NoNames(file) => print_file(err, file, "names no report"),
+        Error::Event(line) => writeln!(err, "event {line}: refused"),
         Error::Device(written) => writeln!(err, "device: {written} bytes written"),
         Error::TooMuch(most) => {
             writeln!(
@@ -177,7 +224,8 @@ fn print_error<E: Write>(err: &mut E, is_verbose: bool, error: &Error<'_>, files
             )
         }
         Error::OutOfMemory => writeln!(err, "out of memory"),
-    };
+        _ => Ok(()),
+    }
 }
 
 fn print_file<E: Write>(err: &mut E, file: &str, fault: &str) -> io::Result<()> {
@@ -191,7 +239,26 @@ fn print_why<E: Write>(err: &mut E, is_verbose: bool, why: Option<&'static str>)
     }
 }
 
-fn print_sheet<E: Write>(err: &mut E, reason: Reason) -> io::Result<()> {
+fn print_sheet<E: Write>(err: &mut E, reason: Reason) -> io::Result<()>
+    ensures { OnOk result (Appends (E.contents err.old) (E.contents err.new) (sheet_line reason)) }
+{
     let (number, name) = (reason.number(), reason.name());
     writeln!(err, "sheet: {number} {name}")
+}
+
+/// Prints why a sheet is refused, or what the file may be.
+fn print_kind<E: Write>(
+    err: &mut E,
+    is_verbose: bool,
+    explained: &Option<String>,
+    kind: Option<&'static str>,
+) -> io::Result<()>
+    ensures { is_verbose ≡ false → OnOk result
+        (Appends (E.contents err.old) (E.contents err.new) (explained_lines explained.now)) }
+{
+    match (explained, kind) {
+        (Some(lines), _) => write!(err, "{lines}"),
+        (None, Some(kind)) if is_verbose => writeln!(err, "The file looks like {kind}."),
+        _ => Ok(()),
+    }
 }

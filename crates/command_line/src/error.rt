@@ -1,4 +1,6 @@
 ghost use Rattle.std.specs.Prelude.{◌≡◌};
+ghost use Rattle.oim_merge.specs.Run.{fault_of};
+ghost use Rattle.command_line.specs.Faults.{error_of, error_of_events};
 
 use clap::error::ErrorKind;
 use oim_merge::{Fault, Refusals, ReplayFault};
@@ -65,6 +67,8 @@ impl From<clap::Error> for Error<'_> {
 }
 
 impl From<Fault> for Error<'_> {
+    ghost from_gives = { λ fault made. made ≡ error_of fault };
+
     fn from(fault: Fault) -> Self {
         match fault {
             Fault::OutOfMemory(_) => Error::OutOfMemory,
@@ -80,12 +84,16 @@ impl From<Fault> for Error<'_> {
 }
 
 impl From<WriteFault> for Error<'_> {
+    ghost from_gives = { λ fault made. made ≡ error_of (fault_of fault) };
+
     fn from(fault: WriteFault) -> Self {
         Error::from(Fault::from(fault))
     }
 }
 
 impl From<ReplayFault> for Error<'_> {
+    ghost from_gives = { λ fault made. made ≡ error_of_events fault };
+
     fn from(fault: ReplayFault) -> Self {
         match fault {
             ReplayFault::OutOfMemory => Error::OutOfMemory,

@@ -1,11 +1,11 @@
-ghost use Rattle.std.specs.Prelude.{◌≡◌, Ok, Err, IfOk, IfErr, ℕ, List};
+ghost use Rattle.std.specs.Prelude.{◌≡◌, false, Ok, Err, IfOk, IfErr, ℕ, List};
 ghost use Rattle.oim_report.specs.Sheet.{sheet_outcome};
 ghost use Rattle.oim_merge.specs.Added.{added};
 ghost use Rattle.oim_merge.specs.Traced.{traced};
 ghost use Rattle.command_line.specs.Faults.{IsReadError, IsSheetError};
 ghost use Rattle.command_line.specs.Reading.{AreRead, WithRead};
 
-use crate::console::Console;
+use crate::console::{Console, Progress};
 use crate::error::Error;
 use crate::folder::Folder;
 use oim_explain::kind_of_taxonomy;
@@ -30,7 +30,10 @@ pub(crate) struct Inputs<'n, F, E> {
     pub output_per_byte: u64,
     /// The bytes of output that the bytes read since the last call of `take_allowance` allow.
     pub allowance: u64,
-    pub console: &'n mut Console<E>,
+    /// The reports that were read so far, and their bytes.
+    pub read: usize,
+    pub bytes: u64,
+    pub console: Console<E>,
 }
 
 impl<'n, F: Folder, E: Write> Inputs<'n, F, E> {
@@ -40,6 +43,7 @@ impl<'n, F: Folder, E: Write> Inputs<'n, F, E> {
         ensures err { IfErr result IsReadError }
         ensures files { self.new.files ≡ self.old.files }
         ensures names { self.new.names ≡ self.old.names }
+        ensures console { self.old.console.is_terminal ≡ false → self.new.console ≡ self.old.console }
     {
         let bytes = self.files.read_named(self.alloc, name)?;
         let read = bytes.as_bytes().len() as u64;
@@ -49,7 +53,11 @@ impl<'n, F: Folder, E: Write> Inputs<'n, F, E> {
     }
 
     /// Returns the bytes of output that the bytes read since the last call allow.
-    pub(crate) fn take_allowance(&mut self) -> u64 {
+    pub(crate) fn take_allowance(&mut self) -> u64
+        ensures files { self.new.files ≡ self.old.files }
+        ensures names { self.new.names ≡ self.old.names }
+        ensures console { self.new.console ≡ self.old.console }
+    {
         mem::take(&mut self.allowance)
     }
 
@@ -60,6 +68,7 @@ impl<'n, F: Folder, E: Write> Inputs<'n, F, E> {
         ensures err { IfErr result IsSheetError }
         ensures files { self.new.files ≡ self.old.files }
         ensures names { self.new.names ≡ self.old.names }
+        ensures console { self.old.console.is_terminal ≡ false → self.new.console ≡ self.old.console }
     {
         let bytes = self.read(name)?;
         sheet_of(self.alloc, bytes.as_bytes())
@@ -72,10 +81,16 @@ impl<'n, F: Folder, E: Write> Inputs<'n, F, E> {
         ensures err { IfErr result IsReadError }
         ensures files { self.new.files ≡ self.old.files }
         ensures names { self.new.names ≡ self.old.names }
+        ensures console { self.old.console.is_terminal ≡ false → self.new.console ≡ self.old.console }
     {
-        self.console.show(self.names.len());
+        self.console.show(Progress {
+            read: self.read,
+            all: self.names.len(),
+            bytes: self.bytes,
+        });
         let report = self.read(name)?;
-        self.console.add(report.as_bytes().len());
+        self.read = self.read.saturating_add(1);
+        self.bytes = self.bytes.saturating_add(report.as_bytes().len() as u64);
         Ok(report)
     }
 
@@ -83,6 +98,7 @@ impl<'n, F: Folder, E: Write> Inputs<'n, F, E> {
     pub(crate) fn read_reports(&mut self) -> Result<Vec<Encoded>, Error<'n>>
         ensures ok { IfOk result (λ all. AreRead (F.gives self.old.files.now) self.old.names.now all.items) }
         ensures err { IfErr result IsReadError }
+        ensures console { self.old.console.is_terminal ≡ false → self.new.console ≡ self.old.console }
     {
         let names = self.names;
         let mut all = Vec::new(self.alloc);
@@ -102,6 +118,7 @@ impl<'n, F: Folder, E: Write> Inputs<'n, F, E> {
         ensures ok { IfOk result (λ consolidation. WithRead (F.gives self.old.files.now) self.old.names.now
             (λ reports. consolidation ≡ added sheet.now reports)) }
         ensures err { IfErr result IsReadError }
+        ensures console { self.old.console.is_terminal ≡ false → self.new.console ≡ self.old.console }
     {
         let mut consolidation = Consolidation::new(self.alloc, sheet);
         let names = self.names;
@@ -117,6 +134,7 @@ impl<'n, F: Folder, E: Write> Inputs<'n, F, E> {
         ensures ok { IfOk result (λ merge. WithRead (F.gives self.old.files.now) self.old.names.now
             (λ reports. merge ≡ traced sheet.now reports)) }
         ensures err { IfErr result IsReadError }
+        ensures console { self.old.console.is_terminal ≡ false → self.new.console ≡ self.old.console }
     {
         let mut merge = TracedMerge::new(self.alloc, sheet);
         let names = self.names;

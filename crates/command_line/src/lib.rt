@@ -6,6 +6,7 @@ mod arguments;
 mod causes;
 mod commands;
 mod console;
+mod disk;
 mod error;
 mod folder;
 mod inputs;

@@ -1,6 +1,15 @@
+ghost use Rattle.std.specs.Prelude.{◌≡◌, false, Result, IfSome, IsTrue};
+ghost use Rattle.std.specs.Io.KnownBytes.{Appends};
+ghost use Rattle.command_line.specs.Printed.{lines_of, status_of};
+ghost use Rattle.command_line.specs.Runs.{OutputEnds, RequestEnds};
+ghost use Rattle.command_line.specs.declared.error.Error.{Error};
+ghost use Rattle.command_line.specs.declared.error.Success.{Success};
+
 use crate::console::Console;
+use crate::disk::{Disk, System};
+use crate::folder::Folder;
 use crate::inputs::Inputs;
-use crate::output::{write_file, write_out};
+use crate::output::write;
 use crate::request::Args;
 use crate::words::read_words;
 use std::alloc::Global;
@@ -53,20 +62,20 @@ where
         Ok(args) => {
             console.is_quiet = args.is_quiet;
             console.is_verbose |= args.is_verbose;
-            run_args(alloc, files, &args, input, out, &mut console)
+            run_args(alloc, files, &args, input, out, console)
         }
         Err(error) => console.tell(&Err(error), &[]),
     }
 }
 
 // The streams are separate parameters, because each step consumes another one.
-fn run_args<F: Files, R: Read + Drop, O: Write + Drop, E: Write>(
+fn run_args<F: Files, R: Read + Drop, O: Write + Drop, E: Write + Drop>(
     alloc: Global,
     files: &F,
     args: &Args<'_>,
     input: R,
     out: O,
-    console: &mut Console<E>,
+    mut console: Console<E>,
 ) -> u8 {
     match args.read_input(alloc, files, input) {
         Ok(bytes) => run_named(alloc, files, args, bytes.as_bytes(), out, console),
@@ -75,40 +84,61 @@ fn run_args<F: Files, R: Read + Drop, O: Write + Drop, E: Write>(
 }
 
 // `bytes` outlives the inputs, which borrow the names of the reports from it.
-fn run_named<'n, F: Files, O: Write + Drop, E: Write>(
+fn run_named<'n, F: Files, O: Write + Drop, E: Write + Drop>(
     alloc: Global,
     files: &'n F,
     args: &'n Args<'n>,
     bytes: &'n [u8],
     out: O,
-    console: &'n mut Console<E>,
+    mut console: Console<E>,
 ) -> u8 {
     match args.names(alloc, bytes) {
         Ok(names) => {
             let output_per_byte = args.output_per_byte();
-            let mut inputs = Inputs {
+            let inputs = Inputs {
                 alloc,
                 files,
                 bundle: bytes,
                 names: names.as_slice(),
                 output_per_byte,
                 allowance: (bytes.len() as u64).saturating_mul(output_per_byte),
+                read: 0,
+                bytes: 0,
                 console,
             };
-            run_inputs(args, &mut inputs, out)
+            run_request(args, inputs, &mut System(files), out).status
         }
         Err(error) => console.tell(&Err(error), &[]),
     }
 }
 
-fn run_inputs<'n, F: Files, O: Write + Drop, E: Write>(
-    args: &Args<'n>,
-    inputs: &mut Inputs<'n, F, E>,
+/// The exit status, and the streams after the run.
+#[derive(Drop)]
+struct Ran<O, E> {
+    status: u8,
     out: O,
-) -> u8 {
-    let done = match args.output {
-        Some(name) => write_file(args, inputs, name),
-        None => write_out(args, inputs, out),
-    };
-    inputs.console.tell(&done, inputs.names)
+    console: Console<E>,
+}
+
+/// Runs the request, writes its output, and prints how it ended.
+fn run_request<'n, F: Folder, D: Disk, O: Write + Drop, E: Write + Drop>(
+    args: &Args<'n>,
+    mut inputs: Inputs<'n, F, E>,
+    disk: &mut D,
+    out: O,
+) -> Ran<O, E>
+    ensures { let ends = RequestEnds (F.gives inputs.entry.files.now) inputs.entry.bundle.now inputs.entry.names.now args.now.request in
+        (done : Result Success Error) × (result.status ≡ status_of done)
+        × OutputEnds ends args.now.output (O.contents out) (O.contents result.out) (D.empty disk.old) (D.file disk.old) (D.file disk.new) done
+        × (inputs.entry.console.is_terminal ≡ false → inputs.entry.console.is_verbose ≡ false → IsTrue result.console.is_whole →
+        IfSome (lines_of done) (Appends (E.contents inputs.entry.console.err) (E.contents result.console.err))) }
+{
+    let names = inputs.names;
+    let (done, out) = write(args, &mut inputs, disk, out);
+    let mut console = inputs.console;
+    Ran {
+        status: console.tell(&done, names),
+        out,
+        console,
+    }
 }

@@ -1,4 +1,10 @@
-ghost use Rattle.std.specs.Prelude.{◌-◌, ◌^◌, ◌<◌};
+ghost use Rattle.std.specs.Prelude.{◌≡◌, ◌-◌, ◌^◌, ◌<◌, false, Err, IfOk, MatchResult};
+ghost use Rattle.oim_report.specs.Outcome.{outcome};
+ghost use Rattle.oim_merge.specs.Checked.{IsChecked};
+ghost use Rattle.command_line.specs.Endings.{Ends, Never, Puts};
+ghost use Rattle.command_line.specs.Outputs.{Checks, accepted_line};
+ghost use Rattle.command_line.specs.Runs.{CommandEnds};
+ghost use Rattle.command_line.specs.declared.request.Subcommand.TheVariants.{Check};
 
 use crate::arguments::{Building, REPORT, command, with, with_output};
 use crate::commands::put_text;
@@ -8,9 +14,9 @@ use crate::inputs::Inputs;
 use clap::Arg;
 use oim_merge::{Checked, Refusals, check_report};
 use oim_names::Reason;
-use oim_report::Sheet;
+use oim_report::{Refusal, Sheet};
 use oim_write::Sink;
-use std::alloc::Global;
+use std::alloc::{AllocError, Global};
 use std::io::Write;
 
 pub(crate) const NAME: &str = "check";
@@ -62,19 +68,50 @@ pub(crate) fn run<'n, F: Folder, E: Write, S: Sink>(
     out: &mut S,
 ) -> Result<Refusals, Error<'n>>
     requires { S.failures out.old < 2 ^ 64 - 1 }
+    ensures ends { CommandEnds (F.gives inputs.old.files.now) inputs.old.names.now sheet.now (Check report.entry)
+        (S.told out.old) (S.told out.new) result }
+    ensures console { inputs.old.console.is_terminal ≡ false → inputs.new.console ≡ inputs.old.console }
 {
     let bytes = inputs.read(report)?;
-    let mut refusals = Refusals::new(inputs.alloc);
-    match check_report(inputs.alloc, sheet, bytes.as_bytes()) {
-        Ok(checked) => put_accepted(inputs.alloc, out, &checked)?,
-        Err(refusal) if refusal.reason == Reason::OutOfMemory => return Err(Error::OutOfMemory),
-        Err(refusal) => refusals.push(1, refusal)?,
+    put_checked(inputs.alloc, sheet, bytes.as_bytes(), out)
+}
+
+fn put_checked<'n, S: Sink>(
+    alloc: Global,
+    sheet: &Sheet,
+    bytes: &[u8],
+    out: &mut S,
+) -> Result<Refusals, Error<'n>>
+    requires { S.failures out.old < 2 ^ 64 - 1 }
+    ensures { Ends (Checks sheet.now bytes.now) (S.told out.old) (S.told out.new) Never result }
+{
+    match check(alloc, sheet, bytes)? {
+        Ok(checked) => {
+            put_accepted(alloc, out, &checked)?;
+            Ok(Refusals::new(alloc))
+        }
+        Err(refusal) => {
+            let mut refusals = Refusals::new(alloc);
+            refusals.push(1, refusal)?;
+            Ok(refusals)
+        }
     }
-    Ok(refusals)
+}
+
+fn check(alloc: Global, sheet: &Sheet, bytes: &[u8]) -> Result<Result<Checked, Refusal>, AllocError>
+    ensures { IfOk result (λ checked. MatchResult checked (IsChecked sheet.now bytes.now)
+        (λ refusal. outcome sheet.now bytes.now ≡ Err refusal)) }
+{
+    match check_report(alloc, sheet, bytes) {
+        Ok(checked) => Ok(Ok(checked)),
+        Err(refusal) if refusal.reason == Reason::OutOfMemory => Err(AllocError),
+        Err(refusal) => Ok(Err(refusal)),
+    }
 }
 
 fn put_accepted<'n, S: Sink>(alloc: Global, out: &mut S, checked: &Checked) -> Result<(), Error<'n>>
     requires { S.failures out.old < 2 ^ 64 - 1 }
+    ensures { Puts (accepted_line checked.now) (S.told out.old) (S.told out.new) result }
 {
     let (facts, level) = (checked.facts, checked.level.text());
     let canonical = if checked.canonical {
@@ -83,5 +120,5 @@ fn put_accepted<'n, S: Sink>(alloc: Global, out: &mut S, checked: &Checked) -> R
         "other"
     };
     let line = format!(in alloc; "accepted {facts} {level} {canonical}\n")?;
-    Ok(put_text(out, line.as_str())?)
+    put_text(out, line.as_str())
 }

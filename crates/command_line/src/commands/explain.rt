@@ -1,5 +1,7 @@
-ghost use Rattle.std.specs.Prelude.{◌≡◌, ◌-◌, ◌^◌, ◌<◌, OnOk};
+ghost use Rattle.std.specs.Prelude.{◌≡◌, ◌-◌, ◌^◌, ◌<◌, false, OnOk, IfErr};
 ghost use Rattle.oim_write.specs.BoundedSink.{bounded_failures};
+ghost use Rattle.command_line.specs.Faults.{IsNotLoose};
+ghost use Rattle.command_line.specs.Runs.{ExplainEnds};
 
 use crate::arguments::{Building, FORMAT, command, option, with, with_reports};
 use crate::commands::put_text;
@@ -94,6 +96,8 @@ pub(crate) fn run<'n, F: Folder, E: Write, S: Sink>(
     out: &mut BoundedSink<S>,
 ) -> Result<Success, Error<'n>>
     requires { bounded_failures (S.failures out.old.sink) out.old.overruns < 2 ^ 64 - 1 }
+    ensures ends { ExplainEnds result }
+    ensures console { inputs.old.console.is_terminal ≡ false → inputs.new.console ≡ inputs.old.console }
 {
     let bytes = inputs.read(name)?;
     let Counts { faulty, faults } = put_under(name, format, bytes.as_bytes(), inputs, out)?;
@@ -115,7 +119,9 @@ fn put_under<'n, F: Folder, E: Write, S: Sink>(
     out: &mut BoundedSink<S>,
 ) -> Result<Counts, Error<'n>>
     requires { bounded_failures (S.failures out.old.sink) out.old.overruns < 2 ^ 64 - 1 }
-    ensures { OnOk result (bounded_failures (S.failures out.new.sink) out.new.overruns ≡ bounded_failures (S.failures out.old.sink) out.old.overruns) }
+    ensures err { IfErr result IsNotLoose }
+    ensures failures { OnOk result (bounded_failures (S.failures out.new.sink) out.new.overruns ≡ bounded_failures (S.failures out.old.sink) out.old.overruns) }
+    ensures console { inputs.old.console.is_terminal ≡ false → inputs.new.console ≡ inputs.old.console }
 {
     let sheet = read_sheet(inputs.alloc, name, bytes)?;
     let input = Input {
@@ -130,7 +136,9 @@ fn put_under<'n, F: Folder, E: Write, S: Sink>(
 }
 
 /// Errors: `Sheet` with the line that describes the fault of the sheet; out of memory.
-fn read_sheet<'n>(alloc: Global, name: &str, bytes: &[u8]) -> Result<Sheet, Error<'n>> {
+fn read_sheet<'n>(alloc: Global, name: &str, bytes: &[u8]) -> Result<Sheet, Error<'n>>
+    ensures { IfErr result IsNotLoose }
+{
     match sheet_of(alloc, bytes) {
         Err(Error::Sheet { reason, .. }) => Err(Error::Sheet {
             reason,
@@ -163,7 +171,8 @@ fn put_explained<'n, S: Sink>(
     explained: Result<Explained, AllocError>,
 ) -> Result<u64, Error<'n>>
     requires { S.failures out.old < 2 ^ 64 - 1 }
-    ensures { OnOk result (S.failures out.new ≡ S.failures out.old) }
+    ensures err { IfErr result IsNotLoose }
+    ensures failures { OnOk result (S.failures out.new ≡ S.failures out.old) }
 {
     let explained = explained?;
     put_text(out, explained.text.as_str())?;
@@ -179,7 +188,9 @@ fn put_each<'n, F: Folder, E: Write, S: Sink>(
     faults: u64,
 ) -> Result<Counts, Error<'n>>
     requires { bounded_failures (S.failures out.old.sink) out.old.overruns < 2 ^ 64 - 1 }
-    ensures { OnOk result (bounded_failures (S.failures out.new.sink) out.new.overruns ≡ bounded_failures (S.failures out.old.sink) out.old.overruns) }
+    ensures err { IfErr result IsNotLoose }
+    ensures failures { OnOk result (bounded_failures (S.failures out.new.sink) out.new.overruns ≡ bounded_failures (S.failures out.old.sink) out.old.overruns) }
+    ensures console { inputs.old.console.is_terminal ≡ false → inputs.new.console ≡ inputs.old.console }
 {
     let (alloc, names) = (inputs.alloc, inputs.names);
     let mut counts = Counts { faulty: 0, faults };

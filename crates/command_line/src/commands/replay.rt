@@ -1,4 +1,11 @@
-ghost use Rattle.std.specs.Prelude.{◌-◌, ◌^◌, ◌<◌};
+ghost use Rattle.std.specs.Prelude.{◌≡◌, ◌-◌, ◌^◌, ◌<◌, false, IfOk, IfErr};
+ghost use Rattle.oim_merge.specs.Replay.{IsReplayOf};
+ghost use Rattle.command_line.specs.Endings.{Ends, Never, Puts};
+ghost use Rattle.command_line.specs.Faults.{IsEventError};
+ghost use Rattle.command_line.specs.Outputs.{PrintsReplay, replica_lines};
+ghost use Rattle.command_line.specs.Reading.{WithRead};
+ghost use Rattle.command_line.specs.Runs.{CommandEnds};
+ghost use Rattle.command_line.specs.declared.request.Subcommand.TheVariants.{Replay};
 
 use crate::arguments::{Building, command, option, with, with_reports};
 use crate::commands::put_text;
@@ -9,7 +16,7 @@ use clap::builder::ValueParser;
 use fact_base::Base;
 use oim_merge::{Events, Refusals, Replayed, read_events, replay};
 use oim_report::Sheet;
-use oim_write::{Sink, WriteFault, write_to};
+use oim_write::{Sink, write_to};
 use std::alloc::Global;
 use std::io::Write;
 
@@ -76,11 +83,14 @@ pub(crate) fn run<'n, F: Folder, E: Write, S: Sink>(
     out: &mut S,
 ) -> Result<Refusals, Error<'n>>
     requires { S.failures out.old < 2 ^ 64 - 1 }
+    ensures ends { CommandEnds (F.gives inputs.old.files.now) inputs.old.names.now sheet.now (Replay replicas schedule.entry)
+        (S.told out.old) (S.told out.new) result }
+    ensures console { inputs.old.console.is_terminal ≡ false → inputs.new.console ≡ inputs.old.console }
 {
     let lines = inputs.read(schedule)?;
     let events = read_events(inputs.alloc, lines.as_bytes())?;
     let replayed = replay_reports(replicas, &events, sheet, inputs)?;
-    Ok(put_replayed(inputs.alloc, out, replayed)?)
+    put_replayed(inputs.alloc, out, replayed)
 }
 
 fn replay_reports<'n, 's, F: Folder, E: Write>(
@@ -88,17 +98,23 @@ fn replay_reports<'n, 's, F: Folder, E: Write>(
     events: &Events,
     sheet: &'s Sheet,
     inputs: &mut Inputs<'n, F, E>,
-) -> Result<Replayed<'s>, Error<'n>> {
+) -> Result<Replayed<'s>, Error<'n>>
+    ensures ok { IfOk result (λ replayed. WithRead (F.gives inputs.old.files.now) inputs.old.names.now
+        (λ reports. IsReplayOf sheet.now replicas reports events.now replayed)) }
+    ensures err { IfErr result IsEventError }
+    ensures console { inputs.old.console.is_terminal ≡ false → inputs.new.console ≡ inputs.old.console }
+{
     let reports = inputs.read_reports()?;
     Ok(replay(inputs.alloc, sheet, replicas, reports.as_slice(), events)?)
 }
 
-fn put_replayed<S: Sink>(
+fn put_replayed<'n, S: Sink>(
     alloc: Global,
     out: &mut S,
     replayed: Replayed<'_>,
-) -> Result<Refusals, WriteFault>
+) -> Result<Refusals, Error<'n>>
     requires { S.failures out.old < 2 ^ 64 - 1 }
+    ensures { Ends (PrintsReplay replayed.entry) (S.told out.old) (S.told out.new) Never result }
 {
     let put = put_replicas(alloc, out, replayed.replicas());
     let refused = replayed.into_refused();
@@ -108,12 +124,13 @@ fn put_replayed<S: Sink>(
 
 /// Errors: out of memory, and `Device` with the number of bytes that `out` took of the text or line
 /// end that failed. `write_out` replaces this number with the number of bytes taken of all texts.
-fn put_replicas<S: Sink>(
+fn put_replicas<'n, S: Sink>(
     alloc: Global,
     out: &mut S,
     replicas: &[Base<'_>],
-) -> Result<(), WriteFault>
+) -> Result<(), Error<'n>>
     requires { S.failures out.old < 2 ^ 64 - 1 }
+    ensures { Puts (replica_lines replicas.now) (S.told out.old) (S.told out.new) result }
 {
     for base in replicas {
         write_to(alloc, base, out)?;

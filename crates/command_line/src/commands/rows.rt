@@ -1,12 +1,15 @@
 ghost use Rattle.std.specs.Prelude.{◌-◌, ◌^◌, ◌<◌};
 ghost use Rattle.oim_write.specs.BoundedSink.{bounded_failures};
+ghost use Rattle.command_line.specs.Endings.{Ends, Never};
+ghost use Rattle.command_line.specs.Outputs.{AreSources, AreVerdicts};
+ghost use Rattle.command_line.specs.declared.print_format.PrintFormat.TheVariants.{Rows};
 
 use crate::arguments::{Building, FORMAT, command, flag, option, with, with_flag_of, with_reports};
 use crate::error::Error;
 use crate::print_format::PrintFormat;
 use clap::ArgMatches;
 use clap::builder::ValueParser;
-use oim_merge::{Consolidation, Fault, Merged, Refusals, SourceLines, TracedMerge, write_verdicts};
+use oim_merge::{Consolidation, Merged, Refusals, SourceLines, TracedMerge, write_verdicts};
 use oim_write::{BoundedSink, Sink};
 use row_formats::{RowFormat, SourceRows, has_long_row};
 use std::alloc::Global;
@@ -130,6 +133,8 @@ pub(crate) fn put_verdicts<'n, S: Sink>(
     out: &mut BoundedSink<S>,
 ) -> Result<Refusals, Error<'n>>
     requires { bounded_failures (S.failures out.old.sink) out.old.overruns < 2 ^ 64 - 1 }
+    ensures { Ends (AreVerdicts format consolidation.entry.body consolidation.entry.refusals)
+        (S.told out.old.sink) (S.told out.new.sink) Never result }
 {
     match format {
         PrintFormat::Lines => Ok(consolidation.finish_lines_last(out)?),
@@ -145,6 +150,8 @@ fn put_rows<'n, S: Sink>(
     out: &mut BoundedSink<S>,
 ) -> Result<Refusals, Error<'n>>
     requires { bounded_failures (S.failures out.old.sink) out.old.overruns < 2 ^ 64 - 1 }
+    ensures { Ends (AreVerdicts (Rows format) merged.entry.base.body merged.entry.refusals)
+        (S.told out.old.sink) (S.told out.new.sink) Never result }
 {
     let Merged { base, refusals } = merged;
     if has_long_row(format, &base, out.left()) {
@@ -157,16 +164,17 @@ fn put_rows<'n, S: Sink>(
 
 /// Writes where each fact was reported to `out`, and returns the refusals. `files` has the names of
 /// the reports.
-pub(crate) fn put_sources<S: Sink>(
+pub(crate) fn put_sources<'n, S: Sink>(
     merge: TracedMerge<'_>,
     format: PrintFormat,
     files: &[&str],
     out: &mut S,
-) -> Result<Refusals, Fault>
+) -> Result<Refusals, Error<'n>>
     requires { S.failures out.old < 2 ^ 64 - 1 }
+    ensures { Ends (AreSources format files.now merge.entry) (S.told out.old) (S.told out.new) Never result }
 {
     match format {
-        PrintFormat::Lines => merge.finish(&SourceLines, out),
-        PrintFormat::Rows(format) => merge.finish(&SourceRows { format, files }, out),
+        PrintFormat::Lines => Ok(merge.finish(&SourceLines, out)?),
+        PrintFormat::Rows(format) => Ok(merge.finish(&SourceRows { format, files }, out)?),
     }
 }

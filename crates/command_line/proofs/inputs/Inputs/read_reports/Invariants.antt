@@ -1,4 +1,4 @@
-use Rattle.std.proofs.Common.{◌≡◌, take}
+use Rattle.std.proofs.Common.{◌≡◌, false, take}
 use Rattle.command_line.specs.Reading.{AreRead}
 use Rattle.command_line.proofs.inputs.Inputs.read_reports.Given as goal
 
@@ -6,5 +6,6 @@ use Rattle.command_line.proofs.inputs.Inputs.read_reports.Given as goal
 abbrev pub invariant-loop-name : goal.invariant-loop-name
 invariant-loop-name g l = record {
   files : l.self.files ≡ l.fn.self.files;
+  console : l.fn.self.console.is_terminal ≡ false → l.self.console ≡ l.fn.self.console;
   read : AreRead (g.F.Folder.gives l.fn.self.files.now) (take l.name-index l.names) l.all.items;
 }

@@ -12,6 +12,7 @@ loop-index-preserved g c =
     let gave = subst (λ files. gives files.now (get_or names l.index no_name).now bytes) l.invariant.files c.in_ok-read_report.ensures.ok in
     record {
       files = c.read_report.ensures.files ∙ l.invariant.files;
+      console = λ plain. let same = l.invariant.console plain in c.read_report.ensures.console (ap (λ console. console.is_terminal) same ∙ plain) ∙ same;
       read = traced_step (gives c.args.self.now.files.now) names l.index bytes c.loop-index-test.true gave c.args.sheet.now l.merge c.add.new.self (c.in_ok-add.ensures.ok ∙ ap (with_traced l.merge) c.as_bytes.ensures) l.invariant.read;
       count = ap (λ (a : Traced). a.added.reports) c.in_ok-add.ensures.ok ∙ ap (λ n. n + 1) l.invariant.count;
     }

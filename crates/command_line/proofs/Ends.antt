@@ -1,0 +1,113 @@
+-- How the end of a part becomes the end of the whole.
+use Rattle.std.proofs.Common.{◌≡◌, ◌⊎◌, ℕ, List, [], ◌++◌, Option, Some, None, Result, Ok, Err, refl, sym, subst, ◌∙◌, ap, inl, inr, append-nil}
+use Rattle.std.specs.Prelude.{IsErrAnd}
+use Rattle.std.specs.Io.KnownBytes.{Appends, Keeps}
+use Rattle.std.proofs.KnownBytes.{Appends-kept, Appends-nil}
+use Rattle.oim_write.specs.Sink.{AppendsFront}
+use Rattle.command_line.specs.Endings.{AppendsPart, Begins, Ends, IsCutOff, Prints, Puts, Stops}
+use Rattle.command_line.specs.Faults.{IsEventError, IsOutputFault, IsReadError, IsSheetError}
+use Rattle.command_line.specs.Outputs.{Told}
+use Rattle.command_line.specs.declared.error.Error.{Error}
+use Rattle.command_line.specs.declared.error.Error.TheVariants as error
+
+-- what holds of the error that a call returned holds of the result
+pub of_error : {T E : Type 0} (P : Result T E → Type 0) (r : Result T E) (e : E) → IsErrAnd r (λ x. x ≡ e) → P (Err e) → P r
+of_error P (Ok x) e is p = absurd is
+of_error P (Err x) e is p = subst (λ y. P (Err y)) (sym is) p
+
+module _ {T : Type 0} (Gives : List ℕ → T → Type 0) (Loose : ℕ → Told → Type 0) (old new : Option (List ℕ)) where
+  -- errors that come before anything is printed
+  pub read_stops : (e : Error) → IsReadError e → Appends old new [] → Stops Gives old new Loose e
+  read_stops (error.TooLoose row told) is none = absurd is
+  read_stops (error.Device written) is none = absurd is
+  read_stops (error.TooMuch most) is none = absurd is
+  read_stops error.OutOfMemory is none = inl none
+  read_stops _ is none = none
+
+  pub sheet_stops : (e : Error) → IsSheetError e → Appends old new [] → Stops Gives old new Loose e
+  sheet_stops (error.Sheet reason explained kind) is none = none
+  sheet_stops e is none = read_stops e is none
+
+  pub event_stops : (e : Error) → IsEventError e → Appends old new [] → Stops Gives old new Loose e
+  event_stops (error.Event line) is none = none
+  event_stops e is none = read_stops e is none
+
+-- nothing was appended yet
+pub no_part : (old : Option (List ℕ)) (text : List ℕ) → AppendsPart old old text
+no_part old text = record { front = []; rest = text; whole = refl; appended = Appends-nil old }
+
+pub part_of_front : (old new : Option (List ℕ)) (text : List ℕ) (n : ℕ) → AppendsFront old new text n → AppendsPart old new text
+part_of_front old new text n front = record { front = front.front; rest = front.rest; whole = front.whole; appended = front.appended }
+
+-- a known text is the output
+module _ {T : Type 0} (Gives : List ℕ → T → Type 0) (old new : Option (List ℕ)) (result : T) (text : List ℕ) (gives : Gives text result) where
+  pub begins : AppendsPart old new text → IsCutOff Gives old new
+  begins part = inr (record { result = result; text = text; gives = gives; part = part })
+
+  pub put_prints : Appends old new text → Prints Gives old new result
+  put_prints appended = record { text = text; gives = gives; appended = appended }
+
+  pub put_stops : (Loose : ℕ → Told → Type 0) (e : Error) → Puts text old new (Err e) → Stops Gives old new Loose e
+  put_stops Loose (error.Device written) part = begins part
+  put_stops Loose error.OutOfMemory part = begins part
+  put_stops Loose _ part = absurd part
+
+module _ {T U : Type 0} (Gives : List ℕ → T → Type 0) (Whole : List ℕ → U → Type 0) (old new : Option (List ℕ)) (result_of : T → U)
+    (gives_whole : (text : List ℕ) (result : T) → Gives text result → Whole text (result_of result)) where
+  pub prints_whole : (result : T) → Prints Gives old new result → Prints Whole old new (result_of result)
+  prints_whole result p = record { text = p.text; gives = gives_whole p.text result p.gives; appended = p.appended }
+
+  pub cut_off_whole : IsCutOff Gives old new → IsCutOff Whole old new
+  cut_off_whole (inl none) = inl none
+  cut_off_whole (inr b) =
+      inr (record { result = result_of b.result; text = b.text; gives = gives_whole b.text b.result b.gives; part = b.part })
+
+  module _ (Loose : ℕ → Told → Type 0) (LooseWhole : ℕ → Told → Type 0) (loose_whole : (row : ℕ) (told : Told) → Loose row told → LooseWhole row told) where
+    pub stops_whole : (e : Error) → Stops Gives old new Loose e → Stops Whole old new LooseWhole e
+    stops_whole (error.TooLoose row told) stops = (loose_whole row told stops.0, stops.1)
+    stops_whole (error.Device written) stops = cut_off_whole stops
+    stops_whole (error.TooMuch most) stops = cut_off_whole stops
+    stops_whole error.OutOfMemory stops = cut_off_whole stops
+    stops_whole _ stops = stops
+
+-- the same for a result that stays
+pub ends_whole : {T : Type 0} (Gives Whole : List ℕ → T → Type 0) (old new : Option (List ℕ)) (gives_whole : (text : List ℕ) (result : T) → Gives text result → Whole text result)
+    (Loose LooseWhole : ℕ → Told → Type 0) (loose_whole : (row : ℕ) (told : Told) → Loose row told → LooseWhole row told) (done : Result T Error) → Ends Gives old new Loose done → Ends Whole old new LooseWhole done
+ends_whole Gives Whole old new gives_whole Loose LooseWhole loose_whole (Ok result) ends = prints_whole Gives Whole old new (λ x. x) gives_whole result ends
+ends_whole Gives Whole old new gives_whole Loose LooseWhole loose_whole (Err e) ends = stops_whole Gives Whole old new (λ x. x) gives_whole Loose LooseWhole loose_whole e ends
+
+-- ---- the end of a run whose output is flushed
+
+module _ (old mid new : Option (List ℕ)) (keeps : Keeps mid new) where
+  part_kept : (text : List ℕ) → AppendsPart old mid text → AppendsPart old new text
+  part_kept text p = record { front = p.front; rest = p.rest; whole = p.whole; appended = Appends-kept old mid new p.front p.appended keeps }
+
+module _ {T : Type 0} (Gives : List ℕ → T → Type 0) (Loose : ℕ → Told → Type 0) (old mid new : Option (List ℕ)) (keeps : Keeps mid new) where
+  cut_off_kept : IsCutOff Gives old mid → IsCutOff Gives old new
+  cut_off_kept (inl none) = inl (Appends-kept old mid new [] none keeps)
+  cut_off_kept (inr b) =
+      inr (record { result = b.result; text = b.text; gives = b.gives; part = part_kept old mid new keeps b.text b.part })
+
+  pub ends_kept : (done : Result T Error) → Ends Gives old mid Loose done → Ends Gives old new Loose done
+  ends_kept (Ok result) p = record { text = p.text; gives = p.gives; appended = Appends-kept old mid new p.text p.appended keeps }
+  ends_kept (Err (error.TooLoose row told)) stops = (stops.0, Appends-kept old mid new [] stops.1 keeps)
+  ends_kept (Err (error.Device written)) stops = cut_off_kept stops
+  ends_kept (Err (error.TooMuch most)) stops = cut_off_kept stops
+  ends_kept (Err error.OutOfMemory) stops = cut_off_kept stops
+  ends_kept (Err _) stops = Appends-kept old mid new [] stops keeps
+
+  -- whatever the end was, nothing else was printed than a beginning of the text
+  pub cut_off : (done : Result T Error) → Ends Gives old mid Loose done → IsCutOff Gives old new
+  cut_off (Ok result) p =
+      cut_off_kept (inr (record { result = result; text = p.text; gives = p.gives; part = record { front = p.text; rest = []; whole = sym (append-nil p.text); appended = p.appended } }))
+  cut_off (Err (error.TooLoose row told)) stops = cut_off_kept (inl stops.1)
+  cut_off (Err (error.Device written)) stops = cut_off_kept stops
+  cut_off (Err (error.TooMuch most)) stops = cut_off_kept stops
+  cut_off (Err error.OutOfMemory) stops = cut_off_kept stops
+  cut_off (Err _) stops = cut_off_kept (inl stops)
+
+  pub ends_settled : (done result : Result T Error) → (result ≡ done) ⊎ IsErrAnd result IsOutputFault → Ends Gives old mid Loose done → Ends Gives old new Loose result
+  ends_settled done result (inl is) ends = subst (Ends Gives old new Loose) (sym is) (ends_kept done ends)
+  ends_settled done (Err (error.Device written)) (inr fault) ends = cut_off done ends
+  ends_settled done (Err (error.TooMuch most)) (inr fault) ends = cut_off done ends
+  ends_settled done _ (inr fault) ends = absurd fault

@@ -1,0 +1,61 @@
+-- A command under a sheet as a request, and the end of its run.
+use Rattle.std.proofs.Common.{◌≡◌, ◌⊎◌, ℕ, List, [], Option, Result, Ok, Err, Bor, sym, subst, inl, inr}
+use Rattle.std.specs.Prelude.{IsErrAnd}
+use Rattle.std.specs.Io.KnownBytes.{Keeps}
+use Rattle.std.proofs.KnownBytes.{Appends-nil}
+use Rattle.oim_report.specs.Sheet.{Sheet, sheet_outcome}
+use Rattle.command_line.specs.Endings.{Ends, Prints, Stops}
+use Rattle.command_line.specs.Faults.{IsDoneOrFault, IsDoneOrUnwritten, IsOutputFault, IsWriteError}
+use Rattle.command_line.specs.Outputs.{LooseIn, OutputOf, Told}
+use Rattle.command_line.specs.Runs.{ExplainEnds, IsPlaced, Replaces, RequestEnds, RequestGives, RequestIsLoose}
+use Rattle.command_line.specs.declared.error.Error.{Error}
+use Rattle.command_line.specs.declared.error.Error.TheVariants as error
+use Rattle.command_line.specs.declared.error.Success.{Success}
+use Rattle.command_line.specs.declared.error.Success.TheVariants.{Refusals}
+use Rattle.command_line.specs.declared.request.Request.{Request}
+use Rattle.command_line.specs.declared.request.Request.TheVariants.{Bundle, Help, Explain, Under}
+use Rattle.command_line.specs.declared.request.Subcommand.{Subcommand}
+use Rattle.command_line.proofs.Ends.{ends_settled, prints_whole, stops_whole}
+
+module _ (gives : List ℕ → List ℕ → Type 0) (bundle : List ℕ) (names : List (Bor (List ℕ))) (old new : Option (List ℕ)) where
+  module _ (name : Bor (List ℕ)) (command : Subcommand) (bytes : List ℕ) (sheet : Sheet) (gave : gives name.now bytes) (read : sheet_outcome bytes ≡ Ok sheet) where
+    under : (text : List ℕ) (told : Told) → OutputOf gives names sheet command text told → RequestGives gives bundle names (Under name command) text (Refusals told)
+    under text told has = record { bytes = bytes; sheet = sheet; gave = gave; read = read; has = has }
+
+    pub under_prints : (told : Told) → Prints (OutputOf gives names sheet command) old new told → Prints (RequestGives gives bundle names (Under name command)) old new (Refusals told)
+    under_prints told p = prints_whole (OutputOf gives names sheet command) (RequestGives gives bundle names (Under name command)) old new Refusals under told p
+
+    pub under_stops : (e : Error) → Stops (OutputOf gives names sheet command) old new (LooseIn gives names sheet command) e → Stops (RequestGives gives bundle names (Under name command)) old new (RequestIsLoose gives bundle names (Under name command)) e
+    under_stops e stops =
+        stops_whole (OutputOf gives names sheet command) (RequestGives gives bundle names (Under name command)) old new Refusals under
+        (LooseIn gives names sheet command) (RequestIsLoose gives bundle names (Under name command))
+        (λ row told loose. record { bytes = bytes; sheet = sheet; gave = gave; read = read; has = loose }) e stops
+
+  -- ---- the end of a run
+
+  explain_settled : (done result : Result Success Error) → IsDoneOrFault done result → ExplainEnds done → ExplainEnds result
+  explain_settled done result (inl is) ends = subst ExplainEnds (sym is) ends
+  explain_settled done (Err (error.TooLoose row told)) (inr fault) ends = absurd fault
+  explain_settled done (Err _) (inr fault) ends = tt
+  explain_settled done (Ok success) (inr fault) ends = absurd fault
+
+  pub settled : (mid : Option (List ℕ)) → Keeps mid new → (request : Request) (done result : Result Success Error) → IsDoneOrFault done result → RequestEnds gives bundle names request old mid done → RequestEnds gives bundle names request old new result
+  settled mid keeps (Explain name format) done result is ends = explain_settled done result is ends
+  settled mid keeps request done result is ends =
+      ends_settled (RequestGives gives bundle names request) (RequestIsLoose gives bundle names request) old mid new keeps done result is ends
+
+  -- the output of a run that could not put its file in place does not count
+  pub unwritten : (e : Error) → IsWriteError e → (request : Request) → RequestEnds gives bundle names request old old (Err e)
+  unwritten (error.Unwritten name why) is (Explain sheet format) = tt
+  unwritten (error.Unwritten name why) is request = Appends-nil old
+  unwritten error.OutOfMemory is (Explain sheet format) = tt
+  unwritten error.OutOfMemory is request = inl (Appends-nil old)
+  unwritten _ is request = absurd is
+
+  pub done_or_unwritten : (mid placed_old placed_new : Option (List ℕ)) (request : Request) (done result : Result Success Error) → IsDoneOrUnwritten done result → RequestEnds gives bundle names request old mid done
+      → IsPlaced mid placed_old placed_new result → Replaces (RequestEnds gives bundle names request) old placed_old placed_new result
+  done_or_unwritten mid placed_old placed_new request done result (inl is) ends placed =
+      record { written = mid; ends = subst (RequestEnds gives bundle names request old mid) (sym is) ends; placed = placed }
+  done_or_unwritten mid placed_old placed_new request done (Err e) (inr fault) ends placed =
+      record { written = old; ends = unwritten e fault request; placed = placed }
+  done_or_unwritten mid placed_old placed_new request done (Ok success) (inr fault) ends placed = absurd fault

@@ -1,0 +1,14 @@
+use Rattle.std.proofs.Common.{subst}
+use Rattle.command_line.specs.Endings.{Ends, Never}
+use Rattle.command_line.specs.Outputs.{AreVerdicts}
+use Rattle.command_line.proofs.Faults.{verdicts_end}
+use Rattle.command_line.proofs.commands.run_verdicts.Goals as goal
+
+pub returns-clause-ends : goal.returns-clause-ends
+returns-clause-ends g c =
+    let told = g.S.Sink.told in
+    let a = c.in_ok-consolidation.consolidation in
+    let new = told c.put_verdicts.new.out.sink in
+    verdicts_end (g.F.Folder.gives c.args.inputs.now.files.now) c.args.inputs.now.names.now c.args.sheet.now (told c.args.out.now.sink) new
+    c.args.format a c.in_ok-consolidation.ensures.ok c.put_verdicts.result
+    (subst (λ sink. Ends (AreVerdicts c.args.format a.body a.refusals) (told sink) new Never c.put_verdicts.result) c.raise.ensures.sink c.put_verdicts.ensures)

@@ -1,0 +1,56 @@
+-- What a run printed when it ended (own).
+use Rattle.std.specs.Prelude.{◌≡◌, ◌⊎◌, ℕ, Option, List, [], ◌++◌, Result, Ok, Err}
+use Rattle.std.specs.Io.KnownBytes.{Appends}
+use Rattle.command_line.specs.Outputs.{Told}
+use Rattle.command_line.specs.declared.error.Error.{Error}
+use Rattle.command_line.specs.declared.error.Error.TheVariants.{TooLoose, Device, TooMuch, OutOfMemory}
+
+-- a beginning of the text was appended
+pub record AppendsPart (old new : Option (List ℕ)) (text : List ℕ) : Type 0 where
+  pub front : List ℕ
+  pub rest : List ℕ
+  pub whole : text ≡ front ++ rest
+  pub appended : Appends old new front
+
+-- `Gives text result` says which text and which result the run has
+module _ {T : Type 0} (Gives : List ℕ → T → Type 0) (old new : Option (List ℕ)) where
+  -- the whole text was appended
+  pub record Prints (result : T) : Type 0 where
+    pub text : List ℕ
+    pub gives : Gives text result
+    pub appended : Appends old new text
+
+  pub record Begins : Type 0 where
+    pub result : T
+    pub text : List ℕ
+    pub gives : Gives text result
+    pub part : AppendsPart old new text
+
+  abbrev pub IsCutOff : Type 0
+  IsCutOff = Appends old new [] ⊎ Begins
+
+  -- Nothing was appended before the error. Only if memory was refused, the device failed or the text is too long, a beginning of the text may
+  -- be there. `Loose` says which row is too loose.
+  abbrev pub Stops : (ℕ → Told → Type 0) → Error → Type 0
+  Stops Loose (TooLoose row told) = Loose row told × Appends old new []
+  Stops Loose (Device written) = IsCutOff
+  Stops Loose (TooMuch most) = IsCutOff
+  Stops Loose OutOfMemory = IsCutOff
+  Stops Loose error = Appends old new []
+
+  abbrev pub Ends : (ℕ → Told → Type 0) → Result T Error → Type 0
+  Ends Loose (Ok result) = Prints result
+  Ends Loose (Err error) = Stops Loose error
+
+-- no row is too loose
+abbrev pub Never : ℕ → Told → Type 0
+Never row told = ⊥
+
+-- ---- a known text
+
+-- the text was appended, or a beginning of it before memory was refused or the device failed
+abbrev pub Puts : List ℕ → Option (List ℕ) → Option (List ℕ) → Result (Unit {0}) Error → Type 0
+Puts text old new (Ok done) = Appends old new text
+Puts text old new (Err (Device written)) = AppendsPart old new text
+Puts text old new (Err OutOfMemory) = AppendsPart old new text
+Puts text old new (Err error) = ⊥

@@ -1,0 +1,81 @@
+-- The text of a request, its result, and what was printed when it ended (own).
+use Rattle.std.specs.Prelude.{◌≡◌, ℕ, Option, Some, None, List, [], Result, Ok, Err, MatchResult, ⊤}
+use Rattle.std.specs.Borrow.{Bor}
+use Rattle.std.specs.Io.KnownBytes.{Keeps}
+use Rattle.oim_value.specs.declared.level.Level.TheVariants.{All}
+use Rattle.oim_report.specs.Sheet.{Sheet, sheet_outcome}
+use Rattle.oim_merge.specs.Bundle.{report_pieces}
+use Rattle.oim_merge.specs.Reports.{merged, refused}
+use Rattle.oim_merge.specs.Run.{IsSheetOf}
+use Rattle.command_line.specs.Endings.{Ends}
+use Rattle.command_line.specs.Faults.{IsNotLoose}
+use Rattle.command_line.specs.Outputs.{IsMerge, LooseIn, OutputOf, Told}
+use Rattle.command_line.specs.declared.error.Error.{Error}
+use Rattle.command_line.specs.declared.error.Success.{Success}
+use Rattle.command_line.specs.declared.error.Success.TheVariants.{Refusals, Faults}
+use Rattle.command_line.specs.declared.request.Request.{Request}
+use Rattle.command_line.specs.declared.request.Request.TheVariants.{Bundle, Help, Explain, Under}
+use Rattle.command_line.specs.declared.request.Subcommand.{Subcommand}
+
+-- what was printed when a command under a sheet ended
+abbrev pub CommandEnds : (List ℕ → List ℕ → Type 0) → List (Bor (List ℕ)) → Sheet → Subcommand → Option (List ℕ) → Option (List ℕ) → Result Told Error → Type 0
+CommandEnds gives names sheet command old new done = Ends (OutputOf gives names sheet command) old new (LooseIn gives names sheet command) done
+
+-- the file with this name gave the bytes of a sheet, and the sheet has the property
+pub record WithSheet (gives : List ℕ → List ℕ → Type 0) (name : Bor (List ℕ)) (P : Sheet → Type 0) : Type 0 where
+  pub bytes : List ℕ
+  pub sheet : Sheet
+  pub gave : gives name.now bytes
+  pub read : sheet_outcome bytes ≡ Ok sheet
+  pub has : P sheet
+
+-- clap makes the text of help
+abbrev pub PrintsHelp : List ℕ → Success → Type 0
+PrintsHelp text (Refusals told) = told ≡ []
+PrintsHelp text (Faults count) = ⊥
+
+-- the merge of a bundle, which allows all duplicates
+pub record MergesBundle (bundle text : List ℕ) (told : Told) : Type 0 where
+  pub sheet : Sheet
+  pub read : IsSheetOf bundle sheet
+  pub is : IsMerge All (merged sheet (report_pieces bundle)) (refused sheet (report_pieces bundle)) text told
+
+-- `explain` returns the number of faults, and no row is too loose
+abbrev pub ExplainEnds : Result Success Error → Type 0
+ExplainEnds (Ok (Refusals told)) = ⊥
+ExplainEnds (Ok (Faults count)) = ⊤
+ExplainEnds (Err error) = IsNotLoose error
+
+module _ (gives : List ℕ → List ℕ → Type 0) (bundle : List ℕ) (names : List (Bor (List ℕ))) where
+  -- the text of a request other than `explain`, and its result
+  abbrev pub RequestGives : Request → List ℕ → Success → Type 0
+  RequestGives Bundle text (Refusals told) = MergesBundle bundle text told
+  RequestGives (Under name command) text (Refusals told) = WithSheet gives name (λ sheet. OutputOf gives names sheet command text told)
+  RequestGives (Help help) text success = PrintsHelp text success
+  RequestGives request text success = ⊥
+
+  abbrev pub RequestIsLoose : Request → ℕ → Told → Type 0
+  RequestIsLoose (Under name command) row told = WithSheet gives name (λ sheet. LooseIn gives names sheet command row told)
+  RequestIsLoose request row told = ⊥
+
+  -- what was printed when the request ended
+  abbrev pub RequestEnds : Request → Option (List ℕ) → Option (List ℕ) → Result Success Error → Type 0
+  RequestEnds (Explain name format) old new done = ExplainEnds done
+  RequestEnds request old new done = Ends (RequestGives request) old new (RequestIsLoose request) done
+
+-- ---- where the output goes
+
+-- a file with the bytes `written` is in the place of another exactly after a success
+abbrev pub IsPlaced : Option (List ℕ) → Option (List ℕ) → Option (List ℕ) → Result Success Error → Type 0
+IsPlaced written old new done = MatchResult done (λ success. Keeps written new) (λ error. new ≡ old)
+
+-- the output went to a new file, and a success put it in the place of the old one
+pub record Replaces (Ends : Option (List ℕ) → Option (List ℕ) → Result Success Error → Type 0) (empty old new : Option (List ℕ)) (done : Result Success Error) : Type 0 where
+  pub written : Option (List ℕ)
+  pub ends : Ends empty written done
+  pub placed : IsPlaced written old new done
+
+-- the output went to standard output, or into the place of the file with a name
+abbrev pub OutputEnds : (Option (List ℕ) → Option (List ℕ) → Result Success Error → Type 0) → Option (Bor (List ℕ)) → Option (List ℕ) → Option (List ℕ) → Option (List ℕ) → (List ℕ → Option (List ℕ)) → (List ℕ → Option (List ℕ)) → Result Success Error → Type 0
+OutputEnds Ends None out_old out_new empty old new done = Ends out_old out_new done
+OutputEnds Ends (Some name) out_old out_new empty old new done = Replaces Ends empty (old name.now) (new name.now) done × (out_new ≡ out_old)
