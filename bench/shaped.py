@@ -557,9 +557,6 @@ MEGABYTES = {
 COSTLY = {
     measures_in_no_order,
     references_beside_a_long_base,
-    objects_in_an_extension,
-    empty_keys_in_an_extension,
-    empty_keys_before_and_behind_facts,
     joins_that_add_nothing,
     events_of_eight_replicas,
     reports_sent_in_a_ring,
