@@ -184,16 +184,14 @@ fn print_error<E: Write>(err: &mut E, is_verbose: bool, error: &Error<'_>, files
             let is_printed = writeln!(err, "too loose: row {row}").is_ok();
             is_whole && is_printed
         }
-        Error::Unread(file, why) => {
-            let is_printed = print_file(err, file, "cannot be read").is_ok();
-            let is_whole = print_why(err, is_verbose, *why).is_ok();
-            is_printed && is_whole
-        }
-        Error::Unwritten(file, why) => {
-            let is_printed = print_file(err, file, "cannot be written").is_ok();
-            let is_whole = print_why(err, is_verbose, *why).is_ok();
-            is_printed && is_whole
-        }
+        Error::Unread(file, why) => print_fault(err, is_verbose, file, "cannot be read", *why),
+        Error::Unwritten(file, why) => print_fault(
+            err,
+            is_verbose,
+            file,
+            "cannot be written",
+            *why,
+        ),
         Error::Sheet {
             reason,
             explained,
@@ -232,10 +230,17 @@ fn print_file<E: Write>(err: &mut E, file: &str, fault: &str) -> io::Result<()> 
     writeln!(err, "file {}: {fault}", Escaped(file))
 }
 
-fn print_why<E: Write>(err: &mut E, is_verbose: bool, why: Option<&'static str>) -> io::Result<()> {
+fn print_fault<E: Write>(
+    err: &mut E,
+    is_verbose: bool,
+    file: &str,
+    fault: &str,
+    why: Option<&'static str>,
+) -> bool {
+    let is_printed = print_file(err, file, fault).is_ok();
     match why {
-        Some(why) if is_verbose => writeln!(err, "{why}"),
-        _ => Ok(()),
+        Some(why) if is_verbose => writeln!(err, "{why}").is_ok() && is_printed,
+        _ => is_printed,
     }
 }
 
