@@ -1,10 +1,10 @@
 -- How the end of a part becomes the end of the whole.
-use Rattle.std.proofs.Common.{◌≡◌, ◌⊎◌, ℕ, List, [], ◌++◌, Option, Some, None, Result, Ok, Err, refl, sym, subst, ◌∙◌, ap, inl, inr, append-nil}
+use Rattle.std.proofs.Common.{◌≡◌, ◌⊎◌, ℕ, List, [], Option, Result, Ok, Err, refl, sym, subst, inl, inr, append-nil}
 use Rattle.std.specs.Prelude.{IsErrAnd}
 use Rattle.std.specs.Io.KnownBytes.{Appends, Keeps}
 use Rattle.std.proofs.KnownBytes.{Appends-kept, Appends-nil}
 use Rattle.oim_write.specs.Sink.{AppendsFront}
-use Rattle.command_line.specs.Endings.{AppendsPart, Begins, Ends, IsCutOff, Prints, Puts, Stops}
+use Rattle.command_line.specs.Endings.{AppendsPart, Ends, IsCutOff, Prints, Puts, Stops}
 use Rattle.command_line.specs.Faults.{IsEventError, IsOutputFault, IsReadError, IsSheetError}
 use Rattle.command_line.specs.Outputs.{Told}
 use Rattle.command_line.specs.declared.error.Error.{Error}

@@ -1,6 +1,5 @@
 -- Results and faults of the libraries as the ends of commands.
-use Rattle.std.proofs.Common.{◌≡◌, ◌⊎◌, ℕ, List, [], ◌++◌, true, Option, Some, None, Result, Bor, refl, subst, sym, inl, inr, true≢false}
-use Rattle.std.specs.Io.KnownBytes.{Appends}
+use Rattle.std.proofs.Common.{◌≡◌, ℕ, List, ◌++◌, true, Option, Some, None, Result, Bor, refl, subst, sym, inl, inr, true≢false}
 use Rattle.oim_value.specs.declared.level.Level.{Level}
 use Rattle.oim_value.specs.declared.level.Level.TheVariants.{All}
 use Rattle.oim_report.specs.Sheet.{Sheet}

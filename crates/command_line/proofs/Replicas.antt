@@ -5,7 +5,6 @@ use Rattle.std.proofs.KnownBytes.{Appends-trans}
 use Rattle.std.proofs.lemmas.Grind.{flat_map-append}
 use Rattle.std.proofs.lemmas.List.{take_more}
 use Rattle.fact_base.specs.Contents.{Contents}
-use Rattle.oim_write.specs.Bytes.{canonical}
 use Rattle.oim_write.specs.declared.write_fault.WriteFault.{WriteFault}
 use Rattle.oim_write.specs.declared.write_fault.WriteFault.TheVariants.{OutOfMemory, Device}
 use Rattle.oim_merge.specs.Run.{fault_of}

@@ -1,11 +1,10 @@
 -- A command under a sheet as a request, and the end of its run.
-use Rattle.std.proofs.Common.{◌≡◌, ◌⊎◌, ℕ, List, [], Option, Result, Ok, Err, Bor, sym, subst, inl, inr}
-use Rattle.std.specs.Prelude.{IsErrAnd}
+use Rattle.std.proofs.Common.{◌≡◌, ℕ, List, Option, Result, Ok, Err, Bor, sym, subst, inl, inr}
 use Rattle.std.specs.Io.KnownBytes.{Keeps}
 use Rattle.std.proofs.KnownBytes.{Appends-nil}
 use Rattle.oim_report.specs.Sheet.{Sheet, sheet_outcome}
-use Rattle.command_line.specs.Endings.{Ends, Prints, Stops}
-use Rattle.command_line.specs.Faults.{IsDoneOrFault, IsDoneOrUnwritten, IsOutputFault, IsWriteError}
+use Rattle.command_line.specs.Endings.{Prints, Stops}
+use Rattle.command_line.specs.Faults.{IsDoneOrFault, IsDoneOrUnwritten, IsWriteError}
 use Rattle.command_line.specs.Outputs.{LooseIn, OutputOf, Told}
 use Rattle.command_line.specs.Runs.{ExplainEnds, IsPlaced, Replaces, RequestEnds, RequestGives, RequestIsLoose}
 use Rattle.command_line.specs.declared.error.Error.{Error}
@@ -13,7 +12,7 @@ use Rattle.command_line.specs.declared.error.Error.TheVariants as error
 use Rattle.command_line.specs.declared.error.Success.{Success}
 use Rattle.command_line.specs.declared.error.Success.TheVariants.{Refusals}
 use Rattle.command_line.specs.declared.request.Request.{Request}
-use Rattle.command_line.specs.declared.request.Request.TheVariants.{Bundle, Help, Explain, Under}
+use Rattle.command_line.specs.declared.request.Request.TheVariants.{Explain, Under}
 use Rattle.command_line.specs.declared.request.Subcommand.{Subcommand}
 use Rattle.command_line.proofs.Ends.{ends_settled, prints_whole, stops_whole}
 

@@ -23,7 +23,7 @@ use Rattle.oim_merge.specs.declared.checked.Checked.{Checked}
 use Rattle.oim_merge.specs.declared.event.Event.{Event}
 use Rattle.row_formats.specs.Rows.{header, row_text}
 use Rattle.row_formats.specs.SourceRows.{source_header, source_text}
-use Rattle.command_line.specs.Reading.{AreRead, WithRead}
+use Rattle.command_line.specs.Reading.{WithRead}
 use Rattle.command_line.specs.declared.print_format.PrintFormat.{PrintFormat}
 use Rattle.command_line.specs.declared.print_format.PrintFormat.TheVariants.{Lines, Rows}
 use Rattle.command_line.specs.declared.request.Subcommand.{Subcommand}

@@ -3,7 +3,7 @@ use Rattle.command_line.specs.Endings.{Never}
 use Rattle.command_line.specs.Faults.{error_of}
 use Rattle.command_line.specs.Runs.{CommandEnds, MergesBundle, RequestEnds, RequestGives, RequestIsLoose}
 use Rattle.command_line.specs.declared.error.Success.TheVariants.{Refusals}
-use Rattle.command_line.specs.declared.request.Request.TheVariants.{Bundle, Under}
+use Rattle.command_line.specs.declared.request.Request.TheVariants.{Bundle}
 use Rattle.command_line.proofs.Ends.{of_error, stops_whole}
 use Rattle.command_line.proofs.Faults.{bundle_stops}
 use Rattle.command_line.proofs.Requests.{under_stops}

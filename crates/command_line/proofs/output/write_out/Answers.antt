@@ -1,4 +1,4 @@
-use Rattle.std.proofs.Common.{◌≡◌, ap, ◌∙◌, subst, sym}
+use Rattle.std.proofs.Common.{◌≡◌, ap, ◌∙◌, subst}
 use Rattle.std.specs.Io.KnownBytes.{Keeps}
 use Rattle.std.proofs.KnownBytes.{Keeps-refl}
 use Rattle.command_line.specs.Runs.{RequestEnds}

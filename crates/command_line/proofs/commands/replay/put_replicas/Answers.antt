@@ -1,11 +1,11 @@
-use Rattle.std.proofs.Common.{◌≡◌, ◌+◌, [], ◌∷◌, ◌++◌, take, drop, ap, ◌∙◌, sym, append_assoc}
+use Rattle.std.proofs.Common.{◌+◌, [], ◌∷◌, ◌++◌, take, drop, ap, ◌∙◌, sym, append_assoc}
 use Rattle.std.proofs.KnownBytes.{Appends-trans}
 use Rattle.oim_merge.specs.Run.{fault_of}
 use Rattle.oim_write.specs.Bytes.{canonical}
 use Rattle.oim_write.specs.Sink.{written_of}
 use Rattle.command_line.specs.Endings.{Puts}
 use Rattle.command_line.specs.Faults.{error_of}
-use Rattle.command_line.specs.Outputs.{replica_line, replica_lines}
+use Rattle.command_line.specs.Outputs.{replica_lines}
 use Rattle.command_line.proofs.Ends.{of_error, part_of_front}
 use Rattle.command_line.proofs.Replicas.{lines_split, part_behind, put_behind, write_fault}
 use Rattle.command_line.proofs.commands.replay.put_replicas.Goals as goal

@@ -1,4 +1,4 @@
-use Rattle.std.proofs.Common.{◌≡◌, ◌+◌, ap, ◌∙◌, subst, get_or}
+use Rattle.std.proofs.Common.{◌+◌, ap, ◌∙◌, subst, get_or}
 use Rattle.oim_merge.specs.Added.{Added}
 use Rattle.command_line.proofs.Readings.{no_name, added_step}
 use Rattle.command_line.proofs.inputs.Inputs.consolidate.Goals as goal

@@ -1,4 +1,4 @@
-use Rattle.std.proofs.Common.{◌≡◌, ◌+◌, ap, ◌∙◌, subst, get_or}
+use Rattle.std.proofs.Common.{◌+◌, ap, ◌∙◌, subst, get_or}
 use Rattle.oim_merge.specs.Traced.{Traced, with_traced}
 use Rattle.command_line.proofs.Readings.{no_name, traced_step}
 use Rattle.command_line.proofs.inputs.Inputs.trace.Goals as goal
