@@ -3,3 +3,8 @@ pub mod Ends
 pub mod Faults
 pub mod Replicas
 pub mod Requests
+mod RowReads
+mod Parsed
+mod Named
+mod Reached
+pub mod Asking

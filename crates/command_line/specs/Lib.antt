@@ -4,3 +4,6 @@ pub mod Outputs
 pub mod Endings
 pub mod Runs
 pub mod Printed
+pub mod Arguments
+pub mod Words
+pub mod WordLaws

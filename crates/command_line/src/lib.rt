@@ -10,10 +10,13 @@ mod disk;
 mod error;
 mod folder;
 mod inputs;
+pub mod laws;
+mod matches;
 mod output;
 mod print_format;
 mod program;
 mod request;
+mod subcommands;
 mod words;
 
 pub use program::{Streams, run};

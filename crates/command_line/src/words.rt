@@ -1,12 +1,21 @@
-use crate::arguments::{Building, LIST, MOST, NULL, OUTPUT, QUIET, REPORT, SHEET, VERBOSE};
-use crate::commands::rows::{self, print_format_of};
-use crate::commands::{check, explain, merge, replay};
+ghost use Rattle.std.specs.Prelude.{◌≡◌, ◌⊎◌, IfErr, IfOk, Some, map, option_map};
+ghost use Rattle.clap.specs.Words.{App, kind_of, subcommand_rows_of, with_subcommand};
+ghost use Rattle.clap.specs.declared.error.kind.ErrorKind.TheVariants as kind;
+ghost use Rattle.command_line.specs.Arguments.{AreTables, IsApp, Tables, program_app, top_app};
+ghost use Rattle.command_line.specs.Words.{AreRefused, AskFor, CallForHelp, IsAlone, Mean, asked, asked_of};
+ghost use Rattle.command_line.specs.declared.error.Error.TheVariants as error;
+
+use crate::arguments::{Building, command};
+use crate::commands::rows;
 use crate::error::Error;
-use crate::request::{Args, Request, Subcommand};
+use crate::matches::args_in;
+use crate::request::{Args, Request};
+use crate::subcommands::{
+    check_words, explain_words, explained, formats, levels, merge_words, replay_words, rows_words,
+};
 use clap::error::ErrorKind;
 use clap::{ArgMatches, Command};
 use oim_explain::Escaped;
-use oim_value::Level;
 use std::alloc::{AllocError, Global};
 use std::convert::AsStr;
 
@@ -15,9 +24,6 @@ const PROGRAM: &str = "xbrlmerge";
 // Between releases, this constant is the next version with `-dev`. `tests/gate/unit/test_version.py`
 // compares this version with the versions in other files.
 const VERSION: &str = "0.3.0-dev";
-
-/// The name of standard output after `--output`.
-const STANDARD_OUTPUT: &str = "-";
 
 const ABOUT: &str = "Merges xBRL-JSON reports, and finds where they contradict each other";
 
@@ -38,7 +44,10 @@ Status of each command; if several apply, the highest:
 /// Parses the arguments after the program's name.
 ///
 /// Errors: `Usage` if the arguments are not valid, and out of memory.
-pub(crate) fn read_words<W: AsStr>(alloc: Global, words: &[W]) -> Result<Args<'_>, Error<'_>> {
+pub(crate) fn read_words<W: AsStr>(alloc: Global, words: &[W]) -> Result<Args<'_>, Error<'_>>
+    ensures ok { IfOk result (Mean (map W.text words.entry.now)) }
+    ensures err { IfErr result (λ e. (e ≡ error.OutOfMemory) ⊎ AreRefused (map W.text words.entry.now)) }
+{
     if words.is_empty() {
         return Ok(alone(alloc, Request::Bundle));
     }
@@ -49,20 +58,31 @@ pub(crate) fn read_words<W: AsStr>(alloc: Global, words: &[W]) -> Result<Args<'_
                 Ok(alone(alloc, Request::Help(error)))
             }
             ErrorKind::OutOfMemory => Err(Error::OutOfMemory),
-            _ => Err(Error::from(error_shown(alloc, words, error)?)),
+            _ => Err(Error::from(error_shown(alloc, words)?)),
         },
     }
 }
 
 /// Returns the error for the escaped arguments, since clap prints arguments unescaped. If the
-/// escaped arguments are valid, `raw` is returned.
-fn error_shown<W: AsStr>(
-    alloc: Global,
-    words: &[W],
-    raw: clap::Error,
-) -> Result<clap::Error, AllocError> {
+/// escaped arguments are valid, the error for the arguments is returned.
+fn error_shown<W: AsStr>(alloc: Global, words: &[W]) -> Result<clap::Error, AllocError> {
     let escaped = escape_each(alloc, words)?;
-    Ok(parse(alloc, escaped.as_slice()).err().unwrap_or(raw))
+    match refusal(alloc, escaped.as_slice())? {
+        Some(error) => Ok(error),
+        None => match refusal(alloc, words)? {
+            Some(error) => Ok(error),
+            None => missing_command(alloc),
+        },
+    }
+}
+
+/// Returns why clap refuses the arguments, with the options that need another one.
+fn refusal<W: AsStr>(alloc: Global, words: &[W]) -> Result<Option<clap::Error>, AllocError> {
+    match program(alloc, true)?.try_get_matches_from(words) {
+        Ok(matches) if matches.subcommand().is_none() => Ok(Some(missing_command(alloc)?)),
+        Ok(_) => Ok(None),
+        Err(error) => Ok(Some(error)),
+    }
 }
 
 fn escape_each<W: AsStr>(alloc: Global, words: &[W]) -> Result<Vec<String>, AllocError> {
@@ -74,7 +94,9 @@ fn escape_each<W: AsStr>(alloc: Global, words: &[W]) -> Result<Vec<String>, Allo
     Ok(escaped)
 }
 
-fn alone(alloc: Global, request: Request<'_>) -> Args<'_> {
+fn alone(alloc: Global, request: Request<'_>) -> Args<'_>
+    ensures { IsAlone request.entry result }
+{
     Args {
         request,
         words: Vec::new(alloc),
@@ -87,77 +109,63 @@ fn alone(alloc: Global, request: Request<'_>) -> Args<'_> {
     }
 }
 
-fn parse<W: AsStr>(alloc: Global, words: &[W]) -> Result<Args<'_>, clap::Error> {
-    let matches = program(alloc)?.try_get_matches_from(words)?;
+fn parse<W: AsStr>(alloc: Global, words: &[W]) -> Result<Args<'_>, clap::Error>
+    ensures ok { IfOk result (AskFor (map W.text words.entry.now)) }
+    ensures err { IfErr result (λ e. (kind_of e ≡ kind.OutOfMemory) ⊎ AreRefused (map W.text words.entry.now)) }
+    ensures help { IfErr result (λ e. (kind_of e ≡ kind.DisplayHelp) ⊎ (kind_of e ≡ kind.DisplayVersion) → CallForHelp (map W.text words.entry.now)) }
+{
+    let matches = program(alloc, false)?.try_get_matches_from(words)?;
     match args_of(alloc, &matches)? {
         Some(args) => Ok(args),
         None => Err(missing_command(alloc)?),
     }
 }
 
-fn missing_command(alloc: Global) -> Result<clap::Error, AllocError> {
-    program(alloc)?.error(ErrorKind::MissingSubcommand, "a command is missing")
+fn missing_command(alloc: Global) -> Result<clap::Error, AllocError>
+    ensures { IfOk result (λ e. kind_of e ≡ kind.MissingSubcommand) }
+{
+    program(alloc, true)?.error(ErrorKind::MissingSubcommand, "a command is missing")
 }
 
-fn args_of<'w>(alloc: Global, matches: &ArgMatches<'w>) -> Result<Option<Args<'w>>, AllocError> {
-    let Some((name, matches)) = matches.subcommand() else {
-        return Ok(None);
-    };
-    let Some(request) = request_of(name, matches) else {
-        return Ok(None);
-    };
-    Ok(Some(Args {
-        request,
-        words: Vec::from_slice(alloc, matches.get_strs(REPORT).unwrap_or(&[]))?,
-        list: matches.get_str(LIST),
-        end: if matches.get_flag(NULL) { '\0' } else { '\n' },
-        output: output_of(matches),
-        most: matches.get_one(MOST),
-        is_quiet: matches.get_flag(QUIET),
-        is_verbose: matches.get_flag(VERBOSE),
-    }))
-}
-
-fn output_of<'w>(matches: &ArgMatches<'w>) -> Option<&'w str> {
-    match matches.get_str(OUTPUT) {
-        Some(STANDARD_OUTPUT) => None,
-        output => output,
+fn args_of<'w>(alloc: Global, matches: &ArgMatches<'w>) -> Result<Option<Args<'w>>, AllocError>
+    ensures { IfOk result (λ o. option_map asked_of o ≡ option_map Some (asked (subcommand_rows_of matches.now))) }
+{
+    match matches.subcommand() {
+        Some((name, inner)) => args_in(alloc, name, inner),
+        None => Ok(None),
     }
 }
 
-fn request_of<'w>(name: &str, matches: &ArgMatches<'w>) -> Option<Request<'w>> {
-    let sheet = matches.get_str(SHEET)?;
-    let subcommand = match name {
-        merge::NAME => Subcommand::Merge(matches.get_str(merge::ALLOW).and_then(Level::read)?),
-        rows::VERDICTS => Subcommand::Verdicts(print_format_of(matches)?),
-        rows::SOURCES => Subcommand::Sources(print_format_of(matches)?),
-        check::NAME => Subcommand::Check(matches.get_str(REPORT)?),
-        explain::NAME => return Some(Request::Explain(sheet, explain::format_of(matches))),
-        replay::NAME => {
-            let replicas = matches.get_one(replay::REPLICAS)?;
-            Subcommand::Replay(replicas, matches.get_str(replay::EVENTS)?)
-        }
-        _ => return None,
-    };
-    Some(Request::Under(sheet, subcommand))
+// The help lists the commands in this order.
+fn program<'w>(alloc: Global, is_strict: bool) -> Building<'w>
+    ensures { IfOk result (λ c. (t : Tables) × AreTables t × IsApp (program_app is_strict t) c) }
+{
+    let (levels, formats, explained) = (levels(), formats(), explained());
+    let verdicts = command(alloc, "verdicts", rows::VERDICTS_ABOUT, rows::VERDICTS_MORE);
+    let sources = command(alloc, "sources", rows::SOURCES_ABOUT, rows::SOURCES_MORE);
+    let program = with_command(top(alloc), merge_words(alloc, levels, is_strict));
+    let program = with_command(program, rows_words(alloc, verdicts, formats, is_strict));
+    let program = with_command(program, rows_words(alloc, sources, formats, is_strict));
+    let program = with_command(program, check_words(alloc));
+    let program = with_command(program, explain_words(alloc, explained, is_strict));
+    with_command(program, replay_words(alloc, is_strict))
 }
 
-// The help lists the commands in this order.
-fn program<'w>(alloc: Global) -> Building<'w> {
-    let program = Command::new(alloc, PROGRAM)
+fn top<'w>(alloc: Global) -> Building<'w>
+    ensures { IfOk result (IsApp top_app) }
+{
+    Command::new(alloc, PROGRAM)
         .no_binary_name(true)
         .version(VERSION)
         .about(ABOUT)
         .after_help(MORE)
-        .bin_name(PROGRAM);
-    let program = with_command(program, merge::words(alloc));
-    let program = with_command(program, rows::verdicts_words(alloc));
-    let program = with_command(program, rows::sources_words(alloc));
-    let program = with_command(program, check::words(alloc));
-    let program = with_command(program, explain::words(alloc));
-    with_command(program, replay::words(alloc))
+        .bin_name(PROGRAM)
 }
 
-fn with_command<'w>(program: Building<'w>, command: Building<'w>) -> Building<'w> {
+/// Adds a subcommand.
+fn with_command<'w>(program: Building<'w>, command: Building<'w>) -> Building<'w>
+    ensures { (a s : App) → IfOk program.entry (IsApp a) → IfOk command.entry (IsApp s)
+        → IfOk result (IsApp (with_subcommand a s.top)) }
+{
     program?.subcommand(command?)
 }

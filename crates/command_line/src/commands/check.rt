@@ -6,12 +6,10 @@ ghost use Rattle.command_line.specs.Outputs.{Checks, accepted_line};
 ghost use Rattle.command_line.specs.Runs.{CommandEnds};
 ghost use Rattle.command_line.specs.declared.request.Subcommand.TheVariants.{Check};
 
-use crate::arguments::{Building, REPORT, command, with, with_output};
 use crate::commands::put_text;
 use crate::error::Error;
 use crate::folder::Folder;
 use crate::inputs::Inputs;
-use clap::Arg;
 use oim_merge::{Checked, Refusals, check_report};
 use oim_names::Reason;
 use oim_report::{Refusal, Sheet};
@@ -19,11 +17,9 @@ use oim_write::Sink;
 use std::alloc::{AllocError, Global};
 use std::io::Write;
 
-pub(crate) const NAME: &str = "check";
+pub(crate) const ABOUT: &str = "Counts the facts of one report and classifies its duplicates";
 
-const ABOUT: &str = "Counts the facts of one report and classifies its duplicates";
-
-const MORE: &str = "The line of an accepted report is one of
+pub(crate) const MORE: &str = "The line of an accepted report is one of
 
   accepted FACTS LEVEL canonical
   accepted FACTS LEVEL other
@@ -47,15 +43,6 @@ Status:
   1  it is refused, and standard error shows why and where; `explain` describes its faults
   3  not checked: invalid arguments, a refused sheet, a file or device that failed, or out of
      memory";
-
-/// Returns the arguments of this command, with its help.
-pub(crate) fn words<'w>(alloc: Global) -> Building<'w> {
-    let report = Arg::new(alloc, REPORT)
-        .required(true)
-        .help("The report file");
-    let command = with_output(alloc, command(alloc, NAME, ABOUT, MORE));
-    with(command, report)
-}
 
 /// Reads the report with this name and writes a line to `out` if the report is accepted. A refusal
 /// is returned with the report number 1.

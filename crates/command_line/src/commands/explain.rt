@@ -3,30 +3,19 @@ ghost use Rattle.oim_write.specs.BoundedSink.{bounded_failures};
 ghost use Rattle.command_line.specs.Faults.{IsNotLoose};
 ghost use Rattle.command_line.specs.Runs.{ExplainEnds};
 
-use crate::arguments::{Building, FORMAT, command, option, with, with_reports};
 use crate::commands::put_text;
 use crate::error::{Error, Success};
 use crate::folder::Folder;
 use crate::inputs::{Inputs, sheet_of};
-use clap::ArgMatches;
-use clap::builder::ValueParser;
 use oim_explain::{Explained, Format, Input, SheetNames, explain, explain_repeated, explain_sheet};
 use oim_report::Sheet;
 use oim_write::{BoundedSink, Sink};
 use std::alloc::{AllocError, Global};
 use std::io::Write;
 
-pub(crate) const NAME: &str = "explain";
+pub(crate) const ABOUT: &str = "Explains what is wrong with reports, in plain words";
 
-const JSON: &str = "json";
-
-const TEXT: &str = "text";
-
-static FORMATS: [&str; 2] = [TEXT, JSON];
-
-const ABOUT: &str = "Explains what is wrong with reports, in plain words";
-
-const MORE: &str =
+pub(crate) const MORE: &str =
     "Each line for a fault contains the file, the fact if the fault is in a fact, the number and the
 name of the refusal, and what is wrong, usually with the text at fault. At most 80 characters of an
 identifier or a text are shown.
@@ -68,21 +57,6 @@ Status:
   1  a report has a fault, or the sheet has a repeated member
   3  not every report was read: invalid arguments, a refused sheet, a file or device that failed,
      or out of memory";
-
-/// Returns the arguments of this command, with its help.
-pub(crate) fn words<'w>(alloc: Global) -> Building<'w> {
-    let format = option(alloc, FORMAT, "FORMAT", "The output format")
-        .value_parser(ValueParser::Names(FORMATS.as_slice()))
-        .default_value(TEXT);
-    with_reports(alloc, with(command(alloc, NAME, ABOUT, MORE), format))
-}
-
-pub(crate) fn format_of(found: &ArgMatches<'_>) -> Format {
-    match found.get_str(FORMAT) {
-        Some(JSON) => Format::Json,
-        _ => Format::Text,
-    }
-}
 
 /// Reads the sheet and the reports, one after another, and writes a line for each fault to `out`.
 /// Repeated members count as faults. In the format `Text`, a line with the counts follows. Returns

@@ -1,16 +1,6 @@
-use crate::arguments::{Building, command, option, with, with_reports};
-use clap::builder::ValueParser;
-use std::alloc::Global;
+pub(crate) const ABOUT: &str = "Writes one canonical report with the facts of all reports";
 
-pub(crate) const NAME: &str = "merge";
-
-pub(crate) const ALLOW: &str = "allow";
-
-static LEVELS: [&str; 4] = ["none", "complete", "consistent", "all"];
-
-const ABOUT: &str = "Writes one canonical report with the facts of all reports";
-
-const MORE: &str =
+pub(crate) const MORE: &str =
     "Equal facts become one, even if several reports contain them. The output does not depend on the
 order of the reports or on how often a report is named. A report with a fault is skipped as a whole.
 
@@ -32,16 +22,3 @@ Status:
      such row, as `verdicts` counts rows
   3  not done, or not completed: invalid arguments, a refused sheet, a file or device that
      failed, or out of memory";
-
-/// Returns the arguments of this command, with its help.
-pub(crate) fn words<'w>(alloc: Global) -> Building<'w> {
-    let allow = option(
-        alloc,
-        ALLOW,
-        "LEVEL",
-        "The loosest level that a row may have",
-    )
-    .value_parser(ValueParser::Names(LEVELS.as_slice()))
-    .default_value("all");
-    with_reports(alloc, with(command(alloc, NAME, ABOUT, MORE), allow))
-}

@@ -7,12 +7,10 @@ ghost use Rattle.command_line.specs.Reading.{WithRead};
 ghost use Rattle.command_line.specs.Runs.{CommandEnds};
 ghost use Rattle.command_line.specs.declared.request.Subcommand.TheVariants.{Replay};
 
-use crate::arguments::{Building, command, option, with, with_reports};
 use crate::commands::put_text;
 use crate::error::Error;
 use crate::folder::Folder;
 use crate::inputs::Inputs;
-use clap::builder::ValueParser;
 use fact_base::Base;
 use oim_merge::{Events, Refusals, Replayed, read_events, replay};
 use oim_report::Sheet;
@@ -20,17 +18,9 @@ use oim_write::{Sink, write_to};
 use std::alloc::Global;
 use std::io::Write;
 
-pub(crate) const NAME: &str = "replay";
+pub(crate) const ABOUT: &str = "Runs a schedule on replicas that exchange merged reports";
 
-pub(crate) const REPLICAS: &str = "replicas";
-
-pub(crate) const EVENTS: &str = "events";
-
-const MOST_REPLICAS: i64 = 64;
-
-const ABOUT: &str = "Runs a schedule on replicas that exchange merged reports";
-
-const MORE: &str =
+pub(crate) const MORE: &str =
     "A replica is like an office: it merges the reports that reach it, and sends its merged report to
 others. Each of the N replicas begins empty. EVENTS contains one event per line. Replicas, reports
 and messages are counted from 1.
@@ -57,17 +47,6 @@ Status:
   3  not done, or not completed: invalid arguments, a refused sheet, a line of EVENTS that is not
      an event or names something that does not exist, a file or device that failed, or out of
      memory";
-
-/// Returns the arguments of this command, with its help.
-pub(crate) fn words<'w>(alloc: Global) -> Building<'w> {
-    let replicas = option(alloc, REPLICAS, "N", "The number of replicas, from 1 to 64")
-        .required(true)
-        .value_parser(ValueParser::Signed(1, MOST_REPLICAS));
-    let help = "The file of the schedule, with one event per line";
-    let events = option(alloc, EVENTS, "EVENTS", help).required(true);
-    let command = with(command(alloc, NAME, ABOUT, MORE), replicas);
-    with_reports(alloc, with(command, events))
-}
 
 /// Reads the schedule and the reports, runs the schedule on the replicas and writes the text of
 /// each replica to `out`. Returns the refused takes with the numbers of their reports, from 1.

@@ -4,11 +4,8 @@ ghost use Rattle.command_line.specs.Endings.{Ends, Never};
 ghost use Rattle.command_line.specs.Outputs.{AreSources, AreVerdicts};
 ghost use Rattle.command_line.specs.declared.print_format.PrintFormat.TheVariants.{Rows};
 
-use crate::arguments::{Building, FORMAT, command, flag, option, with, with_flag_of, with_reports};
 use crate::error::Error;
 use crate::print_format::PrintFormat;
-use clap::ArgMatches;
-use clap::builder::ValueParser;
 use oim_merge::{Consolidation, Merged, Refusals, SourceLines, TracedMerge, write_verdicts};
 use oim_write::{BoundedSink, Sink};
 use row_formats::{RowFormat, SourceRows, has_long_row};
@@ -17,18 +14,10 @@ use std::mem;
 
 // The commands that print rows.
 
-pub(crate) const VERDICTS: &str = "verdicts";
+pub(crate) const VERDICTS_ABOUT: &str =
+    "Prints a verdict for each set of facts with the same dimensions";
 
-pub(crate) const SOURCES: &str = "sources";
-
-/// The option for CSV that a spreadsheet reads as UTF-8 and without formulas.
-const SPREADSHEET: &str = "spreadsheet";
-
-static FORMATS: [&str; 3] = ["lines", "json", "csv"];
-
-const VERDICTS_ABOUT: &str = "Prints a verdict for each set of facts with the same dimensions";
-
-const VERDICTS_MORE: &str =
+pub(crate) const VERDICTS_MORE: &str =
     "Each line describes a row: all facts with the same dimensions in the output of `merge`. It shows
 whether they agree exactly, agree within rounding, or contradict each other, with the evidence.
 
@@ -60,9 +49,10 @@ Status:
   3  not done, or not completed: invalid arguments, a refused sheet, a file or device that
      failed, or out of memory";
 
-const SOURCES_ABOUT: &str = "Lists the reports that contain each fact, and its identifiers there";
+pub(crate) const SOURCES_ABOUT: &str =
+    "Lists the reports that contain each fact, and its identifiers there";
 
-const SOURCES_MORE: &str =
+pub(crate) const SOURCES_MORE: &str =
     "A merged report contains each fact once, under a new identifier, even if several reports contain
 it. Each line names one report that contains a fact:
 
@@ -92,38 +82,6 @@ Status:
   1  a report was refused, and standard error has its line, as for `merge`; the others were read
   3  not done, or not completed: invalid arguments, a refused sheet, a file or device that
      failed, or out of memory";
-
-pub(crate) fn verdicts_words<'w>(alloc: Global) -> Building<'w> {
-    with_format(
-        alloc,
-        command(alloc, VERDICTS, VERDICTS_ABOUT, VERDICTS_MORE),
-    )
-}
-
-pub(crate) fn sources_words<'w>(alloc: Global) -> Building<'w> {
-    with_format(alloc, command(alloc, SOURCES, SOURCES_ABOUT, SOURCES_MORE))
-}
-
-/// Adds the options for the format, and the arguments for reports.
-fn with_format<'w>(alloc: Global, command: Building<'w>) -> Building<'w> {
-    let format = option(alloc, FORMAT, "FORMAT", "The output format")
-        .value_parser(ValueParser::Names(FORMATS.as_slice()))
-        .default_value("lines");
-    let help = "Write CSV with a byte order mark, and with a ' before all that may be a formula";
-    let spreadsheet = flag(alloc, SPREADSHEET, help);
-    let command = with_flag_of(with(command, format), spreadsheet, FORMAT);
-    with_reports(alloc, command)
-}
-
-pub(crate) fn print_format_of(found: &ArgMatches<'_>) -> Option<PrintFormat> {
-    match (found.get_str(FORMAT)?, found.get_flag(SPREADSHEET)) {
-        ("lines", _) => Some(PrintFormat::Lines),
-        ("json", _) => Some(PrintFormat::Rows(RowFormat::Json)),
-        ("csv", false) => Some(PrintFormat::Rows(RowFormat::Csv)),
-        ("csv", true) => Some(PrintFormat::Rows(RowFormat::SpreadsheetCsv)),
-        _ => None,
-    }
-}
 
 /// Writes the verdicts to `out`, and returns the refusals.
 pub(crate) fn put_verdicts<'n, S: Sink>(

@@ -1,0 +1,102 @@
+-- Words and the commands that they ask for (own).
+use Rattle.std.specs.Prelude.{◌≡◌, ◌≢◌, ◌<◌, ◌^◌, ◌++◌, List, [], ◌∷◌, Option, Some, None, codes, false, length, ⊤, true}
+use Rattle.clap.specs.Words.{Text}
+use Rattle.oim_value.specs.Level.{level_entry}
+use Rattle.oim_value.specs.declared.level.Level.{Level}
+use Rattle.oim_value.specs.declared.level.Level.TheVariants.{All}
+use Rattle.oim_explain.specs.declared.lines.Format.{Format}
+use Rattle.oim_explain.specs.declared.lines.Format.TheVariants as explained
+use Rattle.row_formats.specs.declared.row_format.RowFormat.TheVariants as rows
+use Rattle.command_line.specs.declared.print_format.PrintFormat.{PrintFormat}
+use Rattle.command_line.specs.declared.print_format.PrintFormat.TheVariants as printed
+use Rattle.command_line.specs.Arguments.{AreTables, Tables}
+use Rattle.command_line.specs.Words.{Asked, Work, asked_with, check, explain, merge, replay, sources, verdicts}
+
+-- the word is empty, or does not begin with a hyphen
+abbrev pub IsName : Text → Type 0
+IsName [] = ⊤
+IsName (x ∷ xs) = x ≢ 45
+
+abbrev pub AreNames : List Text → Type 0
+AreNames [] = ⊤
+AreNames (x ∷ xs) = IsName x × AreNames xs
+
+-- one name or more
+abbrev pub AreReports : List Text → Type 0
+AreReports [] = ⊥
+AreReports (x ∷ xs) = AreNames (x ∷ xs) × (length (x ∷ xs) < 2 ^ 64)
+
+-- the words ask for this
+abbrev pub Ask : List Text → Asked → Type 0
+Ask words a = (t : Tables) → AreTables t → asked_with t words ≡ Some a
+
+-- a command with no further options
+abbrev pub plainly : Text → Work → List Text → Asked
+plainly sheet work names = record {
+  sheet = sheet;
+  work = work;
+  names = names;
+  list = None;
+  end = 10;
+  output = None;
+  most = None;
+  is_quiet = false;
+  is_verbose = false;
+}
+
+-- `NAME --sheet SHEET OPTIONS.. REPORTS..` is this work on these reports, in this order
+abbrev pub AsksFor : Text → List Text → Work → Type 0
+AsksFor name options work = (sheet : Text) (reports : List Text) → IsName sheet → AreReports reports
+    → Ask (name ∷ codes "--sheet" ∷ sheet ∷ options ++ reports) (plainly sheet work reports)
+
+-- without `--allow`, any level is allowed
+abbrev pub MergeWords : Type 0
+MergeWords = AsksFor (codes "merge") [] (merge All)
+
+abbrev pub AllowWords : Type 0
+AllowWords = (level : Level) → AsksFor (codes "merge") (codes "--allow" ∷ (level_entry level).text ∷ []) (merge level)
+
+abbrev pub format_words : PrintFormat → List Text
+format_words printed.Lines = []
+format_words (printed.Rows rows.Json) = codes "--format" ∷ codes "json" ∷ []
+format_words (printed.Rows rows.Csv) = codes "--format" ∷ codes "csv" ∷ []
+format_words (printed.Rows rows.SpreadsheetCsv) = codes "--format" ∷ codes "csv" ∷ codes "--spreadsheet" ∷ []
+
+abbrev pub VerdictsWords : Type 0
+VerdictsWords = (format : PrintFormat) → AsksFor (codes "verdicts") (format_words format) (verdicts format)
+
+abbrev pub SourcesWords : Type 0
+SourcesWords = (format : PrintFormat) → AsksFor (codes "sources") (format_words format) (sources format)
+
+abbrev pub explained_words : Format → List Text
+explained_words explained.Text = []
+explained_words explained.Json = codes "--format" ∷ codes "json" ∷ []
+
+abbrev pub ExplainWords : Type 0
+ExplainWords = (format : Format) → AsksFor (codes "explain") (explained_words format) (explain format)
+
+abbrev pub ReplayWords : Type 0
+ReplayWords = (events : Text) → IsName events
+    → AsksFor (codes "replay") (codes "--replicas" ∷ codes "2" ∷ codes "--events" ∷ events ∷ []) (replay 2 events)
+
+abbrev pub CheckWords : Type 0
+CheckWords = (sheet report : Text) → IsName sheet → IsName report
+    → Ask (codes "check" ∷ codes "--sheet" ∷ sheet ∷ report ∷ []) (plainly sheet (check report) (report ∷ []))
+
+abbrev pub with_all_options : Text → Text → Option Text → List Text → Asked
+with_all_options sheet list output reports = record {
+  sheet = sheet;
+  work = merge All;
+  names = reports;
+  list = Some list;
+  end = 0;
+  output = output;
+  most = Some 1000;
+  is_quiet = true;
+  is_verbose = true;
+}
+
+abbrev pub OptionsWords : Type 0
+OptionsWords = (sheet list output : Text) (reports : List Text) → IsName sheet → IsName list → IsName output → AreReports reports
+    → Ask (codes "merge" ∷ codes "--sheet" ∷ sheet ∷ codes "--reports-from" ∷ list ∷ codes "--null" ∷ codes "--output" ∷ output
+    ∷ codes "--most-output" ∷ codes "1000" ∷ codes "--quiet" ∷ codes "--verbose" ∷ reports) (with_all_options sheet list (Some output) reports)

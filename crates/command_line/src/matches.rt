@@ -1,0 +1,201 @@
+//! Requests from what clap found among the words.
+ghost use Rattle.std.specs.Prelude.{◌≡◌, [], IfOk, Some, codes, if◌then◌else◌, map, option_and_then, option_map, unwrap_or};
+ghost use Rattle.clap.specs.Walk.{all_of, first_of};
+ghost use Rattle.clap.specs.Words.{found_of, rows_of};
+ghost use Rattle.oim_value.specs.Level.{level_with};
+ghost use Rattle.command_line.specs.Words.{asked_by, asked_of, explained_asked, format_asked, format_named, is_from_words, is_set, lacks, number_at, output_named, request_asked, source_of, subcommand_asked, work_in, work_of};
+
+use crate::print_format::PrintFormat;
+use crate::request::{Args, Request, Subcommand};
+use clap::ArgMatches;
+use clap::parser::ValueSource;
+use oim_explain::Format;
+use oim_value::Level;
+use row_formats::RowFormat;
+use std::alloc::{AllocError, Global};
+
+/// Returns the arguments of the command with this name, or None if an option lacks another one that
+/// it needs.
+pub(crate) fn args_in<'w>(
+    alloc: Global,
+    name: &str,
+    matches: &ArgMatches<'w>,
+) -> Result<Option<Args<'w>>, AllocError>
+    ensures { IfOk result (λ o. option_map asked_of o ≡ option_map Some (asked_by name.now (rows_of (found_of matches.now)))) }
+{
+    if lacks(matches, "null", "reports-from") || lacks(matches, "spreadsheet", "format") {
+        return Ok(None);
+    }
+    let Some(request) = request_in(name, matches) else {
+        return Ok(None);
+    };
+    let words = names_in(alloc, matches)?;
+    Ok(Some(Args {
+        request,
+        words,
+        list: text_in(matches, "reports-from"),
+        end: end_in(matches),
+        output: output_in(matches),
+        most: number_in(matches, "most-output"),
+        is_quiet: flag_in(matches, "quiet"),
+        is_verbose: flag_in(matches, "verbose"),
+    }))
+}
+
+fn request_in<'w>(name: &str, matches: &ArgMatches<'w>) -> Option<Request<'w>>
+    ensures { option_map work_in result ≡ option_map Some (request_asked name.now (rows_of (found_of matches.now))) }
+{
+    let Some(sheet) = text_in(matches, "sheet") else {
+        return None;
+    };
+    if name == "explain" {
+        return Some(Request::Explain(sheet, explained_in(matches)));
+    }
+    match subcommand_in(name, matches) {
+        Some(subcommand) => Some(Request::Under(sheet, subcommand)),
+        None => None,
+    }
+}
+
+fn subcommand_in<'w>(name: &str, matches: &ArgMatches<'w>) -> Option<Subcommand<'w>>
+    ensures { option_map work_of result ≡ subcommand_asked name.now (rows_of (found_of matches.now)) }
+{
+    if name == "merge" {
+        Some(Subcommand::Merge(level_in(matches)?))
+    } else if name == "verdicts" {
+        Some(Subcommand::Verdicts(format_in(matches)?))
+    } else if name == "sources" {
+        Some(Subcommand::Sources(format_in(matches)?))
+    } else if name == "check" {
+        Some(Subcommand::Check(text_in(matches, "REPORT")?))
+    } else if name == "replay" {
+        let replicas = count_in(matches, "replicas")?;
+        Some(Subcommand::Replay(replicas, text_in(matches, "events")?))
+    } else {
+        None
+    }
+}
+
+fn level_in(matches: &ArgMatches<'_>) -> Option<Level>
+    ensures { result ≡ option_and_then level_with (first_of (codes "allow") (rows_of (found_of matches.now))) }
+{
+    match text_in(matches, "allow") {
+        Some(text) => Level::read(text),
+        None => None,
+    }
+}
+
+fn format_in(matches: &ArgMatches<'_>) -> Option<PrintFormat>
+    ensures { result ≡ format_asked (rows_of (found_of matches.now)) }
+{
+    let for_spreadsheet = flag_in(matches, "spreadsheet");
+    match text_in(matches, "format") {
+        Some(text) => read_format(text, for_spreadsheet),
+        None => None,
+    }
+}
+
+fn read_format(text: &str, for_spreadsheet: bool) -> Option<PrintFormat>
+    ensures { result ≡ format_named for_spreadsheet text.now }
+{
+    if text == "lines" {
+        Some(PrintFormat::Lines)
+    } else if text == "json" {
+        Some(PrintFormat::Rows(RowFormat::Json))
+    } else if text == "csv" && for_spreadsheet {
+        Some(PrintFormat::Rows(RowFormat::SpreadsheetCsv))
+    } else if text == "csv" {
+        Some(PrintFormat::Rows(RowFormat::Csv))
+    } else {
+        None
+    }
+}
+
+fn explained_in(matches: &ArgMatches<'_>) -> Format
+    ensures { result ≡ explained_asked (rows_of (found_of matches.now)) }
+{
+    match text_in(matches, "format") {
+        Some(text) if text == "json" => Format::Json,
+        _ => Format::Text,
+    }
+}
+
+fn output_in<'w>(matches: &ArgMatches<'w>) -> Option<&'w str>
+    ensures { option_map (λ s. s.now) result ≡ option_and_then output_named (first_of (codes "output") (rows_of (found_of matches.now))) }
+{
+    match text_in(matches, "output") {
+        Some(text) if text == "-" => None,
+        output => output,
+    }
+}
+
+/// Returns the character after each name in the file of names.
+fn end_in(matches: &ArgMatches<'_>) -> char
+    ensures { result ≡ (if is_set (codes "null") (rows_of (found_of matches.now)) then 0 else 10) }
+{
+    if flag_in(matches, "null") { '\0' } else { '\n' }
+}
+
+/// True if the first option is there without the second one, which it needs.
+fn lacks(matches: &ArgMatches<'_>, flag: &str, option: &str) -> bool
+    ensures { result ≡ lacks flag.now option.now (rows_of (found_of matches.now)) }
+{
+    flag_in(matches, flag) && !is_from_words(matches, option)
+}
+
+fn is_from_words(matches: &ArgMatches<'_>, id: &str) -> bool
+    ensures { result ≡ is_from_words (source_of id.now (rows_of (found_of matches.now))) }
+{
+    match source_in(matches, id) {
+        Some(ValueSource::CommandLine) => true,
+        _ => false,
+    }
+}
+
+fn source_in(matches: &ArgMatches<'_>, id: &str) -> Option<ValueSource>
+    ensures { result ≡ source_of id.now (rows_of (found_of matches.now)) }
+{
+    matches.value_source(id)
+}
+
+fn flag_in(matches: &ArgMatches<'_>, id: &str) -> bool
+    ensures { result ≡ is_set id.now (rows_of (found_of matches.now)) }
+{
+    match text_in(matches, id) {
+        Some(text) => text == "true",
+        None => false,
+    }
+}
+
+fn number_in(matches: &ArgMatches<'_>, id: &str) -> Option<u64>
+    ensures { result ≡ number_at id.now (rows_of (found_of matches.now)) }
+{
+    match text_in(matches, id) {
+        Some(text) => text.parse::<u64>().ok(),
+        None => None,
+    }
+}
+
+fn count_in(matches: &ArgMatches<'_>, id: &str) -> Option<usize>
+    ensures { result ≡ number_at id.now (rows_of (found_of matches.now)) }
+{
+    match text_in(matches, id) {
+        Some(text) => text.parse::<usize>().ok(),
+        None => None,
+    }
+}
+
+fn text_in<'w>(matches: &ArgMatches<'w>, id: &str) -> Option<&'w str>
+    ensures { option_map (λ s. s.now) result ≡ first_of id.now (rows_of (found_of matches.now)) }
+{
+    matches.get_str(id)
+}
+
+fn names_in<'w>(alloc: Global, matches: &ArgMatches<'w>) -> Result<Vec<&'w str>, AllocError>
+    ensures { IfOk result (λ v. map (λ s. s.now) v.items ≡ unwrap_or (all_of (codes "REPORT") (rows_of (found_of matches.now))) []) }
+{
+    match matches.get_strs("REPORT") {
+        Some(reports) => Vec::from_slice(alloc, reports),
+        None => Ok(Vec::new(alloc)),
+    }
+}
