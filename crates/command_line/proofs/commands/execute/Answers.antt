@@ -1,12 +1,12 @@
-use Rattle.std.proofs.Common.{Err, subst, sym}
+use Rattle.std.proofs.Common.{Ok, Err, subst, sym}
 use Rattle.command_line.specs.Endings.{Never}
 use Rattle.command_line.specs.Faults.{error_of}
 use Rattle.command_line.specs.Runs.{CommandEnds, MergesBundle, RequestEnds, RequestGives, RequestIsLoose}
 use Rattle.command_line.specs.declared.error.Success.TheVariants.{Refusals}
 use Rattle.command_line.specs.declared.request.Request.TheVariants.{Bundle}
-use Rattle.command_line.proofs.Ends.{of_error, stops_whole}
-use Rattle.command_line.proofs.Faults.{bundle_stops}
-use Rattle.command_line.proofs.Requests.{under_stops}
+use Rattle.command_line.proofs.Ends.{of_error, prints_whole, stops_whole}
+use Rattle.command_line.proofs.Faults.{bundle_prints, bundle_stops}
+use Rattle.command_line.proofs.Requests.{under_prints, under_stops}
 use Rattle.command_line.proofs.commands.execute.Goals as goal
 
 pub returns-in_err-consolidate_bundle-in-Bundle-clause-ends : goal.returns-in_err-consolidate_bundle-in-Bundle-clause-ends
@@ -39,3 +39,32 @@ returns-in_err-execute_under-in-Under-clause-ends g c =
     of_error (RequestEnds gives bundle names c.args.request.now old new) c.from_residual-in_err-execute_under-in-Under.result e c.from_residual-in_err-execute_under-in-Under.ensures.1
     (subst (λ request. RequestEnds gives bundle names request old new (Err e)) (sym c.in-Under.is)
     (under_stops gives bundle names old new c.in-Under.sheet command read.0 sheet read.1 read.2 e stops))
+
+pub returns-in_ok-consolidate_bundle-in-Bundle-clause-ends : goal.returns-in_ok-consolidate_bundle-in-Bundle-clause-ends
+returns-in_ok-consolidate_bundle-in-Bundle-clause-ends g c =
+    let gives = g.F.Folder.gives c.args.inputs.now.files.now in
+    let bundle = c.args.inputs.now.bundle.now in
+    let names = c.args.inputs.now.names.now in
+    let old = g.S.Sink.told c.args.out.now.sink in
+    let new = g.S.Sink.told c.consolidate_bundle.new.out.sink in
+    let told = c.in_ok-consolidate_bundle-in-Bundle.field-0 in
+    subst (λ request. RequestEnds gives bundle names request old new (Ok (Refusals told))) (sym c.in-Bundle.is)
+    (prints_whole (MergesBundle bundle) (RequestGives gives bundle names Bundle) old new Refusals (λ text told is. is) told
+    (bundle_prints old new bundle told c.in_ok-consolidate_bundle-in-Bundle.ensures.ok))
+
+pub returns-in_ok-execute_under-in-Under-clause-ends : goal.returns-in_ok-execute_under-in-Under-clause-ends
+returns-in_ok-execute_under-in-Under-clause-ends g c =
+    let gives = g.F.Folder.gives c.args.inputs.now.files.now in
+    let bundle = c.args.inputs.now.bundle.now in
+    let names = c.args.inputs.now.names.now in
+    let old = g.S.Sink.told c.args.out.now.sink in
+    let new = g.S.Sink.told c.execute_under.new.out.sink in
+    let read = c.in_ok-sheet-in-Under.ensures.ok in
+    let sheet = c.in_ok-sheet-in-Under.sheet in
+    let command = c.in-Under.subcommand in
+    let later = c.read_sheet.new.self in
+    let told = c.in_ok-execute_under-in-Under.field-0 in
+    let prints = subst (λ files. CommandEnds (g.F.Folder.gives files.now) names sheet command old new (Ok told)) c.read_sheet.ensures.files
+    (subst (λ ns. CommandEnds (g.F.Folder.gives later.files.now) ns.now sheet command old new (Ok told)) c.read_sheet.ensures.names c.in_ok-execute_under-in-Under.ensures.ends) in
+    subst (λ request. RequestEnds gives bundle names request old new (Ok (Refusals told))) (sym c.in-Under.is)
+    (under_prints gives bundle names old new c.in-Under.sheet command read.0 sheet read.1 read.2 told prints)

@@ -2,7 +2,7 @@ use Rattle.std.proofs.Common.{subst, sym}
 use Rattle.command_line.specs.Endings.{Ends, Never, Stops}
 use Rattle.command_line.specs.Faults.{error_of}
 use Rattle.command_line.specs.Outputs.{AreSources}
-use Rattle.command_line.specs.declared.print_format.PrintFormat.TheVariants.{Lines}
+use Rattle.command_line.specs.declared.print_format.PrintFormat.TheVariants.{Lines, Rows}
 use Rattle.command_line.proofs.Ends.{of_error}
 use Rattle.command_line.proofs.Faults.{sources_stop}
 use Rattle.command_line.proofs.commands.rows.put_sources.Goals as goal
@@ -17,3 +17,15 @@ returns-in_err-finish-in-Lines g c =
     of_error (Ends (AreSources c.args.format names t) old new Never) c.from_residual.result (error_of f) c.from_residual.ensures.1
     (subst (λ format. Stops (AreSources format names t) old new Never (error_of f)) (sym c.in-Lines.is)
     (sources_stop old new Lines names t f c.in_err-finish-in-Lines.ensures.err))
+
+pub returns-in_err-finish-in-Rows : goal.returns-in_err-finish-in-Rows
+returns-in_err-finish-in-Rows g c =
+    let old = g.S.Sink.told c.args.out.now in
+    let new = g.S.Sink.told c.finish-in-Rows.new.out in
+    let names = c.args.files.now in
+    let t = c.args.merge in
+    let format = c.in-Rows.format in
+    let f = c.in_err-finish-in-Rows.field-0.0 in
+    of_error (Ends (AreSources c.args.format names t) old new Never) c.from_residual-in_err-finish-in-Rows.result (error_of f) c.from_residual-in_err-finish-in-Rows.ensures.1
+    (subst (λ format. Stops (AreSources format names t) old new Never (error_of f)) (sym c.in-Rows.is)
+    (sources_stop old new (Rows format) names t f c.in_err-finish-in-Rows.ensures.err))
