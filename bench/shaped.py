@@ -379,6 +379,14 @@ def faults_of_facts(n):
     return explaining(report(numbered(fact("1,5", concept=f"q{place}:N", unit=f"q{place}:u") for place in range(n))))
 
 
+def faults_of_names_of_a_long_uri(n, size=50_000):
+    """n refused facts, each with another concept; the concepts share a URI of about `size` bytes."""
+    a_sheet, a_report = long_uri(n, size)
+    refused = {identifier: {**one, "decimals": "x"} for identifier, one in a_report["facts"].items()}
+    words, files = merging(a_sheet, {**a_report, "facts": refused})
+    return ["explain", *words[1:]], files
+
+
 def faults_of_one_fact(n):
     return explaining(report(numbered([fact(**{f"eg:D{n - place:07}": 1 for place in range(n)}, unit="*".join(f"q{place}:u" for place in range(n)))])))
 
@@ -522,6 +530,7 @@ SHAPES = {
     sources_of_small_reports: 500,
     sources_of_one_file_named_often: 2_000,
     faults_of_facts: 5_000,
+    faults_of_names_of_a_long_uri: 500,
     faults_of_one_fact: 10_000,
     duplicates_that_are_denied: 5_000,
     repeated_members: 5_000,
@@ -549,6 +558,7 @@ MEGABYTES = {
     entities_of_a_long_uri: (5_200, 500_000),
     sources_of_members_of_a_long_uri: (5_200, 500_000),
     take_of_members_of_a_long_uri: (5_200, 500_000),
+    faults_of_names_of_a_long_uri: (3_400, 250_000),
     reports_sent_in_a_ring: (2_000,),
     reports_received_late: (2_000,),
 }
@@ -557,6 +567,7 @@ MEGABYTES = {
 COSTLY = {
     measures_in_no_order,
     references_beside_a_long_base,
+    faults_of_names_of_a_long_uri,
     joins_that_add_nothing,
     events_of_eight_replicas,
     reports_sent_in_a_ring,

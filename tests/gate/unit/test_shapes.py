@@ -37,7 +37,7 @@ class Megabytes(unittest.TestCase):
         self.assertEqual(self.costly({shaped.concepts: 100}, MEMORY), (["concepts"], "too much |"))
 
     def test_a_listed_shape_may_take_more(self):
-        self.assertEqual(self.costly({shaped.empty_keys_in_an_extension: 100}, MEMORY), ([], "too much, listed |"))
+        self.assertEqual(self.costly({shaped.references_beside_a_long_base: 100}, MEMORY), ([], "too much, listed |"))
 
     def test_a_run_that_ends_early_fails(self):
         self.assertEqual(self.costly({shaped.concepts: 100}, "raise SystemExit(3)"), (["concepts"], "ended early, too much |"))
