@@ -1,3 +1,4 @@
+-- Meeting is reflexive and symmetric.
 use Rattle.std.proofs.Common.{refl, sym}
 use Rattle.oim_value.specs.declared.value.Value.TheVariants.{Nil, Number, Text as AText, Name as AName}
 use Rattle.oim_value.specs.Interval.{interval}
