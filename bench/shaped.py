@@ -567,7 +567,6 @@ MEGABYTES = {
 COSTLY = {
     measures_in_no_order,
     references_beside_a_long_base,
-    faults_of_names_of_a_long_uri,
     joins_that_add_nothing,
     events_of_eight_replicas,
     reports_sent_in_a_ring,

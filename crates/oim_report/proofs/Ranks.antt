@@ -1,26 +1,27 @@
 -- The names of a sheet in ascending order, and their ranks.
-use Rattle.std.proofs.Common.{◌≡◌, inl, inr, ℕ, zero, suc, ◌<◌, ◌≤◌, ◌+◌, List, [], ◌∷◌, ◌++◌, Bool, true, false, cond, Some, None, option_map, String, string_bytes, length, get_or, slice_get, map, refl, sym, ap, subst, ◌∙◌, arith, ◌&&◌, T, Ordering, Less, Equal, Greater, string_cmp, append_assoc, append-nil, is_lt}
+use Rattle.std.proofs.Common.{◌≡◌, ◌≢◌, inl, inr, ℕ, zero, suc, ◌<◌, ◌≤◌, ◌+◌, ◌-◌, List, [], ◌∷◌, ◌++◌, Bool, true, false, cond, Some, None, option_map, unwrap_or, bytes_eq, String, string_bytes, length, get_or, slice_get, map, refl, sym, ap, subst, ◌∙◌, arith, ◌&&◌, T, Ordering, Less, Equal, Greater, string_cmp, append_assoc, append-nil, is_lt}
 use Rattle.std.specs.List.{AllByRecursion, AllWithin}
-use Rattle.std.specs.List.Sorted.{IsPartitionPoint, IsPartitionedBy, IsStrictlySortedBy}
+use Rattle.std.specs.List.Sorted.{IsStrictlySortedBy}
 use Rattle.std.specs.Map.{keys_of, values_of}
-use Rattle.std.specs.BTreeMap.{IsOrdered, values}
-use Rattle.std.specs.Ordering.{is_eq, is_le, nat_cmp, ordering_reverse, ordering_then}
-use Rattle.std.specs.Cmp.{alike_right, tied_itself, nat_cmp_total}
+use Rattle.std.specs.BTreeMap.{BTreeMap, IsEmpty, IsOrdered, Updates, get_by_text, values}
+use Rattle.std.specs.Ordering.{is_eq, nat_cmp, ordering_reverse, ordering_then}
+use Rattle.std.specs.Cmp.{tied_itself, nat_cmp_total}
 use Rattle.std.specs.Cmp.Lexicographic.{slice_cmp}
 use Rattle.std.specs.FinMap as map
 use Rattle.std.specs.FinMap.{FinMap, find, is_sorted, entries_sorted, entries-insert, len-entries, len-empty}
 use Rattle.std.specs.FinMap.Entries.{below_all, by_order, put}
-use Rattle.std.proofs.lemmas.Bool.{cases_lt, cases_order, cond_below, false≢true}
+use Rattle.std.proofs.lemmas.Bool.{cases_lt, cases_order, cond_below}
 use Rattle.std.proofs.lemmas.Cmp.{nat_list_cmp_total}
-use Rattle.std.proofs.lemmas.List.{get_or-map, length-map, map-append}
-use Rattle.std.proofs.lemmas.Map.Lookups.{exact_bytes}
+use Rattle.std.proofs.lemmas.List.{get_or_append_left, get_or-append_right, get_or-map, length-append, length-map, map-append}
 use Rattle.std.proofs.lemmas.Map.Keys.{sorted_head, sorted_tail, Less-from_sorted}
+use Rattle.std.proofs.lemmas.Map.Text.{btree_map_updates_text}
 use Rattle.std.proofs.lemmas.Option.{same_Some, slice_get-get_or, slice_get-map, slice_get_within, get_or_from_slice_get}
+use Rattle.oim_names.proofs.Bytes.{other_bytes, same_bytes}
 use Rattle.oim_names.specs.QName.{QName, exact_name, name_cmp}
 use Rattle.oim_dims.specs.declared.fact.Fact.{Fact}
-use Rattle.oim_report.specs.code.Groups.{grouped_entries}
-use Rattle.oim_report.specs.code.Ranks.{AreRanks, IsRank, IsSpan, OrderConcepts}
-use Rattle.oim_report.proofs.Grouped.{AreNamed, AreNamedGroups, Group, name}
+use Rattle.oim_report.specs.code.Groups.{IsGroup, grouped_entries}
+use Rattle.oim_report.specs.code.Ranks.{AreRanks, AreSpans, IsRank, IsSpan, OrderConcepts}
+use Rattle.oim_report.proofs.Grouped.{AreNamed, AreNamedGroups, Group, at_text, name}
 use Rattle.oim_report.proofs.SheetEntries.{name_total}
 
 -- ---- the names of all groups, one group after another, ascend
@@ -156,73 +157,114 @@ module _ {K : Type 0} where
 
 -- ---- the span of a namespace
 
-lower : (test : Ordering → Bool) → test Less ≡ true → test Greater ≡ false → (s t u : List ℕ) → slice_cmp nat_cmp s t ≡ Less → test (slice_cmp nat_cmp t u) ≡ true → test (slice_cmp nat_cmp s u) ≡ true
-lower test pass fails s t u less h =
-    elim (slice_cmp nat_cmp t u) as (λ r. slice_cmp nat_cmp t u ≡ r → test r ≡ true → test (slice_cmp nat_cmp s u) ≡ true) [
-      | Less ↦ λ below _. ap test (nat_list_cmp_total.trans s t u less below) ∙ pass
-      | Equal ↦ λ same _. ap test (sym (alike_right nat_list_cmp_total t u s same) ∙ less) ∙ pass
-      | Greater ↦ λ _ k. absurd (false≢true (sym fails ∙ k))
-    ] refl h
+within : {X : Type 0} (P : X → Type 0) (xs : List X) → AllByRecursion P xs → AllWithin P xs 0 (length xs)
+within P (x ∷ xs) h zero d low high = h.0
+within P (x ∷ xs) h (suc k) d low high = within P xs h.1 k d (omega arith) (omega (arith, high))
+within P [] h k d low high = absurd (omega (arith, high))
 
-lower_name : (test : Ordering → Bool) → test Less ≡ true → test Greater ≡ false → (p q : QName) (u : List ℕ) → name_cmp p q ≡ Less → test (slice_cmp nat_cmp q.uri u) ≡ true → test (slice_cmp nat_cmp p.uri u) ≡ true
-lower_name test pass fails p q u less h =
-    elim (slice_cmp nat_cmp p.uri q.uri) as (λ r. slice_cmp nat_cmp p.uri q.uri ≡ r → ordering_then r (slice_cmp nat_cmp p.local_part q.local_part) ≡ Less → test (slice_cmp nat_cmp p.uri u) ≡ true) [
-      | Less ↦ λ below _. lower test pass fails p.uri q.uri u below h
-      | Equal ↦ λ same _. ap test (nat_list_cmp_total.congr p.uri q.uri u same) ∙ h
-      | Greater ↦ λ _ k. absurd (Prim.cc)
-    ] refl less
+has_uri : {K Y : Type 0} (u : List ℕ) (es : List (String Y × (QName × K))) → AreNamed u es → AllByRecursion (λ n. n.0.uri ≡ u) (values_of es)
+has_uri u [] h = tt
+has_uri u (e ∷ es) h = (ap (λ q. q.uri) h.0, has_uri u es h.1)
 
-lt_is : (r : Ordering) → is_lt r ≡ true → r ≡ Less
-lt_is Less h = refl
-lt_is Equal h = absurd (false≢true h)
-lt_is Greater h = absurd (false≢true h)
+other_uri : {K Y : Type 0} (u v : List ℕ) (es : List (String Y × (QName × K))) → AreNamed u es → u ≢ v → AllByRecursion (λ n. n.0.uri ≢ v) (values_of es)
+other_uri u v [] h apart = tt
+other_uri u v (e ∷ es) h apart = (λ same. apart (sym (ap (λ q. q.uri) h.0) ∙ same), other_uri u v es h.1 apart)
 
-eq_is : (r : Ordering) → is_lt r ≡ false → is_le r ≡ true → r ≡ Equal
-eq_is Less h k = absurd (false≢true (sym h))
-eq_is Equal h k = refl
-eq_is Greater h k = absurd (false≢true k)
+pub middle_of : {X : Type 0} (P : X → Type 0) (xs ys : List X) (y : X) → AllByRecursion P (xs ++ y ∷ ys) → P y
+middle_of P [] ys y h = h.0
+middle_of P (x ∷ xs) ys y h = middle_of P xs ys y h.1
 
-gt_is : (r : Ordering) → is_le r ≡ false → r ≡ Greater
-gt_is Less h = absurd (false≢true (sym h))
-gt_is Equal h = absurd (false≢true (sym h))
-gt_is Greater h = refl
+less_apart : (s t : List ℕ) → slice_cmp nat_cmp s t ≡ Less → s ≢ t
+less_apart s t less same = let tied = sym less ∙ ap (λ v. slice_cmp nat_cmp v t) same ∙ tied_itself nat_list_cmp_total t in absurd (Prim.cc)
 
-module _ {K : Type 0} (es : List (QName × K)) (u : List ℕ) (rise : Rises es) where
-  abbrev pub passes : (Ordering → Bool) → QName × K → Bool
-  passes test e = test (slice_cmp nat_cmp e.0.uri u)
+module _ {K Y : Type 0} where
+  -- no group before has this group's URI
+  pub new_uri : (done rest : List (String Y × Group K Y)) (e : String Y × Group K Y) → IsStrictlySortedBy string_cmp (keys_of (done ++ e ∷ rest)) → AreNamedGroups (done ++ e ∷ rest) → AllByRecursion (λ n. n.0.uri ≢ string_bytes e.0) (grouped_entries done)
+  unfolding IsStrictlySortedBy
+  new_uri [] rest e rise named = tt
+  new_uri (f ∷ done) rest e rise named =
+      let keys : AllByRecursion (λ k. string_cmp f.0 k ≡ Less) (keys_of done ++ e.0 ∷ keys_of rest) = subst (AllByRecursion (λ k. string_cmp f.0 k ≡ Less)) (map-append (λ (g : String Y × Group K Y). g.0) done (e ∷ rest)) rise.0 in
+      let less = middle_of (λ k. string_cmp f.0 k ≡ Less) (keys_of done) (keys_of rest) e.0 keys in
+      all_append (λ n. n.0.uri ≢ string_bytes e.0) (values f.1) (grouped_entries done) (other_uri (string_bytes f.0) (string_bytes e.0) f.1.entries named.0 (less_apart (string_bytes f.0) (string_bytes e.0) less)) (new_uri done rest e rise.1 named.1)
 
-  pub parted : (test : Ordering → Bool) → test Less ≡ true → test Greater ≡ false → IsPartitionedBy (passes test) es
-  parted test pass fails i j d upto within h = elim (cases_order i j) [
-    | inl same ↦ subst (λ k. passes test (get_or es k d) ≡ true) (sym same) h
-    | inr (inl less) ↦ lower_name test pass fails (get_or es i d).0 (get_or es j d).0 u (names_rise es i j d rise less within) h
-    | inr (inr more) ↦ absurd (omega (arith, upto, more))
-  ]
+module _ {K : Type 0} (es vs : List (QName × K)) (u : List ℕ) where
+  left : (P : QName × K → Type 0) (low high : ℕ) → high ≤ length es → AllWithin P es low high → AllWithin P (es ++ vs) low high
+  left P low high upto h k d from before = subst P (sym (get_or_append_left es vs d k (omega (arith, before, upto)))) (h k d from before)
 
-  pub span_of : (first end : ℕ) → IsPartitionPoint (λ e. passes is_lt e ≡ true) (λ e. passes is_lt e ≡ false) es first → IsPartitionPoint (λ e. passes is_le e ≡ true) (λ e. passes is_le e ≡ false) es end → end ≤ length es → IsSpan es u (first, end)
-  span_of first end one two bound = record {
-    bound = bound;
-    before = λ k d low high. lt_is _ (one.0 k d low high);
-    here = λ k d low high. exact_bytes (get_or es k d).0.uri u (eq_is _ (one.1 k d low (omega (arith, high, bound))) (two.0 k d (omega arith) high));
-    behind = λ k d low high. gt_is _ (two.1 k d low high);
+  right : (P : QName × K → Type 0) → AllByRecursion P vs → AllWithin P (es ++ vs) (length es) (length (es ++ vs))
+  right P h k d from before =
+      let long : length (es ++ vs) ≡ length es + length vs = length-append es vs in
+      subst P (sym (get_or-append_right es vs (length es) k d refl from)) (within P vs h (k - length es) d (omega arith) (omega (arith, from, before, long)))
+
+  span_kept : (span : ℕ × ℕ) → IsSpan es u span → AllByRecursion (λ n. n.0.uri ≢ u) vs → IsSpan (es ++ vs) u span
+  span_kept span is others =
+      let long : length (es ++ vs) ≡ length es + length vs = length-append es vs in
+      record {
+        rises = is.rises;
+        bound = omega (arith, is.bound, long);
+        before = left (λ e. e.0.uri ≢ u) 0 span.0 (omega (arith, is.rises, is.bound)) is.before;
+        here = left (λ e. e.0.uri ≡ u) span.0 span.1 is.bound is.here;
+        behind = λ k d low high. elim (cases_lt k (length es)) [
+          | inl inside ↦ left (λ e. e.0.uri ≢ u) span.1 (length es) (omega arith) is.behind k d low inside
+          | inr outside ↦ right (λ e. e.0.uri ≢ u) others k d outside high
+        ];
+      }
+
+  span_new : AllByRecursion (λ n. n.0.uri ≢ u) es → AllByRecursion (λ n. n.0.uri ≡ u) vs → IsSpan (es ++ vs) u (length es, length (es ++ vs))
+  span_new others these = record {
+    rises = let long : length (es ++ vs) ≡ length es + length vs = length-append es vs in omega (arith, long);
+    bound = omega arith;
+    before = left (λ e. e.0.uri ≢ u) 0 (length es) (omega arith) (within (λ e. e.0.uri ≢ u) es others);
+    here = right (λ e. e.0.uri ≡ u) these;
+    behind = λ k d low high. absurd (omega (arith, low, high));
   }
 
+pub no_spans : {K Y : Type 0} (es : List (QName × K)) (m : BTreeMap (String Y) (ℕ × ℕ)) → es ≡ [] → IsEmpty m → AreSpans es m
+no_spans es m none empty u = subst (λ r. IsSpan es u (unwrap_or r (0, 0))) (sym (ap (at_text u) empty)) (record {
+  rises = omega arith;
+  bound = omega arith;
+  before = λ k d low high. absurd (omega (arith, high));
+  here = λ k d low high. absurd (omega (arith, high));
+  behind = λ k d low high. let long : length es ≡ 0 = ap length none in absurd (omega (arith, high, long));
+})
+
+-- the spans after one more group
+pub next_spans : {K Y : Type 0} (es : List (QName × K)) (m n : BTreeMap (String Y) (ℕ × ℕ)) (e : String Y × Group K Y) → AreSpans es m → AllByRecursion (λ q. q.0.uri ≢ string_bytes e.0) es → IsGroup (string_bytes e.0) e.1 → Updates string_cmp m n e.0 (Some (length es, length (es ++ values e.1))) → AreSpans (es ++ values e.1) n
+next_spans es m n e are others named new u =
+    let key = string_bytes e.0 in
+    let span : ℕ × ℕ = (length es, length (es ++ values e.1)) in
+    elim (bytes_eq key u) as (λ b. bytes_eq key u ≡ b → get_by_text n u ≡ cond b (Some span) (get_by_text m u) → IsSpan (es ++ values e.1) u (unwrap_or (get_by_text n u) (0, 0))) [
+      | true ↦ λ same is. subst (λ r. IsSpan (es ++ values e.1) u (unwrap_or r (0, 0))) (sym is) (subst (λ v. IsSpan (es ++ values e.1) v span) (same_bytes key u same) (span_new es (values e.1) key others (has_uri key e.1.entries named)))
+      | false ↦ λ other is. subst (λ r. IsSpan (es ++ values e.1) u (unwrap_or r (0, 0))) (sym is) (span_kept es (values e.1) u _ (are u) (other_uri key u e.1.entries named (other_bytes key u other)))
+    ] refl (btree_map_updates_text key m n (Some span) new u)
+
 -- ---- a search by halving
+
+below_apart : (p q : QName) → name_cmp p q ≡ Less → p ≢ q
+below_apart p q less same = let tied = sym less ∙ ap (λ n. name_cmp n q) same ∙ tied_itself name_total q in absurd (Prim.cc)
+
+not_tied : (q p : QName) → p ≢ q → is_eq (name_cmp q p) ≡ false
+not_tied q p apart = elim (name_cmp q p) as (λ r. name_cmp q p ≡ r → is_eq r ≡ false) [
+  | Less ↦ λ _. refl
+  | Equal ↦ λ same. absurd (apart (sym (exact_name q p same)))
+  | Greater ↦ λ _. refl
+] refl
 
 module _ {K : Type 0} (es : List (QName × K)) (q : QName) (span : ℕ × ℕ) where
   -- the name can only be between the two indices
   pub record IsSearched (low high : ℕ) : Type 0 where
     pub from : span.0 ≤ low
     pub upto : high ≤ span.1
-    pub below : AllWithin (λ e. name_cmp e.0 q ≡ Less) es 0 low
-    pub above : AllWithin (λ e. name_cmp e.0 q ≡ Greater) es high (length es)
+    pub below : AllWithin (λ e. e.0 ≢ q) es 0 low
+    pub above : AllWithin (λ e. e.0 ≢ q) es high (length es)
 
   module _ (is : IsSpan es q.uri span) where
     pub search_all : IsSearched span.0 span.1
     search_all = record {
       from = omega arith;
       upto = omega arith;
-      below = λ k d low high. ap (λ r. ordering_then r (slice_cmp nat_cmp (get_or es k d).0.local_part q.local_part)) (is.before k d low high);
-      above = λ k d low high. ap (λ r. ordering_then r (slice_cmp nat_cmp (get_or es k d).0.local_part q.local_part)) (is.behind k d low high);
+      below = λ k d low high same. is.before k d low high (ap (λ n. n.uri) same);
+      above = λ k d low high same. is.behind k d low high (ap (λ n. n.uri) same);
     }
 
     module _ (low high middle : ℕ) (e : QName × K) (s : IsSearched low high) (there : slice_get es middle ≡ Some e) (from : low ≤ middle) (upto : middle < high) where
@@ -246,10 +288,10 @@ module _ {K : Type 0} (es : List (QName × K)) (q : QName) (span : ℕ × ℕ) w
         go_up less = record {
           from = omega (arith, from, s.from);
           upto = s.upto;
-          below = λ k d low high. elim (cases_order k middle) [
-            | inl same ↦ subst (λ n. name_cmp (get_or es n d).0 q ≡ Less) (sym same) (ap (λ n. name_cmp n q) (is_it d) ∙ by_local ∙ less)
-            | inr (inl before) ↦ name_total.trans (get_or es k d).0 (get_or es middle d).0 q (names_rise es k middle d rise before in_list) (ap (λ n. name_cmp n q) (is_it d) ∙ by_local ∙ less)
-            | inr (inr behind) ↦ absurd (omega (arith, high, behind))
+          below = λ k d first last. elim (cases_order k middle) [
+            | inl same ↦ subst (λ n. (get_or es n d).0 ≢ q) (sym same) (below_apart (get_or es middle d).0 q (ap (λ n. name_cmp n q) (is_it d) ∙ by_local ∙ less))
+            | inr (inl before) ↦ below_apart (get_or es k d).0 q (name_total.trans (get_or es k d).0 (get_or es middle d).0 q (names_rise es k middle d rise before in_list) (ap (λ n. name_cmp n q) (is_it d) ∙ by_local ∙ less))
+            | inr (inr behind) ↦ absurd (omega (arith, last, behind))
           ];
           above = s.above;
         }
@@ -259,20 +301,20 @@ module _ {K : Type 0} (es : List (QName × K)) (q : QName) (span : ℕ × ℕ) w
           from = s.from;
           upto = omega (arith, upto, s.upto);
           below = s.below;
-          above = λ k d low high.
+          above = λ k d first last.
               let here : name_cmp q (get_or es middle d).0 ≡ Less = name_total.antisymm q (get_or es middle d).0 ∙ ap ordering_reverse (ap (λ n. name_cmp n q) (is_it d) ∙ by_local ∙ more) in
               let less : name_cmp q (get_or es k d).0 ≡ Less = elim (cases_order k middle) [
                 | inl same ↦ subst (λ n. name_cmp q (get_or es n d).0 ≡ Less) (sym same) here
-                | inr (inl before) ↦ absurd (omega (arith, low, before))
-                | inr (inr behind) ↦ name_total.trans q (get_or es middle d).0 (get_or es k d).0 here (names_rise es middle k d rise behind high)
+                | inr (inl before) ↦ absurd (omega (arith, first, before))
+                | inr (inr behind) ↦ name_total.trans q (get_or es middle d).0 (get_or es k d).0 here (names_rise es middle k d rise behind last)
               ] in
-              name_total.antisymm (get_or es k d).0 q ∙ ap ordering_reverse less;
+              λ same. below_apart q (get_or es k d).0 less (sym same);
         }
 
   pub search_none : (low high : ℕ) → IsSearched low high → high ≤ low → find name_cmp q es ≡ None
   search_none low high s met = missing q es (λ i d within. elim (cases_lt i low) [
-    | inl before ↦ ap is_eq (name_total.antisymm q (get_or es i d).0 ∙ ap ordering_reverse (s.below i d (omega arith) before))
-    | inr behind ↦ ap is_eq (name_total.antisymm q (get_or es i d).0 ∙ ap ordering_reverse (s.above i d (omega (arith, behind, met)) within))
+    | inl before ↦ not_tied q (get_or es i d).0 (s.below i d (omega arith) before)
+    | inr behind ↦ not_tied q (get_or es i d).0 (s.above i d (omega (arith, behind, met)) within)
   ])
 
 module _ {K : Type 0} (m : FinMap name_cmp K) where

@@ -1,12 +1,11 @@
 -- The ranks of a sheet's names: their indices in ascending order (own).
-use Rattle.std.specs.Prelude.{◌≡◌, ◌≤◌, ℕ, List, [], ◌∷◌, Option, Some, IfSome, length, slice_get, option_map, ⊤}
+use Rattle.std.specs.Prelude.{◌≡◌, ◌≢◌, ◌≤◌, ℕ, List, [], ◌∷◌, Option, Some, IfSome, String, length, slice_get, option_map, unwrap_or, ⊤}
 use Rattle.std.specs.Borrow.{Bor}
+use Rattle.std.specs.BTreeMap.{BTreeMap, get_by_text}
 use Rattle.std.specs.FinMap as map
 use Rattle.std.specs.FinMap.{FinMap}
 use Rattle.std.specs.List.{AllWithin}
 use Rattle.std.specs.Ordering.{nat_cmp}
-use Rattle.std.specs.Cmp.Lexicographic.{slice_cmp}
-use Rattle.std.specs.declared.cmp.Ordering.TheVariants.{Less, Greater}
 use Rattle.oim_names.specs.QName.{QName}
 use Rattle.oim_dims.specs.declared.fact.Fact.{Fact}
 use Rattle.oim_value.specs.ValueOrder.{name_cmp}
@@ -18,10 +17,15 @@ module _ {K : Type 0} where
 
   -- the names of one namespace are those from the first index up to the second
   pub record IsSpan (entries : List (QName × K)) (uri : List ℕ) (span : ℕ × ℕ) : Type 0 where
+    pub rises : span.0 ≤ span.1
     pub bound : span.1 ≤ length entries
-    pub before : AllWithin (λ e. slice_cmp nat_cmp e.0.uri uri ≡ Less) entries 0 span.0
+    pub before : AllWithin (λ e. e.0.uri ≢ uri) entries 0 span.0
     pub here : AllWithin (λ e. e.0.uri ≡ uri) entries span.0 span.1
-    pub behind : AllWithin (λ e. slice_cmp nat_cmp e.0.uri uri ≡ Greater) entries span.1 (length entries)
+    pub behind : AllWithin (λ e. e.0.uri ≢ uri) entries span.1 (length entries)
+
+  -- the span of each namespace. Other URIs have an empty span
+  abbrev pub AreSpans : {Y : Type 0} → List (QName × K) → BTreeMap (String Y) (ℕ × ℕ) → Type 0
+  AreSpans entries spans = (uri : List ℕ) → IsSpan entries uri (unwrap_or (get_by_text spans uri) (0, 0))
 
   -- the name with its kind and its rank, or None if the map has no such name
   pub record IsFound (m : FinMap name_cmp K) (q : QName) (found : Option (Bor QName × K × ℕ)) : Type 0 where

@@ -15,10 +15,13 @@ use std::marker::Model;
 
 /// The concepts or the dimensions of a sheet with their kinds, in ascending order of names. The
 /// rank of a name is its index, so ranks are ordered as names are. The names of one namespace are
-/// adjacent: their indices are a span.
+/// adjacent: their indices are a span. A search for a span compares URIs of namespaces, not of
+/// names: many names can share a long URI.
 #[derive(Debug, Drop)]
 pub(crate) struct RankedNames<K: Kind> {
     names: Vec<(Name, K)>,
+    /// For each namespace, the index of its first name and the index after its last.
+    spans: BTreeMap<String, (usize, usize)>,
 }
 
 impl<K: Kind> Model for RankedNames<K> {
@@ -27,6 +30,7 @@ impl<K: Kind> Model for RankedNames<K> {
     ghost use Rattle.std.specs.List.Sorted.{IsStrictlySortedBy};
     ghost use Rattle.std.specs.Map.{keys_of};
     ghost use Rattle.oim_value.specs.ValueOrder.{name_cmp};
+    ghost use Rattle.oim_report.specs.code.Ranks.{AreSpans};
     ghost use Rattle.oim_report.specs.code.SheetCode.{name_table_code};
 
     ghost Value = { FinMap name_cmp K };
@@ -35,7 +39,7 @@ impl<K: Kind> Model for RankedNames<K> {
 
     ghost view = { λ a. map.from_entries a.names.items };
 
-    ghost invariant = { λ a. IsStrictlySortedBy name_cmp (keys_of a.names.items) };
+    ghost invariant = { λ a. IsStrictlySortedBy name_cmp (keys_of a.names.items) × AreSpans a.names.items a.spans };
 }
 
 impl<K: Kind> RankedNames<K> {
@@ -44,6 +48,7 @@ impl<K: Kind> RankedNames<K> {
     {
         RankedNames {
             names: Vec::new(alloc),
+            spans: BTreeMap::new(alloc),
         }
     }
 
@@ -55,20 +60,23 @@ impl<K: Kind> RankedNames<K> {
         ensures { IfOk result (λ names. names ≡ map.from_entries (grouped_entries groups.entries)) }
     {
         let mut names = Vec::new(alloc);
-        for (_uri, group) in groups {
+        let mut spans = BTreeMap::new(alloc);
+        for (uri, group) in groups {
+            let first = names.len();
             push_all(&mut names, group)?;
+            spans.insert(uri, (first, names.len()))?;
         }
-        Ok(RankedNames { names })
+        Ok(RankedNames { names, spans })
     }
 
-    /// Returns the span of a namespace's names. Only this call compares URIs.
+    /// Returns the span of a namespace's names, empty if there are none.
     pub(crate) fn span(&self, uri: &str) -> (usize, usize)
         ensures { IsSpan (map.entries self.now) uri.now result }
     {
-        let names = self.names.as_slice();
-        let first = names.partition_point(|entry| entry.0.uri() < uri);
-        let end = names.partition_point(|entry| entry.0.uri() <= uri);
-        (first, end)
+        match self.spans.get(uri) {
+            Some(span) => *span,
+            None => (0, 0),
+        }
     }
 
     /// Finds a name of the namespace with this span. Returns the name with its kind and its rank.

@@ -17,7 +17,7 @@ loop-low-preserved-in-Less g c =
     let middle = l.low + (l.high - l.low) / 2 in
     let low : l.low ≤ middle = omega arith in
     let high : middle < l.high = omega (arith, c.loop-low-test.true) in
-    let all = entries_read m c.self.inside.names.items _ c.self.invariant c.self.view_is c.as_slice-names.ensures.value in
+    let all = entries_read m c.self.inside.names.items _ c.self.invariant.0 c.self.view_is c.as_slice-names.ensures.value in
     let there = entry_at m _ all middle c.index-names-middle.result (omega (arith, high, l.invariant.upto, c.requires.bound)) c.index-names-middle.is in
     go_up (map.entries m) q c.args.span c.requires l.low l.high middle c.index-names-middle.result l.invariant there low high (keys_rise m) (ap (λ v. slice_cmp nat_cmp v q.local_part) (sym c.local.ensures) ∙ sym c.in-Less.ensures)
 
@@ -29,7 +29,7 @@ loop-low-preserved g c =
     let middle = l.low + (l.high - l.low) / 2 in
     let low : l.low ≤ middle = omega arith in
     let high : middle < l.high = omega (arith, c.loop-low-test.true) in
-    let all = entries_read m c.self.inside.names.items _ c.self.invariant c.self.view_is c.as_slice-names.ensures.value in
+    let all = entries_read m c.self.inside.names.items _ c.self.invariant.0 c.self.view_is c.as_slice-names.ensures.value in
     let there = entry_at m _ all middle c.index-names-middle.result (omega (arith, high, l.invariant.upto, c.requires.bound)) c.index-names-middle.is in
     go_down (map.entries m) q c.args.span c.requires l.low l.high middle c.index-names-middle.result l.invariant there low high (keys_rise m) (ap (λ v. slice_cmp nat_cmp v q.local_part) (sym c.local.ensures) ∙ sym c.in-Greater.ensures)
 
@@ -41,7 +41,7 @@ returns-in-Equal g c =
     let middle = l.low + (l.high - l.low) / 2 in
     let low : l.low ≤ middle = omega arith in
     let high : middle < l.high = omega (arith, c.loop-low-test.true) in
-    let all = entries_read m c.self.inside.names.items _ c.self.invariant c.self.view_is c.as_slice-names.ensures.value in
+    let all = entries_read m c.self.inside.names.items _ c.self.invariant.0 c.self.view_is c.as_slice-names.ensures.value in
     let there = entry_at m _ all middle c.index-names-middle.result (omega (arith, high, l.invariant.upto, c.requires.bound)) c.index-names-middle.is in
     let name = named (map.entries m) q c.args.span c.requires l.low l.high middle c.index-names-middle.result l.invariant there low high (ap (λ v. slice_cmp nat_cmp v q.local_part) (sym c.local.ensures) ∙ sym c.in-Equal.ensures) in
     record {
@@ -64,11 +64,11 @@ returns g c =
 pub offset_bounds-names-middle : goal.offset_bounds-names-middle
 offset_bounds-names-middle g c =
     let l = c.loop-low in
-    let long = ap length (entries_read c.args.self.now c.self.inside.names.items _ c.self.invariant c.self.view_is c.as_slice-names.ensures.value) in
+    let long = ap length (entries_read c.args.self.now c.self.inside.names.items _ c.self.invariant.0 c.self.view_is c.as_slice-names.ensures.value) in
     omega (arith, c.loop-low-test.true, l.invariant.upto, c.requires.bound, long)
 
 pub bounds-names-middle : goal.bounds-names-middle
 bounds-names-middle g c =
     let l = c.loop-low in
-    let long = ap length (entries_read c.args.self.now c.self.inside.names.items _ c.self.invariant c.self.view_is c.as_slice-names.ensures.value) in
+    let long = ap length (entries_read c.args.self.now c.self.inside.names.items _ c.self.invariant.0 c.self.view_is c.as_slice-names.ensures.value) in
     omega (arith, c.loop-low-test.true, l.invariant.upto, c.requires.bound, long)

@@ -11,7 +11,7 @@ pub returns-then-names-others : goal.returns-then-names-others
 returns-then-names-others g c = (
   λ t. absurd (false≢true t),
   λ same.
-      let all = same_entries c.self.inside.names.items c.other.inside.names.items c.args.self.now c.args.other.now c.self.invariant c.other.invariant c.self.view_is c.other.view_is same in
+      let all = same_entries c.self.inside.names.items c.other.inside.names.items c.args.self.now c.args.other.now c.self.invariant.0 c.other.invariant.0 c.self.view_is c.other.view_is same in
       let long = ap length (c.as_slice-names.ensures.value ∙ all ∙ sym c.as_slice-others.ensures.value) in
       absurd (search (rules, long)),
 )
@@ -20,7 +20,7 @@ pub returns-then-not-is_same : goal.returns-then-not-is_same
 returns-then-not-is_same g c = (
   λ t. absurd (false≢true t),
   λ same.
-      let all = same_entries c.self.inside.names.items c.other.inside.names.items c.args.self.now c.args.other.now c.self.invariant c.other.invariant c.self.view_is c.other.view_is same in
+      let all = same_entries c.self.inside.names.items c.other.inside.names.items c.args.self.now c.args.other.now c.self.invariant.0 c.other.invariant.0 c.self.view_is c.other.view_is same in
       let lists = c.as_slice-names.ensures.value ∙ all ∙ sym c.as_slice-others.ensures.value in
       let xs = c.as_slice-names.result.now in
       let ys = c.as_slice-others.result.now in

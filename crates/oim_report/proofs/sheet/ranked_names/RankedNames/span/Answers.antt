@@ -1,17 +1,20 @@
-use Rattle.std.proofs.Common.{sym, ap, subst, ◌∙◌, refl, rules, is_lt}
+use Rattle.std.proofs.Common.{◌≡◌, Some, None, unwrap_or, option_copied, sym, ap, subst, ◌∙◌}
+use Rattle.std.specs.BTreeMap.{get_by_text}
 use Rattle.std.specs.FinMap as map
-use Rattle.std.specs.Ordering.{is_le}
-use Rattle.std.proofs.lemmas.List.Sorted.{IsPartitionPoint-from_clause}
 use Rattle.oim_report.specs.code.Ranks.{IsSpan}
-use Rattle.oim_report.proofs.Ranks.{Rises, entries_rising, parted, passes, span_of}
+use Rattle.oim_report.proofs.Ranks.{entries_rising}
 use Rattle.oim_report.proofs.sheet.ranked_names.RankedNames.span.Goals as goal
 
-pub returns : goal.returns
-returns g c =
-    let es = c.as_slice-names.result.now in
+pub returns-in-Some : goal.returns-in-Some
+returns-in-Some g c =
     let u = c.args.uri.now in
-    let rise = subst Rises (sym c.as_slice-names.ensures.value) c.self.invariant in
-    let first = IsPartitionPoint-from_clause (passes es u rise is_lt) _ _ c.partition_point-first.ensures.partitioned (parted es u rise is_lt refl refl) (λ a r q k. search rules) in
-    let end = IsPartitionPoint-from_clause (passes es u rise is_le) _ _ c.partition_point-end.ensures.partitioned (parted es u rise is_le refl refl) (λ a r q k. search rules) in
-    subst (λ l. IsSpan l u (c.partition_point-first.result, c.partition_point-end.result)) (c.as_slice-names.ensures.value ∙ sym (entries_rising c.self.inside.names.items c.self.invariant) ∙ ap map.entries c.self.view_is)
-    (span_of es u rise c.partition_point-first.result c.partition_point-end.result first end c.partition_point-end.ensures.bound)
+    let known : get_by_text c.self.inside.spans u ≡ Some c.in-Some.span.now = sym c.get.ensures.value ∙ ap option_copied c.in-Some.is in
+    let all = sym (entries_rising c.self.inside.names.items c.self.invariant.0) ∙ ap map.entries c.self.view_is in
+    subst (λ es. IsSpan es u c.in-Some.span.now) all (subst (λ r. IsSpan c.self.inside.names.items u (unwrap_or r (0, 0))) known (c.self.invariant.1 u))
+
+pub returns-in-None : goal.returns-in-None
+returns-in-None g c =
+    let u = c.args.uri.now in
+    let none : get_by_text c.self.inside.spans u ≡ None = sym c.get.ensures.value ∙ ap option_copied c.in-None.is in
+    let all = sym (entries_rising c.self.inside.names.items c.self.invariant.0) ∙ ap map.entries c.self.view_is in
+    subst (λ es. IsSpan es u (0, 0)) all (subst (λ r. IsSpan c.self.inside.names.items u (unwrap_or r (0, 0))) none (c.self.invariant.1 u))
