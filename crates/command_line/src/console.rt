@@ -43,7 +43,8 @@ pub(crate) struct Console<E> {
     /// True if a second line is printed for a refusal or a fault.
     pub is_verbose: bool,
     is_shown: bool,
-    /// True if each write of `tell` so far succeeded.
+    /// True if each write of `tell` so far succeeded. Only the contract of `tell` needs this: if it is
+    /// false, lines may be missing on standard error.
     is_whole: bool,
 }
 
