@@ -1,6 +1,7 @@
 -- Facts that were found in a text, sorted by their identifiers.
-use Rattle.std.proofs.Common.{◌≡◌, ℕ, List, [], ◌∷◌, Bool, false, Some, None, Result, Ok, Err, refl, sym, ap, ◌∙◌, subst, codes, not, is_none, option_and_then, if◌then◌else◌, IfOk, IsUtf8, unwrap_or, suc, ◌+◌, ◌<◌, ◌++◌, length, get_or, drop, map, true, cond, String, Global, string_bytes, arith, append_assoc, append-nil, string_cmp, Ordering, Less, Equal, Greater}
+use Rattle.std.proofs.Common.{◌≡◌, ℕ, List, [], ◌∷◌, Bool, false, Option, Some, None, Result, Ok, Err, refl, sym, ap, ◌∙◌, subst, codes, not, is_none, option_and_then, if◌then◌else◌, IfOk, IsUtf8, unwrap_or, suc, ◌+◌, ◌++◌, length, drop, take, slice_get, map, true, cond, String, Global, string_bytes, arith, append_assoc, append-nil, string_cmp, Ordering, Less, Equal, Greater}
 use Rattle.std.proofs.lemmas.Bool.{or_parts, or_from, false≢true}
+use Rattle.std.proofs.lemmas.Option.{get_or_from_slice_get, slice_get_within}
 use Rattle.std.specs.Ordering.{nat_cmp, match_ordering, is_lt}
 use Rattle.std.specs.Cmp.Lexicographic.{slice_cmp}
 use Rattle.std.specs.BTreeMap.{insert_entry}
@@ -32,13 +33,14 @@ use Rattle.oim_report.specs.code.Pieces.{IsLike, IsOutline}
 use Rattle.oim_report.proofs.PieceTexts.{append}
 use Rattle.oim_report.specs.code.TapeValues.{Ascends}
 use Rattle.oim_report.specs.PlainJson.{IsBefore}
-use Rattle.oim_report.specs.code.FoundFacts.{AreFound, is_above, rise_after}
+use Rattle.oim_report.specs.code.FoundFacts.{AreFound, HaveMore, is_above, rise_after}
 use Rattle.oim_report.specs.Identifiers.{identifiers_in}
 use Rattle.oim_report.specs.code.Ranks.{AreRanks, IsRank}
 use Rattle.oim_report.proofs.DocumentHolds.{document_least, has_misshapen_part, has_other_type, has_unknown_part, info_refusal, shape_refusal}
 use Rattle.oim_report.proofs.EachRefusal.{first_holding, first_refusal, none_of}
 use Rattle.oim_report.proofs.PutMembers.{before_all, rising_stays}
 use Rattle.oim_report.proofs.Texts.{passes}
+use Rattle.oim_report.proofs.TextSpans.{take_next}
 
 -- ---- a report that is read in pieces has the outcome of the whole report
 
@@ -131,20 +133,26 @@ json_outline (Ok o) t f bytes text h utf8 e = (h.0, h.1, (λ found p. let w = h.
 module _ (sheet : Sheet) (bs : List Binding) where
   -- ---- one piece after another
 
-  pub found_append : (ms ns : Members) (ss ts : List (String Global)) (fs gs : List Fact) → AreFound sheet bs ms ss fs → AreFound sheet bs ns ts gs → AreFound sheet bs (append ms ns) (ss ++ ts) (fs ++ gs)
+  found_append : (ms ns : Members) (ss ts : List (List ℕ)) (fs gs : List Fact) → AreFound sheet bs ms ss fs → AreFound sheet bs ns ts gs → AreFound sheet bs (append ms ns) (ss ++ ts) (fs ++ gs)
   found_append no_members ns [] ts [] gs h k = k
   found_append (member l d ms) ns (s ∷ ss) ts (f ∷ fs) gs h k = (h.0, h.1, found_append ms ns ss ts fs gs h.2 k)
   found_append ms ns ss ts fs gs h k = absurd h
 
+  pub found_by : (ms : Members) (ss ts : List (List ℕ)) (fs gs : List Fact) → ts ≡ ss → gs ≡ fs → AreFound sheet bs ms ss fs → AreFound sheet bs ms ts gs
+  found_by ms ss ts fs gs e f h = subst (λ l. AreFound sheet bs ms l gs) (sym e) (subst (AreFound sheet bs ms ss) (sym f) h)
+
+  pub found_more : (ms ns : Members) (ss ts : List (List ℕ)) (fs gs : List Fact) → AreFound sheet bs ms ss fs → HaveMore sheet bs ns ss ts fs gs → AreFound sheet bs (append ms ns) ts gs
+  found_more ms ns ss ts fs gs h more = found_by (append ms ns) _ ts _ gs more.pushed more.added (found_append ms ns ss more.new_ids fs more.new_facts h more.found)
+
   -- ---- the facts that the pieces denote
 
-  said_from : (n : ℕ) (ms : Members) (ss : List (String Global)) (fs : List Fact) → AreFound sheet bs ms ss fs → all_or_first n (map (fact_outcome sheet bs) (values ms)) ≡ Ok fs
+  said_from : (n : ℕ) (ms : Members) (ss : List (List ℕ)) (fs : List Fact) → AreFound sheet bs ms ss fs → all_or_first n (map (fact_outcome sheet bs) (values ms)) ≡ Ok fs
   said_from n no_members [] [] h = refl
   said_from n (member k d ms) (s ∷ ss) (f ∷ fs) h =
       ap (λ o. all_or_first n (o ∷ map (fact_outcome sheet bs) (values ms))) h.1 ∙ ap (map_ok (λ gs. f ∷ gs)) (said_from (n + 1) ms ss fs h.2)
   said_from n ms ss fs h = absurd h
 
-  pub found_said : (ms : Members) (ss : List (String Global)) (fs : List Fact) → AreFound sheet bs ms ss fs → facts_said sheet bs ms ≡ Ok fs
+  pub found_said : (ms : Members) (ss : List (List ℕ)) (fs : List Fact) → AreFound sheet bs ms ss fs → facts_said sheet bs ms ≡ Ok fs
   found_said ms ss fs h = said_from 1 ms ss fs h
 
   -- ---- identifiers that ascend
@@ -157,39 +165,36 @@ module _ (sheet : Sheet) (bs : List Binding) where
   both_true true b e = (refl, e)
   both_true false b e = absurd (false≢true e)
 
-  rise_behind : (k : List ℕ) (ms : Members) (ss : List (String Global)) (fs : List Fact) → AreFound sheet bs ms ss fs → rise_after (Some k) ss ≡ true → IsBefore k ms × Ascends ms
+  rise_behind : (k : List ℕ) (ms : Members) (ss : List (List ℕ)) (fs : List Fact) → AreFound sheet bs ms ss fs → rise_after (Some k) ss ≡ true → IsBefore k ms × Ascends ms
   rise_behind k no_members [] [] h e = (tt, tt)
   rise_behind k (member l d ms) (s ∷ ss) (f ∷ fs) h e =
-      let t = both_true (is_above (Some k) (string_bytes s)) (rise_after (Some (string_bytes s)) ss) e in
+      let t = both_true (is_above (Some k) s) (rise_after (Some s) ss) e in
       let rest = rise_behind l ms ss fs h.2 (ap (λ x. rise_after (Some x) ss) (sym h.0) ∙ t.1) in
       let below : slice_cmp nat_cmp k l ≡ Less = less (slice_cmp nat_cmp k l) (ap (λ x. is_lt (slice_cmp nat_cmp k x)) (sym h.0) ∙ t.0) in
       ((below, before_all k l ms below rest.0), rest)
   rise_behind k ms ss fs h e = absurd h
 
-  rises : (ms : Members) (ss : List (String Global)) (fs : List Fact) → AreFound sheet bs ms ss fs → rise_after None ss ≡ true → Ascends ms
+  rises : (ms : Members) (ss : List (List ℕ)) (fs : List Fact) → AreFound sheet bs ms ss fs → rise_after None ss ≡ true → Ascends ms
   rises no_members ss fs h e = tt
   rises (member l d ms) (s ∷ ss) (f ∷ fs) h e = rise_behind l ms ss fs h.2 (ap (λ x. rise_after (Some x) ss) (sym h.0) ∙ e)
   rises (member l d ms) ss fs h e = absurd h
 
-  pub rising_found : (ms : Members) (ss : List (String Global)) (fs : List Fact) → AreFound sheet bs ms ss fs → rise_after None ss ≡ true → AreFound sheet bs (put_all ms no_members) ss fs
+  pub rising_found : (ms : Members) (ss : List (List ℕ)) (fs : List Fact) → AreFound sheet bs ms ss fs → rise_after None ss ≡ true → AreFound sheet bs (put_all ms no_members) ss fs
   rising_found ms ss fs h e = subst (λ l. AreFound sheet bs l ss fs) (sym (rising_stays ms (rises ms ss fs h e))) h
 
-  pub keys_found : (ms : Members) (ss : List (String Global)) (fs : List Fact) → AreFound sheet bs ms ss fs → identifiers_in (entries ms) ≡ map string_bytes ss
+  pub keys_found : (ms : Members) (ss : List (List ℕ)) (fs : List Fact) → AreFound sheet bs ms ss fs → identifiers_in (entries ms) ≡ ss
   keys_found no_members [] [] h = refl
   keys_found (member l d ms) (s ∷ ss) (f ∷ fs) h = λ i. sym h.0 i ∷ keys_found ms ss fs h.2 i
   keys_found ms ss fs h = absurd h
 
-  pub none_found : (ss : List (String Global)) (fs : List Fact) → ss ≡ [] → fs ≡ [] → AreFound sheet bs no_members ss fs
+  pub none_found : (ss : List (List ℕ)) (fs : List Fact) → ss ≡ [] → fs ≡ [] → AreFound sheet bs no_members ss fs
   none_found ss fs e f = subst (λ l. AreFound sheet bs no_members l fs) (sym e) (subst (AreFound sheet bs no_members []) (sym f) tt)
 
-  pub found_by : (ms : Members) (ss ts : List (String Global)) (fs gs : List Fact) → ts ≡ ss → gs ≡ fs → AreFound sheet bs ms ss fs → AreFound sheet bs ms ts gs
-  found_by ms ss ts fs gs e f h = subst (λ l. AreFound sheet bs ms l gs) (sym e) (subst (AreFound sheet bs ms ss) (sym f) h)
+  pub found_one : (ms : Members) (ss : List (List ℕ)) (fs : List Fact) (k : List ℕ) (d : Data) (f : Fact) → AreFound sheet bs ms ss fs → fact_outcome sheet bs d ≡ Ok f
+      → AreFound sheet bs (append ms (member k d no_members)) (ss ++ k ∷ []) (fs ++ f ∷ [])
+  found_one ms ss fs k d f h o = found_append ms (member k d no_members) ss (k ∷ []) fs (f ∷ []) h (refl, o, tt)
 
-  pub found_one : (ms : Members) (ss : List (String Global)) (fs : List Fact) (k : List ℕ) (d : Data) (s : String Global) (f : Fact) → AreFound sheet bs ms ss fs → string_bytes s ≡ k → fact_outcome sheet bs d ≡ Ok f
-      → AreFound sheet bs (append ms (member k d no_members)) (ss ++ s ∷ []) (fs ++ f ∷ [])
-  found_one ms ss fs k d s f h e o = found_append ms (member k d no_members) ss (s ∷ []) fs (f ∷ []) h (e, o, tt)
-
-  found_length : (ms : Members) (ss : List (String Global)) (fs : List Fact) → AreFound sheet bs ms ss fs → length fs ≡ length ss
+  found_length : (ms : Members) (ss : List (List ℕ)) (fs : List Fact) → AreFound sheet bs ms ss fs → length fs ≡ length ss
   found_length no_members [] [] h = refl
   found_length (member l d ms) (s ∷ ss) (f ∷ fs) h = ap suc (found_length ms ss fs h.2)
   found_length ms ss fs h = absurd h
@@ -198,7 +203,7 @@ module _ (sheet : Sheet) (bs : List Binding) where
 
   module _ {V : Type 0} (fact : V → Fact) where
     abbrev pub AreKept : Members → List (String Global × V) → Type 0
-    AreKept ms es = AreFound sheet bs ms (map (λ e. e.0) es) (map (λ e. fact e.1) es)
+    AreKept ms es = AreFound sheet bs ms (map (λ e. string_bytes e.0) es) (map (λ e. fact e.1) es)
 
     pub kept_put : (k : List ℕ) (d : Data) (s : String Global) (v : V) (ms : Members) (es : List (String Global × V)) → string_bytes s ≡ k → fact_outcome sheet bs d ≡ Ok (fact v) → AreKept ms es → AreKept (put k d ms) (insert_entry string_cmp es s v)
     kept_put k d s v no_members [] e o h = (e, o, tt)
@@ -213,14 +218,14 @@ module _ (sheet : Sheet) (bs : List Binding) where
 
 -- ---- the steps of the loops
 
-pub goes_on : (l s : String Global) (ss : List (String Global)) → is_lt (string_cmp l s) ≡ true → rise_after (Some (string_bytes l)) (s ∷ ss) ≡ rise_after (Some (string_bytes s)) ss
-goes_on l s ss e = ap (λ b. cond b (rise_after (Some (string_bytes s)) ss) false) e
+pub goes_on : (last : Option (List ℕ)) (s : List ℕ) (ss : List (List ℕ)) → is_above last s ≡ true → rise_after last (s ∷ ss) ≡ rise_after (Some s) ss
+goes_on last s ss e = ap (λ b. cond b (rise_after (Some s) ss) false) e
 
-pub stops : (l s : String Global) (ss : List (String Global)) → is_lt (string_cmp l s) ≡ false → rise_after (Some (string_bytes l)) (s ∷ ss) ≡ false
-stops l s ss e = ap (λ b. cond b (rise_after (Some (string_bytes s)) ss) false) e
+pub stops : (last : Option (List ℕ)) (s : List ℕ) (ss : List (List ℕ)) → is_above last s ≡ false → rise_after last (s ∷ ss) ≡ false
+stops last s ss e = ap (λ b. cond b (rise_after (Some s) ss) false) e
 
-pub at_index : {X : Type 0} (xs : List X) (i : ℕ) (x : X) → i < length xs → x ≡ get_or xs i x → drop i xs ≡ x ∷ drop (i + 1) xs
-at_index xs i x l e = drop_more xs i x l ∙ ap (λ y. y ∷ drop (i + 1) xs) (sym e)
+pub at_index : {X : Type 0} (xs : List X) (i : ℕ) (x : X) → slice_get xs i ≡ Some x → drop i xs ≡ x ∷ drop (i + 1) xs
+at_index xs i x e = drop_more xs i x (slice_get_within xs i x e) ∙ ap (λ y. y ∷ drop (i + 1) xs) (get_or_from_slice_get xs i x x e)
 
 -- ---- values that are stored one after another
 
@@ -233,7 +238,11 @@ put_one_more [] [] s v es l = refl
 put_one_more (t ∷ ss) (w ∷ vs) s v es l = put_one_more ss vs s v (insert_entry string_cmp es t w) (omega (arith, l))
 put_one_more ss vs s v es l = absurd (omega (arith, l))
 
-kept_all : {V : Type 0} (fact : V → Fact) (sheet : Sheet) (bs : List Binding) (ms now : Members) (ss : List (String Global)) (vs : List V) (es : List (String Global × V)) → AreFound sheet bs ms ss (map fact vs) → AreKept sheet bs fact now es → AreKept sheet bs fact (put_all ms now) (put_entries ss vs es)
+pub keys_more : (ids : List (List ℕ)) (i : ℕ) (keys : List (String Global)) (s : String Global) (k : List ℕ) → slice_get ids i ≡ Some k → string_bytes s ≡ k → take i ids ≡ map string_bytes keys → take (i + 1) ids ≡ map string_bytes (keys ++ s ∷ [])
+keys_more ids i keys s k here key are =
+    take_next ids i k here ∙ (λ j. are j ++ sym key j ∷ []) ∙ sym (map-append string_bytes keys (s ∷ []))
+
+kept_all : {V : Type 0} (fact : V → Fact) (sheet : Sheet) (bs : List Binding) (ms now : Members) (ss : List (String Global)) (vs : List V) (es : List (String Global × V)) → AreFound sheet bs ms (map string_bytes ss) (map fact vs) → AreKept sheet bs fact now es → AreKept sheet bs fact (put_all ms now) (put_entries ss vs es)
 kept_all fact sheet bs no_members now [] vs es h k = k
 kept_all fact sheet bs (member l d ms) now (s ∷ ss) (v ∷ vs) es h k = kept_all fact sheet bs ms (put l d now) ss vs (insert_entry string_cmp es s v) h.2 (kept_put sheet bs fact l d s v now es h.0 h.1 k)
 kept_all fact sheet bs ms now ss vs es h k = absurd h
@@ -242,11 +251,12 @@ none_left : {X : Type 0} (xs front rest : List X) (n : ℕ) → xs ≡ front ++ 
 none_left xs front [] n e l k = e ∙ append-nil front
 none_left xs front (y ∷ ys) n e l k = absurd (let long = ap length e ∙ length-append front (y ∷ ys) in omega (arith, l, k, long))
 
-pub all_kept : {V : Type 0} (fact : V → Fact) (sheet : Sheet) (bs : List Binding) (ms : Members) (ss : List (String Global)) (fs rest : List Fact) (taken : List V) (es : List (String Global × V)) → AreFound sheet bs ms ss fs → fs ≡ map fact taken ++ rest → length taken ≡ length ss → es ≡ put_entries ss taken []
-    → AreKept sheet bs fact (put_all ms no_members) es
-all_kept fact sheet bs ms ss fs rest taken es h e l k =
-    let all = none_left fs (map fact taken) rest (length ss) e (found_length sheet bs ms ss fs h) (length-map taken fact ∙ l) in
-    subst (AreKept sheet bs fact (put_all ms no_members)) (sym k) (kept_all fact sheet bs ms no_members ss taken [] (subst (AreFound sheet bs ms ss) all h) tt)
+pub all_kept : {V : Type 0} (fact : V → Fact) (sheet : Sheet) (bs : List Binding) (ms : Members) (ids : List (List ℕ)) (ss : List (String Global)) (fs rest : List Fact) (taken : List V) (es : List (String Global × V)) → AreFound sheet bs ms ids fs → ids ≡ map string_bytes ss → fs ≡ map fact taken ++ rest
+    → length taken ≡ length ss → es ≡ put_entries ss taken [] → AreKept sheet bs fact (put_all ms no_members) es
+all_kept fact sheet bs ms ids ss fs rest taken es h same e l k =
+    let keyed : AreFound sheet bs ms (map string_bytes ss) fs = subst (λ is. AreFound sheet bs ms is fs) same h in
+    let all = none_left fs (map fact taken) rest (length ss) e (found_length sheet bs ms (map string_bytes ss) fs keyed ∙ length-map ss string_bytes) (length-map taken fact ∙ l) in
+    subst (AreKept sheet bs fact (put_all ms no_members)) (sym k) (kept_all fact sheet bs ms no_members ss taken [] (subst (AreFound sheet bs ms (map string_bytes ss)) all keyed) tt)
 
 pub taken_one : {X V : Type 0} (part : V → X) (xs left old : List X) (taken : List V) (v : V) → xs ≡ map part taken ++ old → old ≡ part v ∷ left → xs ≡ map part (taken ++ v ∷ []) ++ left
 taken_one part xs left old taken v e o =

@@ -62,3 +62,4 @@ pub mod Outlines
 pub mod FoundInOrder
 pub mod DimensionRuns
 pub mod StatedLaws
+pub mod TextSpans

@@ -1,5 +1,5 @@
 -- Members and facts that are read from a tape.
-use Rattle.std.proofs.Common.{◌≡◌, ℕ, ◌-◌, ◌<◌, ◌≤◌, List, Some, None, option_and_then, option_map, OnOk, Result, refl, ap, ◌∙◌, arith, [], ◌++◌, Option, ◌∷◌, String, Global, sym, subst}
+use Rattle.std.proofs.Common.{◌≡◌, ℕ, ◌-◌, ◌<◌, ◌≤◌, List, Some, None, option_and_then, option_map, OnOk, Result, refl, ap, ◌∙◌, arith, [], ◌++◌, Option, ◌∷◌, length, sym, subst, append_assoc, append-nil}
 use Rattle.std.proofs.lemmas.Result.{on_ok_weaker}
 use Rattle.json.specs.Token.{Token}
 use Rattle.json.specs.Json.{Json, value, if_last, document}
@@ -14,14 +14,14 @@ use Rattle.serde_json.specs.Read.{of_json, of_items, of_members, max_depth}
 use Rattle.oim_dims.specs.declared.fact.Fact.{Fact}
 use Rattle.oim_report.specs.code.TapeValues.{Ascends, AreData, IsRead, one}
 use Rattle.oim_report.specs.Pieces.{alone, HasMember, IsPiece, put_all}
-use Rattle.oim_report.specs.code.FoundFacts.{AreFound, HaveOneMore}
+use Rattle.oim_report.specs.code.FoundFacts.{AreFound, HaveMore, HaveOneMore}
 use Rattle.oim_report.proofs.PieceTexts.{append}
 use Rattle.oim_report.specs.code.Scope.{Scope}
 use Rattle.oim_report.proofs.Accepted.{map_some}
 use Rattle.oim_report.proofs.PutMembers.{ascends_put}
 use Rattle.oim_report.proofs.JoinedMembers.{Reads}
 use Rattle.oim_report.proofs.PiecesInTurn.{has_put, has_put_all, read_back}
-use Rattle.oim_report.proofs.FoundInOrder.{found_by, found_one}
+use Rattle.oim_report.proofs.FoundInOrder.{found_one}
 
 -- ---- the members of an object on a tape, while they are read one after another
 
@@ -157,17 +157,22 @@ piece_of_facts piece vs ms e are some =
 
 -- ---- the facts of a piece, while they are read one after another
 
--- the members of `vs` before the place on the tape are data whose identifiers and facts are `ids` and `facts`
-pub record AreReading (s : Scope) (vs : j.Members) (tape : List Token) (ids : List (String Global)) (facts : List Fact) : Type 0 where
+-- the members of `vs` before the place on the tape are data, and the lists have more identifiers and facts, which are theirs
+pub record AreReading (s : Scope) (vs : j.Members) (tape : List Token) (ids more_ids : List (List ℕ)) (facts more_facts : List Fact) : Type 0 where
   pub left : j.Members
   pub ms : Members
   pub here : InMembers tape left
   pub are : (more : Members) → AreData left more → AreData vs (append ms more)
-  pub found : AreFound s.sheet s.aliases ms ids facts
+  pub found : HaveMore s.sheet s.aliases ms ids more_ids facts more_facts
 
-pub none_reading : (s : Scope) (vs : j.Members) (tape : List Token) (ids : List (String Global)) (facts : List Fact) → ids ≡ [] → facts ≡ [] → InMembers tape vs → AreReading s vs tape ids facts
-none_reading s vs tape [] [] i f here = record { left = vs; ms = no_members; here = here; are = λ more h. h; found = tt }
-none_reading s vs tape ids facts i f here = absurd (Prim.cc)
+pub none_reading : (s : Scope) (vs : j.Members) (tape : List Token) (ids : List (List ℕ)) (facts : List Fact) → InMembers tape vs → AreReading s vs tape ids ids facts facts
+none_reading s vs tape ids facts here = record {
+  left = vs;
+  ms = no_members;
+  here = here;
+  are = λ more h. h;
+  found = record { new_ids = []; new_facts = []; pushed = sym (append-nil ids); added = sym (append-nil facts); found = tt };
+}
 
 append_more : (ms : Members) (k : List ℕ) (d : Data) (more : Members) → append (append ms (member k d no_members)) more ≡ append ms (member k d more)
 append_more no_members k d more = refl
@@ -177,28 +182,38 @@ append_none : (ms : Members) → append ms no_members ≡ ms
 append_none no_members = refl
 append_none (member k d ms) = ap (member k d) (append_none ms)
 
-pub one_read : (s : Scope) (vs : j.Members) (tape rest : List Token) (ids more_ids : List (String Global)) (facts more_facts : List Fact) (m : List ℕ × List Token) → NextMember tape (Some m) rest
-    → HaveOneMore s.sheet s.aliases m.0 m.1 ids more_ids facts more_facts → AreReading s vs tape ids facts → AreReading s vs rest more_ids more_facts
-one_read s vs tape rest ids more_ids facts more_facts m next more r =
+pub one_read : (s : Scope) (vs : j.Members) (tape rest : List Token) (ids now_ids more_ids : List (List ℕ)) (facts now_facts more_facts : List Fact) (m : List ℕ × List Token) → NextMember tape (Some m) rest
+    → HaveOneMore s.sheet s.aliases m.0 m.1 now_ids more_ids now_facts more_facts → AreReading s vs tape ids now_ids facts now_facts → AreReading s vs rest ids more_ids facts more_facts
+one_read s vs tape rest ids now_ids more_ids facts now_facts more_facts m next more r =
     let step = next r.left r.here in
     let v = step.0 in
     let one = more.says v step.3 in
-    let all = found_one s.sheet s.aliases r.ms ids facts m.0 one.found more.id more.fact r.found more.is_key one.says in
+    let old = r.found in
     record {
       left = step.1;
       ms = append r.ms (member m.0 one.found no_members);
       here = step.4;
       are = λ l h. subst (AreData vs) (sym (append_more r.ms m.0 one.found l)) (r.are (member m.0 one.found l) (subst (λ k. AreData k (member m.0 one.found l)) (sym step.2) (refl, one.reads, one.flat, h)));
-      found = found_by s.sheet s.aliases (append r.ms (member m.0 one.found no_members)) (ids ++ more.id ∷ []) more_ids (facts ++ more.fact ∷ []) more_facts more.pushed more.added all;
+      found = record {
+        new_ids = old.new_ids ++ m.0 ∷ [];
+        new_facts = old.new_facts ++ more.fact ∷ [];
+        pushed = more.pushed ∙ ap (λ l. l ++ m.0 ∷ []) old.pushed ∙ append_assoc ids old.new_ids (m.0 ∷ []);
+        added = more.added ∙ ap (λ l. l ++ more.fact ∷ []) old.added ∙ append_assoc facts old.new_facts (more.fact ∷ []);
+        found = found_one s.sheet s.aliases r.ms old.new_ids old.new_facts m.0 one.found more.fact old.found one.says;
+      };
     }
 
-pub all_found : (s : Scope) (vs : j.Members) (tape rest : List Token) (ids : List (String Global)) (facts : List Fact) → NextMember tape None rest → AreReading s vs tape ids facts
-    → (ms : Members) × AreData vs ms × AreFound s.sheet s.aliases ms ids facts
-all_found s vs tape rest ids facts next r =
+pub all_found : (s : Scope) (vs : j.Members) (tape rest : List Token) (ids more_ids : List (List ℕ)) (facts more_facts : List Fact) → NextMember tape None rest → AreReading s vs tape ids more_ids facts more_facts
+    → (ms : Members) × AreData vs ms × HaveMore s.sheet s.aliases ms ids more_ids facts more_facts
+all_found s vs tape rest ids more_ids facts more_facts next r =
     let none : r.left ≡ j.no_members = next r.left r.here in
     (r.ms, subst (AreData vs) (append_none r.ms) (r.are no_members (subst (λ l. AreData l no_members) (sym none) tt)), r.found)
 
-pub found_some : (s : Scope) (ms : Members) (ids : List (String Global)) (facts : List Fact) → AreFound s.sheet s.aliases ms ids facts → (facts ≡ [] → ⊥) → HasMember ms
-found_some s no_members [] [] h some = some refl
-found_some s (member k d ms) ids facts h some = tt
-found_some s ms ids facts h some = absurd h
+none_new : (s : Scope) (ids : List (List ℕ)) (facts : List Fact) → AreFound s.sheet s.aliases no_members ids facts → facts ≡ []
+none_new s [] [] h = refl
+none_new s ids facts h = absurd h
+
+pub found_some : (s : Scope) (ms : Members) (ids more_ids : List (List ℕ)) (facts more_facts : List Fact) → HaveMore s.sheet s.aliases ms ids more_ids facts more_facts → (length more_facts ≡ length facts → ⊥) → HasMember ms
+found_some s no_members ids more_ids facts more_facts h some =
+    some (ap length (h.added ∙ ap (λ l. facts ++ l) (none_new s h.new_ids h.new_facts h.found) ∙ append-nil facts))
+found_some s (member k d ms) ids more_ids facts more_facts h some = tt

@@ -14,3 +14,4 @@ pub mod SeenMembers
 pub mod SheetCode
 pub mod TapeValues
 pub mod TextCache
+pub mod Texts

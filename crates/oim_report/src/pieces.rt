@@ -6,3 +6,4 @@ pub(crate) mod found_facts;
 pub(crate) mod outline;
 pub(crate) mod piece_facts;
 pub(crate) mod taped_tree;
+pub(crate) mod texts;

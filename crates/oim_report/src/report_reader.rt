@@ -1,11 +1,11 @@
-ghost use Rattle.std.specs.Prelude.{◌≡◌, ◌⊎◌, Some, Ok, Err, IfOk, IfErr, map, string_bytes};
+ghost use Rattle.std.specs.Prelude.{◌≡◌, ◌⊎◌, Some, Ok, Err, IfOk, IfErr};
 ghost use Rattle.serde_json.specs.View.{view};
 ghost use Rattle.oim_report.specs.Document.{SaysDocument};
 ghost use Rattle.oim_report.specs.Identifiers.{identifiers};
 ghost use Rattle.oim_report.specs.Outcome.{at, outcome, tree_outcome};
 
 use crate::document::duplicates::is_above;
-use crate::document::identifiers::{identifiers_of, texts_of};
+use crate::document::identifiers::identifiers_of;
 use crate::document::info::read_info;
 use crate::fact::fact_reader::{FactReader, read_facts};
 use crate::json_values::json_tree::read_json;
@@ -15,6 +15,7 @@ use crate::order::order_of;
 use crate::pieces::found_facts::FoundFacts;
 use crate::pieces::outline::read_json_outline;
 use crate::pieces::piece_facts::{PieceBuffers, read_facts_in_pieces};
+use crate::pieces::texts::Texts;
 use crate::place::Place;
 use crate::refusal::Refusal;
 use crate::report::Report;
@@ -130,7 +131,7 @@ impl<'s> ReportReader<'s> {
             (λ r. (r ≡ at Place.Document Reason.OutOfMemory) ⊎ (outcome self.old bytes.now ≡ Err r)) }
     {
         match self.read_in_pieces(bytes) {
-            Ok((report, identifiers)) => return Ok((report, texts_of(self.alloc, identifiers)?)),
+            Ok((report, identifiers)) => return Ok((report, identifiers.to_vec(self.alloc)?)),
             Err(NotInPieces::Memory(error)) => return Err(Refusal::from(error)),
             Err(NotInPieces::NeedsTree) => {}
         }
@@ -163,12 +164,11 @@ impl<'s> ReportReader<'s> {
     /// Does the same as `read_identified`, but parses the facts in pieces. Only one piece at a time
     /// is held as a tape. The result is `NeedsTree` if the text cannot be read in pieces, or if the
     /// report is refused.
-    fn read_in_pieces(&mut self, bytes: &[u8]) -> Result<(Report<'s>, Vec<String>), NotInPieces>
+    fn read_in_pieces(&mut self, bytes: &[u8]) -> Result<(Report<'s>, Texts), NotInPieces>
         ensures same { self.new ≡ self.old }
         ensures ok { IfOk result (λ read. outcome self.old bytes.now ≡ Ok read.0.document) }
         ensures sheet { IfOk result (λ read. read.0.sheet ≡ self.old) }
-        ensures identifiers { IfOk result
-            (λ read. identifiers bytes.now ≡ Some (map string_bytes read.1.items)) }
+        ensures identifiers { IfOk result (λ read. identifiers bytes.now ≡ Some read.1) }
     {
         let alloc = self.alloc;
         let sheet = self.facts.sheet();

@@ -1,9 +1,7 @@
 -- Facts that were read in pieces, with their identifiers (own).
-use Rattle.std.specs.Prelude.{◌≡◌, ◌≤◌, ℕ, List, [], ◌∷◌, ◌++◌, Bool, true, false, if◌then◌else◌, Option, Some, None, Ok, String, ⊤}
-use Rattle.std.specs.declared.alloc.Global.{Global}
+use Rattle.std.specs.Prelude.{◌≡◌, ◌≤◌, ℕ, List, [], ◌∷◌, ◌++◌, Bool, true, false, if◌then◌else◌, Option, Some, None, Ok, ⊤}
 use Rattle.std.specs.Ordering.{nat_cmp, is_lt}
 use Rattle.std.specs.Cmp.Lexicographic.{slice_cmp}
-use Rattle.std.specs.String.{string_bytes}
 use Rattle.oim_names.specs.Bindings.{Binding}
 use Rattle.oim_dims.specs.declared.fact.Fact.{Fact}
 use Rattle.json.specs.Find.{BeginsWith}
@@ -16,13 +14,21 @@ use Rattle.oim_report.specs.Outcome.{fact_outcome}
 use Rattle.oim_report.specs.Sheet.{Sheet}
 
 -- the lists are the keys of the members and the facts that the members' values denote
-abbrev pub AreFound : Sheet → List Binding → Members → List (String Global) → List Fact → Type 0
+abbrev pub AreFound : Sheet → List Binding → Members → List (List ℕ) → List Fact → Type 0
 AreFound sheet bs no_members [] [] = ⊤
 AreFound sheet bs no_members [] (f ∷ fs) = ⊥
 AreFound sheet bs no_members (s ∷ ss) fs = ⊥
 AreFound sheet bs (member k d ms) [] fs = ⊥
 AreFound sheet bs (member k d ms) (s ∷ ss) [] = ⊥
-AreFound sheet bs (member k d ms) (s ∷ ss) (f ∷ fs) = (string_bytes s ≡ k) × (fact_outcome sheet bs d ≡ Ok f) × AreFound sheet bs ms ss fs
+AreFound sheet bs (member k d ms) (s ∷ ss) (f ∷ fs) = (s ≡ k) × (fact_outcome sheet bs d ≡ Ok f) × AreFound sheet bs ms ss fs
+
+-- the lists have more identifiers and facts, which are those of the members
+pub record HaveMore (sheet : Sheet) (bs : List Binding) (ms : Members) (ids more_ids : List (List ℕ)) (facts more_facts : List Fact) : Type 0 where
+  pub new_ids : List (List ℕ)
+  pub new_facts : List Fact
+  pub pushed : more_ids ≡ ids ++ new_ids
+  pub added : more_facts ≡ facts ++ new_facts
+  pub found : AreFound sheet bs ms new_ids new_facts
 
 -- the value is read as data that denotes the fact
 pub record IsData (sheet : Sheet) (bs : List Binding) (v : Json) (fact : Fact) : Type 0 where
@@ -32,11 +38,9 @@ pub record IsData (sheet : Sheet) (bs : List Binding) (v : Json) (fact : Fact) :
   pub says : fact_outcome sheet bs found ≡ Ok fact
 
 -- the lists have one more fact, whose identifier is the key and whose value is at this place of a tape
-pub record HaveOneMore (sheet : Sheet) (bs : List Binding) (key : List ℕ) (place : List Token) (ids more_ids : List (String Global)) (facts more_facts : List Fact) : Type 0 where
-  pub id : String Global
+pub record HaveOneMore (sheet : Sheet) (bs : List Binding) (key : List ℕ) (place : List Token) (ids more_ids : List (List ℕ)) (facts more_facts : List Fact) : Type 0 where
   pub fact : Fact
-  pub is_key : string_bytes id ≡ key
-  pub pushed : more_ids ≡ ids ++ id ∷ []
+  pub pushed : more_ids ≡ ids ++ key ∷ []
   pub added : more_facts ≡ facts ++ fact ∷ []
   pub says : (v : Json) → BeginsWith place v → IsData sheet bs v fact
 
@@ -45,6 +49,6 @@ is_above None key = true
 is_above (Some last) key = is_lt (slice_cmp nat_cmp last key)
 
 -- the keys ascend strictly; if `last` is not None, the first key is greater than `last`
-abbrev pub rise_after : Option (List ℕ) → List (String Global) → Bool
+abbrev pub rise_after : Option (List ℕ) → List (List ℕ) → Bool
 rise_after last [] = true
-rise_after last (s ∷ ss) = if is_above last (string_bytes s) then rise_after (Some (string_bytes s)) ss else false
+rise_after last (s ∷ ss) = if is_above last s then rise_after (Some s) ss else false

@@ -1,4 +1,4 @@
-ghost use Rattle.std.specs.Prelude.{◌≡◌, ◌⊎◌, Some, None, IfOk, IfErr, map, string_bytes};
+ghost use Rattle.std.specs.Prelude.{◌≡◌, ◌⊎◌, Some, None, IfOk, IfErr};
 ghost use Rattle.serde_json.specs.View.{view};
 ghost use Rattle.oim_report.specs.Identifiers.{identifiers, tree_identifiers};
 ghost use Rattle.oim_report.specs.Json.{json};
@@ -6,7 +6,7 @@ ghost use Rattle.oim_report.specs.Json.{json};
 use crate::json_values::json_tree::{object_at, read_json};
 use oim_names::{Reason, Text};
 use serde_json::Value;
-use std::alloc::{AllocError, Global};
+use std::alloc::Global;
 
 /// Returns the identifiers of a report's facts, in byte order (xBRL-JSON 1.0, section 2).
 /// `Report::facts` has the same order if the report is accepted. If the bytes are JSON without an
@@ -35,15 +35,4 @@ pub(crate) fn identifiers_of(alloc: Global, tree: &Value) -> Result<Vec<Text>, R
         keys.push(key)?;
     }
     Ok(keys)
-}
-
-/// Returns the identifiers as texts, in the same order.
-pub(crate) fn texts_of(alloc: Global, identifiers: Vec<String>) -> Result<Vec<Text>, AllocError>
-    ensures { IfOk result (λ texts. texts.items ≡ map string_bytes identifiers.items) }
-{
-    let mut texts = Vec::with_capacity(alloc, identifiers.len())?;
-    for identifier in identifiers {
-        texts.push(Text::from_string(alloc, identifier)?)?;
-    }
-    Ok(texts)
 }

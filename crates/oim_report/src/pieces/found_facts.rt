@@ -1,14 +1,15 @@
-ghost use Rattle.std.specs.Prelude.{◌≡◌, ◌++◌, ◌∷◌, [], List, None, map, IfOk, OnOk};
+ghost use Rattle.std.specs.Prelude.{◌≡◌, ◌++◌, ◌∷◌, [], List, None, map, option_map, string_bytes, IfOk, OnOk};
 ghost use Rattle.std.specs.BTreeMap.{insert_entry};
 ghost use Rattle.std.specs.String.{string_cmp};
 ghost use Rattle.oim_names.specs.Bindings.{Binding};
 ghost use Rattle.serde_json.specs.Data.{Members, no_members};
-ghost use Rattle.oim_report.specs.code.FoundFacts.{AreFound, rise_after};
+ghost use Rattle.oim_report.specs.code.FoundFacts.{AreFound, is_above, rise_after};
 ghost use Rattle.oim_report.specs.code.Ranks.{AreRanks};
 ghost use Rattle.oim_report.specs.Pieces.{put_all};
 ghost use Rattle.oim_report.specs.Sheet.{Sheet as ASheet};
 
 use crate::not_in_pieces::NotInPieces;
+use crate::pieces::texts::Texts;
 use oim_dims::Fact;
 use std::alloc::{AllocError, Global};
 use std::collections::BTreeMap;
@@ -17,7 +18,7 @@ use std::collections::BTreeMap;
 /// may be repeated. For each fact, `ranks` has the rank of its concept in the sheet.
 #[derive(Drop)]
 pub(crate) struct FoundFacts {
-    pub(crate) identifiers: Vec<String>,
+    pub(crate) identifiers: Texts,
     pub(crate) facts: Vec<Fact>,
     pub(crate) ranks: Vec<usize>,
 }
@@ -27,19 +28,19 @@ type RankedFact = (Fact, usize);
 
 impl FoundFacts {
     pub(crate) fn new(alloc: Global) -> FoundFacts
-        ensures identifiers { result.identifiers.items ≡ [] }
+        ensures identifiers { result.identifiers ≡ [] }
         ensures facts { result.facts.items ≡ [] }
         ensures ranks { result.ranks.items ≡ [] }
     {
         FoundFacts {
-            identifiers: Vec::new(alloc),
+            identifiers: Texts::new(alloc),
             facts: Vec::new(alloc),
             ranks: Vec::new(alloc),
         }
     }
 
     fn reserve(&mut self, count: usize) -> Result<(), AllocError>
-        ensures identifiers { OnOk result (self.new.identifiers.items ≡ self.old.identifiers.items) }
+        ensures identifiers { OnOk result (self.new.identifiers ≡ self.old.identifiers) }
         ensures facts { OnOk result (self.new.facts.items ≡ self.old.facts.items) }
         ensures ranks { OnOk result (self.new.ranks.items ≡ self.old.ranks.items) }
     {
@@ -51,11 +52,11 @@ impl FoundFacts {
     /// Adds a fact at the end.
     pub(crate) fn push(
         &mut self,
-        identifier: String,
+        identifier: &str,
         fact: Fact,
         rank: usize,
     ) -> Result<(), AllocError>
-        ensures identifiers { OnOk result (self.new.identifiers.items ≡ self.old.identifiers.items ++ identifier ∷ []) }
+        ensures identifiers { OnOk result (self.new.identifiers ≡ self.old.identifiers ++ identifier.now ∷ []) }
         ensures facts { OnOk result (self.new.facts.items ≡ self.old.facts.items ++ fact ∷ []) }
         ensures ranks { OnOk result (self.new.ranks.items ≡ self.old.ranks.items ++ rank ∷ []) }
     {
@@ -65,32 +66,16 @@ impl FoundFacts {
         Ok(())
     }
 
-    /// Adds the facts at the end.
-    pub(crate) fn append(&mut self, more: FoundFacts) -> Result<(), AllocError>
-        ensures identifiers { OnOk result (self.new.identifiers.items ≡ self.old.identifiers.items ++ more.identifiers.items) }
-        ensures facts { OnOk result (self.new.facts.items ≡ self.old.facts.items ++ more.facts.items) }
-        ensures ranks { OnOk result (self.new.ranks.items ≡ self.old.ranks.items ++ more.ranks.items) }
-    {
-        let FoundFacts {
-            mut identifiers,
-            mut facts,
-            mut ranks,
-        } = more;
-        self.identifiers.append(&mut identifiers)?;
-        self.facts.append(&mut facts)?;
-        self.ranks.append(&mut ranks)
-    }
-
     /// Sorts the facts by their identifiers in byte order. If an identifier is repeated, only its
     /// last fact is kept.
     pub(crate) fn in_order(self, alloc: Global) -> Result<FoundFacts, NotInPieces>
         ensures found { IfOk result (λ f. (sheet : ASheet) (bs : List Binding) (ms : Members) →
-            AreFound sheet bs ms self.identifiers.items self.facts.items →
-            AreFound sheet bs (put_all ms no_members) f.identifiers.items f.facts.items) }
+            AreFound sheet bs ms self.identifiers self.facts.items →
+            AreFound sheet bs (put_all ms no_members) f.identifiers f.facts.items) }
         ensures ranks { IfOk result (λ f. (sheet : ASheet) →
             AreRanks sheet.concepts self.facts.items self.ranks.items → AreRanks sheet.concepts f.facts.items f.ranks.items) }
     {
-        if rise(self.identifiers.as_slice()) {
+        if rise(&self.identifiers) {
             return Ok(self);
         }
         let found = by_identifier(alloc, self)?;
@@ -98,20 +83,29 @@ impl FoundFacts {
     }
 }
 
-fn rise(identifiers: &[String]) -> bool
+fn rise(identifiers: &Texts) -> bool
     ensures { result ≡ rise_after None identifiers.now }
 {
-    let Some((first, rest)) = identifiers.split_first() else {
-        return true;
-    };
-    let mut last = first;
-    for identifier in rest {
-        if !last.cmp(identifier).is_lt() {
+    let mut last = None;
+    for index in 0..identifiers.len() {
+        let Some(identifier) = identifiers.get(index) else {
+            return false;
+        };
+        if !is_above(last, identifier) {
             return false;
         }
-        last = identifier;
+        last = Some(identifier);
     }
     true
+}
+
+fn is_above(last: Option<&str>, identifier: &str) -> bool
+    ensures { result ≡ is_above (option_map (λ l. l.now) last.entry) identifier.now }
+{
+    match last {
+        Some(last) => last < identifier,
+        None => true,
+    }
 }
 
 fn by_identifier(
@@ -119,8 +113,8 @@ fn by_identifier(
     read: FoundFacts,
 ) -> Result<BTreeMap<String, RankedFact>, NotInPieces>
     ensures found { IfOk result (λ m. (sheet : ASheet) (bs : List Binding) (ms : Members) →
-        AreFound sheet bs ms read.identifiers.items read.facts.items →
-        AreFound sheet bs (put_all ms no_members) (map (λ e. e.0) m.entries) (map (λ e. e.1.0) m.entries)) }
+        AreFound sheet bs ms read.identifiers read.facts.items →
+        AreFound sheet bs (put_all ms no_members) (map (λ e. string_bytes e.0) m.entries) (map (λ e. e.1.0) m.entries)) }
     ensures ranks { IfOk result (λ m. (sheet : ASheet) →
         AreRanks sheet.concepts read.facts.items read.ranks.items →
         AreRanks sheet.concepts (map (λ e. e.1.0) m.entries) (map (λ e. e.1.1) m.entries)) }
@@ -128,7 +122,11 @@ fn by_identifier(
     let mut found = BTreeMap::new(alloc);
     let mut facts = read.facts.into_iter();
     let mut ranks = read.ranks.into_iter();
-    for identifier in read.identifiers {
+    for index in 0..read.identifiers.len() {
+        let Some(identifier) = read.identifiers.get(index) else {
+            return Err(NotInPieces::NeedsTree);
+        };
+        let identifier = String::from_str(alloc, identifier)?;
         let Some(fact) = facts.next() else {
             return Err(NotInPieces::NeedsTree);
         };
@@ -153,14 +151,14 @@ fn put<T: Drop>(
 }
 
 fn found_in(alloc: Global, found: BTreeMap<String, RankedFact>) -> Result<FoundFacts, AllocError>
-    ensures { IfOk result (λ f. (f.identifiers.items ≡ map (λ e. e.0) found.entries)
+    ensures { IfOk result (λ f. (f.identifiers ≡ map (λ e. string_bytes e.0) found.entries)
         × (f.facts.items ≡ map (λ e. e.1.0) found.entries)
         × (f.ranks.items ≡ map (λ e. e.1.1) found.entries)) }
 {
     let mut all = FoundFacts::new(alloc);
     all.reserve(found.len())?;
     for (identifier, (fact, rank)) in found {
-        all.push(identifier, fact, rank)?;
+        all.push(identifier.as_str(), fact, rank)?;
     }
     Ok(all)
 }

@@ -5,7 +5,7 @@ ghost use Rattle.json.specs.Json as spec;
 ghost use Rattle.serde_json.specs.Data as tree;
 ghost use Rattle.serde_json.specs.Data.{no_members};
 ghost use Rattle.oim_report.specs.Pieces.{alone, put_all, HasMember, IsPiece};
-ghost use Rattle.oim_report.specs.code.FoundFacts.{AreFound, HaveOneMore};
+ghost use Rattle.oim_report.specs.code.FoundFacts.{AreFound, HaveMore, HaveOneMore};
 ghost use Rattle.oim_report.specs.code.TapeValues.{AreData, one};
 ghost use Rattle.oim_report.specs.code.Ranks.{AreRanks};
 
@@ -55,14 +55,14 @@ pub(crate) fn read_facts_in_pieces(
 ) -> Result<FoundFacts, NotInPieces>
     ensures same { reader.new ≡ reader.old }
     ensures found { IfOk result (λ f. (objects : tree.Members) × IsPiece text.now objects
-        × AreFound reader.old.sheet reader.old.aliases objects f.identifiers.items f.facts.items) }
+        × AreFound reader.old.sheet reader.old.aliases objects f.identifiers f.facts.items) }
     ensures ranks { IfOk result (λ f. AreRanks reader.old.sheet.concepts f.facts.items f.ranks.items) }
 {
     let mut found = FoundFacts::new(alloc);
     let mut left = text;
     for _ in 0..text.len() {
         let (piece, rest) = split_piece(left, size);
-        found.append(read_piece_facts(alloc, reader, buffers, piece)?)?;
+        read_piece_facts(alloc, reader, buffers, piece, &mut found)?;
         match rest {
             Some(rest) => left = rest,
             None => return found.in_order(alloc),
@@ -71,24 +71,27 @@ pub(crate) fn read_facts_in_pieces(
     Err(NotInPieces::NeedsTree)
 }
 
-// Reads the facts of a piece, in the order of the text. The result is `NeedsTree` if the piece
-// cannot be read, a fact cannot be read from a tape, or a fact is refused.
+// Adds the facts of a piece, in the order of the text. The result is `NeedsTree` if the piece cannot
+// be read, a fact cannot be read from a tape, or a fact is refused.
 fn read_piece_facts(
     alloc: Global,
     reader: &mut FactReader<'_>,
     buffers: &mut PieceBuffers,
     piece: &str,
-) -> Result<FoundFacts, NotInPieces>
+    found: &mut FoundFacts,
+) -> Result<(), NotInPieces>
     ensures same { reader.new ≡ reader.old }
-    ensures found { IfOk result (λ f. (ms : tree.Members) × IsPiece piece.now (put_all ms no_members)
-        × AreFound reader.old.sheet reader.old.aliases ms f.identifiers.items f.facts.items) }
-    ensures ranks { IfOk result (λ f. AreRanks reader.old.sheet.concepts f.facts.items f.ranks.items) }
+    ensures found { OnOk result ((ms : tree.Members) × IsPiece piece.now (put_all ms no_members)
+        × HaveMore reader.old.sheet reader.old.aliases ms found.old.identifiers found.new.identifiers
+        found.old.facts.items found.new.facts.items) }
+    ensures ranks { OnOk result (AreRanks reader.old.sheet.concepts found.old.facts.items found.old.ranks.items
+        → AreRanks reader.old.sheet.concepts found.new.facts.items found.new.ranks.items) }
 {
     let tape = parse_piece(alloc, buffers, piece)?;
     let Some(members) = only_object(&tape.root()) else {
         return Err(NotInPieces::NeedsTree);
     };
-    read_members(alloc, reader, members)
+    read_members(alloc, reader, members, found)
 }
 
 /// Parses an array with one object, whose members are the piece.
@@ -133,38 +136,41 @@ fn read_members(
     alloc: Global,
     reader: &mut FactReader<'_>,
     mut members: Members<'_, '_>,
-) -> Result<FoundFacts, NotInPieces>
+    found: &mut FoundFacts,
+) -> Result<(), NotInPieces>
     ensures same { reader.new ≡ reader.old }
     ensures found { (vs : spec.Members) → InMembers members.entry vs
-        → IfOk result (λ f. (ms : tree.Members) × AreData vs ms × HasMember ms
-        × AreFound reader.old.sheet reader.old.aliases ms f.identifiers.items f.facts.items) }
-    ensures ranks { IfOk result (λ f. AreRanks reader.old.sheet.concepts f.facts.items f.ranks.items) }
+        → OnOk result ((ms : tree.Members) × AreData vs ms × HasMember ms
+        × HaveMore reader.old.sheet reader.old.aliases ms found.old.identifiers found.new.identifiers
+        found.old.facts.items found.new.facts.items) }
+    ensures ranks { OnOk result (AreRanks reader.old.sheet.concepts found.old.facts.items found.old.ranks.items
+        → AreRanks reader.old.sheet.concepts found.new.facts.items found.new.ranks.items) }
 {
-    let mut found = FoundFacts::new(alloc);
+    let before = found.facts.len();
     while let Some((key, object)) = members.next() {
-        read_member(alloc, reader, &mut found, key, &object)?;
+        read_member(alloc, reader, key, &object, found)?;
     }
-    if found.facts.is_empty() {
+    if found.facts.len() == before {
         return Err(NotInPieces::NeedsTree);
     }
-    Ok(found)
+    Ok(())
 }
 
 fn read_member(
     alloc: Global,
     reader: &mut FactReader<'_>,
-    found: &mut FoundFacts,
     key: &str,
     object: &Element<'_, '_>,
+    found: &mut FoundFacts,
 ) -> Result<(), NotInPieces>
     ensures same { reader.new ≡ reader.old }
     ensures found { OnOk result (HaveOneMore reader.old.sheet reader.old.aliases key.now object.now
-        found.old.identifiers.items found.new.identifiers.items found.old.facts.items found.new.facts.items) }
+        found.old.identifiers found.new.identifiers found.old.facts.items found.new.facts.items) }
     ensures ranks { OnOk result (AreRanks reader.old.sheet.concepts found.old.facts.items found.old.ranks.items
         → AreRanks reader.old.sheet.concepts found.new.facts.items found.new.ranks.items) }
 {
     let parts = FactMembers::of_element(alloc, object)?;
     let (fact, rank) = reader.read_parts(&parts)?;
-    found.push(String::from_str(alloc, key)?, fact, rank)?;
+    found.push(key, fact, rank)?;
     Ok(())
 }

@@ -1,10 +1,10 @@
-use Rattle.std.proofs.Common.{◌≡◌, ◌++◌, ℕ, List, [], length, map}
+use Rattle.std.proofs.Common.{◌≡◌, ◌++◌, ℕ, List, [], length, map, take, String, Global, string_bytes}
 use Rattle.oim_dims.specs.declared.fact.Fact.{Fact}
 use Rattle.oim_report.proofs.FoundInOrder.{put_entries}
 use Rattle.oim_report.proofs.pieces.found_facts.by_identifier.Given as goal
 
 -- the facts that were taken are stored under their identifiers, each with its rank
-abbrev pub invariant-loop-identifier : goal.invariant-loop-identifier
-invariant-loop-identifier l =
-    (taken : List (Fact × ℕ)) × (l.fn.read.facts.items ≡ map (λ v. v.0) taken ++ l.facts.rest.items) × (l.fn.read.ranks.items ≡ map (λ v. v.1) taken ++ l.ranks.rest.items) × (length taken ≡ length l.yielded)
-    × (l.found.entries ≡ put_entries l.yielded taken [])
+abbrev pub invariant-loop-index : goal.invariant-loop-index
+invariant-loop-index l =
+    (keys : List (String Global)) × (taken : List (Fact × ℕ)) × (take l.index l.fn.read.identifiers ≡ map string_bytes keys) × (l.fn.read.facts.items ≡ map (λ v. v.0) taken ++ l.facts.rest.items) × (l.fn.read.ranks.items ≡ map (λ v. v.1) taken ++ l.ranks.rest.items)
+    × (length taken ≡ length keys) × (l.found.entries ≡ put_entries keys taken [])

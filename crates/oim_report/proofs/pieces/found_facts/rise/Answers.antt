@@ -1,22 +1,24 @@
-use Rattle.std.proofs.Common.{◌≡◌, ◌+◌, Some, true, false, drop, string_bytes, sym, ap, ◌∙◌}
-use Rattle.std.specs.Ordering.{is_lt}
-use Rattle.std.specs.String.{string_cmp}
-use Rattle.oim_report.specs.code.FoundFacts.{rise_after}
+use Rattle.std.proofs.Common.{◌≡◌, ◌+◌, Some, true, false, drop, slice_get, option_map, sym, ap, ◌∙◌}
+use Rattle.oim_report.specs.code.FoundFacts.{is_above, rise_after}
 use Rattle.oim_report.proofs.FoundInOrder.{at_index, goes_on, stops}
 use Rattle.oim_report.proofs.pieces.found_facts.rise.Goals as goal
 
-pub returns-then-not-is_lt : goal.returns-then-not-is_lt
-returns-then-not-is_lt c =
-    let l = c.loop-identifier in
-    let rest = c.in-Some.rest.now in
-    let here = at_index rest l.identifier-index c.identifier-item.result c.loop-identifier-test.true c.identifier-item.is in
-    let falls : is_lt (string_cmp l.last.now c.identifier-item.result) ≡ false = ap is_lt (sym c.cmp.ensures) ∙ sym c.is_lt.ensures ∙ c.if-not-is_lt.true in
-    sym (l.invariant ∙ ap (rise_after (Some (string_bytes l.last.now))) here ∙ stops l.last.now c.identifier-item.result (drop (l.identifier-index + 1) rest) falls)
+pub returns-then-not-is_above : goal.returns-then-not-is_above
+returns-then-not-is_above c =
+    let l = c.loop-index in
+    let ids = c.args.identifiers.now in
+    let identifier = c.in-Some.identifier.now in
+    let last = option_map (λ t. t.now) l.last in
+    let here : slice_get ids l.index ≡ Some identifier = sym c.get.ensures ∙ ap (option_map (λ t. t.now)) c.in-Some.is in
+    let falls : is_above last identifier ≡ false = sym c.is_above.ensures ∙ c.if-not-is_above.true in
+    sym (l.invariant ∙ ap (rise_after last) (at_index ids l.index identifier here) ∙ stops last identifier (drop (l.index + 1) ids) falls)
 
-pub loop-identifier-preserved : goal.loop-identifier-preserved
-loop-identifier-preserved c =
-    let l = c.loop-identifier in
-    let rest = c.in-Some.rest.now in
-    let here = at_index rest l.identifier-index c.identifier-item.result c.loop-identifier-test.true c.identifier-item.is in
-    let rises : is_lt (string_cmp l.last.now c.identifier-item.result) ≡ true = ap is_lt (sym c.cmp.ensures) ∙ sym c.is_lt.ensures ∙ c.if-not-is_lt.false in
-    l.invariant ∙ ap (rise_after (Some (string_bytes l.last.now))) here ∙ goes_on l.last.now c.identifier-item.result (drop (l.identifier-index + 1) rest) rises
+pub loop-index-preserved : goal.loop-index-preserved
+loop-index-preserved c =
+    let l = c.loop-index in
+    let ids = c.args.identifiers.now in
+    let identifier = c.in-Some.identifier.now in
+    let last = option_map (λ t. t.now) l.last in
+    let here : slice_get ids l.index ≡ Some identifier = sym c.get.ensures ∙ ap (option_map (λ t. t.now)) c.in-Some.is in
+    let rises : is_above last identifier ≡ true = sym c.is_above.ensures ∙ c.if-not-is_above.false in
+    l.invariant ∙ ap (rise_after last) (at_index ids l.index identifier here) ∙ goes_on last identifier (drop (l.index + 1) ids) rises

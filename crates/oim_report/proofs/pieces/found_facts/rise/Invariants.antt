@@ -1,7 +1,7 @@
-use Rattle.std.proofs.Common.{◌≡◌, None, Some, drop, string_bytes}
+use Rattle.std.proofs.Common.{◌≡◌, None, drop, option_map}
 use Rattle.oim_report.specs.code.FoundFacts.{rise_after}
 use Rattle.oim_report.proofs.pieces.found_facts.rise.Given as goal
 
 -- all identifiers ascend exactly if `last` and the remaining identifiers ascend
-abbrev pub invariant-loop-identifier : goal.invariant-loop-identifier
-invariant-loop-identifier l = rise_after None l.identifiers ≡ rise_after (Some (string_bytes l.last)) (drop l.identifier-index l.rest)
+abbrev pub invariant-loop-index : goal.invariant-loop-index
+invariant-loop-index l = rise_after None l.identifiers ≡ rise_after (option_map (λ t. t.now) l.last) (drop l.index l.identifiers)

@@ -9,5 +9,5 @@ use Rattle.oim_report.proofs.pieces.piece_facts.read_facts_in_pieces.Given as go
 
 -- the rest of the text is UTF-8, the facts before the rest were found, and the reader is unchanged
 abbrev pub invariant-loop : goal.invariant-loop
-invariant-loop l = shadow (Utf8 l.left) × (objects : Members) × IsUpTo l.text l.left objects × AreFound l.initial.reader.sheet l.initial.reader.aliases objects l.found.identifiers.items l.found.facts.items
+invariant-loop l = shadow (Utf8 l.left) × (objects : Members) × IsUpTo l.text l.left objects × AreFound l.initial.reader.sheet l.initial.reader.aliases objects l.found.identifiers l.found.facts.items
     × (l.reader ≡ l.initial.reader) × AreRanks l.initial.reader.sheet.concepts l.found.facts.items l.found.ranks.items

@@ -1,21 +1,15 @@
-use Rattle.std.proofs.Common.{rules, ◌≡◌, string_bytes}
 use Rattle.oim_report.proofs.FoundInOrder.{ranked_by, ranks_append}
 use Rattle.oim_report.proofs.pieces.piece_facts.read_member.Goals as goal
 
 pub returns-clause-found : goal.returns-clause-found
-returns-clause-found c =
-    let id = c.in_ok-from_str.field-0 in
-    let key : string_bytes id ≡ c.args.key.now = search rules in
-    record {
-      id = id;
-      fact = c.in_ok-fact.fact;
-      is_key = key;
-      pushed = c.in_ok-push.ensures.identifiers;
-      added = c.in_ok-push.ensures.facts;
-      says = λ v begins.
-          let o = c.in_ok-parts.ensures v begins in
-          record { found = o.found; reads = o.reads; flat = o.flat; says = c.in_ok-fact.ensures.ok o.found o.are };
-    }
+returns-clause-found c = record {
+  fact = c.in_ok-fact.fact;
+  pushed = c.in_ok-push.ensures.identifiers;
+  added = c.in_ok-push.ensures.facts;
+  says = λ v begins.
+      let o = c.in_ok-parts.ensures v begins in
+      record { found = o.found; reads = o.reads; flat = o.flat; says = c.in_ok-fact.ensures.ok o.found o.are };
+}
 
 pub returns-clause-ranks : goal.returns-clause-ranks
 returns-clause-ranks c h =

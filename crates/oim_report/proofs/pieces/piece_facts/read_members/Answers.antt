@@ -1,31 +1,30 @@
-use Rattle.std.proofs.Common.{rules, ◌≡◌, [], refl, ◌∙◌, subst}
+use Rattle.std.proofs.Common.{rules, ◌≡◌, length, refl, ◌∙◌, subst}
 use Rattle.oim_report.specs.code.Scope.{Scope}
 use Rattle.oim_report.specs.code.FoundFacts.{HaveOneMore}
 use Rattle.oim_report.specs.code.Ranks.{AreRanks}
-use Rattle.oim_report.proofs.FoundInOrder.{none_ranked}
 use Rattle.oim_report.proofs.TapedFacts.{none_reading, one_read, all_found, found_some}
 use Rattle.oim_report.proofs.pieces.piece_facts.read_members.Goals as goal
 
 pub loop-key-init : goal.loop-key-init
-loop-key-init c = ((λ vs here. none_reading c.args.reader.now vs c.args.members _ _ c.new-found.ensures.identifiers c.new-found.ensures.facts here), refl, none_ranked c.args.reader.now.sheet.concepts _ _ c.new-found.ensures.facts c.new-found.ensures.ranks)
+loop-key-init c = ((λ vs here. none_reading c.args.reader.now vs c.args.members _ _ here), refl, λ h. h)
 
 pub loop-key-preserved : goal.loop-key-preserved
 loop-key-preserved c =
     let s = c.args.reader.now in
     let l = c.loop-key in
-    let more = subst (λ (r : Scope). HaveOneMore r.sheet r.aliases c.in-Some.key.now c.in-Some.object l.found.identifiers.items c.read_member.new.found.identifiers.items l.found.facts.items c.read_member.new.found.facts.items) l.invariant.1 c.in_ok-read_member.ensures.found in
+    let more = subst (λ (r : Scope). HaveOneMore r.sheet r.aliases c.in-Some.key.now c.in-Some.object l.found.identifiers c.read_member.new.found.identifiers l.found.facts.items c.read_member.new.found.facts.items) l.invariant.1 c.in_ok-read_member.ensures.found in
     let ranks = subst (λ (r : Scope). AreRanks r.sheet.concepts l.found.facts.items l.found.ranks.items → AreRanks r.sheet.concepts c.read_member.new.found.facts.items c.read_member.new.found.ranks.items) l.invariant.1 c.in_ok-read_member.ensures.ranks in (
-      (λ vs here. one_read s vs _ _ _ _ _ _ (c.in-Some.key.now, c.in-Some.object) c.in-Some.ensures.value more (l.invariant.0 vs here)),
+      (λ vs here. one_read s vs _ _ _ _ _ _ _ _ (c.in-Some.key.now, c.in-Some.object) c.in-Some.ensures.value more (l.invariant.0 vs here)),
       c.read_member.ensures.same ∙ l.invariant.1,
-      ranks l.invariant.2,
+      λ h. ranks (l.invariant.2 h),
     )
 
 pub returns-clause-found : goal.returns-clause-found
 returns-clause-found c = λ vs here.
     let s = c.args.reader.now in
-    let all = all_found s vs _ c.next.new.self _ _ c.in_default.ensures.value (c.loop-key.invariant.0 vs here) in
-    let some : c.loop-key.found.facts.items ≡ [] → ⊥ = search rules in
-    (all.0, all.1, found_some s all.0 _ _ all.2 some, all.2)
+    let all = all_found s vs _ c.next.new.self _ _ _ _ c.in_default.ensures.value (c.loop-key.invariant.0 vs here) in
+    let some : length c.loop-key.found.facts.items ≡ length c.args.found.now.facts.items → ⊥ = λ e. let same : c.len.result ≡ c.len-before.result = search rules in c.if-len-before.false same in
+    (all.0, all.1, found_some s all.0 _ _ _ _ all.2 some, all.2)
 
 pub returns-clause-ranks : goal.returns-clause-ranks
 returns-clause-ranks c = c.loop-key.invariant.2

@@ -1,22 +1,13 @@
 use Rattle.std.proofs.Common.{Some, sym, ap, subst, ◌∙◌}
-use Rattle.std.proofs.lemmas.Result.{IfOk-weaker}
+use Rattle.std.proofs.lemmas.Result.{on_ok_weaker}
 use Rattle.json.specs.Find.{BeginsWith}
-use Rattle.serde_json.specs.Data.{Members, no_members}
-use Rattle.oim_report.specs.Pieces.{put_all, HasMember, IsPiece}
-use Rattle.oim_report.specs.code.FoundFacts.{AreFound}
-use Rattle.oim_report.specs.code.TapeValues.{AreData}
 use Rattle.oim_report.proofs.TapedFacts.{piece_of_facts}
 use Rattle.oim_report.proofs.pieces.piece_facts.read_piece_facts.Goals as goal
 
 pub returns-clause-found : goal.returns-clause-found
 returns-clause-found c =
-    let s = c.args.reader.now in
     let piece = c.args.piece.now in
     let v = c.in_ok-tape.ensures in
     let object = c.in-Some.ensures v.0 (subst (λ t. BeginsWith t v.0) (sym c.root.ensures.same) v.2) in
     let whole = v.1 ∙ ap (λ x. Some x) object.1 in
-    IfOk-weaker c.read_members.result
-    (λ f. (ms : Members) × AreData object.0 ms × HasMember ms × AreFound s.sheet s.aliases ms f.identifiers.items f.facts.items)
-    (λ f. (ms : Members) × IsPiece piece (put_all ms no_members) × AreFound s.sheet s.aliases ms f.identifiers.items f.facts.items)
-    (λ f h. (h.0, piece_of_facts piece object.0 h.0 whole h.1 h.2, h.3))
-    (c.read_members.ensures.found object.0 object.2)
+    on_ok_weaker c.read_members.result (λ h. (h.0, piece_of_facts piece object.0 h.0 whole h.1 h.2, h.3)) (c.read_members.ensures.found object.0 object.2)

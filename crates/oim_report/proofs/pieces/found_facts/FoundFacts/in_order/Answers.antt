@@ -1,13 +1,12 @@
-use Rattle.std.proofs.Common.{None, sym, ap, ◌∙◌}
+use Rattle.std.proofs.Common.{sym, ◌∙◌}
 use Rattle.serde_json.specs.Data.{no_members}
-use Rattle.oim_report.specs.code.FoundFacts.{rise_after}
 use Rattle.oim_report.specs.Pieces.{put_all}
 use Rattle.oim_report.proofs.FoundInOrder.{rising_found, found_by, ranked_by}
 use Rattle.oim_report.proofs.pieces.found_facts.FoundFacts.in_order.Goals as goal
 
 pub returns-then-rise-clause-found : goal.returns-then-rise-clause-found
 returns-then-rise-clause-found c = λ sheet bs ms h.
-    rising_found sheet bs ms _ _ h (ap (rise_after None) (sym c.as_slice.ensures.value) ∙ sym c.rise.ensures ∙ c.if-rise.true)
+    rising_found sheet bs ms _ _ h (sym c.rise.ensures ∙ c.if-rise.true)
 
 pub returns-clause-found : goal.returns-clause-found
 returns-clause-found c = λ sheet bs ms h.
