@@ -1,11 +1,13 @@
 pub mod Both
 mod Edits
 pub mod Ends
+mod Indices
+mod Listed
 mod Lists
 pub mod Members
-mod Indices
 mod Puts
 pub mod Rising
+mod Swaps
 mod Taking
 mod Unions
 mod Values

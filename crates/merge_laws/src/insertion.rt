@@ -1,5 +1,7 @@
-ghost use Rattle.std.specs.Prelude.{◌≡◌, ◌+◌, ◌-◌, ◌<◌, ◌≤◌, [], ◌++◌, take, drop, length, reverse, vec_len, vec_capacity, IfOk, OnOk, OnErr};
-ghost use Rattle.merge_laws.specs.code.Insertions.{IsFirstLeast, first_index, inserted};
+ghost use Rattle.std.specs.Prelude.{◌≡◌, ◌+◌, ◌-◌, ◌<◌, ◌≤◌, [], ◌++◌, length, min, reverse, take, vec_len, vec_capacity, IfOk, OnOk, OnErr};
+ghost use Rattle.std.specs.List.{range_with_len};
+ghost use Rattle.std.specs.List.Sorted.{IsPermutation};
+ghost use Rattle.merge_laws.specs.code.Insertions.{IsFirstLeast, first_index, inserted, picked};
 
 use std::alloc::AllocError;
 
@@ -14,8 +16,8 @@ pub(crate) fn insert_new<E: Drop>(
     ensures ok { OnOk result (items.new.items ≡ inserted items.old.items (reverse news.items)) }
     ensures err { OnErr result (items.new.items ≡ items.old.items) }
 {
-    let above = room_for(items, news.as_slice())?;
-    insert_all(items, news, above);
+    let order = room_for(items, news.as_slice())?;
+    insert_all(items, news, order);
     Ok(())
 }
 
@@ -23,55 +25,111 @@ pub(crate) fn insert_new<E: Drop>(
 pub(crate) fn room_for<E: Drop>(
     items: &mut Vec<E>,
     news: &[(usize, E)],
-) -> Result<Vec<E>, AllocError>
+) -> Result<Vec<usize>, AllocError>
     ensures kept { items.new.items ≡ items.old.items }
-    ensures among { IfOk result (λ above. vec_len items.new + length news.now ≤ vec_capacity items.new) }
-    ensures above { IfOk result (λ above. vec_len items.new - first_index (vec_len items.new) news.now + length news.now ≤ vec_capacity above) }
-    ensures empty { IfOk result (λ above. above.items ≡ []) }
+    ensures among { IfOk result (λ order. vec_len items.new + length news.now ≤ vec_capacity items.new) }
+    ensures order { IfOk result (λ order. vec_len items.new - first_index (vec_len items.new) news.now + length news.now ≤ vec_capacity order) }
+    ensures empty { IfOk result (λ order. order.items ≡ []) }
 {
     items.reserve(news.len())?;
-    let first = match news.first() {
-        Some((index, _)) => *index,
-        None => items.len(),
-    };
-    let moved = items.len().saturating_sub(first);
+    let moved = items.len() - first_of(items.len(), news);
     Vec::with_capacity(*items.allocator(), moved + news.len())
 }
 
-/// Inserts the new items, and moves only the items that follow the first new one.
-pub(crate) fn insert_all<E: Drop>(items: &mut Vec<E>, mut news: Vec<(usize, E)>, mut above: Vec<E>)
-    requires order { IsFirstLeast (vec_len items.old) news.items }
-    requires empty { above.items ≡ [] }
+// The index of the first item that an insertion moves.
+fn first_of<E>(len: usize, news: &[(usize, E)]) -> usize
+    ensures { result ≡ min len (first_index len news.now) }
+{
+    match news.first() {
+        Some((index, _)) => len.min(*index),
+        None => len,
+    }
+}
+
+/// Inserts the new items, and moves only the items that follow the first new one. The new items are
+/// moved to the end of the list, then swaps bring all items to their indices. A list of indices
+/// takes less memory than a second list of items.
+pub(crate) fn insert_all<E: Drop>(
+    items: &mut Vec<E>,
+    news: Vec<(usize, E)>,
+    mut order: Vec<usize>,
+)
+    requires first { IsFirstLeast (vec_len items.old) news.items }
+    requires empty { order.items ≡ [] }
     requires among { vec_len items.old + vec_len news ≤ vec_capacity items.old }
-    requires above { vec_len items.old - first_index (vec_len items.old) news.items + vec_len news ≤ vec_capacity above }
+    requires order { vec_len items.old - first_index (vec_len items.old) news.items + vec_len news ≤ vec_capacity order }
     ensures { items.new.items ≡ inserted items.old.items (reverse news.items) }
 {
+    let first = first_of(items.len(), news.as_slice());
+    append(items, news, first, &mut order);
+    order.reverse();
+    place(items, first, order);
+}
+
+// Moves the new items to the end of the list, the last one first. Lists the indices of the items in
+// the order that the items belong in, the last one first, for the items from index `first` on. The
+// indices in this list start at 0 for index `first`.
+fn append<E: Drop>(
+    items: &mut Vec<E>,
+    mut news: Vec<(usize, E)>,
+    first: usize,
+    order: &mut Vec<usize>,
+)
+    requires first { first ≡ min (vec_len items.old) (first_index (vec_len items.old) news.items) }
+    requires least { IsFirstLeast (vec_len items.old) news.items }
+    requires empty { order.old.items ≡ [] }
+    requires among { vec_len items.old + vec_len news ≤ vec_capacity items.old }
+    requires order { vec_len items.old - first + vec_len news ≤ vec_capacity order.old }
+    ensures items { (d : E) → picked first d items.new.items (reverse order.new.items) ≡ inserted items.old.items (reverse news.items) }
+    ensures each_once { IsPermutation (range_with_len 0 (length items.new.items - first)) (reverse order.new.items) }
+    ensures within { first ≤ length items.new.items }
+{
+    let mut top = items.len();
     while let Some((index, item)) = news.pop() {
-        lift(items, index, &mut above);
-        above.push_reserved(item);
-    }
-    lower(items, above);
-}
-
-fn lift<E: Drop>(items: &mut Vec<E>, index: usize, above: &mut Vec<E>)
-    requires { vec_len above.old + (vec_len items.old - index) ≤ vec_capacity above.old }
-    ensures items { items.new.items ≡ take index items.old.items }
-    ensures above { reverse above.new.items ≡ drop index items.old.items ++ reverse above.old.items }
-    ensures together { vec_len above.new + vec_len items.new ≡ vec_len above.old + vec_len items.old }
-    ensures untouched { vec_len items.new < index → vec_len items.new ≡ vec_len items.old }
-    ensures storage { vec_capacity above.new ≡ vec_capacity above.old }
-    ensures kept { vec_capacity items.new ≡ vec_capacity items.old }
-{
-    while items.len() > index {
-        above.push_reserved(items.take_last());
-    }
-}
-
-fn lower<E: Drop>(items: &mut Vec<E>, mut above: Vec<E>)
-    requires { vec_len items.old + vec_len above ≤ vec_capacity items.old }
-    ensures { items.new.items ≡ items.old.items ++ reverse above.items }
-{
-    while let Some(item) = above.pop() {
+        top = count_down(top, index, first, order);
+        order.push_reserved(items.len() - first);
         items.push_reserved(item);
+    }
+    let _first = count_down(top, first, first, order);
+}
+
+// Lists the numbers from `top - 1` down to `index`, each less `first`. Returns the last of them, or
+// `top` if there are none.
+fn count_down(top: usize, index: usize, first: usize, order: &mut Vec<usize>) -> usize
+    requires index { first ≤ index }
+    requires top { first ≤ top }
+    requires order { vec_len order.old + (top - index) ≤ vec_capacity order.old }
+    ensures result { result ≡ min top index }
+    ensures order { reverse order.new.items ≡ range_with_len (result - first) (top - result) ++ reverse order.old.items }
+    ensures len { vec_len order.new ≡ vec_len order.old + (top - index) }
+    ensures storage { vec_capacity order.new ≡ vec_capacity order.old }
+{
+    let mut low = top;
+    while low > index {
+        low -= 1;
+        order.push_reserved(low - first);
+    }
+    low
+}
+
+// Swaps the items from index `first` on into an order. The item that belongs at index `first + k`
+// is at index `first + order[k]`.
+fn place<E>(items: &mut Vec<E>, first: usize, order: Vec<usize>)
+    requires len { first + length order.items ≡ length items.old.items }
+    requires each_once { IsPermutation (range_with_len 0 (length order.items)) order.items }
+    ensures { (d : E) → items.new.items ≡ picked first d items.old.items order.items }
+{
+    // The item that belongs at index `first + k` is at index `first + indices[k]`.
+    let mut indices = order;
+    let mut i = 0;
+    while i < indices.len() {
+        let index = indices[i];
+        if index == i {
+            i += 1;
+        } else {
+            // The item that belongs at `index` goes there. The one that leaves belongs at `i`.
+            items.swap(first + index, first + indices[index]);
+            indices.swap(i, index);
+        }
     }
 }

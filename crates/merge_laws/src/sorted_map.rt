@@ -244,9 +244,9 @@ impl<K: Drop, V: Drop> Changes<K, V> {
         ensures ok { OnOk result (entries.new.items ≡ inserted (with_values entries.old.items self.values.items) (reverse self.new_entries.items)) }
         ensures err { OnErr result (entries.new.items ≡ entries.old.items) }
     {
-        let above = room_for(entries, self.new_entries.as_slice())?;
+        let order = room_for(entries, self.new_entries.as_slice())?;
         set_values(entries, self.values);
-        insert_all(entries, self.new_entries, above);
+        insert_all(entries, self.new_entries, order);
         Ok(())
     }
 }
