@@ -1,5 +1,5 @@
 -- Items of a list that swaps bring into the order of a list of indices.
-use Rattle.std.proofs.Common.{◌≡◌, ◌≢◌, ℕ, zero, suc, ◌+◌, ◌-◌, ◌<◌, ◌≤◌, ◌==◌, ◌++◌, true, false, cond, List, [], ◌∷◌, All, IsPermutation, get_or, length, map, take, set, swap, eqb, refl, sym, ap, subst, ◌∙◌, arith, get_or-set_other, eq-eqb, ne_eqb, inl, inr, lt_trans}
+use Rattle.std.proofs.Common.{◌≡◌, ◌≢◌, ℕ, zero, suc, ◌+◌, ◌-◌, ◌<◌, ◌≤◌, ◌==◌, true, false, cond, List, [], ◌∷◌, All, IsPermutation, get_or, length, map, take, set, swap, eqb, refl, sym, ap, subst, ◌∙◌, arith, get_or-set_other, eq-eqb, ne_eqb, inl, inr, lt_trans}
 use Rattle.std.specs.List.{IsDistinct, range_with_len}
 use Rattle.std.proofs.lemmas.Bool.{cases_eq, cases_lt, cases_order, both_ways}
 use Rattle.std.proofs.lemmas.Cmp.{nat_eq_equiv}
