@@ -2,10 +2,10 @@
 use Rattle.std.proofs.Common.{◌≡◌, ℕ, zero, suc, ◌+◌, ◌-◌, ◌<◌, ◌≤◌, ◌++◌, List, [], ◌∷◌, All, IsPermutation, append-nil, append_assoc, get_or, length, map, take, drop, refl, sym, ap, subst, ◌∙◌, arith}
 use Rattle.std.specs.Prelude.{min, reverse}
 use Rattle.std.specs.List.{AllByRecursion, range_with_len}
-use Rattle.std.proofs.lemmas.List.{ext_get_or, get_or_append_left, get_or-append-add, get_or-drop, get_or-map, length-append, length-drop, length-map, length-take, map-append, reverse-append, length-reverse, take-append-drop, take-append-le}
+use Rattle.std.proofs.lemmas.List.{ext_get_or, get_or_append_left, get_or-append-add, get_or-drop, get_or-map, length-append, length-drop, length-map, length-take, map-append, reverse-append, take-append-drop, take-append-le}
 use Rattle.std.proofs.lemmas.List.Elements.{All-from_get_or}
 use Rattle.std.proofs.lemmas.List.FromFn.{get_or-map-range_with_len, get_or-range_with_len, length-map-range_with_len, length-range_with_len}
-use Rattle.std.proofs.lemmas.List.Sorted.{All-permutation, IsPermutation-append_right, IsPermutation-cons, IsPermutation-refl, IsPermutation-to_front, IsPermutation-trans, length_permutation}
+use Rattle.std.proofs.lemmas.List.Sorted.{All-permutation, IsPermutation-append_right, IsPermutation-cons, IsPermutation-refl, IsPermutation-to_front, IsPermutation-trans}
 use Rattle.merge_laws.specs.code.Insertions.{inserted, picked}
 use Rattle.merge_laws.proofs.Lists.{all_back, all_front}
 
@@ -49,10 +49,10 @@ reads_more {E} first d items more ks within =
     let f : ℕ → E = λ k. get_or (items ++ more) (first + k) d in
     let g : ℕ → E = λ k. get_or items (first + k) d in
     ext_get_or d (map f ks) (map g ks) (length-map ks f ∙ sym (length-map ks g)) (λ i below.
-      let here : i < length ks = omega (arith, below, length-map ks f) in
-      get_or-map f ks i 0 d here
-      ∙ get_or_append_left items more d (first + get_or ks i 0) (within i 0 here)
-      ∙ sym (get_or-map g ks i 0 d here))
+    let here : i < length ks = omega (arith, below, length-map ks f) in
+    get_or-map f ks i 0 d here
+    ∙ get_or_append_left items more d (first + get_or ks i 0) (within i 0 here)
+    ∙ sym (get_or-map g ks i 0 d here))
 
 reads_left : {E : Type 0} (first : ℕ) (d : E) (left rest : List E) (to index : ℕ) → first ≤ to → to ≡ min (length left) index → reads first d (left ++ rest) (range_with_len (to - first) (length left - to)) ≡ drop index left
 reads_left {E} first d left rest to index low is =
@@ -61,13 +61,13 @@ reads_left {E} first d left rest to index low is =
     let n : ℕ = length left - to in
     let count = length-map-range_with_len f a n in
     ext_get_or d (map f (range_with_len a n)) (drop index left) (omega (arith, count, length-drop index left, is)) (λ i below.
-      let here : i < n = omega (arith, below, count) in
-      let at : first + (a + i) ≡ index + i = omega (arith, here, is, low) in
-      let inside : index + i < length left = omega (arith, here, is) in
-      get_or-map-range_with_len f a n i (a + i) d here refl
-      ∙ ap (λ k. get_or (left ++ rest) k d) at
-      ∙ get_or_append_left left rest d (index + i) inside
-      ∙ sym (get_or-drop index left i d))
+    let here : i < n = omega (arith, below, count) in
+    let at : first + (a + i) ≡ index + i = omega (arith, here, is, low) in
+    let inside : index + i < length left = omega (arith, here, is) in
+    get_or-map-range_with_len f a n i (a + i) d here refl
+    ∙ ap (λ k. get_or (left ++ rest) k d) at
+    ∙ get_or_append_left left rest d (index + i) inside
+    ∙ sym (get_or-drop index left i d))
 
 -- `left` has the old items before `top`; the order lists the indices of all later items, from the end
 pub record Listed {E : Type 0} (first top : ℕ) (whole : List E) (news : List (ℕ × E)) (items : List E) (order : List ℕ) : Type 0 where
@@ -95,11 +95,6 @@ module _ {E : Type 0} {first top : ℕ} {whole : List E} {news : List (ℕ × E)
   shape : length items ≡ top + length l.rest
   shape = ap length l.split ∙ length-append l.left l.rest ∙ ap (λ n. n + length l.rest) l.count
 
-  pub as_many : length order + top ≡ length items
-  as_many =
-      let n = length_permutation _ _ l.each_once in
-      omega (arith, n, length-range_with_len (top - first) (length items - top), length-reverse order, shape)
-
   module _ (to index : ℕ) (others : List ℕ) (from : first ≤ index) (is : to ≡ min top index) (down : reverse others ≡ range_with_len (to - first) (top - to) ++ reverse order) where
     -- the indices from `to` on
     pub down_once : IsPermutation (range_with_len (to - first) (length items - to)) (reverse others)
@@ -113,8 +108,8 @@ module _ {E : Type 0} {first top : ℕ} {whole : List E} {news : List (ℕ × E)
     reads_down d =
         let f : ℕ → E = λ k. get_or items (first + k) d in
         let here : reads first d items (range_with_len (to - first) (top - to)) ≡ drop index l.left =
-            (λ i. reads first d (l.split i) (range_with_len (to - first) (sym l.count i - to)))
-            ∙ reads_left first d l.left l.rest to index (omega (arith, is, from, low)) (is ∙ ap (λ n. min n index) (sym l.count)) in
+        (λ i. reads first d (l.split i) (range_with_len (to - first) (sym l.count i - to)))
+        ∙ reads_left first d l.left l.rest to index (omega (arith, is, from, low)) (is ∙ ap (λ n. min n index) (sym l.count)) in
         ap (map f) down ∙ map-append f (range_with_len (to - first) (top - to)) (reverse order) ∙ ap (λ es. es ++ reads first d items (reverse order)) here
 
     others_within : All (λ k. first + k < length items) (reverse others)
@@ -123,9 +118,9 @@ module _ {E : Type 0} {first top : ℕ} {whole : List E} {news : List (ℕ × E)
         let n : ℕ = length items - to in
         All-permutation (λ k. first + k < length items) (range_with_len a n) (reverse others) down_once
         (All-from_get_or (λ k. first + k < length items) (range_with_len a n) 0 (λ i within.
-          let here : i < n = omega (arith, within, length-range_with_len a n) in
-          let at = get_or-range_with_len a n i 0 here in
-          omega (arith, at, here, is, from, low, shape)))
+        let here : i < n = omega (arith, within, length-range_with_len a n) in
+        let at = get_or-range_with_len a n i 0 here in
+        omega (arith, at, here, is, from, low, shape)))
 
     pub one_listed : (item : E) (fewer : List (ℕ × E)) (more : List E) (indices : List ℕ) → news ≡ fewer ++ (index, item) ∷ [] → more ≡ items ++ item ∷ [] → indices ≡ others ++ (length items - first) ∷ [] → Listed first to whole fewer more indices
     one_listed item fewer more indices popped pushed added =

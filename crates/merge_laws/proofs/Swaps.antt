@@ -146,8 +146,8 @@ module _ {E : Type 0} {first : ℕ} {from : List E} {order : List ℕ} (long : f
                   | inr not_i ↦ elim (cases_eq k index) [
                     | inl e ↦ cc (moves.1, at, carries.0, goes_at, old)
                     | inr not_index ↦
-                      let kept = carries.2 (first + get_or indices k 0) (λ e. not_i (same_index k i old_within here (omega (arith, e, at)))) (λ e. not_index (same_index k index old_within index_within (omega (arith, e, goes_at)))) in
-                      cc (moves.2 k not_i not_index, kept, old)
+                        let kept = carries.2 (first + get_or indices k 0) (λ e. not_i (same_index k i old_within here (omega (arith, e, at)))) (λ e. not_index (same_index k index old_within index_within (omega (arith, e, goes_at)))) in
+                        cc (moves.2 k not_i not_index, kept, old)
                   ]
                 ];
             before = λ k d below.
@@ -163,11 +163,11 @@ module _ {E : Type 0} {first : ℕ} {from : List E} {order : List ℕ} (long : f
         let count = length-append (take first from) (map f order) in
         let total : length now ≡ length (picked first d from order) = omega (arith, moved.len, long, front, count, length-map order f) in
         ext_get_or d now (picked first d from order) total (λ k within.
-          elim (cases_lt k first) [
-            | inl below ↦
+        elim (cases_lt k first) [
+          | inl below ↦
               moved.before k d below
               ∙ sym (get_or_append_left (take first from) (map f order) d k (omega (arith, below, front)) ∙ get_or-take first from k d below)
-            | inr past ↦
+          | inr past ↦
               let j : ℕ = k - first in
               let there : j < length indices = omega (arith, within, as_many, past) in
               let is : k ≡ first + j = omega (arith, past) in
@@ -177,4 +177,4 @@ module _ {E : Type 0} {first : ℕ} {from : List E} {order : List ℕ} (long : f
               ∙ sym (get_or-map f order j 0 d (omega (arith, there, as_order)))
               ∙ sym (get_or-append-add (take first from) (map f order) j d)
               ∙ ap (λ i. get_or (picked first d from order) i d) (sym seam)
-          ])
+        ])

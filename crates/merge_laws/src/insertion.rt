@@ -49,11 +49,7 @@ fn first_of<E>(len: usize, news: &[(usize, E)]) -> usize
 /// Inserts the new items, and moves only the items that follow the first new one. The new items are
 /// moved to the end of the list, then swaps bring all items to their indices. A list of indices
 /// takes less memory than a second list of items.
-pub(crate) fn insert_all<E: Drop>(
-    items: &mut Vec<E>,
-    news: Vec<(usize, E)>,
-    mut order: Vec<usize>,
-)
+pub(crate) fn insert_all<E: Drop>(items: &mut Vec<E>, news: Vec<(usize, E)>, mut order: Vec<usize>)
     requires first { IsFirstLeast (vec_len items.old) news.items }
     requires empty { order.items ≡ [] }
     requires among { vec_len items.old + vec_len news ≤ vec_capacity items.old }
@@ -66,9 +62,9 @@ pub(crate) fn insert_all<E: Drop>(
     place(items, first, order);
 }
 
-// Moves the new items to the end of the list, the last one first. Lists the indices of the items in
-// the order that the items belong in, the last one first, for the items from index `first` on. The
-// indices in this list start at 0 for index `first`.
+// Appends the new items to the list, the last one first. Appends to `order` the indices at which the
+// items from index `first` on then are, in the final order of these items, but from the end. Each of
+// these indices is reduced by `first`.
 fn append<E: Drop>(
     items: &mut Vec<E>,
     mut news: Vec<(usize, E)>,
@@ -93,8 +89,8 @@ fn append<E: Drop>(
     let _first = count_down(top, first, first, order);
 }
 
-// Lists the numbers from `top - 1` down to `index`, each less `first`. Returns the last of them, or
-// `top` if there are none.
+// Appends the numbers from `top - 1` down to `index` to `order`, each reduced by `first`. Returns the
+// lesser of `top` and `index`.
 fn count_down(top: usize, index: usize, first: usize, order: &mut Vec<usize>) -> usize
     requires index { first ≤ index }
     requires top { first ≤ top }
