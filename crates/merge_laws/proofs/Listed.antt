@@ -6,7 +6,8 @@ use Rattle.std.proofs.lemmas.List.{ext_get_or, get_or_append_left, get_or-append
 use Rattle.std.proofs.lemmas.List.Elements.{All-from_get_or}
 use Rattle.std.proofs.lemmas.List.FromFn.{get_or-map-range_with_len, get_or-range_with_len, length-map-range_with_len, length-range_with_len}
 use Rattle.std.proofs.lemmas.List.Sorted.{All-permutation, IsPermutation-append_right, IsPermutation-cons, IsPermutation-refl, IsPermutation-to_front, IsPermutation-trans}
-use Rattle.merge_laws.specs.code.Insertions.{inserted, picked}
+use Rattle.merge_laws.specs.Picked.{picked}
+use Rattle.merge_laws.specs.code.Insertions.{inserted}
 use Rattle.merge_laws.proofs.Lists.{all_back, all_front}
 
 pub range_down : (a b m n : ℕ) → b ≡ a + 1 → m ≡ suc n → range_with_len a m ≡ a ∷ range_with_len b n

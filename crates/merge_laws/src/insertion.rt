@@ -1,8 +1,10 @@
 ghost use Rattle.std.specs.Prelude.{◌≡◌, ◌+◌, ◌-◌, ◌<◌, ◌≤◌, [], ◌++◌, length, min, reverse, take, vec_len, vec_capacity, IfOk, OnOk, OnErr};
 ghost use Rattle.std.specs.List.{range_with_len};
 ghost use Rattle.std.specs.List.Sorted.{IsPermutation};
-ghost use Rattle.merge_laws.specs.code.Insertions.{IsFirstLeast, first_index, inserted, picked};
+ghost use Rattle.merge_laws.specs.Picked.{picked};
+ghost use Rattle.merge_laws.specs.code.Insertions.{IsFirstLeast, first_index, inserted};
 
+use crate::placing::place;
 use std::alloc::AllocError;
 
 // Each new item has the index in the old list at which it is inserted. The first new item has the
@@ -106,26 +108,4 @@ fn count_down(top: usize, index: usize, first: usize, order: &mut Vec<usize>) ->
         order.push_reserved(low - first);
     }
     low
-}
-
-// Swaps the items from index `first` on into an order. The item that belongs at index `first + k`
-// is at index `first + order[k]`.
-fn place<E>(items: &mut Vec<E>, first: usize, order: Vec<usize>)
-    requires len { first + length order.items ≡ length items.old.items }
-    requires each_once { IsPermutation (range_with_len 0 (length order.items)) order.items }
-    ensures { (d : E) → items.new.items ≡ picked first d items.old.items order.items }
-{
-    // The item that belongs at index `first + k` is at index `first + indices[k]`.
-    let mut indices = order;
-    let mut i = 0;
-    while i < indices.len() {
-        let index = indices[i];
-        if index == i {
-            i += 1;
-        } else {
-            // The item that belongs at `index` goes there. The one that leaves belongs at `i`.
-            items.swap(first + index, first + indices[index]);
-            indices.swap(i, index);
-        }
-    }
 }

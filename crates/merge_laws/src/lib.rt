@@ -4,12 +4,14 @@
 mod insertion;
 pub mod laws;
 mod merge;
+mod placing;
 mod search;
 mod sorted_map;
 mod sorted_set;
 mod summary;
 
 pub use merge::Merge;
+pub use placing::place;
 pub use sorted_map::SortedMap;
 pub use sorted_set::SortedSet;
 pub use summary::Summary;

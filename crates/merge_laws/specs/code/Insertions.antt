@@ -1,5 +1,5 @@
 -- The changes to a list when another list is merged into it (own): new items and merged values, each with its index.
-use Rattle.std.specs.Prelude.{ℕ, zero, suc, ◌+◌, ◌≤◌, if◌then◌else◌, List, [], ◌∷◌, ◌++◌, take, drop, slice_index_or, map, Option, Some, None, Result, Ok, Err, not}
+use Rattle.std.specs.Prelude.{ℕ, zero, suc, ◌≤◌, if◌then◌else◌, List, [], ◌∷◌, ◌++◌, take, drop, Option, Some, None, Result, Ok, Err, not}
 use Rattle.std.specs.List.{AllByRecursion, flat_map, position_or_len}
 use Rattle.std.specs.declared.cmp.Ordering.{Ordering}
 use Rattle.std.specs.Ordering.{is_lt}
@@ -18,10 +18,6 @@ first_index end (n ∷ ns) = n.0
 -- no new item has a smaller index than the first one
 abbrev pub IsFirstLeast : {E : Type 0} → ℕ → List (ℕ × E) → Type 0
 IsFirstLeast end ns = AllByRecursion (λ n. first_index end ns ≤ n.0) ns
-
--- the items before index `first`, and then the items at the indices, which start at 0 for index `first`
-abbrev pub picked : {E : Type 0} → ℕ → E → List E → List ℕ → List E
-picked first d es ks = take first es ++ map (λ k. slice_index_or es (first + k) d) ks
 
 module _ {K E : Type 0} (R : K → K → Ordering) (key : E → K) where
   -- the index of the first item whose key is not below k, or the length if there is none

@@ -1,6 +1,6 @@
 use Rattle.std.proofs.Common.{◌≡◌, ℕ, ◌+◌, ◌-◌, ◌<◌, get_or, length}
 use Rattle.merge_laws.proofs.Swaps.{Moved, misplaced}
-use Rattle.merge_laws.proofs.insertion.place.Given as goal
+use Rattle.merge_laws.proofs.placing.place.Given as goal
 
 -- swaps moved the items, and each index before `i` is where it belongs
 abbrev pub invariant-loop-i : goal.invariant-loop-i

@@ -1,6 +1,6 @@
 use Rattle.std.proofs.Common.{arith}
 use Rattle.merge_laws.proofs.Swaps.{all_moved, as_many, fewer_misplaced, index_within, next_within, none_moved, one_moved, stay_placed}
-use Rattle.merge_laws.proofs.insertion.place.Goals as goal
+use Rattle.merge_laws.proofs.placing.place.Goals as goal
 
 pub loop-i-init : goal.loop-i-init
 loop-i-init g c = record {
