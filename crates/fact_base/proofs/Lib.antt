@@ -12,4 +12,4 @@ pub mod Stored
 pub mod BuilderLaws
 pub mod Walks
 pub mod Passed
-pub mod Swaps
+pub mod Placed

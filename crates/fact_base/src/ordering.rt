@@ -6,7 +6,7 @@ ghost use Rattle.oim_report.specs.Report.{IsOrderOf};
 ghost use Rattle.fact_base.specs.Body.{text_cmp};
 ghost use Rattle.fact_base.specs.Sets.{set_of};
 
-use merge_laws::{Merge, SortedSet};
+use merge_laws::{Merge, SortedSet, place};
 use oim_dims::Fact;
 use oim_names::{Copied, Key, Text, copies_of};
 use std::alloc::{AllocError, Global};
@@ -17,19 +17,7 @@ pub(crate) fn in_order(mut facts: Vec<Fact>, order: Vec<usize>) -> Vec<Fact>
     ensures moved { IsPermutation facts.items result.items }
     ensures sorted { IsSorted fact_cmp result.items }
 {
-    // The fact that belongs at index `k` is at index `indices[k]`.
-    let mut indices = order;
-    let mut i = 0;
-    while i < indices.len() {
-        let index = indices[i];
-        if index == i {
-            i += 1;
-        } else {
-            // The fact that belongs at `index` goes there. The one that leaves belongs at `i`.
-            facts.swap(index, indices[index]);
-            indices.swap(i, index);
-        }
-    }
+    place(&mut facts, 0, order);
     facts
 }
 
