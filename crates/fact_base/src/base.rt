@@ -8,7 +8,7 @@ ghost use Rattle.oim_report.specs.Duplicates.{level_of};
 
 use crate::entries::{Entries, copied_facts, count_of, entries_in_order, level_of, same_rows};
 use crate::evidence::Evidence;
-use crate::ordering::{in_order, put_in_order, replace, with_all};
+use crate::ordering::{in_order, put_in_order, replace, sort, with_all};
 use crate::rows::{Row, Rows};
 use crate::verdict::Verdict;
 use merge_laws::{Merge, SortedMap, SortedSet};
@@ -81,7 +81,7 @@ impl<'s> Base<'s> {
         ensures { IfOk result (λ base. base ≡ record { sheet = sheet.now; body = gathered facts.items references.items }) }
     {
         put_in_order(&mut references)?;
-        facts.sort()?;
+        sort(&mut facts)?;
         Ok(Base {
             alloc,
             sheet,
