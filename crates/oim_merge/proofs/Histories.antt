@@ -1,5 +1,5 @@
 -- A base depends only on the set of its documents, and its text is read as its body. The facts of a canonical report ascend strictly.
-use Rattle.std.proofs.Common.{◌≡◌, inl, ⊎_elim, [], ◌∷◌, ◌++◌, append-nil, Result, Ok, Err, refl, sym, ap, subst, ◌∙◌, ℕ, ◌+◌, ◌<◌, Bool, true, false, not, List, get_or, length, inr, arith, zero-add}
+use Rattle.std.proofs.Common.{◌≡◌, inl, ⊎_elim, [], ◌∷◌, ◌++◌, append-nil, Result, Ok, Err, Some, refl, sym, ap, subst, ◌∙◌, ℕ, ◌+◌, ◌<◌, Bool, true, false, not, List, get_or, length, slice_get, eqb, eq-eqb, ne_eqb, lt_trans, inr, arith, zero-add}
 use Rattle.std.specs.Prelude.{Contains, ◌↔◌, IsTrue, EachIndex}
 use Rattle.oim_value.specs.declared.level.Level.TheVariants.{All as AllLevel}
 use Rattle.oim_dims.proofs.Orders.{fact_cmp_exact, fact_cmp_total}
@@ -19,25 +19,24 @@ use Rattle.oim_merge.proofs.ReadsBack.{canonical_reads_back, earlier_reads_back}
 use Rattle.oim_write.specs.Bytes.{canonical}
 use Rattle.oim_merge.specs.History.{fresh, took, joined, documents_of, EarlierTextsGiveBodies, HistoriesAreForgotten, HistoriesGiveBodies, MergedTextsMerge, TextsGiveBodies}
 use Rattle.oim_merge.specs.ReadBack.{MergedTextsAreCanonical, document_at}
-use Rattle.std.specs.List.{All, IsAllAdjacentAnswer, range_with_len}
+use Rattle.std.specs.List.{All, IsAllAdjacentAnswer, IsDistinct, range_with_len}
 use Rattle.std.specs.List.Sorted.{IsSorted, IsStrictlyIncreasing, IsStrictlySortedBy}
 use Rattle.std.specs.Option.{option_cmp}
 use Rattle.std.specs.Ordering.{is_eq, is_lt, nat_cmp, ordering_reverse}
 use Rattle.std.specs.declared.cmp.Ordering.{Ordering}
 use Rattle.std.specs.declared.cmp.Ordering.TheVariants.{Less, Equal, Greater}
-use Rattle.std.proofs.lemmas.Bool.{cases_order, false≢true}
-use Rattle.std.proofs.lemmas.Cmp.{nat_cmp_total, ranked}
+use Rattle.std.proofs.lemmas.Bool.{both_ways, cases_order, false≢true}
+use Rattle.std.proofs.lemmas.Cmp.{nat_cmp_total, nat_eq_equiv, ranked}
 use Rattle.std.proofs.lemmas.List.Elements.{All-cons, All-nil}
 use Rattle.std.proofs.lemmas.List.FromFn.{get_or-range_with_len, length-range_with_len}
 use Rattle.std.proofs.lemmas.List.Sorted.{Contains-permutation, IsPermutation-sym, length_permutation}
-use Rattle.std.proofs.lemmas.Map.Keys.{Less-from_sorted, sorted_from_all_adjacent, sorted_from_strictly_increasing}
+use Rattle.std.proofs.lemmas.Map.Keys.{IsDistinct-IsPermutation, IsDistinct-from_apart, Less-from_sorted, apart_from_distinct, sorted_from_all_adjacent, sorted_from_strictly_increasing}
 use Rattle.std.proofs.lemmas.Option.{slice_get-get_or}
 use Rattle.merge_laws.specs.Sorted.{IsSet}
 use Rattle.oim_dims.specs.declared.fact.Fact.{Fact}
 use Rattle.oim_report.specs.Report.{IsOrderOf}
 use Rattle.oim_report.proofs.Indices.{indices_within}
 use Rattle.fact_base.proofs.Passed.{set_is_its_members}
-use Rattle.fact_base.proofs.Swaps.{moved_sorted, none_moved, same_index}
 use Rattle.oim_merge.specs.Checked.{IsCanonicalOf}
 
 pub histories_give_bodies : HistoriesGiveBodies
@@ -116,10 +115,32 @@ rising_differ : (facts : List Fact) → IsSet fact_cmp facts → Differ facts fa
 rising_differ [] rises (k, within, alike) = absurd (omega (arith, within))
 rising_differ (f ∷ fs) rises (k, within, alike) = alike f ∙ ap (λ o. not (is_eq o)) (Less-from_sorted fact_cmp (f ∷ fs) k (k + 1) f rises (omega arith) within)
 
+range_distinct : (n : ℕ) → IsDistinct eqb (range_with_len 0 n)
+range_distinct n = IsDistinct-from_apart eqb (range_with_len 0 n) (λ i j d before within.
+    let there : j < n = omega (arith, within, length-range_with_len 0 n) in
+    let first = get_or-range_with_len 0 n i d (lt_trans before there) in
+    let second = get_or-range_with_len 0 n j d there in
+    ne_eqb (get_or (range_with_len 0 n) i d) (get_or (range_with_len 0 n) j d) (λ e. omega (arith, e, before, first, second)))
+
 module _ (facts : List Fact) (order : List ℕ) (ordered : IsOrderOf facts order) where
+  as_many : length order ≡ length facts
+  as_many = length_permutation (range_with_len 0 (length facts)) order ordered.each_once ∙ length-range_with_len 0 (length facts)
+
+  distinct : IsDistinct eqb order
+  distinct = IsDistinct-IsPermutation eqb nat_eq_equiv.symm (range_with_len 0 (length facts)) order ordered.each_once (range_distinct (length facts))
+
+  sorted_in_place : EachIndex order (λ k. get_or order k 0 ≡ k) → IsSorted fact_cmp facts
+  sorted_in_place indexed k d low within =
+      let reads : (j : ℕ) → j < length facts → slice_get facts (get_or order j 0) ≡ Some (get_or facts j d)
+      = λ j inside. ap (slice_get facts) (indexed j (omega (arith, inside, as_many))) ∙ slice_get-get_or facts j d inside in
+      let next = reads (k + 1) within in
+      let here = reads k (omega (arith, within)) in
+      sym (λ t. is_lt (option_cmp fact_cmp (next t) (here t)))
+      ∙ ordered.rising k 0 low (omega (arith, within, as_many))
+
   -- if each fact is at its place, the facts ascend exactly if each differs from the next
   pub rise_in_place : (told : Bool) → Differ facts told → EachIndex order (λ k. get_or order k 0 ≡ k) → IsTrue told ↔ IsSet fact_cmp facts
-  rise_in_place true each indexed = (λ h. sorted_apart facts (moved_sorted ordered (none_moved facts order) indexed) each, λ h. refl)
+  rise_in_place true each indexed = (λ h. sorted_apart facts (sorted_in_place indexed) each, λ h. refl)
   rise_in_place false each indexed = (λ h. absurd (false≢true h), λ rises. rising_differ facts rises each)
 
   -- the places of ascending facts ascend
@@ -129,7 +150,7 @@ module _ (facts : List Fact) (order : List ℕ) (ordered : IsOrderOf facts order
       let next : ℕ = get_or order (k + 1) 0 in
       let inside = indices_within facts order ordered in
       elim (cases_order here next) [
-        | inl same ↦ absurd (omega (arith, same_index ordered (none_moved facts order) k (k + 1) (omega (arith, within)) within same))
+        | inl same ↦ absurd (both_ways _ (apart_from_distinct eqb order k (k + 1) 0 distinct (omega arith) within) (eq-eqb here next same))
         | inr apart ↦ elim apart [
           | inl before ↦ before
           | inr after ↦
