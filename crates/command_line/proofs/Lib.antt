@@ -8,3 +8,5 @@ mod Parsed
 mod Named
 mod Reached
 pub mod Asking
+pub mod ListedNames
+pub mod Steps

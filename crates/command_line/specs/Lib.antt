@@ -7,3 +7,5 @@ pub mod Printed
 pub mod Arguments
 pub mod Words
 pub mod WordLaws
+pub mod ReportNames
+pub mod Program

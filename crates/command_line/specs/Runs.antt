@@ -75,7 +75,7 @@ pub record Replaces (Ends : Option (List ℕ) → Option (List ℕ) → Result S
   pub ends : Ends empty written done
   pub placed : IsPlaced written old new done
 
--- the output went to standard output, or into the place of the file with a name
+-- the output went to standard output, and no file changed, or into the place of the file with a name
 abbrev pub OutputEnds : (Option (List ℕ) → Option (List ℕ) → Result Success Error → Type 0) → Option (Bor (List ℕ)) → Option (List ℕ) → Option (List ℕ) → Option (List ℕ) → (List ℕ → Option (List ℕ)) → (List ℕ → Option (List ℕ)) → Result Success Error → Type 0
-OutputEnds Ends None out_old out_new empty old new done = Ends out_old out_new done
+OutputEnds Ends None out_old out_new empty old new done = Ends out_old out_new done × ((name : List ℕ) → new name ≡ old name)
 OutputEnds Ends (Some name) out_old out_new empty old new done = Replaces Ends empty (old name.now) (new name.now) done × (out_new ≡ out_old)
