@@ -2,6 +2,7 @@ pub mod Readings
 pub mod Ends
 pub mod Faults
 pub mod Replicas
+pub mod Explained
 pub mod Requests
 mod RowReads
 mod Parsed
