@@ -1,8 +1,5 @@
-ghost use Rattle.std.specs.Prelude.{OnOk};
-ghost use Rattle.oim_explain.specs.code.Added.{AddsRepeated};
-
+use super::finding::push_text;
 use super::lines::Lines;
-use super::quoted::push_text;
 use super::subject::Subject;
 use json::{Error, Scratch, Value};
 use oim_report::after_mark;
@@ -15,9 +12,7 @@ pub(crate) fn push_repeated(
     lines: &mut Lines<'_>,
     subject: Subject<'_>,
     bytes: &[u8],
-) -> Result<(), AllocError>
-    ensures { OnOk result (AddsRepeated lines.old lines.new) }
-{
+) -> Result<(), AllocError> {
     let Ok(text) = str::from_utf8(after_mark(bytes)) else {
         return Ok(());
     };
@@ -38,30 +33,15 @@ pub(crate) fn push_repeated(
     }
 }
 
-fn push_report(lines: &mut Lines<'_>, tree: &Value<'_>) -> Result<(), AllocError>
-    ensures { OnOk result (AddsRepeated lines.old lines.new) }
-{
+fn push_report(lines: &mut Lines<'_>, tree: &Value<'_>) -> Result<(), AllocError> {
     push_of(lines, "", Some(tree), " in the report")?;
-    push_info(lines, tree.get("documentInfo"))?;
+    if let Some(info) = tree.get("documentInfo") {
+        push_of(lines, "", Some(info), " in \"documentInfo\"")?;
+        push_of(lines, "", info.get("namespaces"), " in \"namespaces\"")?;
+        push_of(lines, "", info.get("features"), " in \"features\"")?;
+    }
     push_of(lines, "fact ", tree.get("facts"), "")?;
-    push_facts(lines, tree.get("facts"))
-}
-
-fn push_info(lines: &mut Lines<'_>, info: Option<&Value<'_>>) -> Result<(), AllocError>
-    ensures { OnOk result (AddsRepeated lines.old lines.new) }
-{
-    let Some(info) = info else {
-        return Ok(());
-    };
-    push_of(lines, "", Some(info), " in \"documentInfo\"")?;
-    push_of(lines, "", info.get("namespaces"), " in \"namespaces\"")?;
-    push_of(lines, "", info.get("features"), " in \"features\"")
-}
-
-fn push_facts(lines: &mut Lines<'_>, facts: Option<&Value<'_>>) -> Result<(), AllocError>
-    ensures { OnOk result (AddsRepeated lines.old lines.new) }
-{
-    let Some(Value::Object(facts)) = facts else {
+    let Some(Value::Object(facts)) = tree.get("facts") else {
         return Ok(());
     };
     for index in indices_of_read(lines.alloc, facts.as_slice())? {
@@ -72,9 +52,7 @@ fn push_facts(lines: &mut Lines<'_>, facts: Option<&Value<'_>>) -> Result<(), Al
     Ok(())
 }
 
-fn push_fact(lines: &mut Lines<'_>, identifier: &str, fact: &Value<'_>) -> Result<(), AllocError>
-    ensures { OnOk result (AddsRepeated lines.old lines.new) }
-{
+fn push_fact(lines: &mut Lines<'_>, identifier: &str, fact: &Value<'_>) -> Result<(), AllocError> {
     let mut before = String::from_str(lines.alloc, "fact ")?;
     push_text(lines.alloc, &mut before, identifier)?;
     before.push_str(": ")?;
@@ -83,9 +61,7 @@ fn push_fact(lines: &mut Lines<'_>, identifier: &str, fact: &Value<'_>) -> Resul
     push_of(lines, before.as_str(), dimensions, " in \"dimensions\"")
 }
 
-fn push_sheet(lines: &mut Lines<'_>, tree: &Value<'_>) -> Result<(), AllocError>
-    ensures { OnOk result (AddsRepeated lines.old lines.new) }
-{
+fn push_sheet(lines: &mut Lines<'_>, tree: &Value<'_>) -> Result<(), AllocError> {
     push_of(lines, "", Some(tree), " in the sheet")?;
     push_of(lines, "", tree.get("namespaces"), " in \"namespaces\"")?;
     push_of(lines, "", tree.get("concepts"), " in \"concepts\"")?;
@@ -99,9 +75,7 @@ fn push_of(
     before: &str,
     object: Option<&Value<'_>>,
     location: &str,
-) -> Result<(), AllocError>
-    ensures { OnOk result (AddsRepeated lines.old lines.new) }
-{
+) -> Result<(), AllocError> {
     let Some(Value::Object(members)) = object else {
         return Ok(());
     };

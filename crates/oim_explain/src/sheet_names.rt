@@ -1,5 +1,3 @@
-ghost use Rattle.std.specs.Prelude.{◌≡◌, IfOk};
-
 use oim_names::{Aliases, Reason, split_name};
 use oim_report::{Sheet, after_mark};
 use serde_json::Value;
@@ -13,19 +11,16 @@ const MOST_PREFIXES: usize = 20;
 /// similar to an unknown name (own).
 #[derive(Drop)]
 pub struct SheetNames<'s> {
-    /// The sheet.
-    pub sheet: &'s Sheet,
+    pub(crate) sheet: &'s Sheet,
     aliases: Aliases,
     prefixes: Vec<String>,
 }
 
 impl<'s> SheetNames<'s> {
-    /// Returns the sheet with the prefixes that its bytes bind. The sheet does not change.
+    /// Reads the prefixes from the bytes from which the sheet was read.
     ///
     /// Errors: out of memory.
-    pub fn read(alloc: Global, sheet: &'s Sheet, bytes: &[u8]) -> Result<Self, AllocError>
-        ensures { IfOk result (λ names. names.sheet.now ≡ sheet.now) }
-    {
+    pub fn read(alloc: Global, sheet: &'s Sheet, bytes: &[u8]) -> Result<Self, AllocError> {
         let mut names = SheetNames {
             sheet,
             aliases: Aliases::new(alloc),
@@ -39,9 +34,7 @@ impl<'s> SheetNames<'s> {
         Ok(names)
     }
 
-    fn bind(&mut self, alloc: Global, tree: &Value) -> Result<(), AllocError>
-        ensures { self.new.sheet ≡ self.old.sheet }
-    {
+    fn bind(&mut self, alloc: Global, tree: &Value) -> Result<(), AllocError> {
         let Some(namespaces) = tree.get("namespaces").and_then(Value::as_object) else {
             return Ok(());
         };

@@ -1,4 +1,0 @@
-pub mod EscapedLaws
-pub mod Quoting
-pub mod Appended
-pub mod Explaining
