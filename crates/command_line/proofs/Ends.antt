@@ -83,7 +83,7 @@ module _ (old mid new : Option (List ℕ)) (keeps : Keeps mid new) where
   part_kept text p = record { front = p.front; rest = p.rest; whole = p.whole; appended = Appends-kept old mid new p.front p.appended keeps }
 
 module _ {T : Type 0} (Gives : List ℕ → T → Type 0) (Loose : ℕ → Told → Type 0) (old mid new : Option (List ℕ)) (keeps : Keeps mid new) where
-  cut_off_kept : IsCutOff Gives old mid → IsCutOff Gives old new
+  pub cut_off_kept : IsCutOff Gives old mid → IsCutOff Gives old new
   cut_off_kept (inl none) = inl (Appends-kept old mid new [] none keeps)
   cut_off_kept (inr b) =
       inr (record { result = b.result; text = b.text; gives = b.gives; part = part_kept old mid new keeps b.text b.part })

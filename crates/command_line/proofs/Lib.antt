@@ -2,9 +2,12 @@ pub mod Readings
 pub mod Ends
 pub mod Faults
 pub mod Replicas
+pub mod Explained
 pub mod Requests
 mod RowReads
 mod Parsed
 mod Named
 mod Reached
 pub mod Asking
+pub mod ListedNames
+pub mod Steps

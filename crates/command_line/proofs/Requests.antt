@@ -1,20 +1,23 @@
 -- A command under a sheet as a request, and the end of its run.
-use Rattle.std.proofs.Common.{◌≡◌, ℕ, List, Option, Result, Ok, Err, Bor, sym, subst, inl, inr}
+use Rattle.std.proofs.Common.{◌≡◌, ℕ, List, [], Option, Result, Ok, Err, Bor, refl, sym, subst, inl, inr, append-nil}
 use Rattle.std.specs.Io.KnownBytes.{Keeps}
-use Rattle.std.proofs.KnownBytes.{Appends-nil}
+use Rattle.std.proofs.KnownBytes.{Appends-kept, Appends-nil}
+use Rattle.oim_explain.specs.declared.lines.Format.{Format}
 use Rattle.oim_report.specs.Sheet.{Sheet, sheet_outcome}
-use Rattle.command_line.specs.Endings.{Prints, Stops}
-use Rattle.command_line.specs.Faults.{IsDoneOrFault, IsDoneOrUnwritten, IsWriteError}
+use Rattle.command_line.specs.Endings.{Never, Prints, Stops}
+use Rattle.command_line.specs.Explained.{ExplainGives}
+use Rattle.command_line.specs.Faults.{IsDoneOrFault, IsDoneOrUnwritten, IsNotLoose, IsWriteError}
 use Rattle.command_line.specs.Outputs.{LooseIn, OutputOf, Told}
-use Rattle.command_line.specs.Runs.{ExplainEnds, IsPlaced, Replaces, RequestEnds, RequestGives, RequestIsLoose}
+use Rattle.command_line.specs.Runs.{ExplainEnds, ExplainStops, IsPlaced, Replaces, RequestEnds, RequestGives, RequestIsLoose}
 use Rattle.command_line.specs.declared.error.Error.{Error}
 use Rattle.command_line.specs.declared.error.Error.TheVariants as error
 use Rattle.command_line.specs.declared.error.Success.{Success}
-use Rattle.command_line.specs.declared.error.Success.TheVariants.{Refusals}
+use Rattle.command_line.specs.declared.error.Success.TheVariants.{Faults, Refusals}
 use Rattle.command_line.specs.declared.request.Request.{Request}
 use Rattle.command_line.specs.declared.request.Request.TheVariants.{Explain, Under}
 use Rattle.command_line.specs.declared.request.Subcommand.{Subcommand}
-use Rattle.command_line.proofs.Ends.{ends_settled, prints_whole, stops_whole}
+use Rattle.command_line.proofs.Ends.{cut_off_kept, ends_settled, prints_whole, stops_whole}
+use Rattle.command_line.proofs.Explained.{nothing_explained, whole_part}
 
 module _ (gives : List ℕ → List ℕ → Type 0) (bundle : List ℕ) (names : List (Bor (List ℕ))) (old new : Option (List ℕ)) where
   module _ (name : Bor (List ℕ)) (command : Subcommand) (bytes : List ℕ) (sheet : Sheet) (gave : gives name.now bytes) (read : sheet_outcome bytes ≡ Ok sheet) where
@@ -32,22 +35,46 @@ module _ (gives : List ℕ → List ℕ → Type 0) (bundle : List ℕ) (names :
 
   -- ---- the end of a run
 
-  explain_settled : (done result : Result Success Error) → IsDoneOrFault done result → ExplainEnds done → ExplainEnds result
-  explain_settled done result (inl is) ends = subst ExplainEnds (sym is) ends
-  explain_settled done (Err (error.TooLoose row told)) (inr fault) ends = absurd fault
-  explain_settled done (Err _) (inr fault) ends = tt
-  explain_settled done (Ok success) (inr fault) ends = absurd fault
+  module _ (name : Bor (List ℕ)) (format : Format) (mid : Option (List ℕ)) (keeps : Keeps mid new) where
+    -- whatever the end was, nothing else was printed than a beginning of the output for the first reports
+    explain_cut : (done : Result Success Error) → ExplainEnds gives names name format old mid done → (e : Error) → IsNotLoose e → ExplainStops gives names name format old new e
+    explain_cut (Ok (Refusals told)) ends e not_loose = absurd ends
+    explain_cut (Ok (Faults count)) p e not_loose = record {
+      not_loose = not_loose;
+      front = names;
+      rest = [];
+      whole = sym (append-nil names);
+      cut_off = inr (record { result = count; text = p.text; gives = p.gives; part = whole_part old new p.text (Appends-kept old mid new p.text p.appended keeps) });
+    }
+    explain_cut (Err f) stops e not_loose = record {
+      not_loose = not_loose;
+      front = stops.front;
+      rest = stops.rest;
+      whole = stops.whole;
+      cut_off = cut_off_kept (ExplainGives gives format name stops.front) Never old mid new keeps stops.cut_off;
+    }
+
+    explain_kept : (done : Result Success Error) → ExplainEnds gives names name format old mid done → ExplainEnds gives names name format old new done
+    explain_kept (Ok (Refusals told)) ends = absurd ends
+    explain_kept (Ok (Faults count)) p = record { text = p.text; gives = p.gives; appended = Appends-kept old mid new p.text p.appended keeps }
+    explain_kept (Err e) stops = explain_cut (Err e) stops e stops.not_loose
+
+    explain_settled : (done result : Result Success Error) → IsDoneOrFault done result → ExplainEnds gives names name format old mid done → ExplainEnds gives names name format old new result
+    explain_settled done result (inl is) ends = subst (ExplainEnds gives names name format old new) (sym is) (explain_kept done ends)
+    explain_settled done (Err (error.TooLoose row told)) (inr fault) ends = absurd fault
+    explain_settled done (Err e) (inr fault) ends = explain_cut done ends e tt
+    explain_settled done (Ok success) (inr fault) ends = absurd fault
 
   pub settled : (mid : Option (List ℕ)) → Keeps mid new → (request : Request) (done result : Result Success Error) → IsDoneOrFault done result → RequestEnds gives bundle names request old mid done → RequestEnds gives bundle names request old new result
-  settled mid keeps (Explain name format) done result is ends = explain_settled done result is ends
+  settled mid keeps (Explain name format) done result is ends = explain_settled name format mid keeps done result is ends
   settled mid keeps request done result is ends =
       ends_settled (RequestGives gives bundle names request) (RequestIsLoose gives bundle names request) old mid new keeps done result is ends
 
   -- the output of a run that could not put its file in place does not count
   pub unwritten : (e : Error) → IsWriteError e → (request : Request) → RequestEnds gives bundle names request old old (Err e)
-  unwritten (error.Unwritten name why) is (Explain sheet format) = tt
+  unwritten (error.Unwritten name why) is (Explain sheet format) = nothing_explained gives names sheet format old (error.Unwritten name why) tt
   unwritten (error.Unwritten name why) is request = Appends-nil old
-  unwritten error.OutOfMemory is (Explain sheet format) = tt
+  unwritten error.OutOfMemory is (Explain sheet format) = nothing_explained gives names sheet format old error.OutOfMemory tt
   unwritten error.OutOfMemory is request = inl (Appends-nil old)
   unwritten _ is request = absurd is
 

@@ -36,6 +36,12 @@ IsWriteError (error.Unwritten name why) = ⊤
 IsWriteError error.OutOfMemory = ⊤
 IsWriteError _ = ⊥
 
+-- the words are no request
+abbrev pub IsUsageError : Error → Type 0
+IsUsageError (error.Usage text) = ⊤
+IsUsageError error.OutOfMemory = ⊤
+IsUsageError _ = ⊥
+
 -- the device failed, or the text is too long
 abbrev pub IsOutputFault : Error → Type 0
 IsOutputFault (error.Device written) = ⊤

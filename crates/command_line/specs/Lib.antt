@@ -2,8 +2,12 @@ pub mod Reading
 pub mod Faults
 pub mod Outputs
 pub mod Endings
+pub mod Explained
+pub mod Explaining
 pub mod Runs
 pub mod Printed
 pub mod Arguments
 pub mod Words
 pub mod WordLaws
+pub mod ReportNames
+pub mod Program

@@ -1,13 +1,15 @@
 -- The text of a request, its result, and what was printed when it ended (own).
-use Rattle.std.specs.Prelude.{◌≡◌, ℕ, Option, Some, None, List, [], Result, Ok, Err, MatchResult, ⊤}
+use Rattle.std.specs.Prelude.{◌≡◌, ℕ, Option, Some, None, List, [], ◌++◌, Result, Ok, Err, MatchResult}
 use Rattle.std.specs.Borrow.{Bor}
 use Rattle.std.specs.Io.KnownBytes.{Keeps}
 use Rattle.oim_value.specs.declared.level.Level.TheVariants.{All}
 use Rattle.oim_report.specs.Sheet.{Sheet, sheet_outcome}
+use Rattle.oim_explain.specs.declared.lines.Format.{Format}
 use Rattle.oim_merge.specs.Bundle.{report_pieces}
 use Rattle.oim_merge.specs.Reports.{merged, refused}
 use Rattle.oim_merge.specs.Run.{IsSheetOf}
-use Rattle.command_line.specs.Endings.{Ends}
+use Rattle.command_line.specs.Endings.{Ends, IsCutOff, Prints}
+use Rattle.command_line.specs.Explained.{ExplainGives}
 use Rattle.command_line.specs.Faults.{IsNotLoose}
 use Rattle.command_line.specs.Outputs.{IsMerge, LooseIn, OutputOf, Told}
 use Rattle.command_line.specs.declared.error.Error.{Error}
@@ -40,11 +42,20 @@ pub record MergesBundle (bundle text : List ℕ) (told : Told) : Type 0 where
   pub read : IsSheetOf bundle sheet
   pub is : IsMerge All (merged sheet (report_pieces bundle)) (refused sheet (report_pieces bundle)) text told
 
--- `explain` returns the number of faults, and no row is too loose
-abbrev pub ExplainEnds : Result Success Error → Type 0
-ExplainEnds (Ok (Refusals told)) = ⊥
-ExplainEnds (Ok (Faults count)) = ⊤
-ExplainEnds (Err error) = IsNotLoose error
+-- what was printed when `explain` ended; no row is too loose
+module _ (gives : List ℕ → List ℕ → Type 0) (names : List (Bor (List ℕ))) (name : Bor (List ℕ)) (format : Format) (old new : Option (List ℕ)) where
+  -- nothing else was printed than a beginning of the output for the first reports
+  pub record ExplainStops (error : Error) : Type 0 where
+    pub not_loose : IsNotLoose error
+    pub front : List (Bor (List ℕ))
+    pub rest : List (Bor (List ℕ))
+    pub whole : names ≡ front ++ rest
+    pub cut_off : IsCutOff (ExplainGives gives format name front) old new
+
+  abbrev pub ExplainEnds : Result Success Error → Type 0
+  ExplainEnds (Ok (Refusals told)) = ⊥
+  ExplainEnds (Ok (Faults count)) = Prints (ExplainGives gives format name names) old new count
+  ExplainEnds (Err error) = ExplainStops error
 
 module _ (gives : List ℕ → List ℕ → Type 0) (bundle : List ℕ) (names : List (Bor (List ℕ))) where
   -- the text of a request other than `explain`, and its result
@@ -60,7 +71,7 @@ module _ (gives : List ℕ → List ℕ → Type 0) (bundle : List ℕ) (names :
 
   -- what was printed when the request ended
   abbrev pub RequestEnds : Request → Option (List ℕ) → Option (List ℕ) → Result Success Error → Type 0
-  RequestEnds (Explain name format) old new done = ExplainEnds done
+  RequestEnds (Explain name format) old new done = ExplainEnds gives names name format old new done
   RequestEnds request old new done = Ends (RequestGives request) old new (RequestIsLoose request) done
 
 -- ---- where the output goes
@@ -75,7 +86,7 @@ pub record Replaces (Ends : Option (List ℕ) → Option (List ℕ) → Result S
   pub ends : Ends empty written done
   pub placed : IsPlaced written old new done
 
--- the output went to standard output, or into the place of the file with a name
+-- the output went to standard output, and no file changed, or into the place of the file with a name
 abbrev pub OutputEnds : (Option (List ℕ) → Option (List ℕ) → Result Success Error → Type 0) → Option (Bor (List ℕ)) → Option (List ℕ) → Option (List ℕ) → Option (List ℕ) → (List ℕ → Option (List ℕ)) → (List ℕ → Option (List ℕ)) → Result Success Error → Type 0
-OutputEnds Ends None out_old out_new empty old new done = Ends out_old out_new done
+OutputEnds Ends None out_old out_new empty old new done = Ends out_old out_new done × ((name : List ℕ) → new name ≡ old name)
 OutputEnds Ends (Some name) out_old out_new empty old new done = Replaces Ends empty (old name.now) (new name.now) done × (out_new ≡ out_old)

@@ -40,9 +40,9 @@ pub record Asked : Type 0 where
   pub work : Work
   -- the reports named among the words, in their order
   pub names : List Text
-  -- the file of more names, and the character after each
+  -- the file of more names, and whether NUL ends each
   pub list : Option Text
-  pub end : ℕ
+  pub is_null : Bool
   pub output : Option Text
   pub most : Option ℕ
   pub is_quiet : Bool
@@ -69,7 +69,7 @@ with_options_of args p = record {
   work = p.1;
   names = map (λ name. name.now) args.words.items;
   list = option_map (λ name. name.now) args.list;
-  end = args.end;
+  is_null = args.is_null;
   output = option_map (λ name. name.now) args.output;
   most = args.most;
   is_quiet = args.is_quiet;
@@ -149,7 +149,7 @@ with_options rows p = record {
   work = p.1;
   names = unwrap_or (all_of (codes "REPORT") rows) [];
   list = first_of (codes "reports-from") rows;
-  end = if is_set (codes "null") rows then 0 else 10;
+  is_null = is_set (codes "null") rows;
   output = option_and_then output_named (first_of (codes "output") rows);
   most = number_at (codes "most-output") rows;
   is_quiet = is_set (codes "quiet") rows;

@@ -1,4 +1,4 @@
-ghost use Rattle.std.specs.Prelude.{◌≡◌, false, IfSome, IsTrue, OnOk};
+ghost use Rattle.std.specs.Prelude.{◌≡◌, false, true, IfSome, IsTrue, OnOk};
 ghost use Rattle.std.specs.Io.KnownBytes.{Appends};
 ghost use Rattle.command_line.specs.Printed.{error_line, error_lines, explained_lines, lines_of, refusal_line, refusal_lines, sheet_line, status_of};
 
@@ -43,12 +43,15 @@ pub(crate) struct Console<E> {
     /// True if a second line is printed for a refusal or a fault.
     pub is_verbose: bool,
     is_shown: bool,
-    /// True if each write of `tell` so far succeeded.
+    /// True if each write of `tell` so far succeeded. Only the contract of `tell` needs this: if it is
+    /// false, lines may be missing on standard error.
     is_whole: bool,
 }
 
 impl<E: Write> Console<E> {
-    pub(crate) fn new(err: E, is_terminal: bool) -> Console<E> {
+    pub(crate) fn new(err: E, is_terminal: bool) -> Console<E>
+        ensures { (result.err ≡ err) × (result.is_terminal ≡ is_terminal) × (result.is_verbose ≡ is_terminal) }
+    {
         Console {
             err,
             is_terminal,
@@ -59,12 +62,16 @@ impl<E: Write> Console<E> {
         }
     }
 
-    /// Prints that a bundle is expected, and how to list the commands.
-    pub(crate) fn tell_awaited(&mut self) {
-        let _ = writeln!(
-            self.err,
-            "Waiting for a bundle on standard input; `xbrlmerge --help` shows the commands."
-        );
+    /// If a bundle is expected from a terminal, prints that, and how to list the commands.
+    pub(crate) fn tell_awaited(&mut self, is_bundle: bool, is_input_terminal: bool)
+        ensures { (is_bundle ≡ true → is_input_terminal ≡ false) → self.new ≡ self.old }
+    {
+        if is_bundle && is_input_terminal {
+            let _ = writeln!(
+                self.err,
+                "Waiting for a bundle on standard input; `xbrlmerge --help` shows the commands."
+            );
+        }
     }
 
     /// Prints how much was read over the previous progress line, unless the line is suppressed or

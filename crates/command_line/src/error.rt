@@ -1,6 +1,6 @@
 ghost use Rattle.std.specs.Prelude.{◌≡◌};
 ghost use Rattle.oim_merge.specs.Run.{fault_of};
-ghost use Rattle.command_line.specs.Faults.{error_of, error_of_events};
+ghost use Rattle.command_line.specs.Faults.{IsUsageError, error_of, error_of_events};
 
 use clap::error::ErrorKind;
 use oim_merge::{Fault, Refusals, ReplayFault};
@@ -58,6 +58,8 @@ pub(crate) enum Error<'n> {
 }
 
 impl From<clap::Error> for Error<'_> {
+    ghost from_gives = { λ _ made. IsUsageError made };
+
     fn from(error: clap::Error) -> Self {
         match error.kind() {
             ErrorKind::OutOfMemory => Error::OutOfMemory,

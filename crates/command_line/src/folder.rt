@@ -1,4 +1,4 @@
-ghost use Rattle.std.specs.Prelude.{ℕ, List, IfOk, IfErr, ⊤};
+ghost use Rattle.std.specs.Prelude.{◌≡◌, ℕ, List, IfOk, IfErr, IfSome, ⊤};
 ghost use Rattle.command_line.specs.Faults.{IsReadError};
 
 use crate::causes::why_unread;
@@ -35,11 +35,7 @@ impl<F: Files> Folder for F {
     }
 }
 
-pub(crate) fn read_file<'n, F: Files>(
-    alloc: Global,
-    files: &F,
-    name: &'n str,
-) -> Result<Encoded, Error<'n>>
+fn read_file<'n, F: Files>(alloc: Global, files: &F, name: &'n str) -> Result<Encoded, Error<'n>>
     ensures { IfErr result IsReadError }
 {
     let read = match File::open(files, name) {
@@ -58,7 +54,8 @@ pub(crate) fn read_bytes<'n, R: Read + Drop>(
     reader: R,
     name: &'n str,
 ) -> Result<Encoded, Error<'n>>
-    ensures { IfErr result IsReadError }
+    ensures ok { IfOk result (λ bytes. IfSome (R.remaining reader) (λ all. bytes ≡ all)) }
+    ensures err { IfErr result IsReadError }
 {
     match read_all(alloc, &mut StdSource::new(reader), MOST_BYTES) {
         Ok(bytes) => Ok(bytes),

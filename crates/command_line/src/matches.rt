@@ -1,5 +1,5 @@
 //! Requests from what clap found among the words.
-ghost use Rattle.std.specs.Prelude.{◌≡◌, [], IfOk, Some, codes, if◌then◌else◌, map, option_and_then, option_map, unwrap_or};
+ghost use Rattle.std.specs.Prelude.{◌≡◌, [], IfOk, Some, codes, map, option_and_then, option_map, unwrap_or};
 ghost use Rattle.clap.specs.Walk.{all_of, first_of};
 ghost use Rattle.clap.specs.Words.{found_of, rows_of};
 ghost use Rattle.oim_value.specs.Level.{level_with};
@@ -34,7 +34,7 @@ pub(crate) fn args_in<'w>(
         request,
         words,
         list: text_in(matches, "reports-from"),
-        end: end_in(matches),
+        is_null: flag_in(matches, "null"),
         output: output_in(matches),
         most: number_in(matches, "most-output"),
         is_quiet: flag_in(matches, "quiet"),
@@ -127,13 +127,6 @@ fn output_in<'w>(matches: &ArgMatches<'w>) -> Option<&'w str>
         Some(text) if text == "-" => None,
         output => output,
     }
-}
-
-/// Returns the character after each name in the file of names.
-fn end_in(matches: &ArgMatches<'_>) -> char
-    ensures { result ≡ (if is_set (codes "null") (rows_of (found_of matches.now)) then 0 else 10) }
-{
-    if flag_in(matches, "null") { '\0' } else { '\n' }
 }
 
 /// True if the first option is there without the second one, which it needs.

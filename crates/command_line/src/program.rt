@@ -1,12 +1,10 @@
-ghost use Rattle.std.specs.Prelude.{◌≡◌, false, Result, IfSome, IsTrue};
-ghost use Rattle.std.specs.Io.KnownBytes.{Appends};
-ghost use Rattle.command_line.specs.Printed.{lines_of, status_of};
+ghost use Rattle.std.specs.Prelude.{◌≡◌, None, map, ⊤};
+ghost use Rattle.command_line.specs.Program.{InputEnd, IsPlain, IsPlainRun, NamesEnd, Tells, WordsEnd};
 ghost use Rattle.command_line.specs.Runs.{OutputEnds, RequestEnds};
-ghost use Rattle.command_line.specs.declared.error.Error.{Error};
-ghost use Rattle.command_line.specs.declared.error.Success.{Success};
 
 use crate::console::Console;
 use crate::disk::{Disk, System};
+use crate::error::{Error, Success};
 use crate::folder::Folder;
 use crate::inputs::Inputs;
 use crate::output::write;
@@ -18,6 +16,7 @@ use std::io::{Read, Write};
 use std::rt::Files;
 
 /// The standard streams, and whether standard input and standard error are terminals.
+#[derive(Drop)]
 pub struct Streams<R, O, E> {
     pub input: R,
     pub out: O,
@@ -26,9 +25,13 @@ pub struct Streams<R, O, E> {
     pub is_err_terminal: bool,
 }
 
-// The work is split into four functions. Each owns few values and borrows the rest, so some have
-// many parameters. One function that owns all values would be slow to prove, because each value may
-// be alive at each exit.
+/// The exit status, and the streams after the run.
+#[derive(Drop)]
+pub struct Ran<O, E> {
+    pub status: u8,
+    pub out: O,
+    console: Console<E>,
+}
 
 /// Runs the program with the arguments after its name. Without arguments, it merges the bundle on
 /// standard input. On standard error it prints a line for each refusal (`explain` prints none), or
@@ -39,65 +42,109 @@ pub struct Streams<R, O, E> {
 /// commands for several reports also show how many reports were read. Returns the highest exit
 /// status that applies: 0 by default; 1 if a report was refused or `explain` found a fault; 2 if a
 /// row is above the allowed level; 3 if the program stopped for another reason.
-pub fn run<F, W, R, O, E>(alloc: Global, files: &F, words: &[W], streams: Streams<R, O, E>) -> u8
+pub fn run<F, W, R, O, E>(
+    alloc: Global,
+    files: &F,
+    words: &[W],
+    streams: Streams<R, O, E>,
+) -> Ran<O, E>
 where
     F: Files,
     W: AsStr,
     R: Read + Drop,
     O: Write + Drop,
     E: Write + Drop,
+    ensures { let texts = map W.text words.entry.now in
+        let ends = WordsEnd (λ name bytes. ⊤) (O.contents streams.out) (O.contents result.out) None (λ name. None) (λ name. None) in
+        Tells (ends (R.remaining streams.input) texts) result.status (IsPlainRun texts streams.is_input_terminal streams.is_err_terminal result.console.is_whole) (E.contents streams.err) (E.contents result.console.err) }
 {
-    let Streams {
-        input,
-        out,
-        err,
-        is_input_terminal,
-        is_err_terminal,
-    } = streams;
-    let mut console = Console::new(err, is_err_terminal);
-    if words.is_empty() && is_input_terminal {
-        console.tell_awaited();
-    }
+    run_words(alloc, files, &mut System(files), words, streams)
+}
+
+// The work is split into five functions. Each owns few values and borrows the rest, so some have
+// many parameters. One function that owns all values would be slow to prove, because each value may
+// be alive at each exit.
+
+/// Does the work of `run` with any files and disk.
+fn run_words<F: Folder, D: Disk, W: AsStr, R: Read + Drop, O: Write + Drop, E: Write + Drop>(
+    alloc: Global,
+    folder: &F,
+    disk: &mut D,
+    words: &[W],
+    streams: Streams<R, O, E>,
+) -> Ran<O, E>
+    ensures { let texts = map W.text words.entry.now in
+        let ends = WordsEnd (F.gives folder.now) (O.contents streams.out) (O.contents result.out) (D.empty disk.old) (D.file disk.old) (D.file disk.new) in
+        Tells (ends (R.remaining streams.input) texts) result.status (IsPlainRun texts streams.is_input_terminal streams.is_err_terminal result.console.is_whole) (E.contents streams.err) (E.contents result.console.err) }
+{
+    let (input, out) = (streams.input, streams.out);
+    let mut console = Console::new(streams.err, streams.is_err_terminal);
+    console.tell_awaited(words.is_empty(), streams.is_input_terminal);
     match read_words(alloc, words) {
         Ok(args) => {
             console.is_quiet = args.is_quiet;
             console.is_verbose |= args.is_verbose;
-            run_args(alloc, files, &args, input, out, console)
+            run_args(alloc, folder, disk, &args, input, out, console)
         }
-        Err(error) => console.tell(&Err(error), &[]),
+        Err(error) => ended(&Err(error), &[], out, console),
+    }
+}
+
+/// Prints how the run ended.
+fn ended<O, E: Write>(
+    done: &Result<Success, Error<'_>>,
+    names: &[&str],
+    out: O,
+    mut console: Console<E>,
+) -> Ran<O, E>
+    ensures out { result.out ≡ out }
+    ensures tells { Tells (λ d. d ≡ done.now) result.status (IsPlain console.is_terminal console.is_verbose result.console.is_whole) (E.contents console.err) (E.contents result.console.err) }
+{
+    Ran {
+        status: console.tell(done, names),
+        out,
+        console,
     }
 }
 
 // The streams are separate parameters, because each step consumes another one.
-fn run_args<F: Files, R: Read + Drop, O: Write + Drop, E: Write + Drop>(
+fn run_args<F: Folder, D: Disk, R: Read + Drop, O: Write + Drop, E: Write + Drop>(
     alloc: Global,
-    files: &F,
+    folder: &F,
+    disk: &mut D,
     args: &Args<'_>,
     input: R,
     out: O,
-    mut console: Console<E>,
-) -> u8 {
-    match args.read_input(alloc, files, input) {
-        Ok(bytes) => run_named(alloc, files, args, bytes.as_bytes(), out, console),
-        Err(error) => console.tell(&Err(error), &[]),
+    console: Console<E>,
+) -> Ran<O, E>
+    ensures { let ends = InputEnd (F.gives folder.now) (O.contents out) (O.contents result.out) (D.empty disk.old) (D.file disk.old) (D.file disk.new) in
+        Tells (ends (R.remaining input) args.now) result.status (IsPlain console.is_terminal console.is_verbose result.console.is_whole) (E.contents console.err) (E.contents result.console.err) }
+{
+    match args.read_input(alloc, folder, input) {
+        Ok(bytes) => run_named(alloc, folder, disk, args, bytes.as_bytes(), out, console),
+        Err(error) => ended(&Err(error), &[], out, console),
     }
 }
 
 // `bytes` outlives the inputs, which borrow the names of the reports from it.
-fn run_named<'n, F: Files, O: Write + Drop, E: Write + Drop>(
+fn run_named<'n, F: Folder, D: Disk, O: Write + Drop, E: Write + Drop>(
     alloc: Global,
-    files: &'n F,
+    folder: &'n F,
+    disk: &mut D,
     args: &'n Args<'n>,
     bytes: &'n [u8],
     out: O,
-    mut console: Console<E>,
-) -> u8 {
+    console: Console<E>,
+) -> Ran<O, E>
+    ensures { let ends = NamesEnd (F.gives folder.now) (O.contents out) (O.contents result.out) (D.empty disk.old) (D.file disk.old) (D.file disk.new) in
+        Tells (ends args.now bytes.now) result.status (IsPlain console.is_terminal console.is_verbose result.console.is_whole) (E.contents console.err) (E.contents result.console.err) }
+{
     match args.names(alloc, bytes) {
         Ok(names) => {
             let output_per_byte = args.output_per_byte();
             let inputs = Inputs {
                 alloc,
-                files,
+                files: folder,
                 bundle: bytes,
                 names: names.as_slice(),
                 output_per_byte,
@@ -106,18 +153,10 @@ fn run_named<'n, F: Files, O: Write + Drop, E: Write + Drop>(
                 bytes: 0,
                 console,
             };
-            run_request(args, inputs, &mut System(files), out).status
+            run_request(args, inputs, disk, out)
         }
-        Err(error) => console.tell(&Err(error), &[]),
+        Err(error) => ended(&Err(error), &[], out, console),
     }
-}
-
-/// The exit status, and the streams after the run.
-#[derive(Drop)]
-struct Ran<O, E> {
-    status: u8,
-    out: O,
-    console: Console<E>,
 }
 
 /// Runs the request, writes its output, and prints how it ended.
@@ -128,17 +167,10 @@ fn run_request<'n, F: Folder, D: Disk, O: Write + Drop, E: Write + Drop>(
     out: O,
 ) -> Ran<O, E>
     ensures { let ends = RequestEnds (F.gives inputs.entry.files.now) inputs.entry.bundle.now inputs.entry.names.now args.now.request in
-        (done : Result Success Error) × (result.status ≡ status_of done)
-        × OutputEnds ends args.now.output (O.contents out) (O.contents result.out) (D.empty disk.old) (D.file disk.old) (D.file disk.new) done
-        × (inputs.entry.console.is_terminal ≡ false → inputs.entry.console.is_verbose ≡ false → IsTrue result.console.is_whole →
-        IfSome (lines_of done) (Appends (E.contents inputs.entry.console.err) (E.contents result.console.err))) }
+        Tells (OutputEnds ends args.now.output (O.contents out) (O.contents result.out) (D.empty disk.old) (D.file disk.old) (D.file disk.new))
+        result.status (IsPlain inputs.entry.console.is_terminal inputs.entry.console.is_verbose result.console.is_whole) (E.contents inputs.entry.console.err) (E.contents result.console.err) }
 {
     let names = inputs.names;
     let (done, out) = write(args, &mut inputs, disk, out);
-    let mut console = inputs.console;
-    Ran {
-        status: console.tell(&done, names),
-        out,
-        console,
-    }
+    ended(&done, names, out, inputs.console)
 }

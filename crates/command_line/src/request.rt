@@ -1,12 +1,15 @@
+ghost use Rattle.std.specs.Prelude.{◌≡◌, IfOk, IfErr, option_map};
+ghost use Rattle.command_line.specs.Program.{IsInput, IsInputError, input_of};
+ghost use Rattle.command_line.specs.ReportNames.{AreReportNames, IsNameError, name_end, without_return};
+
 use crate::error::{Error, STANDARD_INPUT};
-use crate::folder::{read_bytes, read_file};
+use crate::folder::{Folder, read_bytes};
 use crate::print_format::PrintFormat;
 use oim_explain::Format;
 use oim_value::Level;
 use oim_write::{BOUND_PER_BYTE, Encoded, default_bound};
 use std::alloc::Global;
 use std::io::Read;
-use std::rt::Files;
 
 /// The parsed arguments.
 #[derive(Drop)]
@@ -16,9 +19,9 @@ pub(crate) struct Args<'w> {
     pub words: Vec<&'w str>,
     /// The file that lists more report names; it may be standard input.
     pub list: Option<&'w str>,
-    /// The character after each name in the file. It may be missing after the last name. A line end
-    /// may be CR LF.
-    pub end: char,
+    /// True if NUL ends each name in the file, not a line end, which may be CR LF. The last name
+    /// needs no end.
+    pub is_null: bool,
     /// The name of the output file; None for standard output.
     pub output: Option<&'w str>,
     /// The bound of the output; None for the default.
@@ -50,20 +53,31 @@ impl<'w> Args<'w> {
     /// Returns the bytes of the bundle or of the file of names, or no bytes if neither is read.
     ///
     /// Errors: `Unread`, `TooLong`, and out of memory.
-    pub(crate) fn read_input<F: Files, R: Read + Drop>(
+    pub(crate) fn read_input<F: Folder, R: Read + Drop>(
         &self,
         alloc: Global,
-        files: &F,
+        folder: &F,
         input: R,
-    ) -> Result<Encoded, Error<'w>> {
-        let name = match &self.request {
+    ) -> Result<Encoded, Error<'w>>
+        ensures ok { IfOk result (IsInput (F.gives folder.now) (R.remaining input) (input_of self.now)) }
+        ensures err { IfErr result (IsInputError (input_of self.now)) }
+    {
+        let Some(name) = self.input_name() else {
+            return Ok(Encoded::from_vec(Vec::new(alloc)));
+        };
+        if name == STANDARD_INPUT {
+            read_bytes(alloc, input, name)
+        } else {
+            folder.read_named(alloc, name)
+        }
+    }
+
+    fn input_name(&self) -> Option<&'w str>
+        ensures { option_map (λ name. name.now) result ≡ input_of self.now }
+    {
+        match &self.request {
             Request::Bundle => Some(STANDARD_INPUT),
             _ => self.list,
-        };
-        match name {
-            None => Ok(Encoded::from_vec(Vec::new(alloc))),
-            Some(STANDARD_INPUT) => read_bytes(alloc, input, STANDARD_INPUT),
-            Some(file) => read_file(alloc, files, file),
         }
     }
 
@@ -76,7 +90,10 @@ impl<'w> Args<'w> {
         &'n self,
         alloc: Global,
         bytes: &'n [u8],
-    ) -> Result<Vec<&'n str>, Error<'w>> {
+    ) -> Result<Vec<&'n str>, Error<'w>>
+        ensures ok { IfOk result (λ names. AreReportNames self.now bytes.now names.items) }
+        ensures err { IfErr result (IsNameError self.now bytes.now) }
+    {
         let mut all = Vec::from_slice(alloc, self.words.as_slice())?;
         let Some(list) = self.list else {
             return Ok(all);
@@ -84,22 +101,32 @@ impl<'w> Args<'w> {
         let Ok(text) = str::from_utf8(bytes) else {
             return Err(Error::Unread(list, Some("It is not UTF-8.")));
         };
-        for name in text.split(self.end) {
+        for name in text.split(self.end()) {
             let name = self.without_return(name);
-            if !name.is_empty() {
-                all.push(name)?;
+            if name.is_empty() {
+                continue;
             }
+            all.push(name)?;
         }
-        if all.is_empty() {
+        if all.as_slice().is_empty() {
             return Err(Error::NoNames(list));
         }
         Ok(all)
     }
 
-    fn without_return<'n>(&self, name: &'n str) -> &'n str {
-        match name.strip_suffix('\r') {
-            Some(before) if self.end == '\n' => before,
-            _ => name,
+    fn end(&self) -> char
+        ensures { result ≡ name_end self.now.is_null }
+    {
+        if self.is_null { '\0' } else { '\n' }
+    }
+
+    fn without_return<'n>(&self, name: &'n str) -> &'n str
+        ensures { result.now ≡ without_return self.now.is_null name.now }
+    {
+        if self.is_null {
+            name
+        } else {
+            name.strip_suffix('\r').unwrap_or(name)
         }
     }
 }

@@ -2,8 +2,8 @@ ghost use Rattle.std.specs.Prelude.{◌≡◌, ◌⊎◌, IfErr, IfOk, Some, map
 ghost use Rattle.clap.specs.Words.{App, kind_of, subcommand_rows_of, with_subcommand};
 ghost use Rattle.clap.specs.declared.error.kind.ErrorKind.TheVariants as kind;
 ghost use Rattle.command_line.specs.Arguments.{AreTables, IsApp, Tables, program_app, top_app};
+ghost use Rattle.command_line.specs.Program.{IsWordsError};
 ghost use Rattle.command_line.specs.Words.{AreRefused, AskFor, CallForHelp, IsAlone, Mean, asked, asked_of};
-ghost use Rattle.command_line.specs.declared.error.Error.TheVariants as error;
 
 use crate::arguments::{Building, command};
 use crate::commands::rows;
@@ -46,7 +46,7 @@ Status of each command; if several apply, the highest:
 /// Errors: `Usage` if the arguments are not valid, and out of memory.
 pub(crate) fn read_words<W: AsStr>(alloc: Global, words: &[W]) -> Result<Args<'_>, Error<'_>>
     ensures ok { IfOk result (Mean (map W.text words.entry.now)) }
-    ensures err { IfErr result (λ e. (e ≡ error.OutOfMemory) ⊎ AreRefused (map W.text words.entry.now)) }
+    ensures err { IfErr result (IsWordsError (map W.text words.entry.now)) }
 {
     if words.is_empty() {
         return Ok(alone(alloc, Request::Bundle));
@@ -101,7 +101,7 @@ fn alone(alloc: Global, request: Request<'_>) -> Args<'_>
         request,
         words: Vec::new(alloc),
         list: None,
-        end: '\n',
+        is_null: false,
         output: None,
         most: None,
         is_quiet: false,

@@ -1,3 +1,10 @@
+ghost use Rattle.std.specs.Prelude.{◌≡◌, ◌%◌, ◌∷◌, [], IfOk, Some, string_bytes};
+ghost use Rattle.std.specs.Char.{digit_char};
+ghost use Rattle.std.specs.Fmt.{WritesOnOk};
+ghost use Rattle.oim_explain.specs.Escaped.{character_escape, escaped, is_shown, unit_escape};
+ghost use Rattle.oim_explain.specs.Quoted.{front_of};
+
+use std::alloc::{AllocError, Global};
 use std::fmt;
 
 const MOST_CHARACTERS: usize = 80;
@@ -9,32 +16,53 @@ const MOST_CHARACTERS: usize = 80;
 pub struct Escaped<'t>(pub &'t str);
 
 impl fmt::Display for Escaped<'_> {
+    ghost output = { λ text. Some (escaped text.0.now) };
+
     fn fmt<W: fmt::Write>(&self, f: &mut fmt::Formatter<W>) -> fmt::Result {
-        // one call writes all characters up to the next escape
-        let mut from = 0;
-        for (index, character) in self.0.char_indices() {
-            if !is_shown(character) {
-                f.write_str(self.0.get(from..index).unwrap_or_default())?;
+        for character in self.0.chars() {
+            if is_shown(character) {
+                f.write_char(character)?;
+            } else {
                 write_escape(f, character)?;
-                from = index.saturating_add(character.len_utf8());
             }
         }
-        f.write_str(self.0.get(from..).unwrap_or_default())
+        Ok(())
     }
 }
 
 /// Writes a character as one JSON escape, or as two if its number exceeds 16 bits.
-fn write_escape<W: fmt::Write>(f: &mut fmt::Formatter<W>, character: char) -> fmt::Result {
+fn write_escape<W: fmt::Write>(f: &mut fmt::Formatter<W>, character: char) -> fmt::Result
+    ensures { WritesOnOk W.write_str_gives f.old result (character_escape character) f.new }
+{
     let number = character as u32;
     if number < 0x1_0000 {
-        return write!(f, "\\u{number:04x}");
+        return write_unit(f, number);
     }
     let rest = number - 0x1_0000;
-    let (high, low) = (0xd800 | (rest >> 10), 0xdc00 | (rest & 0x3ff));
-    write!(f, "\\u{high:04x}\\u{low:04x}")
+    write_unit(f, 0xd800 + rest / 0x400)?;
+    write_unit(f, 0xdc00 + rest % 0x400)
 }
 
-fn is_shown(character: char) -> bool {
+fn write_unit<W: fmt::Write>(f: &mut fmt::Formatter<W>, unit: u32) -> fmt::Result
+    ensures { WritesOnOk W.write_str_gives f.old result (unit_escape unit) f.new }
+{
+    f.write_str("\\u")?;
+    write_digit(f, unit / 0x1000)?;
+    write_digit(f, unit / 0x100)?;
+    write_digit(f, unit / 0x10)?;
+    write_digit(f, unit)
+}
+
+fn write_digit<W: fmt::Write>(f: &mut fmt::Formatter<W>, number: u32) -> fmt::Result
+    ensures { WritesOnOk W.write_str_gives f.old result (digit_char (number % 16) ∷ []) f.new }
+{
+    f.write_char(char::from_digit(number % 16, 16).unwrap_or('0'))
+}
+
+#[tactic(auto, unfolding(crate::specs::Escaped::is_shown))]
+fn is_shown(character: char) -> bool
+    ensures { result ≡ is_shown character }
+{
     !character.is_control()
         && !matches!(
             character,
@@ -46,11 +74,17 @@ fn is_shown(character: char) -> bool {
 }
 
 /// Returns the first characters of a text, at most `MOST_CHARACTERS`.
-pub(crate) fn front_of(text: &str) -> &str {
-    for (count, (index, _)) in text.char_indices().enumerate() {
-        if count >= MOST_CHARACTERS {
-            return text.get(..index).unwrap_or_default();
+pub(crate) fn front_of(alloc: Global, text: &str) -> Result<String, AllocError>
+    ensures { IfOk result (λ front. string_bytes front ≡ front_of text.now) }
+{
+    let mut front = String::new(alloc);
+    let mut left = MOST_CHARACTERS;
+    for character in text.chars() {
+        if left == 0 {
+            return Ok(front);
         }
+        front.push(character)?;
+        left -= 1;
     }
-    text
+    Ok(front)
 }

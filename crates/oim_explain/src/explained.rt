@@ -1,3 +1,15 @@
+ghost use Rattle.std.specs.Prelude.{◌≡◌, ◌-◌, ◌++◌, ◌∷◌, [], ℕ, List, Some, None, get_or, IfErr, IfOk, IsTrue, OnOk, codes, map, option_map, replicate, string_bytes};
+ghost use Rattle.serde_json.specs.Errors.{IsMemory};
+ghost use Rattle.serde_json.specs.View.{members_view, view};
+ghost use Rattle.oim_report.specs.Faults.{faults, tree_faults};
+ghost use Rattle.oim_report.specs.Identifiers.{tree_identifiers};
+ghost use Rattle.oim_report.specs.Json.{json, object_at};
+ghost use Rattle.oim_explain.specs.Escaped.{escaped};
+ghost use Rattle.oim_explain.specs.Explained.{Explains, printed_fault, printed_faults};
+ghost use Rattle.oim_explain.specs.Lines.{repeated_member};
+ghost use Rattle.oim_report.specs.Outcome.{at};
+ghost use Rattle.oim_explain.specs.code.Added.{AddsLines, identifiers_of};
+
 use super::escaped::Escaped;
 use super::file_kind::{kind_of_sheet, kind_of_tree, kind_of_unread};
 use super::finding::{Finding, Meaning};
@@ -11,15 +23,18 @@ use oim_report::{
     MOST_LEVELS, Part, Place, Refusal, Sheet, after_mark, document_part, fact_part, facts_apart,
     read_report, report_aliases, sheet_part, tree_faults,
 };
-use serde_json::{Error, Value};
+use serde_json::{Error, Map, Value};
 use std::alloc::{AllocError, Global};
 
 /// Returns one line for each fault of a report that is read under a sheet, in the order of
-/// `tree_faults`. One line follows for each key that is repeated in the root, in `documentInfo`,
-/// `namespaces`, `features` or `facts`, in a fact, or in its `dimensions`. Only the last member
-/// with that key is read (RFC 8259, section 4). A line of text begins with the name of the file and
-/// shows at most 80 characters of an identifier, a key or a value. All lines are safe to print on a
-/// terminal (`Escaped`).
+/// `faults`, and then the lines of repeated members. The line of a fault begins with the name of
+/// the file, the fact's identifier if the fault is in a fact, and the number and name of the fault.
+/// Each line contains only characters that are shown (`Escaped`).
+///
+/// The sentence after that shows at most 80 characters of an identifier, a key or a value. A member
+/// has a line if its key is repeated in the root, in `documentInfo`, `namespaces`, `features` or
+/// `facts`, in a fact, or in its `dimensions`. Only the last member with that key is read (RFC
+/// 8259, section 4).
 ///
 /// If the report is refused and `serde_json` cannot read the file, the only line contains the
 /// parser's message. Repeated keys are then not listed, even if `json` can read the file. (`json`
@@ -31,29 +46,39 @@ pub fn explain(
     names: &SheetNames<'_>,
     input: Input<'_>,
     bytes: &[u8],
-) -> Result<Explained, AllocError> {
+) -> Result<Explained, AllocError>
+    ensures { IfOk result (Explains input.entry (printed_faults names.now.sheet.now bytes.now)) }
+{
     let mut lines = Lines::new(alloc, input);
     push_all(&mut lines, names, bytes)?;
     Ok(lines.explained)
 }
 
-fn push_all(lines: &mut Lines<'_>, names: &SheetNames<'_>, bytes: &[u8]) -> Result<(), AllocError> {
+fn push_all(lines: &mut Lines<'_>, names: &SheetNames<'_>, bytes: &[u8]) -> Result<(), AllocError>
+    ensures { let found = printed_faults names.now.sheet.now bytes.now in
+        OnOk result ((n : ℕ) × AddsLines lines.old lines.new (found ++ replicate n repeated_member)) }
+{
     let alloc = lines.alloc;
-    if !is_accepted(alloc, names.sheet, bytes)? {
-        match Value::from_slice(alloc, after_mark(bytes)) {
-            Ok(tree) => push_faults(lines, names, &tree)?,
-            Err(error) => {
-                let message = message_of(alloc, bytes, &error)?;
-                return lines.push(&unread(Subject::Report, message.as_str(), bytes));
-            }
+    if is_accepted(alloc, names.sheet, bytes)? {
+        return push_repeated(lines, Subject::Report, bytes);
+    }
+    match tree_of(alloc, bytes) {
+        Ok(tree) => {
+            push_faults(lines, names, tree)?;
+            push_repeated(lines, Subject::Report, bytes)
+        }
+        Err(error) => {
+            let message = message_of(alloc, bytes, &error)?;
+            lines.push(&unread(Subject::Report, message.as_str(), bytes))
         }
     }
-    push_repeated(lines, Subject::Report, bytes)
 }
 
 // Returns whether a report is accepted, and so has no faults. Reading a report is faster than the
 // search for faults, and needs less memory.
-fn is_accepted(alloc: Global, sheet: &Sheet, bytes: &[u8]) -> Result<bool, AllocError> {
+fn is_accepted(alloc: Global, sheet: &Sheet, bytes: &[u8]) -> Result<bool, AllocError>
+    ensures { IfOk result (λ accepted. IsTrue accepted → faults sheet.now bytes.now ≡ []) }
+{
     match read_report(alloc, sheet, bytes) {
         Ok(_report) => Ok(true),
         Err(refusal) if refusal.reason == Reason::OutOfMemory => Err(AllocError),
@@ -61,7 +86,17 @@ fn is_accepted(alloc: Global, sheet: &Sheet, bytes: &[u8]) -> Result<bool, Alloc
     }
 }
 
-fn message_of(alloc: Global, bytes: &[u8], error: &Error) -> Result<String, AllocError> {
+/// Parses a file as `oim_report` does, but returns the parser's error.
+pub(crate) fn tree_of(alloc: Global, bytes: &[u8]) -> Result<Value, Error>
+    ensures ok { IfOk result (λ tree. json bytes.now ≡ Some (view tree)) }
+    ensures err { IfErr result (λ error. (IsMemory error → ⊥) → json bytes.now ≡ None) }
+{
+    Value::from_slice(alloc, after_mark(bytes))
+}
+
+fn message_of(alloc: Global, bytes: &[u8], error: &Error) -> Result<String, AllocError>
+    ensures { IfOk result (λ _. IsMemory error.now → ⊥) }
+{
     if error.is_memory() {
         return Err(AllocError);
     }
@@ -75,7 +110,10 @@ fn message_of(alloc: Global, bytes: &[u8], error: &Error) -> Result<String, Allo
     format!(in alloc; "{}", Escaped(message.as_str()))
 }
 
-fn unread<'m>(subject: Subject<'m>, message: &'m str, bytes: &[u8]) -> Finding<'m> {
+fn unread<'m>(subject: Subject<'m>, message: &'m str, bytes: &[u8]) -> Finding<'m>
+    ensures subject { result.subject ≡ subject.entry }
+    ensures reason { result.reason ≡ Reason.NotJson }
+{
     Finding {
         message: Some(message),
         kind: kind_of_unread(subject, bytes),
@@ -83,65 +121,108 @@ fn unread<'m>(subject: Subject<'m>, message: &'m str, bytes: &[u8]) -> Finding<'
     }
 }
 
-fn push_faults(
-    lines: &mut Lines<'_>,
-    names: &SheetNames<'_>,
-    tree: &Value,
-) -> Result<(), AllocError> {
-    let faults = tree_faults(lines.alloc, names.sheet, tree)?;
-    let found = faults.as_slice();
-    match found.first().map(|first| first.place) {
-        None => Ok(()),
-        Some(Place::Document) => push_of_document(lines, names.sheet, tree, found),
-        Some(Place::Fact(_)) => push_of_facts(lines, names, tree, found),
-    }
-}
-
-fn push_of_document(
-    lines: &mut Lines<'_>,
-    sheet: &Sheet,
-    tree: &Value,
-    found: &[Refusal],
-) -> Result<(), AllocError> {
-    let mut kind = kind_of_tree(tree);
-    for refusal in found {
-        let part = match refusal.reason {
-            Reason::DisallowedDuplicates => two_facts(lines.alloc, sheet, tree)?,
-            reason => document_part(lines.alloc, tree, reason)?,
-        };
-        lines.push(&Finding {
-            kind,
-            ..Finding::new(Subject::Report, refusal.reason, part)
-        })?;
-        kind = None;
-    }
-    Ok(())
-}
-
-fn push_of_facts(
-    lines: &mut Lines<'_>,
-    names: &SheetNames<'_>,
-    tree: &Value,
-    found: &[Refusal],
-) -> Result<(), AllocError> {
-    let Some(aliases) = report_aliases(lines.alloc, tree)? else {
-        return Ok(());
+// Takes the tree, so that its memory is free when repeated members are searched.
+fn push_faults(lines: &mut Lines<'_>, names: &SheetNames<'_>, tree: Value) -> Result<(), AllocError>
+    ensures { let found = tree_faults names.now.sheet.now (view tree) in
+        OnOk result (AddsLines lines.old lines.new (map (printed_fault (tree_identifiers (view tree))) found)) }
+{
+    let alloc = lines.alloc;
+    let faults = tree_faults(alloc, names.sheet, &tree)?;
+    let report = ReportParts {
+        tree: &tree,
+        aliases: report_aliases(alloc, &tree)?,
+        facts: facts_of(alloc, &tree)?,
     };
-    let facts = facts_of(lines.alloc, tree)?;
-    for refusal in found {
-        let Place::Fact(number) = refusal.place else {
-            continue;
+    let found = faults.as_slice();
+    for index in 0..found.len() {
+        let kind = if index == 0 {
+            kind_of_tree(&tree)
+        } else {
+            None
         };
-        if let Some((identifier, object)) = facts.get(number.saturating_sub(1) as usize) {
-            let part = fact_part(lines.alloc, names.sheet, &aliases, object, refusal.reason)?;
-            let subject = Subject::Fact(number, identifier);
-            lines.push(&Finding {
-                meaning: meaning_of(lines.alloc, names, &aliases, refusal.reason, part)?,
-                ..Finding::new(subject, refusal.reason, part)
-            })?;
-        }
+        push_fault(lines, names, &report, found[index], kind)?;
     }
     Ok(())
+}
+
+/// The parts of a report that help to describe its faults.
+#[derive(Drop)]
+struct ReportParts<'t> {
+    tree: &'t Value,
+    /// None if an entry of `namespaces` does not bind a prefix.
+    aliases: Option<Aliases>,
+    /// The identifiers and objects of the facts, in byte order of the identifiers.
+    facts: Vec<(&'t str, &'t Value)>,
+}
+
+/// Adds the line of a fault. `kind` is the guessed kind of the file, for a fault of the document.
+fn push_fault(
+    lines: &mut Lines<'_>,
+    names: &SheetNames<'_>,
+    report: &ReportParts<'_>,
+    refusal: Refusal,
+    kind: Option<&'static str>,
+) -> Result<(), AllocError>
+    ensures { let is = identifiers_of report.now.facts.items in
+        OnOk result (AddsLines lines.old lines.new (printed_fault is refusal ∷ [])) }
+{
+    let Refusal { reason, place } = refusal;
+    match place {
+        Place::Document => {
+            let part = document_fault(lines.alloc, names.sheet, report, reason)?;
+            lines.push(&Finding {
+                kind,
+                ..Finding::new(Subject::Report, reason, part)
+            })
+        }
+        Place::Fact(number) => push_of_fact(lines, names, report, number, reason),
+    }
+}
+
+fn document_fault<'t>(
+    alloc: Global,
+    sheet: &Sheet,
+    report: &ReportParts<'t>,
+    reason: Reason,
+) -> Result<Option<Part<'t>>, AllocError> {
+    match reason {
+        Reason::DisallowedDuplicates => two_facts(alloc, sheet, report),
+        reason => document_part(alloc, report.tree, reason),
+    }
+}
+
+fn push_of_fact(
+    lines: &mut Lines<'_>,
+    names: &SheetNames<'_>,
+    report: &ReportParts<'_>,
+    number: u64,
+    reason: Reason,
+) -> Result<(), AllocError>
+    ensures { let is = identifiers_of report.now.facts.items in
+        OnOk result (AddsLines lines.old lines.new (printed_fault is (at (Place.Fact number) reason) ∷ [])) }
+{
+    let alloc = lines.alloc;
+    let (identifier, object) = fact_at(report, number);
+    let subject = Subject::Fact(number, identifier);
+    // a fact has no fault if a prefix is not bound
+    let Some(aliases) = &report.aliases else {
+        return lines.push(&Finding::new(subject, reason, None));
+    };
+    let part = fact_part(alloc, names.sheet, aliases, object, reason)?;
+    lines.push(&Finding {
+        meaning: meaning_of(alloc, names, aliases, reason, part)?,
+        ..Finding::new(subject, reason, part)
+    })
+}
+
+/// Returns the identifier and the object of a fact. Each number in a fault is the number of a fact.
+fn fact_at<'t>(report: &ReportParts<'t>, number: u64) -> (&'t str, &'t Value)
+    ensures { result.0.now ≡ get_or (identifiers_of report.now.facts.items) (number - 1) [] }
+{
+    match report.facts.get(number.saturating_sub(1) as usize) {
+        Some((identifier, object)) => (*identifier, *object),
+        None => ("", report.tree),
+    }
 }
 
 /// Returns what a name means that is not in the sheet, if the sheet has a similar name.
@@ -178,41 +259,57 @@ fn unlisted(reason: Reason, part: Option<Part<'_>>) -> Option<&str> {
 fn two_facts<'t>(
     alloc: Global,
     sheet: &Sheet,
-    tree: &'t Value,
+    report: &ReportParts<'t>,
 ) -> Result<Option<Part<'t>>, AllocError> {
-    let Some((one, other)) = facts_apart(alloc, sheet, tree)? else {
+    let Some((one, other)) = facts_apart(alloc, sheet, report.tree)? else {
         return Ok(None);
     };
-    let facts = facts_of(alloc, tree)?;
-    match (facts.get(one), facts.get(other)) {
+    match (report.facts.get(one), report.facts.get(other)) {
         (Some((one, _)), Some((other, _))) => Ok(Some(Part::Two(one, other))),
         _ => Ok(None),
     }
 }
 
 /// Returns the facts in byte order of their identifiers.
-fn facts_of(alloc: Global, tree: &Value) -> Result<Vec<(&str, &Value)>, AllocError> {
+fn facts_of(alloc: Global, tree: &Value) -> Result<Vec<(&str, &Value)>, AllocError>
+    ensures { IfOk result (λ facts. identifiers_of facts.items ≡ tree_identifiers (view tree.now)) }
+{
     let mut facts = Vec::new(alloc);
-    if let Some(members) = tree.get("facts").and_then(Value::as_object) {
-        for (identifier, object) in members.iter() {
-            facts.push((identifier.as_str(), object))?;
-        }
+    let Some(members) = members_of_facts(tree) else {
+        return Ok(facts);
+    };
+    for (identifier, object) in members.iter() {
+        facts.push((identifier.as_str(), object))?;
     }
     Ok(facts)
 }
 
-/// Returns a line that names the file and states why the sheet is refused. The line shows the part
-/// at fault, the parser's message and a guess at the file's kind, if there are any. For an accepted
-/// sheet, the line states that the sheet has no fault (own).
+fn members_of_facts(tree: &Value) -> Option<&Map<String, Value>>
+    ensures { option_map (λ m. members_view m.now.entries) result
+        ≡ object_at (codes "facts") (view tree.now) }
+{
+    tree.get("facts").and_then(Value::as_object)
+}
+
+/// Returns a line that begins with the name of the file and contains only characters that are shown
+/// (own).
+///
+/// The line states why the sheet is refused, with the part at fault, the parser's message and a
+/// guess at the file's kind, if there are any. For an accepted sheet, the line states that the sheet
+/// has no fault.
 ///
 /// Errors: out of memory.
-pub fn explain_sheet(alloc: Global, name: &str, bytes: &[u8]) -> Result<String, AllocError> {
+pub fn explain_sheet(alloc: Global, name: &str, bytes: &[u8]) -> Result<String, AllocError>
+    ensures { IfOk result (λ line. (sentence : List ℕ)
+        × (string_bytes line ≡ escaped (name.now ++ (codes ": " ++ sentence)) ++ 10 ∷ [])) }
+{
     let sentence = sentence_of_sheet(alloc, bytes)?;
-    format!(in alloc; "{}: {sentence}\n", Escaped(name))
+    let line = format!(in alloc; "{name}: {sentence}")?;
+    format!(in alloc; "{}\n", Escaped(line.as_str()))
 }
 
 fn sentence_of_sheet(alloc: Global, bytes: &[u8]) -> Result<String, AllocError> {
-    match Value::from_slice(alloc, after_mark(bytes)) {
+    match tree_of(alloc, bytes) {
         Ok(tree) => sentence_of_tree(alloc, &tree),
         Err(error) => {
             let message = message_of(alloc, bytes, &error)?;
@@ -232,16 +329,20 @@ fn sentence_of_tree(alloc: Global, tree: &Value) -> Result<String, AllocError> {
     finding.sentence(alloc)
 }
 
-/// Returns one line for each key that is repeated in the root of a sheet, or in its `namespaces`,
-/// `concepts` or `dimensions`. Only the last member with that key is read (own). For a file that is
-/// not JSON, no line is returned.
+/// Returns the lines of repeated members of a sheet, and their number (own).
+///
+/// A member has a line if its key is repeated in the root of the sheet, or in its `namespaces`,
+/// `concepts` or `dimensions`. Only the last member with that key is read. For a file that is not
+/// JSON, no line is returned.
 ///
 /// Errors: out of memory.
 pub fn explain_repeated(
     alloc: Global,
     input: Input<'_>,
     bytes: &[u8],
-) -> Result<Explained, AllocError> {
+) -> Result<Explained, AllocError>
+    ensures { IfOk result (Explains input.entry []) }
+{
     let mut lines = Lines::new(alloc, input);
     push_repeated(&mut lines, Subject::Sheet, bytes)?;
     Ok(lines.explained)

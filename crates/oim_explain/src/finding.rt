@@ -1,5 +1,8 @@
+ghost use Rattle.std.specs.Prelude.{◌≡◌};
+
 use super::escaped::{Escaped, front_of};
 use super::format_keys::object_with;
+use super::quoted::push_text;
 use super::sentence::{around, push_alone, push_limit};
 use super::subject::Subject;
 use oim_names::Reason;
@@ -33,7 +36,10 @@ pub(crate) struct Meaning<'a> {
 impl<'a> Finding<'a> {
     /// A floating-point number in `value` or `decimals` is not shown, because it might be printed
     /// in another spelling than the file's.
-    pub(crate) fn new(subject: Subject<'a>, reason: Reason, part: Option<Part<'a>>) -> Finding<'a> {
+    pub(crate) fn new(subject: Subject<'a>, reason: Reason, part: Option<Part<'a>>) -> Finding<'a>
+        ensures subject { result.subject ≡ subject.entry }
+        ensures reason { result.reason ≡ reason }
+    {
         let part = match part {
             Some(Part::Value(value)) if value.is_f64() && reason >= Reason::ValueForm =>
                 Part::Nothing,
@@ -54,7 +60,7 @@ impl<'a> Finding<'a> {
         let mut sentence = String::new(alloc);
         self.push_said(alloc, &mut sentence)?;
         if let Some(meaning) = self.meaning {
-            meaning.push(&mut sentence)?;
+            meaning.push(alloc, &mut sentence)?;
         }
         if let Some(message) = self.message {
             write!(sentence, ": {message}")?;
@@ -107,27 +113,32 @@ impl<'a> Finding<'a> {
 }
 
 impl Meaning<'_> {
-    fn push(&self, line: &mut String) -> Result<(), AllocError> {
+    fn push(&self, alloc: Global, line: &mut String) -> Result<(), AllocError> {
         let (uri, listed_uri, local) = (self.uri, self.listed_uri, self.local);
         line.push_str("; in the report it is ")?;
-        push_expanded(line, uri, local)?;
+        push_expanded(alloc, line, uri, local)?;
         line.push_str(", the sheet has ")?;
-        push_expanded(line, listed_uri, local)
+        push_expanded(alloc, line, listed_uri, local)
     }
 }
 
 /// Appends a name as `{URI}local`. A long URI or local part is cut, and two dots follow.
-fn push_expanded(line: &mut String, uri: &str, local: &str) -> Result<(), AllocError> {
+fn push_expanded(
+    alloc: Global,
+    line: &mut String,
+    uri: &str,
+    local: &str,
+) -> Result<(), AllocError> {
     line.push_str("{")?;
-    push_front(line, uri)?;
+    push_front(alloc, line, uri)?;
     line.push_str("}")?;
-    push_front(line, local)
+    push_front(alloc, line, local)
 }
 
-fn push_front(line: &mut String, text: &str) -> Result<(), AllocError> {
-    let front = front_of(text);
+fn push_front(alloc: Global, line: &mut String, text: &str) -> Result<(), AllocError> {
+    let front = front_of(alloc, text)?;
     let end = if front.len() == text.len() { "" } else { ".." };
-    write!(line, "{}{end}", Escaped(front))
+    write!(line, "{}{end}", Escaped(front.as_str()))
 }
 
 /// Appends the sentence about a known key that is in the wrong object.
@@ -162,18 +173,6 @@ fn push_part(alloc: Global, line: &mut String, part: Part<'_>) -> Result<(), All
     }
 }
 
-/// Appends a text as JSON. A text of more than 80 characters is cut, and two dots replace its
-/// closing quote.
-pub(crate) fn push_text(alloc: Global, line: &mut String, text: &str) -> Result<(), AllocError> {
-    let front = front_of(text);
-    let json = Value::String(String::from_str(alloc, front)?).to_string(alloc)?;
-    if front.len() == text.len() {
-        return write!(line, "{}", Escaped(json.as_str()));
-    }
-    let open = json.as_str().strip_suffix('"').unwrap_or_default();
-    write!(line, "{}..", Escaped(open))
-}
-
 /// Appends a value as JSON. If the value is not a text and its JSON has more than 80 characters,
 /// the JSON is cut, and two dots follow. If the value is or contains a floating-point number, which
 /// might be printed in another spelling than the file's, only its type is appended.
@@ -185,7 +184,7 @@ fn push_value(alloc: Global, line: &mut String, value: &Value) -> Result<(), All
     if has_float(json.as_str()) {
         return line.push_str(type_of(value));
     }
-    push_front(line, json.as_str())
+    push_front(alloc, line, json.as_str())
 }
 
 fn type_of(value: &Value) -> &'static str {

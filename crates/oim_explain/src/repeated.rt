@@ -1,5 +1,8 @@
-use super::finding::push_text;
+ghost use Rattle.std.specs.Prelude.{OnOk};
+ghost use Rattle.oim_explain.specs.code.Added.{AddsRepeated};
+
 use super::lines::Lines;
+use super::quoted::push_text;
 use super::subject::Subject;
 use json::{Error, Scratch, Value};
 use oim_report::after_mark;
@@ -12,7 +15,9 @@ pub(crate) fn push_repeated(
     lines: &mut Lines<'_>,
     subject: Subject<'_>,
     bytes: &[u8],
-) -> Result<(), AllocError> {
+) -> Result<(), AllocError>
+    ensures { OnOk result (AddsRepeated lines.old lines.new) }
+{
     let Ok(text) = str::from_utf8(after_mark(bytes)) else {
         return Ok(());
     };
@@ -33,15 +38,30 @@ pub(crate) fn push_repeated(
     }
 }
 
-fn push_report(lines: &mut Lines<'_>, tree: &Value<'_>) -> Result<(), AllocError> {
+fn push_report(lines: &mut Lines<'_>, tree: &Value<'_>) -> Result<(), AllocError>
+    ensures { OnOk result (AddsRepeated lines.old lines.new) }
+{
     push_of(lines, "", Some(tree), " in the report")?;
-    if let Some(info) = tree.get("documentInfo") {
-        push_of(lines, "", Some(info), " in \"documentInfo\"")?;
-        push_of(lines, "", info.get("namespaces"), " in \"namespaces\"")?;
-        push_of(lines, "", info.get("features"), " in \"features\"")?;
-    }
+    push_info(lines, tree.get("documentInfo"))?;
     push_of(lines, "fact ", tree.get("facts"), "")?;
-    let Some(Value::Object(facts)) = tree.get("facts") else {
+    push_facts(lines, tree.get("facts"))
+}
+
+fn push_info(lines: &mut Lines<'_>, info: Option<&Value<'_>>) -> Result<(), AllocError>
+    ensures { OnOk result (AddsRepeated lines.old lines.new) }
+{
+    let Some(info) = info else {
+        return Ok(());
+    };
+    push_of(lines, "", Some(info), " in \"documentInfo\"")?;
+    push_of(lines, "", info.get("namespaces"), " in \"namespaces\"")?;
+    push_of(lines, "", info.get("features"), " in \"features\"")
+}
+
+fn push_facts(lines: &mut Lines<'_>, facts: Option<&Value<'_>>) -> Result<(), AllocError>
+    ensures { OnOk result (AddsRepeated lines.old lines.new) }
+{
+    let Some(Value::Object(facts)) = facts else {
         return Ok(());
     };
     for index in indices_of_read(lines.alloc, facts.as_slice())? {
@@ -52,7 +72,9 @@ fn push_report(lines: &mut Lines<'_>, tree: &Value<'_>) -> Result<(), AllocError
     Ok(())
 }
 
-fn push_fact(lines: &mut Lines<'_>, identifier: &str, fact: &Value<'_>) -> Result<(), AllocError> {
+fn push_fact(lines: &mut Lines<'_>, identifier: &str, fact: &Value<'_>) -> Result<(), AllocError>
+    ensures { OnOk result (AddsRepeated lines.old lines.new) }
+{
     let mut before = String::from_str(lines.alloc, "fact ")?;
     push_text(lines.alloc, &mut before, identifier)?;
     before.push_str(": ")?;
@@ -61,7 +83,9 @@ fn push_fact(lines: &mut Lines<'_>, identifier: &str, fact: &Value<'_>) -> Resul
     push_of(lines, before.as_str(), dimensions, " in \"dimensions\"")
 }
 
-fn push_sheet(lines: &mut Lines<'_>, tree: &Value<'_>) -> Result<(), AllocError> {
+fn push_sheet(lines: &mut Lines<'_>, tree: &Value<'_>) -> Result<(), AllocError>
+    ensures { OnOk result (AddsRepeated lines.old lines.new) }
+{
     push_of(lines, "", Some(tree), " in the sheet")?;
     push_of(lines, "", tree.get("namespaces"), " in \"namespaces\"")?;
     push_of(lines, "", tree.get("concepts"), " in \"concepts\"")?;
@@ -75,7 +99,9 @@ fn push_of(
     before: &str,
     object: Option<&Value<'_>>,
     location: &str,
-) -> Result<(), AllocError> {
+) -> Result<(), AllocError>
+    ensures { OnOk result (AddsRepeated lines.old lines.new) }
+{
     let Some(Value::Object(members)) = object else {
         return Ok(());
     };

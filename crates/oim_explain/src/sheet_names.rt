@@ -1,3 +1,5 @@
+ghost use Rattle.std.specs.Prelude.{◌≡◌, IfOk};
+
 use oim_names::{Aliases, Reason, split_name};
 use oim_report::{Sheet, after_mark};
 use serde_json::Value;
@@ -11,16 +13,19 @@ const MOST_PREFIXES: usize = 20;
 /// similar to an unknown name (own).
 #[derive(Drop)]
 pub struct SheetNames<'s> {
-    pub(crate) sheet: &'s Sheet,
+    /// The sheet.
+    pub sheet: &'s Sheet,
     aliases: Aliases,
     prefixes: Vec<String>,
 }
 
 impl<'s> SheetNames<'s> {
-    /// Reads the prefixes from the bytes from which the sheet was read.
+    /// Returns the sheet with the prefixes that its bytes bind. The sheet does not change.
     ///
     /// Errors: out of memory.
-    pub fn read(alloc: Global, sheet: &'s Sheet, bytes: &[u8]) -> Result<Self, AllocError> {
+    pub fn read(alloc: Global, sheet: &'s Sheet, bytes: &[u8]) -> Result<Self, AllocError>
+        ensures { IfOk result (λ names. names.sheet.now ≡ sheet.now) }
+    {
         let mut names = SheetNames {
             sheet,
             aliases: Aliases::new(alloc),
@@ -34,7 +39,9 @@ impl<'s> SheetNames<'s> {
         Ok(names)
     }
 
-    fn bind(&mut self, alloc: Global, tree: &Value) -> Result<(), AllocError> {
+    fn bind(&mut self, alloc: Global, tree: &Value) -> Result<(), AllocError>
+        ensures { self.new.sheet ≡ self.old.sheet }
+    {
         let Some(namespaces) = tree.get("namespaces").and_then(Value::as_object) else {
             return Ok(());
         };

@@ -34,5 +34,5 @@ fn main(rt: HostRuntime) -> ExitCode {
         out: rt.stdout(),
         err,
     };
-    ExitCode::from(run(rt.alloc(), &rt, &words, streams))
+    ExitCode::from(run(rt.alloc(), &rt, &words, streams).status)
 }

@@ -1,5 +1,10 @@
-ghost use Rattle.std.specs.Prelude.{◌≡◌, ◌-◌, ◌^◌, ◌<◌, false, OnOk, IfErr};
+ghost use Rattle.std.specs.Prelude.{◌≡◌, ◌+◌, ◌-◌, ◌^◌, ◌<◌, false, nat_lt, if◌then◌else◌, IfErr, IfOk, Ok, OnOk};
+ghost use Rattle.oim_report.specs.Sheet.{sheet_outcome};
 ghost use Rattle.oim_write.specs.BoundedSink.{bounded_failures};
+ghost use Rattle.oim_explain.specs.Explained.{counted};
+ghost use Rattle.command_line.specs.Endings.{Puts};
+ghost use Rattle.command_line.specs.Explained.{counts_line};
+ghost use Rattle.command_line.specs.Explaining.{ReportsEnd, UnderEnds};
 ghost use Rattle.command_line.specs.Faults.{IsNotLoose};
 ghost use Rattle.command_line.specs.Runs.{ExplainEnds};
 
@@ -7,10 +12,10 @@ use crate::commands::put_text;
 use crate::error::{Error, Success};
 use crate::folder::Folder;
 use crate::inputs::{Inputs, sheet_of};
-use oim_explain::{Explained, Format, Input, SheetNames, explain, explain_repeated, explain_sheet};
+use oim_explain::{Format, Input, SheetNames, explain, explain_repeated, explain_sheet};
 use oim_report::Sheet;
 use oim_write::{BoundedSink, Sink};
-use std::alloc::{AllocError, Global};
+use std::alloc::Global;
 use std::io::Write;
 
 pub(crate) const ABOUT: &str = "Explains what is wrong with reports, in plain words";
@@ -70,31 +75,59 @@ pub(crate) fn run<'n, F: Folder, E: Write, S: Sink>(
     out: &mut BoundedSink<S>,
 ) -> Result<Success, Error<'n>>
     requires { bounded_failures (S.failures out.old.sink) out.old.overruns < 2 ^ 64 - 1 }
-    ensures ends { ExplainEnds result }
+    ensures ends { ExplainEnds (F.gives inputs.old.files.now) inputs.old.names.now name.entry format
+        (S.told out.old.sink) (S.told out.new.sink) result }
     ensures console { inputs.old.console.is_terminal ≡ false → inputs.new.console ≡ inputs.old.console }
 {
     let bytes = inputs.read(name)?;
     let Counts { faulty, faults } = put_under(name, format, bytes.as_bytes(), inputs, out)?;
-    if let Format::Text = format {
-        let (alloc, reports) = (inputs.alloc, inputs.names.len());
-        let line = format!(in alloc;
-            "reports: {reports}, with faults: {faulty}, faults: {faults}\n"
-        )?;
-        put_text(out, line.as_str())?;
-    }
+    put_counts(
+        inputs.alloc,
+        format,
+        inputs.names.len(),
+        faulty,
+        faults,
+        out,
+    )?;
     Ok(Success::Faults(faults))
 }
 
+/// Writes the line with the counts, in the format `Text`.
+fn put_counts<'n, S: Sink>(
+    alloc: Global,
+    format: Format,
+    reports: usize,
+    faulty: u64,
+    faults: u64,
+    out: &mut S,
+) -> Result<(), Error<'n>>
+    requires { S.failures out.old < 2 ^ 64 - 1 }
+    ensures { Puts (counts_line format reports faulty faults) (S.told out.old) (S.told out.new) result }
+{
+    match format {
+        Format::Text => {
+            let line = format!(in alloc;
+                "reports: {reports}, with faults: {faulty}, faults: {faults}\n"
+            )?;
+            put_text(out, line.as_str())
+        }
+        Format::Json => Ok(()),
+    }
+}
+
+/// Writes the lines about the sheet's repeated members and about the reports.
 fn put_under<'n, F: Folder, E: Write, S: Sink>(
-    name: &str,
+    name: &'n str,
     format: Format,
     bytes: &[u8],
     inputs: &mut Inputs<'n, F, E>,
     out: &mut BoundedSink<S>,
 ) -> Result<Counts, Error<'n>>
     requires { bounded_failures (S.failures out.old.sink) out.old.overruns < 2 ^ 64 - 1 }
-    ensures err { IfErr result IsNotLoose }
+    ensures ends { UnderEnds (F.gives inputs.old.files.now) format name.entry bytes.now inputs.old.names.now
+        (S.told out.old.sink) (S.told out.new.sink) result }
     ensures failures { OnOk result (bounded_failures (S.failures out.new.sink) out.new.overruns ≡ bounded_failures (S.failures out.old.sink) out.old.overruns) }
+    ensures names { inputs.new.names ≡ inputs.old.names }
     ensures console { inputs.old.console.is_terminal ≡ false → inputs.new.console ≡ inputs.old.console }
 {
     let sheet = read_sheet(inputs.alloc, name, bytes)?;
@@ -104,14 +137,16 @@ fn put_under<'n, F: Folder, E: Write, S: Sink>(
         format,
     };
     out.raise(inputs.take_allowance());
-    let repeated = put_explained(out, explain_repeated(inputs.alloc, input, bytes))?;
+    let repeated = explain_repeated(inputs.alloc, input, bytes)?;
+    put_text(out, repeated.text.as_str())?;
     let names = SheetNames::read(inputs.alloc, &sheet, bytes)?;
-    put_each(&names, format, inputs, out, repeated)
+    put_each(&names, format, inputs, out, repeated.faults)
 }
 
 /// Errors: `Sheet` with the line that describes the fault of the sheet; out of memory.
 fn read_sheet<'n>(alloc: Global, name: &str, bytes: &[u8]) -> Result<Sheet, Error<'n>>
-    ensures { IfErr result IsNotLoose }
+    ensures ok { IfOk result (λ sheet. sheet_outcome bytes.now ≡ Ok sheet) }
+    ensures err { IfErr result IsNotLoose }
 {
     match sheet_of(alloc, bytes) {
         Err(Error::Sheet { reason, .. }) => Err(Error::Sheet {
@@ -131,26 +166,15 @@ struct Counts {
 }
 
 impl Counts {
-    fn with(self, faults: u64) -> Counts {
+    fn with(self, faults: u64) -> Counts
+        ensures faulty { result.faulty ≡ counted (self.faulty + (if nat_lt 0 faults then 1 else 0)) }
+        ensures faults { result.faults ≡ counted (self.faults + faults) }
+    {
         Counts {
             faulty: self.faulty.saturating_add(u64::from(faults > 0)),
             faults: self.faults.saturating_add(faults),
         }
     }
-}
-
-/// Writes the lines about one file and returns their number.
-fn put_explained<'n, S: Sink>(
-    out: &mut S,
-    explained: Result<Explained, AllocError>,
-) -> Result<u64, Error<'n>>
-    requires { S.failures out.old < 2 ^ 64 - 1 }
-    ensures err { IfErr result IsNotLoose }
-    ensures failures { OnOk result (S.failures out.new ≡ S.failures out.old) }
-{
-    let explained = explained?;
-    put_text(out, explained.text.as_str())?;
-    Ok(explained.faults)
 }
 
 /// Explains each report. `faults` is the number of lines already written about the sheet.
@@ -162,25 +186,26 @@ fn put_each<'n, F: Folder, E: Write, S: Sink>(
     faults: u64,
 ) -> Result<Counts, Error<'n>>
     requires { bounded_failures (S.failures out.old.sink) out.old.overruns < 2 ^ 64 - 1 }
-    ensures err { IfErr result IsNotLoose }
+    ensures ends { ReportsEnd (F.gives inputs.old.files.now) format names_of_sheet.now.sheet.now inputs.old.names.now
+        (S.told out.old.sink) (S.told out.new.sink) faults result }
     ensures failures { OnOk result (bounded_failures (S.failures out.new.sink) out.new.overruns ≡ bounded_failures (S.failures out.old.sink) out.old.overruns) }
+    ensures names { inputs.new.names ≡ inputs.old.names }
     ensures console { inputs.old.console.is_terminal ≡ false → inputs.new.console ≡ inputs.old.console }
 {
     let (alloc, names) = (inputs.alloc, inputs.names);
     let mut counts = Counts { faulty: 0, faults };
-    for (index, name) in names.iter().enumerate() {
-        let report = inputs.read_report(name)?;
+    for index in 0..names.len() {
+        let report = inputs.read_report(names[index])?;
         out.raise(inputs.take_allowance());
         inputs.console.clear();
         let input = Input {
             report: Some((index as u64).saturating_add(1)),
-            name,
+            name: names[index],
             format,
         };
-        counts = counts.with(put_explained(
-            out,
-            explain(alloc, names_of_sheet, input, report.as_bytes()),
-        )?);
+        let explained = explain(alloc, names_of_sheet, input, report.as_bytes())?;
+        put_text(out, explained.text.as_str())?;
+        counts = counts.with(explained.faults);
     }
     Ok(counts)
 }

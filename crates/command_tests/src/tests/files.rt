@@ -59,7 +59,8 @@ fn ends_unheard(rt: &HostRuntime, words: &[&str], status: u8, out: &[u8]) -> boo
         rt,
         words,
         piped(input, &mut out, FullAfter::new(3)),
-    );
+    )
+    .status;
     ended == status && out.is_met()
 }
 
@@ -99,7 +100,7 @@ fn shows_once(rt: &HostRuntime, words: &[&str], shown: &str) -> bool {
         &mut err,
     );
     streams.is_err_terminal = true;
-    let status = run(rt.alloc(), rt, words, streams);
+    let status = run(rt.alloc(), rt, words, streams).status;
     status == 0 && err.is_met()
 }
 

@@ -115,6 +115,6 @@ fn heard<'a, O: Write + Drop>(
 ) -> (u8, Either<'a>) {
     let mut heard = Either(err, Expecting::just(b"out of memory\n"));
     let input = TestReader::new(b"", Step::All, Then::Fails);
-    let status = run(rt.alloc(), rt, words, piped(input, out, &mut heard));
+    let status = run(rt.alloc(), rt, words, piped(input, out, &mut heard)).status;
     (status, heard)
 }

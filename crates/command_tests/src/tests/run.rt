@@ -31,7 +31,7 @@ struct Ran {
 fn run_once(rt: &HostRuntime, input: TestReader<'_>, room: usize) -> Result<Ran, AllocError> {
     let mut out = writer(rt, room)?;
     let mut err = writer(rt, ROOM)?;
-    let status = run(rt.alloc(), rt, NO_WORDS, piped(input, &mut out, &mut err));
+    let status = run(rt.alloc(), rt, NO_WORDS, piped(input, &mut out, &mut err)).status;
     Ok(Ran { status, out, err })
 }
 
@@ -167,7 +167,7 @@ fn is_unread(rt: &HostRuntime, input: TestReader<'_>) -> Option<bool> {
         Expecting::just(b"file -: cannot be read\n"),
         Expecting::just(b"out of memory\n"),
     );
-    let status = run(rt.alloc(), rt, NO_WORDS, piped(input, &mut out, &mut err));
+    let status = run(rt.alloc(), rt, NO_WORDS, piped(input, &mut out, &mut err)).status;
     if status == 3 && err.1.is_met() {
         return None;
     }
@@ -204,7 +204,7 @@ fn an_input_that_stops_at_any_place_ends_the_run(rt: HostRuntime) -> Result<(), 
 
 fn status_of<O: Write + Drop>(rt: &HostRuntime, bundle: &[u8], out: O, err: &mut TestWriter) -> u8 {
     let input = TestReader::new(bundle, Step::All, Then::Ends);
-    run(rt.alloc(), rt, NO_WORDS, piped(input, out, err))
+    run(rt.alloc(), rt, NO_WORDS, piped(input, out, err)).status
 }
 
 #[test]
@@ -228,7 +228,7 @@ fn flushed(rt: &HostRuntime, bundle: &[u8], room: usize) -> Option<(u8, u64)> {
     let mut out = FullAfter::new(room);
     let mut err = Expecting::just(b"out of memory\n");
     let input = TestReader::new(bundle, Step::All, Then::Ends);
-    let status = run(rt.alloc(), rt, NO_WORDS, piped(input, &mut out, &mut err));
+    let status = run(rt.alloc(), rt, NO_WORDS, piped(input, &mut out, &mut err)).status;
     if status == 3 && err.is_met() {
         return None;
     }

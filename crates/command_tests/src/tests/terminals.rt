@@ -16,7 +16,7 @@ fn shows_once(rt: &HostRuntime, words: &[&str], input: &str, lines: &str) -> boo
         is_input_terminal: true,
         is_err_terminal: true,
     };
-    let status = run(rt.alloc(), rt, words, streams);
+    let status = run(rt.alloc(), rt, words, streams).status;
     status == 3 && err.is_met()
 }
 

@@ -20,11 +20,11 @@ returns c =
       request = c.in-Some.request;
       words = c.in_ok-words.words;
       list = c.text_in.result;
-      end = c.end_in.result;
+      is_null = c.flag_in.result;
       output = c.output_in.result;
       most = c.number_in.result;
-      is_quiet = c.flag_in.result;
-      is_verbose = c.flag_in-2.result;
+      is_quiet = c.flag_in-2.result;
+      is_verbose = c.flag_in-3.result;
     } in
     let asked = request_asked c.args.name.now rows in
     same_asked args rows (λ p i. record {
@@ -32,11 +32,11 @@ returns c =
       work = p.1;
       names = c.in_ok-words.ensures i;
       list = c.text_in.ensures i;
-      end = c.end_in.ensures i;
+      is_null = c.flag_in.ensures i;
       output = c.output_in.ensures i;
       most = c.number_in.ensures i;
-      is_quiet = c.flag_in.ensures i;
-      is_verbose = c.flag_in-2.ensures i;
+      is_quiet = c.flag_in-2.ensures i;
+      is_verbose = c.flag_in-3.ensures i;
     }) (work_in c.in-Some.request) asked (ap (option_map work_in) (sym c.in-Some.is) ∙ c.request_in.ensures)
     ∙ ap₂ (λ (a b : Bool). option_map Some (if a || b then None else option_map (with_options rows) asked))
     (sym c.if-lacks.false ∙ c.lacks.ensures) (sym c.if-lacks-2.false ∙ c.lacks-else-lacks.ensures)

@@ -55,21 +55,9 @@ const THIRD_LINE: &str = "event 3: refused\n";
 
 const MISSING: &str = "file missing: cannot be read\n";
 
-pub(super) const REPLAYED: [Row; 10] = [
+pub(super) const REPLAYED: [Row; 7] = [
     (
         "replay --sheet sheet --replicas 2 --events mail 100 101",
-        0,
-        BOTH_TWICE,
-        "",
-    ),
-    (
-        "replay zz 101 --events=mail --replicas=+2 --sheet=sheet",
-        0,
-        BOTH_TWICE,
-        "",
-    ),
-    (
-        "replay --events mail 100 --sheet sheet --replicas 02 -- 101",
         0,
         BOTH_TWICE,
         "",
@@ -78,12 +66,6 @@ pub(super) const REPLAYED: [Row; 10] = [
         "replay --sheet sheet --replicas 2 --events empty",
         0,
         NOTHING_TWICE,
-        "",
-    ),
-    (
-        "replay --sheet sheet --replicas 1 --events empty",
-        0,
-        &[HEAD, MIDDLE_ALONE, END, LINE_END],
         "",
     ),
     // a report that no event takes is not refused

@@ -35,49 +35,21 @@ const BOTH: &[&str] = &[CONSISTENT_HEAD, ONE_URI, MIDDLE, FIRST, r#""101"}"#, EN
 /// The merged text of two facts, with the values 100 and 102.
 const WIDE: &[&str] = &[CONTRADICTING_HEAD, ONE_URI, MIDDLE, FIRST, r#""102"}"#, END];
 
-pub(super) const MERGED: [Row; 15] = [
+pub(super) const MERGED: [Row; 7] = [
     ("merge --sheet sheet", 0, EMPTY, ""),
-    ("merge --sheet sheet 100", 0, ONE, ""),
     ("merge --sheet sheet zz 100 zz zz", 0, ONE, ""),
     ("merge --sheet sheet empty", 1, EMPTY, NOT_JSON),
-    ("merge --sheet sheet 100 unbound", 1, ONE, SECOND),
     (
         "merge --sheet sheet unbound 100 unbound",
         1,
         ONE,
         "report 1: 13 UnboundPrefix at fact 1\nreport 3: 13 UnboundPrefix at fact 1\n",
     ),
-    ("merge --sheet sheet --allow none 100 zz", 0, ONE, ""),
-    ("merge --sheet sheet --allow all 101 100", 0, BOTH, ""),
     (
         "merge --sheet sheet --allow consistent 100 101",
         0,
         BOTH,
         "",
-    ),
-    (
-        "merge 100 101 --allow consistent --sheet sheet",
-        0,
-        BOTH,
-        "",
-    ),
-    (
-        "merge --allow=consistent --sheet=sheet -- 100 101",
-        0,
-        BOTH,
-        "",
-    ),
-    (
-        "merge --sheet sheet --allow complete 100 101",
-        2,
-        &[],
-        TOO_LOOSE,
-    ),
-    (
-        "merge --sheet sheet --allow none 100 101",
-        2,
-        &[],
-        TOO_LOOSE,
     ),
     (
         "merge --sheet sheet --allow consistent 100 unbound 102",
@@ -100,16 +72,8 @@ const APART: &[&str] = &["1 f1 f2 inconsistent apart f1 f2\n"];
 
 const ALIKE: &[&str] = &["1 f1 f1 complete\n"];
 
-pub(super) const JUDGED: [Row; 13] = [
-    ("verdicts --sheet sheet", 0, &[], ""),
+pub(super) const JUDGED: [Row; 9] = [
     ("verdicts --sheet sheet 100 101", 0, TOUCHING, ""),
-    (
-        "verdicts 100 unbound 101 --sheet sheet",
-        1,
-        TOUCHING,
-        SECOND,
-    ),
-    ("verdicts --sheet sheet 100 zz 100", 0, ALIKE, ""),
     (
         "verdicts --sheet sheet three",
         0,
@@ -125,7 +89,6 @@ pub(super) const JUDGED: [Row; 13] = [
     ("verdicts --sheet sheet below", 0, APART, ""),
     ("verdicts --sheet sheet zeros", 0, ALIKE, ""),
     ("verdicts --sheet sheet nil", 0, APART, ""),
-    ("sources --sheet sheet", 0, &[], ""),
     (
         "sources 101 unbound 100 --sheet sheet",
         1,
@@ -203,7 +166,7 @@ pub(super) const VERBOSE: [Row; 8] = [
     ),
 ];
 
-pub(super) const CHECKED: [Row; 8] = [
+pub(super) const CHECKED: [Row; 6] = [
     (
         "check --sheet sheet canonical",
         0,
@@ -229,7 +192,7 @@ pub(super) const CHECKED: [Row; 8] = [
         "",
     ),
     (
-        "check --sheet sheet -- three",
+        "check --sheet sheet three",
         0,
         &["accepted 3 all other\n"],
         "",
@@ -240,13 +203,6 @@ pub(super) const CHECKED: [Row; 8] = [
         &["accepted 4 complete other\n"],
         "",
     ),
-    (
-        "check --sheet sheet unbound",
-        1,
-        &[],
-        "report 1: 13 UnboundPrefix at fact 1\n",
-    ),
-    ("check --sheet sheet empty", 1, &[], NOT_JSON),
 ];
 
 /// Each row names an output file, or `-` for standard output. Runs that end with status 2 or 3 leave the file `out` unchanged.
@@ -313,22 +269,8 @@ pub(super) const SHOWN: [(&str, &str); 3] = [
 ];
 
 /// A file lists reports, which follow the reports in the arguments.
-pub(super) const LISTED: [Row; 9] = [
+pub(super) const LISTED: [Row; 5] = [
     ("merge --sheet sheet --reports-from names", 0, BOTH, ""),
-    ("merge --sheet sheet --reports-from returns", 0, BOTH, ""),
-    ("merge --sheet sheet -0 --reports-from ended", 0, BOTH, ""),
-    (
-        "verdicts --sheet sheet 100 unbound --reports-from names",
-        1,
-        TOUCHING,
-        SECOND,
-    ),
-    (
-        "merge --sheet sheet 100 --reports-from empty --null",
-        0,
-        ONE,
-        "",
-    ),
     (
         "merge --sheet sheet --reports-from empty",
         3,
@@ -357,7 +299,7 @@ pub(super) const LISTED: [Row; 9] = [
 
 /// A file that cannot be read, or a refused sheet, ends the run. Only the line about this cause is
 /// printed.
-pub(super) const STOPPED: [Row; 13] = [
+pub(super) const STOPPED: [Row; 12] = [
     ("merge --sheet none", 3, &[], NOT_READ),
     ("verdicts --sheet none list", 3, &[], NOT_READ),
     ("check --sheet none list", 3, &[], NOT_READ),
@@ -368,12 +310,6 @@ pub(super) const STOPPED: [Row; 13] = [
     ("merge --sheet sheet . none", 3, &[], A_FOLDER),
     ("check --sheet . none", 3, &[], A_FOLDER),
     ("merge --sheet sheet -", 3, &[], "file -: cannot be read\n"),
-    (
-        "merge --sheet sheet -- --allow",
-        3,
-        &[],
-        "file --allow: cannot be read\n",
-    ),
     ("merge --sheet list none", 3, &[], "sheet: 2 MemberForm\n"),
     ("verdicts --sheet empty none", 3, &[], "sheet: 1 NotJson\n"),
 ];

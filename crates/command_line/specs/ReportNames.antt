@@ -1,0 +1,44 @@
+-- The names of the reports: those among the words, then those in a file of names (own).
+use Rattle.std.specs.Prelude.{◌≡◌, ◌≢◌, ◌==◌, ℕ, Bool, true, false, List, [], ◌∷◌, ◌++◌, IfSome, IsSome, map, filter, if◌then◌else◌, ⊤}
+use Rattle.std.specs.Option.{option_map_or}
+use Rattle.std.specs.Borrow.{Bor}
+use Rattle.std.specs.List.{slice_split}
+use Rattle.std.specs.Str.{IsUtf8}
+use Rattle.std.specs.Str.Lines.{strip_carriage_return}
+use Rattle.clap.specs.Words.{Text}
+use Rattle.command_line.specs.declared.error.Error.{Error}
+use Rattle.command_line.specs.declared.error.Error.TheVariants.{Unread, NoNames, OutOfMemory}
+use Rattle.command_line.specs.declared.request.Args.{Args}
+
+-- NUL, or a line end, which may be CR LF
+abbrev pub name_end : Bool → ℕ
+name_end is_null = if is_null then 0 else 10
+
+abbrev pub without_return : Bool → Text → Text
+without_return is_null name = if is_null then name else strip_carriage_return name
+
+abbrev pub has_text : Text → Bool
+has_text [] = false
+has_text (x ∷ xs) = true
+
+-- empty names are skipped
+abbrev pub names_in_file : Bool → List ℕ → List Text
+names_in_file is_null bytes = filter has_text (map (without_return is_null) (slice_split (λ b. b == name_end is_null) bytes))
+
+abbrev pub name_texts : List (Bor Text) → List Text
+name_texts names = map (λ (name : Bor Text). name.now) names
+
+-- `bytes` are those of the file of names, if there is one
+abbrev pub report_names : Args → List ℕ → List Text
+report_names args bytes = name_texts args.words.items ++ option_map_or (λ file. names_in_file args.is_null bytes) args.list []
+
+-- the file of names is UTF-8, and there is a name
+abbrev pub AreReportNames : Args → List ℕ → List (Bor Text) → Type 0
+AreReportNames args bytes names = (name_texts names ≡ report_names args bytes) × IfSome args.list (λ file. IsUtf8 bytes × (names ≢ []))
+
+-- why the names were not read
+abbrev pub IsNameError : Args → List ℕ → Error → Type 0
+IsNameError args bytes (Unread file why) = IsSome args.list × ¬ (IsUtf8 bytes)
+IsNameError args bytes (NoNames file) = IsSome args.list × (report_names args bytes ≡ [])
+IsNameError args bytes OutOfMemory = ⊤
+IsNameError args bytes _ = ⊥

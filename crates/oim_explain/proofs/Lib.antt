@@ -1,0 +1,4 @@
+pub mod EscapedLaws
+pub mod Quoting
+pub mod Appended
+pub mod Explaining

@@ -1,0 +1,21 @@
+use Rattle.std.proofs.Common.{[], ◌∷◌, ◌++◌, ap, ◌∙◌, codes}
+use Rattle.json.specs.Print.{print}
+use Rattle.json.specs.Token.{end_object, key, string}
+use Rattle.oim_explain.specs.Lines.{object_front}
+use Rattle.oim_explain.specs.code.Added.{of_fault}
+use Rattle.oim_explain.proofs.Appended.{tokens_one, tokens_then}
+use Rattle.oim_explain.proofs.lines.Fault.json_line.Goals as goal
+
+pub text_of-requires : goal.text_of-requires
+text_of-requires c =
+    c.in_ok-end_object.ensures.room.0 ∙ c.in_ok-put_text.ensures.before ∙ c.in_ok-put_part.ensures.1.before ∙ c.in_ok-key.ensures.room.0
+    ∙ c.in_ok-put_front.ensures.before ∙ c.new-writer.ensures.before ∙ c.new.ensures.items
+
+pub returns : goal.returns
+returns c =
+    let part = c.in_ok-put_part.ensures in
+    let rest = key (codes "part") ∷ (part.0 ++ key (codes "sentence") ∷ string c.args.self.now.sentence.now ∷ end_object ∷ []) in
+    let front = object_front c.args.input.now (of_fault c.args.self.now) in
+    let all = tokens_then c.in_ok-put_front.ensures
+    (tokens_then (tokens_one c.in_ok-key.ensures) (tokens_then part.1 (tokens_then c.in_ok-put_text.ensures (tokens_one c.in_ok-end_object.ensures)))) in
+    (rest, c.text_of.ensures ∙ ap print (all.tokens ∙ ap (λ ts. ts ++ (front ++ rest)) c.new-writer.ensures.tokens))

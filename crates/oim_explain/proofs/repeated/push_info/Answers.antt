@@ -1,0 +1,11 @@
+use Rattle.std.proofs.lemmas.Result.{on_ok_weaker}
+use Rattle.oim_explain.proofs.Appended.{repeated_none, repeated_then}
+use Rattle.oim_explain.proofs.repeated.push_info.Goals as goal
+
+pub returns-in_default : goal.returns-in_default
+returns-in_default c = repeated_none c.args.lines.now
+
+pub returns : goal.returns
+returns c =
+    let front = repeated_then _ _ _ c.in_ok-push_of.ensures c.in_ok-push_of-2.ensures in
+    on_ok_weaker c.push_of-3.result (λ last. repeated_then _ _ _ front last) c.push_of-3.ensures

@@ -1,0 +1,5 @@
+pub mod Escaped
+pub mod Quoted
+pub mod Lines
+pub mod Explained
+pub mod code
