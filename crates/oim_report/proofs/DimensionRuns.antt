@@ -28,16 +28,46 @@ by_value facts starts i j f g h same first second =
     let tied = ap (dimensions_cmp f.dimensions) (sym dimensions) ∙ tied_itself dimensions_cmp_total f.dimensions in
     sym (ap (λ o. ordering_then o (value_cmp f.value g.value)) tied)
 
+alone : (o b : Ordering) → (o ≡ Equal → ⊥) → o ≡ ordering_then o b
+alone Less b unequal = refl
+alone Equal b unequal = absurd (unequal refl)
+alone Greater b unequal = refl
+
 decided : (o a b : Ordering) → (o ≡ Equal → ⊥) → o ≡ ordering_then (ordering_then o a) b
-decided Less a b unequal = refl
-decided Equal a b unequal = absurd (unequal refl)
-decided Greater a b unequal = refl
+decided o a b unequal = alone o b unequal ∙ ap (λ p. ordering_then p b) (alone o a unequal)
 
 by_first : (n r v o : Ordering) → o ≡ n → (o ≡ Equal → ⊥) → o ≡ ordering_then (ordering_then n r) v
 by_first n r v o is unequal = decided o r v unequal ∙ ap (λ p. ordering_then (ordering_then p r) v) is
 
 pub by_rank : (f g : Fact) (o : Ordering) → o ≡ name_cmp f.dimensions.concept g.dimensions.concept → (o ≡ Equal → ⊥) → o ≡ fact_cmp f g
 by_rank f g o is unequal = by_first _ _ (value_cmp f.value g.value) o is unequal
+
+-- ---- facts with equal concepts, compared part by part
+
+module _ (concept entity period unit language members value : Ordering) (tied : concept ≡ Equal) where
+  abbrev pub by_parts : Ordering
+  by_parts = ordering_then (ordering_then concept (ordering_then entity (ordering_then period (ordering_then unit (ordering_then language members))))) value
+
+  pub by_entity : (entity ≡ Equal → ⊥) → entity ≡ by_parts
+  by_entity unequal = decided entity _ value unequal ∙ (λ i. ordering_then (ordering_then (sym tied i) (ordering_then entity (ordering_then period (ordering_then unit (ordering_then language members))))) value)
+
+  pub by_period : entity ≡ Equal → (period ≡ Equal → ⊥) → period ≡ by_parts
+  by_period e unequal = decided period _ value unequal ∙ (λ i. ordering_then (ordering_then (sym tied i) (ordering_then (sym e i) (ordering_then period (ordering_then unit (ordering_then language members))))) value)
+
+  pub by_unit : entity ≡ Equal → period ≡ Equal → (unit ≡ Equal → ⊥) → unit ≡ by_parts
+  by_unit e p unequal = decided unit _ value unequal ∙ (λ i. ordering_then (ordering_then (sym tied i) (ordering_then (sym e i) (ordering_then (sym p i) (ordering_then unit (ordering_then language members))))) value)
+
+  pub by_language : entity ≡ Equal → period ≡ Equal → unit ≡ Equal → (language ≡ Equal → ⊥) → language ≡ by_parts
+  by_language e p u unequal = decided language _ value unequal ∙ (λ i. ordering_then (ordering_then (sym tied i) (ordering_then (sym e i) (ordering_then (sym p i) (ordering_then (sym u i) (ordering_then language members))))) value)
+
+  by_last : entity ≡ Equal → period ≡ Equal → unit ≡ Equal → language ≡ Equal → ordering_then members value ≡ by_parts
+  by_last e p u l = λ i. ordering_then (ordering_then (sym tied i) (ordering_then (sym e i) (ordering_then (sym p i) (ordering_then (sym u i) (ordering_then (sym l i) members))))) value
+
+  pub by_members : entity ≡ Equal → period ≡ Equal → unit ≡ Equal → language ≡ Equal → (members ≡ Equal → ⊥) → members ≡ by_parts
+  by_members e p u l unequal = alone members value unequal ∙ by_last e p u l
+
+  pub by_values : entity ≡ Equal → period ≡ Equal → unit ≡ Equal → language ≡ Equal → members ≡ Equal → value ≡ by_parts
+  by_values e p u l m = ap (λ o. ordering_then o value) (sym m) ∙ by_last e p u l
 
 pub own : (facts : List Fact) (i : ℕ) (f : Fact) → i < length facts → f ≡ get_or facts i f → dimensions_at facts i ≡ Some f.dimensions
 own facts i f within at = ap (option_map (λ (x : Fact). x.dimensions)) (slice_get-get_or facts i f within ∙ ap (λ x. Some x) (sym at))

@@ -95,23 +95,26 @@ fn compared_in_concept(one: &Fact, other: &Fact) -> Ordering
     requires { one.now.dimensions.concept ≡ other.now.dimensions.concept }
     ensures { result ≡ fact_cmp one.now other.now }
 {
-    let (these, others) = (&one.dimensions, &other.dimensions);
-    let rest = (
-        these.entity(),
-        these.period(),
-        these.unit(),
-        these.language(),
-        these.members(),
-        &one.value,
-    );
-    rest.cmp(&(
-        others.entity(),
-        others.period(),
-        others.unit(),
-        others.language(),
-        others.members(),
-        &other.value,
-    ))
+    match one.dimensions.entity().cmp(&other.dimensions.entity()) {
+        Ordering::Equal => {}
+        unequal => return unequal,
+    }
+    match one.dimensions.period().cmp(&other.dimensions.period()) {
+        Ordering::Equal => {}
+        unequal => return unequal,
+    }
+    match one.dimensions.unit().cmp(&other.dimensions.unit()) {
+        Ordering::Equal => {}
+        unequal => return unequal,
+    }
+    match one.dimensions.language().cmp(&other.dimensions.language()) {
+        Ordering::Equal => {}
+        unequal => return unequal,
+    }
+    match one.dimensions.members().cmp(other.dimensions.members()) {
+        Ordering::Equal => one.value.cmp(&other.value),
+        unequal => unequal,
+    }
 }
 
 fn same_at(starts: &[usize], i: usize, j: usize) -> bool
