@@ -6,7 +6,7 @@ use Rattle.std.proofs.KnownBytes.{Appends-kept, Appends-nil}
 use Rattle.oim_write.specs.Sink.{AppendsFront}
 use Rattle.command_line.specs.Endings.{AppendsPart, Ends, IsCutOff, Prints, Puts, Stops}
 use Rattle.command_line.specs.Faults.{IsEventError, IsOutputFault, IsReadError, IsSheetError}
-use Rattle.command_line.specs.Outputs.{Told}
+use Rattle.command_line.specs.Outputs.{NumberedRefusals}
 use Rattle.command_line.specs.declared.error.Error.{Error}
 use Rattle.command_line.specs.declared.error.Error.TheVariants as error
 
@@ -15,10 +15,10 @@ pub of_error : {T E : Type 0} (P : Result T E → Type 0) (r : Result T E) (e : 
 of_error P (Ok x) e is p = absurd is
 of_error P (Err x) e is p = subst (λ y. P (Err y)) (sym is) p
 
-module _ {T : Type 0} (Gives : List ℕ → T → Type 0) (Loose : ℕ → Told → Type 0) (old new : Option (List ℕ)) where
+module _ {T : Type 0} (Gives : List ℕ → T → Type 0) (Loose : ℕ → NumberedRefusals → Type 0) (old new : Option (List ℕ)) where
   -- errors that come before anything is printed
   pub read_stops : (e : Error) → IsReadError e → Appends old new [] → Stops Gives old new Loose e
-  read_stops (error.TooLoose row told) is none = absurd is
+  read_stops (error.TooLoose row returned) is none = absurd is
   read_stops (error.Device written) is none = absurd is
   read_stops (error.TooMuch most) is none = absurd is
   read_stops error.OutOfMemory is none = inl none
@@ -47,7 +47,7 @@ module _ {T : Type 0} (Gives : List ℕ → T → Type 0) (old new : Option (Lis
   pub put_prints : Appends old new text → Prints Gives old new result
   put_prints appended = record { text = text; gives = gives; appended = appended }
 
-  pub put_stops : (Loose : ℕ → Told → Type 0) (e : Error) → Puts text old new (Err e) → Stops Gives old new Loose e
+  pub put_stops : (Loose : ℕ → NumberedRefusals → Type 0) (e : Error) → Puts text old new (Err e) → Stops Gives old new Loose e
   put_stops Loose (error.Device written) part = begins part
   put_stops Loose error.OutOfMemory part = begins part
   put_stops Loose _ part = absurd part
@@ -62,9 +62,9 @@ module _ {T U : Type 0} (Gives : List ℕ → T → Type 0) (Whole : List ℕ �
   cut_off_whole (inr b) =
       inr (record { result = result_of b.result; text = b.text; gives = gives_whole b.text b.result b.gives; part = b.part })
 
-  module _ (Loose : ℕ → Told → Type 0) (LooseWhole : ℕ → Told → Type 0) (loose_whole : (row : ℕ) (told : Told) → Loose row told → LooseWhole row told) where
+  module _ (Loose : ℕ → NumberedRefusals → Type 0) (LooseWhole : ℕ → NumberedRefusals → Type 0) (loose_whole : (row : ℕ) (returned : NumberedRefusals) → Loose row returned → LooseWhole row returned) where
     pub stops_whole : (e : Error) → Stops Gives old new Loose e → Stops Whole old new LooseWhole e
-    stops_whole (error.TooLoose row told) stops = (loose_whole row told stops.0, stops.1)
+    stops_whole (error.TooLoose row returned) stops = (loose_whole row returned stops.0, stops.1)
     stops_whole (error.Device written) stops = cut_off_whole stops
     stops_whole (error.TooMuch most) stops = cut_off_whole stops
     stops_whole error.OutOfMemory stops = cut_off_whole stops
@@ -72,7 +72,7 @@ module _ {T U : Type 0} (Gives : List ℕ → T → Type 0) (Whole : List ℕ �
 
 -- the same for a result that stays
 pub ends_whole : {T : Type 0} (Gives Whole : List ℕ → T → Type 0) (old new : Option (List ℕ)) (gives_whole : (text : List ℕ) (result : T) → Gives text result → Whole text result)
-    (Loose LooseWhole : ℕ → Told → Type 0) (loose_whole : (row : ℕ) (told : Told) → Loose row told → LooseWhole row told) (done : Result T Error) → Ends Gives old new Loose done → Ends Whole old new LooseWhole done
+    (Loose LooseWhole : ℕ → NumberedRefusals → Type 0) (loose_whole : (row : ℕ) (returned : NumberedRefusals) → Loose row returned → LooseWhole row returned) (done : Result T Error) → Ends Gives old new Loose done → Ends Whole old new LooseWhole done
 ends_whole Gives Whole old new gives_whole Loose LooseWhole loose_whole (Ok result) ends = prints_whole Gives Whole old new (λ x. x) gives_whole result ends
 ends_whole Gives Whole old new gives_whole Loose LooseWhole loose_whole (Err e) ends = stops_whole Gives Whole old new (λ x. x) gives_whole Loose LooseWhole loose_whole e ends
 
@@ -82,7 +82,7 @@ module _ (old mid new : Option (List ℕ)) (keeps : Keeps mid new) where
   part_kept : (text : List ℕ) → AppendsPart old mid text → AppendsPart old new text
   part_kept text p = record { front = p.front; rest = p.rest; whole = p.whole; appended = Appends-kept old mid new p.front p.appended keeps }
 
-module _ {T : Type 0} (Gives : List ℕ → T → Type 0) (Loose : ℕ → Told → Type 0) (old mid new : Option (List ℕ)) (keeps : Keeps mid new) where
+module _ {T : Type 0} (Gives : List ℕ → T → Type 0) (Loose : ℕ → NumberedRefusals → Type 0) (old mid new : Option (List ℕ)) (keeps : Keeps mid new) where
   pub cut_off_kept : IsCutOff Gives old mid → IsCutOff Gives old new
   cut_off_kept (inl none) = inl (Appends-kept old mid new [] none keeps)
   cut_off_kept (inr b) =
@@ -90,7 +90,7 @@ module _ {T : Type 0} (Gives : List ℕ → T → Type 0) (Loose : ℕ → Told 
 
   pub ends_kept : (done : Result T Error) → Ends Gives old mid Loose done → Ends Gives old new Loose done
   ends_kept (Ok result) p = record { text = p.text; gives = p.gives; appended = Appends-kept old mid new p.text p.appended keeps }
-  ends_kept (Err (error.TooLoose row told)) stops = (stops.0, Appends-kept old mid new [] stops.1 keeps)
+  ends_kept (Err (error.TooLoose row returned)) stops = (stops.0, Appends-kept old mid new [] stops.1 keeps)
   ends_kept (Err (error.Device written)) stops = cut_off_kept stops
   ends_kept (Err (error.TooMuch most)) stops = cut_off_kept stops
   ends_kept (Err error.OutOfMemory) stops = cut_off_kept stops
@@ -100,7 +100,7 @@ module _ {T : Type 0} (Gives : List ℕ → T → Type 0) (Loose : ℕ → Told 
   pub cut_off : (done : Result T Error) → Ends Gives old mid Loose done → IsCutOff Gives old new
   cut_off (Ok result) p =
       cut_off_kept (inr (record { result = result; text = p.text; gives = p.gives; part = record { front = p.text; rest = []; whole = sym (append-nil p.text); appended = p.appended } }))
-  cut_off (Err (error.TooLoose row told)) stops = cut_off_kept (inl stops.1)
+  cut_off (Err (error.TooLoose row returned)) stops = cut_off_kept (inl stops.1)
   cut_off (Err (error.Device written)) stops = cut_off_kept stops
   cut_off (Err (error.TooMuch most)) stops = cut_off_kept stops
   cut_off (Err error.OutOfMemory) stops = cut_off_kept stops

@@ -29,7 +29,7 @@ longer_part old new text more part = record { front = part.front; rest = part.re
 -- ---- errors
 
 pub read_not_loose : (e : Error) → IsReadError e → IsNotLoose e
-read_not_loose (error.TooLoose row told) is = is
+read_not_loose (error.TooLoose row returned) is = is
 read_not_loose _ is = tt
 
 pub put_stops : (text : List ℕ) (old new : Option (List ℕ)) (e : Error) → Puts text old new (Err e) → IsNotLoose e × AppendsPart old new text

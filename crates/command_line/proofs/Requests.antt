@@ -7,7 +7,7 @@ use Rattle.oim_report.specs.Sheet.{Sheet, sheet_outcome}
 use Rattle.command_line.specs.Endings.{Never, Prints, Stops}
 use Rattle.command_line.specs.Explained.{ExplainGives}
 use Rattle.command_line.specs.Faults.{IsDoneOrFault, IsDoneOrUnwritten, IsNotLoose, IsWriteError}
-use Rattle.command_line.specs.Outputs.{LooseIn, OutputOf, Told}
+use Rattle.command_line.specs.Outputs.{LooseIn, OutputOf, NumberedRefusals}
 use Rattle.command_line.specs.Runs.{ExplainEnds, ExplainStops, IsPlaced, Replaces, RequestEnds, RequestGives, RequestIsLoose}
 use Rattle.command_line.specs.declared.error.Error.{Error}
 use Rattle.command_line.specs.declared.error.Error.TheVariants as error
@@ -21,24 +21,24 @@ use Rattle.command_line.proofs.Explained.{nothing_explained, whole_part}
 
 module _ (gives : List ℕ → List ℕ → Type 0) (bundle : List ℕ) (names : List (Bor (List ℕ))) (old new : Option (List ℕ)) where
   module _ (name : Bor (List ℕ)) (command : Subcommand) (bytes : List ℕ) (sheet : Sheet) (gave : gives name.now bytes) (read : sheet_outcome bytes ≡ Ok sheet) where
-    under : (text : List ℕ) (told : Told) → OutputOf gives names sheet command text told → RequestGives gives bundle names (Under name command) text (Refusals told)
-    under text told has = record { bytes = bytes; sheet = sheet; gave = gave; read = read; has = has }
+    under : (text : List ℕ) (returned : NumberedRefusals) → OutputOf gives names sheet command text returned → RequestGives gives bundle names (Under name command) text (Refusals returned)
+    under text returned has = record { bytes = bytes; sheet = sheet; gave = gave; read = read; has = has }
 
-    pub under_prints : (told : Told) → Prints (OutputOf gives names sheet command) old new told → Prints (RequestGives gives bundle names (Under name command)) old new (Refusals told)
-    under_prints told p = prints_whole (OutputOf gives names sheet command) (RequestGives gives bundle names (Under name command)) old new Refusals under told p
+    pub under_prints : (returned : NumberedRefusals) → Prints (OutputOf gives names sheet command) old new returned → Prints (RequestGives gives bundle names (Under name command)) old new (Refusals returned)
+    under_prints returned p = prints_whole (OutputOf gives names sheet command) (RequestGives gives bundle names (Under name command)) old new Refusals under returned p
 
     pub under_stops : (e : Error) → Stops (OutputOf gives names sheet command) old new (LooseIn gives names sheet command) e → Stops (RequestGives gives bundle names (Under name command)) old new (RequestIsLoose gives bundle names (Under name command)) e
     under_stops e stops =
         stops_whole (OutputOf gives names sheet command) (RequestGives gives bundle names (Under name command)) old new Refusals under
         (LooseIn gives names sheet command) (RequestIsLoose gives bundle names (Under name command))
-        (λ row told loose. record { bytes = bytes; sheet = sheet; gave = gave; read = read; has = loose }) e stops
+        (λ row returned loose. record { bytes = bytes; sheet = sheet; gave = gave; read = read; has = loose }) e stops
 
   -- ---- the end of a run
 
   module _ (name : Bor (List ℕ)) (format : Format) (mid : Option (List ℕ)) (keeps : Keeps mid new) where
     -- whatever the end was, nothing else was printed than a beginning of the output for the first reports
     explain_cut : (done : Result Success Error) → ExplainEnds gives names name format old mid done → (e : Error) → IsNotLoose e → ExplainStops gives names name format old new e
-    explain_cut (Ok (Refusals told)) ends e not_loose = absurd ends
+    explain_cut (Ok (Refusals returned)) ends e not_loose = absurd ends
     explain_cut (Ok (Faults count)) p e not_loose = record {
       not_loose = not_loose;
       front = names;
@@ -55,13 +55,13 @@ module _ (gives : List ℕ → List ℕ → Type 0) (bundle : List ℕ) (names :
     }
 
     explain_kept : (done : Result Success Error) → ExplainEnds gives names name format old mid done → ExplainEnds gives names name format old new done
-    explain_kept (Ok (Refusals told)) ends = absurd ends
+    explain_kept (Ok (Refusals returned)) ends = absurd ends
     explain_kept (Ok (Faults count)) p = record { text = p.text; gives = p.gives; appended = Appends-kept old mid new p.text p.appended keeps }
     explain_kept (Err e) stops = explain_cut (Err e) stops e stops.not_loose
 
     explain_settled : (done result : Result Success Error) → IsDoneOrFault done result → ExplainEnds gives names name format old mid done → ExplainEnds gives names name format old new result
     explain_settled done result (inl is) ends = subst (ExplainEnds gives names name format old new) (sym is) (explain_kept done ends)
-    explain_settled done (Err (error.TooLoose row told)) (inr fault) ends = absurd fault
+    explain_settled done (Err (error.TooLoose row returned)) (inr fault) ends = absurd fault
     explain_settled done (Err e) (inr fault) ends = explain_cut done ends e tt
     explain_settled done (Ok success) (inr fault) ends = absurd fault
 

@@ -1,7 +1,7 @@
 -- What a run printed when it ended (own).
 use Rattle.std.specs.Prelude.{◌≡◌, ◌⊎◌, ℕ, Option, List, [], ◌++◌, Result, Ok, Err}
 use Rattle.std.specs.Io.KnownBytes.{Appends}
-use Rattle.command_line.specs.Outputs.{Told}
+use Rattle.command_line.specs.Outputs.{NumberedRefusals}
 use Rattle.command_line.specs.declared.error.Error.{Error}
 use Rattle.command_line.specs.declared.error.Error.TheVariants.{TooLoose, Device, TooMuch, OutOfMemory}
 
@@ -31,20 +31,20 @@ module _ {T : Type 0} (Gives : List ℕ → T → Type 0) (old new : Option (Lis
 
   -- Nothing was appended before the error. Only if memory was refused, the device failed or the text is too long, a beginning of the text may
   -- be there. `Loose` says which row is too loose.
-  abbrev pub Stops : (ℕ → Told → Type 0) → Error → Type 0
-  Stops Loose (TooLoose row told) = Loose row told × Appends old new []
+  abbrev pub Stops : (ℕ → NumberedRefusals → Type 0) → Error → Type 0
+  Stops Loose (TooLoose row returned) = Loose row returned × Appends old new []
   Stops Loose (Device written) = IsCutOff
   Stops Loose (TooMuch most) = IsCutOff
   Stops Loose OutOfMemory = IsCutOff
   Stops Loose error = Appends old new []
 
-  abbrev pub Ends : (ℕ → Told → Type 0) → Result T Error → Type 0
+  abbrev pub Ends : (ℕ → NumberedRefusals → Type 0) → Result T Error → Type 0
   Ends Loose (Ok result) = Prints result
   Ends Loose (Err error) = Stops Loose error
 
 -- no row is too loose
-abbrev pub Never : ℕ → Told → Type 0
-Never row told = ⊥
+abbrev pub Never : ℕ → NumberedRefusals → Type 0
+Never row returned = ⊥
 
 -- ---- a known text
 

@@ -30,21 +30,21 @@ use Rattle.command_line.specs.declared.request.Subcommand.{Subcommand}
 use Rattle.command_line.specs.declared.request.Subcommand.TheVariants.{Merge, Verdicts, Sources, Check, Replay as ReplayCommand}
 
 -- refusals with the numbers of their reports
-abbrev pub Told : Type 0
-Told = List (ℕ × Refusal)
+abbrev pub NumberedRefusals : Type 0
+NumberedRefusals = List (ℕ × Refusal)
 
 -- ---- `merge`
 
 -- the canonical text of a body that stays within the level
-pub record IsMerge (level : Level) (b : Body) (refusals : Told) (text : List ℕ) (told : Told) : Type 0 where
+pub record IsMerge (level : Level) (b : Body) (refusals : NumberedRefusals) (text : List ℕ) (returned : NumberedRefusals) : Type 0 where
   pub within : StaysWithin level b
   pub text_is : text ≡ canonical b
-  pub refusals_are : told ≡ refusals
+  pub refusals_are : returned ≡ refusals
 
 -- the row with this number is the first above the level
-pub record IsLoose (level : Level) (b : Body) (refusals : Told) (row : ℕ) (told : Told) : Type 0 where
+pub record IsLoose (level : Level) (b : Body) (refusals : NumberedRefusals) (row : ℕ) (returned : NumberedRefusals) : Type 0 where
   pub first : IsFirstAbove level b row
-  pub refusals_are : told ≡ refusals
+  pub refusals_are : returned ≡ refusals
 
 -- ---- `verdicts` and `sources`
 
@@ -57,11 +57,11 @@ verdict_written Lines = line_text
 verdict_written (Rows format) = row_text format
 
 -- the rows of a body, each with its verdict
-pub record AreVerdicts (format : PrintFormat) (b : Body) (refusals : Told) (text : List ℕ) (told : Told) : Type 0 where
+pub record AreVerdicts (format : PrintFormat) (b : Body) (refusals : NumberedRefusals) (text : List ℕ) (returned : NumberedRefusals) : Type 0 where
   pub rows : List ℕ
   pub are : AreRowsOf (verdict_written format) b rows
   pub text_is : text ≡ verdicts_header format ++ rows
-  pub refusals_are : told ≡ refusals
+  pub refusals_are : returned ≡ refusals
 
 abbrev pub sources_header : PrintFormat → List ℕ
 sources_header Lines = []
@@ -73,9 +73,9 @@ source_written Lines names = source_line
 source_written (Rows format) names = source_text format (map (λ name. name.now) names)
 
 -- the fact objects of the accepted reports, in the order of facts, then reports, then identifiers
-pub record AreSources (format : PrintFormat) (names : List (Bor (List ℕ))) (t : Traced) (text : List ℕ) (told : Told) : Type 0 where
+pub record AreSources (format : PrintFormat) (names : List (Bor (List ℕ))) (t : Traced) (text : List ℕ) (returned : NumberedRefusals) : Type 0 where
   pub text_is : text ≡ sources_header format ++ mention_texts (source_written format names) t
-  pub refusals_are : told ≡ t.added.refusals
+  pub refusals_are : returned ≡ t.added.refusals
 
 -- ---- `check`
 
@@ -85,20 +85,20 @@ accepted_line checked =
     codes "accepted " ++ (decimal checked.facts ++ 32 ∷ ((level_entry checked.level).text
     ++ 32 ∷ ((if checked.canonical then codes "canonical" else codes "other") ++ 10 ∷ [])))
 
-pub record Accepts (sheet : Sheet) (bytes : List ℕ) (text : List ℕ) (told : Told) : Type 0 where
+pub record Accepts (sheet : Sheet) (bytes : List ℕ) (text : List ℕ) (returned : NumberedRefusals) : Type 0 where
   pub checked : Checked
   pub is : IsChecked sheet bytes checked
   pub text_is : text ≡ accepted_line checked
-  pub told_is : told ≡ []
+  pub refusals_are : returned ≡ []
 
-pub record Refuses (sheet : Sheet) (bytes : List ℕ) (text : List ℕ) (told : Told) : Type 0 where
+pub record Refuses (sheet : Sheet) (bytes : List ℕ) (text : List ℕ) (returned : NumberedRefusals) : Type 0 where
   pub refusal : Refusal
   pub is : outcome sheet bytes ≡ Err refusal
   pub text_is : text ≡ []
-  pub told_is : told ≡ (1, refusal) ∷ []
+  pub refusals_are : returned ≡ (1, refusal) ∷ []
 
-abbrev pub Checks : Sheet → List ℕ → List ℕ → Told → Type 0
-Checks sheet bytes text told = Accepts sheet bytes text told ⊎ Refuses sheet bytes text told
+abbrev pub Checks : Sheet → List ℕ → List ℕ → NumberedRefusals → Type 0
+Checks sheet bytes text returned = Accepts sheet bytes text returned ⊎ Refuses sheet bytes text returned
 
 -- ---- `replay`
 
@@ -109,29 +109,29 @@ replica_line base = canonical base.body ++ 10 ∷ []
 abbrev pub replica_lines : List Contents → List ℕ
 replica_lines bases = flat_map replica_line bases
 
-abbrev pub PrintsReplay : Replay → List ℕ → Told → Type 0
-PrintsReplay replay text told = (text ≡ replica_lines replay.world.replicas) × (told ≡ replay.refused)
+abbrev pub PrintsReplay : Replay → List ℕ → NumberedRefusals → Type 0
+PrintsReplay replay text returned = (text ≡ replica_lines replay.world.replicas) × (returned ≡ replay.refused)
 
-pub record Replays (sheet : Sheet) (replicas : ℕ) (lines : List ℕ) (reports : List (List ℕ)) (text : List ℕ) (told : Told) : Type 0 where
+pub record Replays (sheet : Sheet) (replicas : ℕ) (lines : List ℕ) (reports : List (List ℕ)) (text : List ℕ) (returned : NumberedRefusals) : Type 0 where
   pub events : List Event
   pub says : SaysEvents lines events
   pub replay : Replay
   pub is : IsReplayOf sheet replicas reports events replay
-  pub printed : PrintsReplay replay text told
+  pub printed : PrintsReplay replay text returned
 
 -- ---- all commands under a sheet
 
 module _ (gives : List ℕ → List ℕ → Type 0) (names : List (Bor (List ℕ))) (sheet : Sheet) where
   -- the text of the command, and the refusals
-  abbrev pub OutputOf : Subcommand → List ℕ → Told → Type 0
-  OutputOf (Merge level) text told = WithRead gives names (λ reports. IsMerge level (merged sheet reports) (refused sheet reports) text told)
-  OutputOf (Verdicts format) text told = WithRead gives names (λ reports. AreVerdicts format (merged sheet reports) (refused sheet reports) text told)
-  OutputOf (Sources format) text told = WithRead gives names (λ reports. AreSources format names (traced sheet reports) text told)
-  OutputOf (Check name) text told = (bytes : List ℕ) × gives name.now bytes × Checks sheet bytes text told
-  OutputOf (ReplayCommand replicas name) text told =
-      (lines : List ℕ) × gives name.now lines × WithRead gives names (λ reports. Replays sheet replicas lines reports text told)
+  abbrev pub OutputOf : Subcommand → List ℕ → NumberedRefusals → Type 0
+  OutputOf (Merge level) text returned = WithRead gives names (λ reports. IsMerge level (merged sheet reports) (refused sheet reports) text returned)
+  OutputOf (Verdicts format) text returned = WithRead gives names (λ reports. AreVerdicts format (merged sheet reports) (refused sheet reports) text returned)
+  OutputOf (Sources format) text returned = WithRead gives names (λ reports. AreSources format names (traced sheet reports) text returned)
+  OutputOf (Check name) text returned = (bytes : List ℕ) × gives name.now bytes × Checks sheet bytes text returned
+  OutputOf (ReplayCommand replicas name) text returned =
+      (lines : List ℕ) × gives name.now lines × WithRead gives names (λ reports. Replays sheet replicas lines reports text returned)
 
   -- only `merge` has rows that are too loose
-  abbrev pub LooseIn : Subcommand → ℕ → Told → Type 0
-  LooseIn (Merge level) row told = WithRead gives names (λ reports. IsLoose level (merged sheet reports) (refused sheet reports) row told)
-  LooseIn command row told = ⊥
+  abbrev pub LooseIn : Subcommand → ℕ → NumberedRefusals → Type 0
+  LooseIn (Merge level) row returned = WithRead gives names (λ reports. IsLoose level (merged sheet reports) (refused sheet reports) row returned)
+  LooseIn command row returned = ⊥

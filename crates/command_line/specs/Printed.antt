@@ -42,9 +42,9 @@ place_text place.Document = codes "document"
 place_text (place.Fact number) = codes "fact " ++ decimal number
 
 abbrev pub refusal_line : ℕ × Refusal → List ℕ
-refusal_line told =
-    let entry = entry_of told.1.reason in
-    codes "report " ++ (decimal told.0 ++ (codes ": " ++ (decimal entry.number ++ 32 ∷ (entry.name ++ (codes " at " ++ (place_text told.1.place ++ 10 ∷ []))))))
+refusal_line numbered =
+    let entry = entry_of numbered.1.reason in
+    codes "report " ++ (decimal numbered.0 ++ (codes ": " ++ (decimal entry.number ++ 32 ∷ (entry.name ++ (codes " at " ++ (place_text numbered.1.place ++ 10 ∷ []))))))
 
 abbrev pub refusal_lines : List (ℕ × Refusal) → List ℕ
 refusal_lines refusals = flat_map refusal_line refusals

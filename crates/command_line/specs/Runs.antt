@@ -11,7 +11,7 @@ use Rattle.oim_merge.specs.Run.{IsSheetOf}
 use Rattle.command_line.specs.Endings.{Ends, IsCutOff, Prints}
 use Rattle.command_line.specs.Explained.{ExplainGives}
 use Rattle.command_line.specs.Faults.{IsNotLoose}
-use Rattle.command_line.specs.Outputs.{IsMerge, LooseIn, OutputOf, Told}
+use Rattle.command_line.specs.Outputs.{IsMerge, LooseIn, OutputOf, NumberedRefusals}
 use Rattle.command_line.specs.declared.error.Error.{Error}
 use Rattle.command_line.specs.declared.error.Success.{Success}
 use Rattle.command_line.specs.declared.error.Success.TheVariants.{Refusals, Faults}
@@ -20,7 +20,7 @@ use Rattle.command_line.specs.declared.request.Request.TheVariants.{Bundle, Help
 use Rattle.command_line.specs.declared.request.Subcommand.{Subcommand}
 
 -- what was printed when a command under a sheet ended
-abbrev pub CommandEnds : (List ℕ → List ℕ → Type 0) → List (Bor (List ℕ)) → Sheet → Subcommand → Option (List ℕ) → Option (List ℕ) → Result Told Error → Type 0
+abbrev pub CommandEnds : (List ℕ → List ℕ → Type 0) → List (Bor (List ℕ)) → Sheet → Subcommand → Option (List ℕ) → Option (List ℕ) → Result NumberedRefusals Error → Type 0
 CommandEnds gives names sheet command old new done = Ends (OutputOf gives names sheet command) old new (LooseIn gives names sheet command) done
 
 -- the file with this name gave the bytes of a sheet, and the sheet has the property
@@ -33,14 +33,14 @@ pub record WithSheet (gives : List ℕ → List ℕ → Type 0) (name : Bor (Lis
 
 -- clap makes the text of help
 abbrev pub PrintsHelp : List ℕ → Success → Type 0
-PrintsHelp text (Refusals told) = told ≡ []
+PrintsHelp text (Refusals returned) = returned ≡ []
 PrintsHelp text (Faults count) = ⊥
 
 -- the merge of a bundle, which allows all duplicates
-pub record MergesBundle (bundle text : List ℕ) (told : Told) : Type 0 where
+pub record MergesBundle (bundle text : List ℕ) (returned : NumberedRefusals) : Type 0 where
   pub sheet : Sheet
   pub read : IsSheetOf bundle sheet
-  pub is : IsMerge All (merged sheet (report_pieces bundle)) (refused sheet (report_pieces bundle)) text told
+  pub is : IsMerge All (merged sheet (report_pieces bundle)) (refused sheet (report_pieces bundle)) text returned
 
 -- what was printed when `explain` ended; no row is too loose
 module _ (gives : List ℕ → List ℕ → Type 0) (names : List (Bor (List ℕ))) (name : Bor (List ℕ)) (format : Format) (old new : Option (List ℕ)) where
@@ -53,21 +53,21 @@ module _ (gives : List ℕ → List ℕ → Type 0) (names : List (Bor (List ℕ
     pub cut_off : IsCutOff (ExplainGives gives format name front) old new
 
   abbrev pub ExplainEnds : Result Success Error → Type 0
-  ExplainEnds (Ok (Refusals told)) = ⊥
+  ExplainEnds (Ok (Refusals returned)) = ⊥
   ExplainEnds (Ok (Faults count)) = Prints (ExplainGives gives format name names) old new count
   ExplainEnds (Err error) = ExplainStops error
 
 module _ (gives : List ℕ → List ℕ → Type 0) (bundle : List ℕ) (names : List (Bor (List ℕ))) where
   -- the text of a request other than `explain`, and its result
   abbrev pub RequestGives : Request → List ℕ → Success → Type 0
-  RequestGives Bundle text (Refusals told) = MergesBundle bundle text told
-  RequestGives (Under name command) text (Refusals told) = WithSheet gives name (λ sheet. OutputOf gives names sheet command text told)
+  RequestGives Bundle text (Refusals returned) = MergesBundle bundle text returned
+  RequestGives (Under name command) text (Refusals returned) = WithSheet gives name (λ sheet. OutputOf gives names sheet command text returned)
   RequestGives (Help help) text success = PrintsHelp text success
   RequestGives request text success = ⊥
 
-  abbrev pub RequestIsLoose : Request → ℕ → Told → Type 0
-  RequestIsLoose (Under name command) row told = WithSheet gives name (λ sheet. LooseIn gives names sheet command row told)
-  RequestIsLoose request row told = ⊥
+  abbrev pub RequestIsLoose : Request → ℕ → NumberedRefusals → Type 0
+  RequestIsLoose (Under name command) row returned = WithSheet gives name (λ sheet. LooseIn gives names sheet command row returned)
+  RequestIsLoose request row returned = ⊥
 
   -- what was printed when the request ended
   abbrev pub RequestEnds : Request → Option (List ℕ) → Option (List ℕ) → Result Success Error → Type 0

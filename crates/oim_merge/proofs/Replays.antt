@@ -84,12 +84,12 @@ module _ (n reports : ℕ) (events : List Event) where
 -- ---- a replay
 
 -- the first k events were run, and none of them is bad
-pub record HasRun (sheet : Sheet) (n : ℕ) (reports : List (List ℕ)) (events : List Event) (k : ℕ) (bases : List Contents) (sent : List (List ℕ)) (told : List (ℕ × Refusal)) : Type 0 where
+pub record HasRun (sheet : Sheet) (n : ℕ) (reports : List (List ℕ)) (events : List Event) (k : ℕ) (bases : List Contents) (sent : List (List ℕ)) (returned : List (ℕ × Refusal)) : Type 0 where
   pub world : world_of bases sent ≡ world_after (wire sheet [] reports) n (take k events)
-  pub refused : told ≡ refused_takes sheet reports (take k events)
+  pub refused : returned ≡ refused_takes sheet reports (take k events)
   pub earlier : (before : ℕ) → before < k → ¬ (IsBadAt n (length reports) events before)
 
-module _ (sheet : Sheet) (n : ℕ) (reports : List (List ℕ)) (events : List Event) (k : ℕ) (bases : List Contents) (sent : List (List ℕ)) (told : List (ℕ × Refusal)) (h : HasRun sheet n reports events k bases sent told) where
+module _ (sheet : Sheet) (n : ℕ) (reports : List (List ℕ)) (events : List Event) (k : ℕ) (bases : List Contents) (sent : List (List ℕ)) (returned : List (ℕ × Refusal)) (h : HasRun sheet n reports events k bases sent returned) where
   replicas_are : length bases ≡ n
   replicas_are = ap (λ (w : World Contents (List ℕ)). length w.replicas) h.world ∙ count (wire sheet [] reports) n (take k events)
 
@@ -109,7 +109,7 @@ module _ (sheet : Sheet) (n : ℕ) (reports : List (List ℕ)) (events : List Ev
   pub run_further : (d : Event) (new : List Contents) (texts : List (List ℕ)) (refusals : List (ℕ × Refusal)) → k < length events →
       names_none (length bases) (length reports) (length sent) (get_or events k d) ≡ false →
       world_of new texts ≡ happens (wire sheet [] reports) (world_of bases sent) (get_or events k d) →
-      refusals ≡ told ++ refused_by sheet reports (get_or events k d) →
+      refusals ≡ returned ++ refused_by sheet reports (get_or events k d) →
       HasRun sheet n reports events (k + 1) new texts refusals
   run_further d new texts refusals within good stepped appended = record {
     world = stepped ∙ ap (λ w. happens (wire sheet [] reports) w (get_or events k d)) h.world ∙ sym (run_next (wire sheet [] reports) events k d (start (wire sheet [] reports) n) within);
@@ -120,7 +120,7 @@ module _ (sheet : Sheet) (n : ℕ) (reports : List (List ℕ)) (events : List Ev
   pub run_ends : (d : Event) → k < length events → names_none (length bases) (length reports) (length sent) (get_or events k d) ≡ true → IsFirstBad n (length reports) events (k + 1)
   run_ends d within bad = first_bad n (length reports) events k d within (sym (names_are (get_or events k d)) ∙ bad) h.earlier
 
-  pub run_whole : (replay : Replay) → length events ≤ k → replay.world ≡ world_of bases sent → replay.refused ≡ told → IsReplayOf sheet n reports events replay
+  pub run_whole : (replay : Replay) → length events ≤ k → replay.world ≡ world_of bases sent → replay.refused ≡ returned → IsReplayOf sheet n reports events replay
   run_whole replay ended world_is refused_is =
       let all : take k events ≡ events = take_all k events ended in
       let world : replay.world ≡ world_after (wire sheet [] reports) n events = world_is ∙ h.world ∙ ap (world_after (wire sheet [] reports) n) all in

@@ -65,16 +65,16 @@ list_step sheet reports i r bytes a new within at read stepped is =
     ∙ ap (added sheet) (ap (λ b. take i reports ++ b ∷ []) at ∙ sym (take_more reports i r within))
 
 -- the step for an accepted report, and for a refused one
-pub accepted_step : (sheet : Sheet) (bytes : List ℕ) (d : Document) (old new : Body) (told : List (ℕ × Refusal)) (n : ℕ) → outcome sheet bytes ≡ Ok d → new ≡ union old (body (d ∷ [])) →
-    ◌≡◌ {A = Added} (record { sheet = sheet; body = new; refusals = told; reports = n + 1 }) (with_report (record { sheet = sheet; body = old; refusals = told; reports = n }) bytes)
-accepted_step sheet bytes d old new told n o is = same_added
+pub accepted_step : (sheet : Sheet) (bytes : List ℕ) (d : Document) (old new : Body) (returned : List (ℕ × Refusal)) (n : ℕ) → outcome sheet bytes ≡ Ok d → new ≡ union old (body (d ∷ [])) →
+    ◌≡◌ {A = Added} (record { sheet = sheet; body = new; refusals = returned; reports = n + 1 }) (with_report (record { sheet = sheet; body = old; refusals = returned; reports = n }) bytes)
+accepted_step sheet bytes d old new returned n o is = same_added
     (is ∙ ap (λ x. union old (body (document_in x))) (sym o))
-    (sym (append-nil told) ∙ ap (λ x. told ++ refusal_in (n + 1) x) (sym o))
+    (sym (append-nil returned) ∙ ap (λ x. returned ++ refusal_in (n + 1) x) (sym o))
     refl
 
-pub refused_step : (sheet : Sheet) (bytes : List ℕ) (r : Refusal) (old : Body) (told more : List (ℕ × Refusal)) (n : ℕ) → outcome sheet bytes ≡ Err r → old ≡ union old (body []) → more ≡ told ++ (n + 1, r) ∷ [] →
-    ◌≡◌ {A = Added} (record { sheet = sheet; body = old; refusals = more; reports = n + 1 }) (with_report (record { sheet = sheet; body = old; refusals = told; reports = n }) bytes)
-refused_step sheet bytes r old told more n o is appended = same_added
+pub refused_step : (sheet : Sheet) (bytes : List ℕ) (r : Refusal) (old : Body) (returned more : List (ℕ × Refusal)) (n : ℕ) → outcome sheet bytes ≡ Err r → old ≡ union old (body []) → more ≡ returned ++ (n + 1, r) ∷ [] →
+    ◌≡◌ {A = Added} (record { sheet = sheet; body = old; refusals = more; reports = n + 1 }) (with_report (record { sheet = sheet; body = old; refusals = returned; reports = n }) bytes)
+refused_step sheet bytes r old returned more n o is appended = same_added
     (is ∙ ap (λ x. union old (body (document_in x))) (sym o))
-    (appended ∙ ap (λ x. told ++ refusal_in (n + 1) x) (sym o))
+    (appended ∙ ap (λ x. returned ++ refusal_in (n + 1) x) (sym o))
     refl

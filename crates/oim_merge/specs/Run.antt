@@ -20,9 +20,9 @@ use Rattle.oim_merge.specs.declared.fault.Fault.TheVariants.{OutOfMemory, Device
 -- ---- a body is written if it stays within a level
 
 -- the body stays within the level, its text was appended, and these refusals were returned
-pub record Writes (level : Level) (b : Body) (refusals : List (ℕ × Refusal)) (old new : Option (List ℕ)) (told : List (ℕ × Refusal)) : Type 0 where
+pub record Writes (level : Level) (b : Body) (refusals : List (ℕ × Refusal)) (old new : Option (List ℕ)) (returned : List (ℕ × Refusal)) : Type 0 where
   pub within : StaysWithin level b
-  pub refusals_are : told ≡ refusals
+  pub refusals_are : returned ≡ refusals
   pub appended : Appends old new (canonical b)
 
 -- the body stays within the level, and a first part of its text was appended; `written` counts the appended bytes, and saturates
@@ -35,16 +35,16 @@ abbrev pub StopsBefore : Option (List ℕ) → Option (List ℕ) → ℕ → Typ
 StopsBefore old new written = (written ≡ 0) × Appends old new []
 
 -- the row with this number is the first above the level, these refusals were returned, and nothing was appended
-pub record IsTooLoose (level : Level) (b : Body) (refusals : List (ℕ × Refusal)) (old new : Option (List ℕ)) (row : ℕ) (told : List (ℕ × Refusal)) : Type 0 where
+pub record IsTooLoose (level : Level) (b : Body) (refusals : List (ℕ × Refusal)) (old new : Option (List ℕ)) (row : ℕ) (returned : List (ℕ × Refusal)) : Type 0 where
   pub first : IsFirstAbove level b row
-  pub refusals_are : told ≡ refusals
+  pub refusals_are : returned ≡ refusals
   pub appended : Appends old new []
 
 -- a fault: memory was refused, the device failed, or a row is above the level
 abbrev pub Stops : Level → Body → List (ℕ × Refusal) → Option (List ℕ) → Option (List ℕ) → Fault → Type 0
 Stops level b refusals old new (OutOfMemory written) = StopsBefore old new written ⊎ StopsWithin level b old new written
 Stops level b refusals old new (Device written) = StopsWithin level b old new written
-Stops level b refusals old new (TooLoose row told) = IsTooLoose level b refusals old new row told
+Stops level b refusals old new (TooLoose row returned) = IsTooLoose level b refusals old new row returned
 Stops level b refusals old new (SheetFault reason) = ⊥
 
 -- ---- reports
@@ -61,10 +61,10 @@ ConsolidationStops sheet reports level = Stops level (merged sheet reports) (ref
 abbrev pub IsSheetOf : List ℕ → Sheet → Type 0
 IsSheetOf bytes sheet = sheet_outcome (sheet_piece bytes) ≡ Ok sheet
 
-pub record ConsolidatesBundle (bytes : List ℕ) (old new : Option (List ℕ)) (told : List (ℕ × Refusal)) : Type 0 where
+pub record ConsolidatesBundle (bytes : List ℕ) (old new : Option (List ℕ)) (returned : List (ℕ × Refusal)) : Type 0 where
   pub sheet : Sheet
   pub read : IsSheetOf bytes sheet
-  pub consolidates : Consolidates sheet (report_pieces bytes) AllLevel old new told
+  pub consolidates : Consolidates sheet (report_pieces bytes) AllLevel old new returned
 
 -- the sheet was read, and this fault occurred later
 pub record StopsBehindSheet (bytes : List ℕ) (old new : Option (List ℕ)) (fault : Fault) : Type 0 where

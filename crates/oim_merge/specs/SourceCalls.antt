@@ -15,15 +15,15 @@ mention_texts written t = flat_map (mention_text written t.added.body.facts) (by
 
 module _ (header : List ℕ) (written : SourceText) (t : Traced) where
   -- the header and the texts of the mentions were appended, and the refusals were returned
-  pub record AppendsMentions (old new : Option (List ℕ)) (told : List (ℕ × Refusal)) : Type 0 where
-    pub refusals_are : told ≡ t.added.refusals
+  pub record AppendsMentions (old new : Option (List ℕ)) (returned : List (ℕ × Refusal)) : Type 0 where
+    pub refusals_are : returned ≡ t.added.refusals
     pub appended : Appends old new (header ++ mention_texts written t)
 
   -- a fault: a first part of the header and the texts was appended; the fault contains the number of these bytes, which saturates
   abbrev pub MentionsStop : Option (List ℕ) → Option (List ℕ) → Fault → Type 0
   MentionsStop old new (OutOfMemory count) = AppendsFront old new (header ++ mention_texts written t) count
   MentionsStop old new (Device count) = AppendsFront old new (header ++ mention_texts written t) count
-  MentionsStop old new (TooLoose row told) = ⊥
+  MentionsStop old new (TooLoose row returned) = ⊥
   MentionsStop old new (SheetFault reason) = ⊥
 
 -- the source lines of the accepted reports were appended, and the refusals of the other reports were returned

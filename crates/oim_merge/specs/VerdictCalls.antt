@@ -25,15 +25,15 @@ module _ (header : List ℕ) (written : RowText) where
     pub front : AppendsFront old new (header ++ rows) count
 
   -- the header and the rows of a body were appended, and these refusals were returned
-  pub record Lists (b : Body) (refusals : List (ℕ × Refusal)) (old new : Option (List ℕ)) (told : List (ℕ × Refusal)) : Type 0 where
-    pub refusals_are : told ≡ refusals
+  pub record Lists (b : Body) (refusals : List (ℕ × Refusal)) (old new : Option (List ℕ)) (returned : List (ℕ × Refusal)) : Type 0 where
+    pub refusals_are : returned ≡ refusals
     pub listed : AppendsRows b old new
 
   -- a fault: memory was refused or the device failed; a first part of the header and the rows was appended, or nothing yet
   abbrev pub ListStops : Body → Option (List ℕ) → Option (List ℕ) → Fault → Type 0
   ListStops b old new (OutOfMemory count) = StopsBefore old new count ⊎ AppendsFrontOfRows b old new count
   ListStops b old new (Device count) = AppendsFrontOfRows b old new count
-  ListStops b old new (TooLoose row told) = ⊥
+  ListStops b old new (TooLoose row returned) = ⊥
   ListStops b old new (SheetFault reason) = ⊥
 
 -- ---- verdict lines

@@ -31,7 +31,7 @@ module _ (old new : Option (List ℕ)) where
   rows_stop head written b (OutOfMemory count) (inl before) = inl before.1
   rows_stop head written b (OutOfMemory count) (inr front) = inr (count, front)
   rows_stop head written b (Device count) front = inr (count, front)
-  rows_stop head written b (TooLoose row told) s = absurd s
+  rows_stop head written b (TooLoose row returned) s = absurd s
   rows_stop head written b (SheetFault reason) s = absurd s
 
   front_of : (call : RowCall) (sheet : Sheet) (reports : List (List ℕ)) (text : List ℕ) (count : ℕ) → IsTextOf call sheet reports text → AppendsFront old new text count → AppendsFrontOfListing call sheet reports old new
@@ -54,13 +54,13 @@ module _ (old new : Option (List ℕ)) where
   pub sources_stop : (sheet : Sheet) (reports : List (List ℕ)) (fault : Fault) → MentionsStop [] source_line (traced sheet reports) old new fault → StopsRowCall Sources sheet reports old new
   sources_stop sheet reports (OutOfMemory count) front = inr (front_of Sources sheet reports _ count refl front)
   sources_stop sheet reports (Device count) front = inr (front_of Sources sheet reports _ count refl front)
-  sources_stop sheet reports (TooLoose row told) s = absurd s
+  sources_stop sheet reports (TooLoose row returned) s = absurd s
   sources_stop sheet reports (SheetFault reason) s = absurd s
 
   pub json_sources_stop : (sheet : Sheet) (reports : List (List ℕ)) (fault : Fault) → MentionsStop (source_header Json) (source_text Json []) (traced sheet reports) old new fault → StopsRowCall SourcesJson sheet reports old new
   json_sources_stop sheet reports (OutOfMemory count) front = inr (front_of SourcesJson sheet reports _ count refl front)
   json_sources_stop sheet reports (Device count) front = inr (front_of SourcesJson sheet reports _ count refl front)
-  json_sources_stop sheet reports (TooLoose row told) s = absurd s
+  json_sources_stop sheet reports (TooLoose row returned) s = absurd s
   json_sources_stop sheet reports (SheetFault reason) s = absurd s
 
 -- ---- the result of a call
@@ -68,39 +68,39 @@ module _ (old new : Option (List ℕ)) where
 rows_fault : (head : List ℕ) (written : RowText) (b : Body) (old new : Option (List ℕ)) (fault : Fault) → ListStops head written b old new fault → StopsBy NoRow NoReason fault
 rows_fault head written b old new (OutOfMemory count) s = tt
 rows_fault head written b old new (Device count) s = tt
-rows_fault head written b old new (TooLoose row told) s = s
+rows_fault head written b old new (TooLoose row returned) s = s
 rows_fault head written b old new (SheetFault reason) s = s
 
 mentions_fault : (head : List ℕ) (written : SourceText) (t : Traced) (old new : Option (List ℕ)) (fault : Fault) → MentionsStop head written t old new fault → StopsBy NoRow NoReason fault
 mentions_fault head written t old new (OutOfMemory count) s = tt
 mentions_fault head written t old new (Device count) s = tt
-mentions_fault head written t old new (TooLoose row told) s = s
+mentions_fault head written t old new (TooLoose row returned) s = s
 mentions_fault head written t old new (SheetFault reason) s = s
 
 module _ (sheet : Sheet) (reports : List (List ℕ)) (old new : Option (List ℕ)) where
   pub lines_listed : (a : Added) → a ≡ added sheet reports → (result : Result (List (ℕ × Refusal)) Fault) →
       IfOk result (Lists [] line_text a.body a.refusals old new) → IfErr result (ListStops [] line_text a.body old new) → ListsRowCall Verdicts sheet reports old new result
-  lines_listed a is (Ok told) ok err = subst (λ (x : Added). Lists [] line_text x.body x.refusals old new told) is ok
+  lines_listed a is (Ok returned) ok err = subst (λ (x : Added). Lists [] line_text x.body x.refusals old new returned) is ok
   lines_listed a is (Err fault) ok err =
       (rows_fault [] line_text a.body old new fault err, lines_stop old new sheet reports fault (subst (λ (x : Added). ListStops [] line_text x.body old new fault) is err))
 
   pub rows_listed : (b : Body) (refusals : List (ℕ × Refusal)) → b ≡ merged sheet reports → refusals ≡ refused sheet reports → (result : Result (List (ℕ × Refusal)) Fault) →
       IfOk result (Lists (header Json) (row_text Json) b refusals old new) → IfErr result (ListStops (header Json) (row_text Json) b old new) → ListsRowCall VerdictsJson sheet reports old new result
-  rows_listed b refusals is are (Ok told) ok err =
-      subst (λ (rs : List (ℕ × Refusal)). Lists (header Json) (row_text Json) (merged sheet reports) rs old new told) are
-      (subst (λ (x : Body). Lists (header Json) (row_text Json) x refusals old new told) is ok)
+  rows_listed b refusals is are (Ok returned) ok err =
+      subst (λ (rs : List (ℕ × Refusal)). Lists (header Json) (row_text Json) (merged sheet reports) rs old new returned) are
+      (subst (λ (x : Body). Lists (header Json) (row_text Json) x refusals old new returned) is ok)
   rows_listed b refusals is are (Err fault) ok err =
       (rows_fault (header Json) (row_text Json) b old new fault err, json_rows_stop old new sheet reports fault (subst (λ (x : Body). ListStops (header Json) (row_text Json) x old new fault) is err))
 
   pub sources_listed : (t : Traced) → t ≡ traced sheet reports → (result : Result (List (ℕ × Refusal)) Fault) →
       IfOk result (AppendsMentions [] source_line t old new) → IfErr result (MentionsStop [] source_line t old new) → ListsRowCall Sources sheet reports old new result
-  sources_listed t is (Ok told) ok err = subst (λ (x : Traced). AppendsMentions [] source_line x old new told) is ok
+  sources_listed t is (Ok returned) ok err = subst (λ (x : Traced). AppendsMentions [] source_line x old new returned) is ok
   sources_listed t is (Err fault) ok err =
       (mentions_fault [] source_line t old new fault err, sources_stop old new sheet reports fault (subst (λ (x : Traced). MentionsStop [] source_line x old new fault) is err))
 
   pub json_sources_listed : (t : Traced) → t ≡ traced sheet reports → (result : Result (List (ℕ × Refusal)) Fault) →
       IfOk result (AppendsMentions (source_header Json) (source_text Json []) t old new) → IfErr result (MentionsStop (source_header Json) (source_text Json []) t old new) → ListsRowCall SourcesJson sheet reports old new result
-  json_sources_listed t is (Ok told) ok err = subst (λ (x : Traced). AppendsMentions (source_header Json) (source_text Json []) x old new told) is ok
+  json_sources_listed t is (Ok returned) ok err = subst (λ (x : Traced). AppendsMentions (source_header Json) (source_text Json []) x old new returned) is ok
   json_sources_listed t is (Err fault) ok err =
       (mentions_fault (source_header Json) (source_text Json []) t old new fault err, json_sources_stop old new sheet reports fault (subst (λ (x : Traced). MentionsStop (source_header Json) (source_text Json []) x old new fault) is err))
 
@@ -137,6 +137,6 @@ module _ (sheet : List ℕ) (reports : List (List ℕ)) (listed : Sheet) (read :
   -- the written bytes are beyond the bound, so the listing is
   pub too_much : (before after : List ℕ) → before ≡ [] → IsBeyond bound after → (written : Option (Result (List (ℕ × Refusal)) Fault)) → WritesRowCall call bound listed reports (Some before) (Some after) written → IsTooMuch call bound sheet reports
   too_much before after none beyond None writes = too_long writes
-  too_much before after none beyond (Some (Ok told)) writes =
-      record { listed = listed; read = read; text = after; is = (lists listed reports before after told none call writes).0; beyond = beyond }
+  too_much before after none beyond (Some (Ok returned)) writes =
+      record { listed = listed; read = read; text = after; is = (lists listed reports before after returned none call writes).0; beyond = beyond }
   too_much before after none beyond (Some (Err fault)) writes = stopped before after none beyond writes.1

@@ -22,8 +22,8 @@ use Rattle.xbrlmerge_c.specs.declared.row_call.RowCall.{RowCall}
 use Rattle.xbrlmerge_c.specs.declared.row_call.RowCall.TheVariants.{Sources, SourcesJson, Verdicts, VerdictsJson}
 
 module _ (sheet : List ℕ) (reports : List (List ℕ)) (listed : Sheet) (a : Added) (read : sheet_outcome sheet ≡ Ok listed) (is : a ≡ added listed reports) where
-  pub merges : (level : Level) (before after : List ℕ) (told : List (ℕ × Refusal)) → before ≡ [] → Writes level a.body a.refusals (Some before) (Some after) told → Merges sheet reports level after told
-  merges level before after told none w = record {
+  pub merges : (level : Level) (before after : List ℕ) (returned : List (ℕ × Refusal)) → before ≡ [] → Writes level a.body a.refusals (Some before) (Some after) returned → Merges sheet reports level after returned
+  merges level before after returned none w = record {
     listed = listed;
     read = read;
     within = subst (StaysWithin level) (ap (λ (b : Added). b.body) is) w.within;
@@ -34,7 +34,7 @@ module _ (sheet : List ℕ) (reports : List (List ℕ)) (listed : Sheet) (a : Ad
   pub stops : (level : Level) (old new : Option (List ℕ)) (fault : Fault) → Stops level a.body a.refusals old new fault → StopsBy (IsLoose sheet reports level) (IsSheetRefused sheet) fault
   stops level old new (OutOfMemory written) s = tt
   stops level old new (Device written) s = tt
-  stops level old new (TooLoose number told) s = record {
+  stops level old new (TooLoose number returned) s = record {
     listed = listed;
     read = read;
     first = subst (λ b. IsFirstAbove level b number) (ap (λ (b : Added). b.body) is) s.first;
@@ -42,8 +42,8 @@ module _ (sheet : List ℕ) (reports : List (List ℕ)) (listed : Sheet) (a : Ad
   }
   stops level old new (SheetFault reason) s = absurd s
 
-module _ (sheet : Sheet) (reports : List (List ℕ)) (before after : List ℕ) (told : List (ℕ × Refusal)) (none : before ≡ []) where
-  pub lists : (call : RowCall) → AppendsRowCall call sheet reports (Some before) (Some after) told → IsTextOf call sheet reports after × (told ≡ refused sheet reports)
+module _ (sheet : Sheet) (reports : List (List ℕ)) (before after : List ℕ) (returned : List (ℕ × Refusal)) (none : before ≡ []) where
+  pub lists : (call : RowCall) → AppendsRowCall call sheet reports (Some before) (Some after) returned → IsTextOf call sheet reports after × (returned ≡ refused sheet reports)
   lists Verdicts w = (subst (AreLines (merged sheet reports)) (sym (w.listed.appended ∙ ap (λ b. b ++ w.listed.rows) none)) w.listed.are, w.refusals_are)
   lists Sources w = (w.appended ∙ ap (λ b. b ++ sources sheet reports) none, w.refusals_are)
   lists VerdictsJson w = (subst (AreRows Json (merged sheet reports)) (sym (w.listed.appended ∙ ap (λ b. b ++ w.listed.rows) none)) (record { rows = w.listed.rows; are = w.listed.are; whole = refl }), w.refusals_are)

@@ -17,26 +17,26 @@ abbrev pub memory : List ℕ → ℕ → List RefusedReport → ℕ → CallerMe
 memory out needed refusals refused = record { out = out; needed = needed; refusals = refusals; refused = refused }
 
 -- the text and the records are at the start of the buffers; the rest of the buffers is unchanged; `needed` and `refused` are the two lengths
-pub record IsHanded (text : List ℕ) (told : List (ℕ × Refusal)) (old new : CallerMemory) : Type 0 where
+pub record IsHanded (text : List ℕ) (returned : List (ℕ × Refusal)) (old new : CallerMemory) : Type 0 where
   pub out : new.out ≡ text ++ drop (length text) old.out
   pub needed : new.needed ≡ length text
-  pub refusals : new.refusals ≡ refused_reports told ++ drop (length told) old.refusals
-  pub refused : new.refused ≡ length told
+  pub refusals : new.refusals ≡ refused_reports returned ++ drop (length returned) old.refusals
+  pub refused : new.refused ≡ length returned
 
 -- the text or the records are longer than their buffer: both lengths are returned, and the buffers are unchanged
-pub record IsTooShort (text : List ℕ) (told : List (ℕ × Refusal)) (old new : CallerMemory) : Type 0 where
-  pub short : (length old.out < length text) ⊎ (length old.refusals < length told)
+pub record IsTooShort (text : List ℕ) (returned : List (ℕ × Refusal)) (old new : CallerMemory) : Type 0 where
+  pub short : (length old.out < length text) ⊎ (length old.refusals < length returned)
   pub out : new.out ≡ old.out
   pub needed : new.needed ≡ length text
   pub refusals : new.refusals ≡ old.refusals
-  pub refused : new.refused ≡ length told
+  pub refused : new.refused ≡ length returned
 
 -- the number of a row and the refused reports are returned; `out` is unchanged
-pub record TellsRow (number : ℕ) (told : List (ℕ × Refusal)) (old new : CallerMemory) : Type 0 where
+pub record TellsRow (number : ℕ) (returned : List (ℕ × Refusal)) (old new : CallerMemory) : Type 0 where
   pub out : new.out ≡ old.out
   pub needed : new.needed ≡ number
-  pub refusals : new.refusals ≡ refused_reports told ++ drop (length told) old.refusals
-  pub refused : new.refused ≡ length told
+  pub refusals : new.refusals ≡ refused_reports returned ++ drop (length returned) old.refusals
+  pub refused : new.refused ≡ length returned
 
 -- the number of the sheet's refusal is returned; the count of refused reports is 0, and the buffers are unchanged
 pub record TellsReason (reason : Reason) (old new : CallerMemory) : Type 0 where
@@ -49,22 +49,22 @@ pub record TellsReason (reason : Reason) (old new : CallerMemory) : Type 0 where
 
 pub record Hands (Says : List ℕ → List (ℕ × Refusal) → Type 0) (old new : CallerMemory) : Type 0 where
   pub text : List ℕ
-  pub told : List (ℕ × Refusal)
-  pub says : Says text told
-  pub handed : IsHanded text told old new
+  pub returned : List (ℕ × Refusal)
+  pub says : Says text returned
+  pub handed : IsHanded text returned old new
 
 -- a buffer is too short; the returned lengths belong to a text and refusals with the property
 pub record Asks (Says : List ℕ → List (ℕ × Refusal) → Type 0) (old new : CallerMemory) : Type 0 where
   pub text : List ℕ
-  pub told : List (ℕ × Refusal)
-  pub says : Says text told
-  pub short : IsTooShort text told old new
+  pub returned : List (ℕ × Refusal)
+  pub says : Says text returned
+  pub short : IsTooShort text returned old new
 
 pub record TellsFirst (Is : ℕ → List (ℕ × Refusal) → Type 0) (old new : CallerMemory) : Type 0 where
   pub number : ℕ
-  pub told : List (ℕ × Refusal)
-  pub is : Is number told
-  pub row : TellsRow number told old new
+  pub returned : List (ℕ × Refusal)
+  pub is : Is number returned
+  pub row : TellsRow number returned old new
 
 pub record Rejects (Is : Reason → Type 0) (old new : CallerMemory) : Type 0 where
   pub reason : Reason
@@ -72,7 +72,7 @@ pub record Rejects (Is : Reason → Type 0) (old new : CallerMemory) : Type 0 wh
   pub tells : TellsReason reason old new
 
 -- there is no text if a row is above the level; only the refused reports need a buffer
-pub record HasNoText (Is : ℕ → List (ℕ × Refusal) → Type 0) (text : List ℕ) (told : List (ℕ × Refusal)) : Type 0 where
+pub record HasNoText (Is : ℕ → List (ℕ × Refusal) → Type 0) (text : List ℕ) (returned : List (ℕ × Refusal)) : Type 0 where
   pub number : ℕ
-  pub is : Is number told
+  pub is : Is number returned
   pub text_is : text ≡ []

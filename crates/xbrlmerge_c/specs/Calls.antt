@@ -22,20 +22,20 @@ use Rattle.xbrlmerge_c.specs.declared.row_call.RowCall.TheVariants.{Sources, Sou
 abbrev pub IsSheetRefused : List ℕ → Reason → Type 0
 IsSheetRefused sheet reason = sheet_outcome sheet ≡ Err reason
 
--- the sheet is accepted, no row is above the level, `text` is the accepted reports' canonical text, and `told` lists the refusals
-pub record Merges (sheet : List ℕ) (reports : List (List ℕ)) (level : Level) (text : List ℕ) (told : List (ℕ × Refusal)) : Type 0 where
+-- the sheet is accepted, no row is above the level, `text` is the accepted reports' canonical text, and `returned` lists the refusals
+pub record Merges (sheet : List ℕ) (reports : List (List ℕ)) (level : Level) (text : List ℕ) (returned : List (ℕ × Refusal)) : Type 0 where
   pub listed : Sheet
   pub read : sheet_outcome sheet ≡ Ok listed
   pub within : StaysWithin level (merged listed reports)
   pub text_is : text ≡ canonical (merged listed reports)
-  pub refusals_are : told ≡ refused listed reports
+  pub refusals_are : returned ≡ refused listed reports
 
--- the sheet is accepted; the row with this number, counted from 1, is the first above the level; `told` lists the refusals
-pub record IsLoose (sheet : List ℕ) (reports : List (List ℕ)) (level : Level) (number : ℕ) (told : List (ℕ × Refusal)) : Type 0 where
+-- the sheet is accepted; the row with this number, counted from 1, is the first above the level; `returned` lists the refusals
+pub record IsLoose (sheet : List ℕ) (reports : List (List ℕ)) (level : Level) (number : ℕ) (returned : List (ℕ × Refusal)) : Type 0 where
   pub listed : Sheet
   pub read : sheet_outcome sheet ≡ Ok listed
   pub first : IsFirstAbove level (merged listed reports) number
-  pub refusals_are : told ≡ refused listed reports
+  pub refusals_are : returned ≡ refused listed reports
 
 -- the reports are bytes, so their sources have no files
 abbrev pub IsTextOf : RowCall → Sheet → List (List ℕ) → List ℕ → Type 0
@@ -60,13 +60,13 @@ IsBeyond (Some bound) text = bound < length text
 
 -- ---- calls that list rows or sources
 
--- the sheet is accepted; `text` lists the rows or sources of the accepted reports, within the bound; `told` lists the refusals of the other reports
-pub record Lists (call : RowCall) (bound : Option ℕ) (sheet : List ℕ) (reports : List (List ℕ)) (text : List ℕ) (told : List (ℕ × Refusal)) : Type 0 where
+-- the sheet is accepted; `text` lists the rows or sources of the accepted reports, within the bound; `returned` lists the refusals of the other reports
+pub record Lists (call : RowCall) (bound : Option ℕ) (sheet : List ℕ) (reports : List (List ℕ)) (text : List ℕ) (returned : List (ℕ × Refusal)) : Type 0 where
   pub listed : Sheet
   pub read : sheet_outcome sheet ≡ Ok listed
   pub is : IsTextOf call listed reports text
   pub within : IsWithin bound text
-  pub refusals_are : told ≡ refused listed reports
+  pub refusals_are : returned ≡ refused listed reports
 
 -- the sheet is accepted, and the text that lists the rows or sources of the accepted reports is longer than the bound
 pub record IsTooMuch (call : RowCall) (bound : Option ℕ) (sheet : List ℕ) (reports : List (List ℕ)) : Type 0 where

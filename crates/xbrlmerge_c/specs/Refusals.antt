@@ -16,7 +16,7 @@ abbrev pub refused_report : ℕ → Refusal → RefusedReport
 refused_report n r = record { report = n; fact = place_number r.place; number = (entry_of r.reason).number }
 
 abbrev pub refused_report_of : ℕ × Refusal → RefusedReport
-refused_report_of told = refused_report told.0 told.1
+refused_report_of returned = refused_report returned.0 returned.1
 
 abbrev pub refused_reports : List (ℕ × Refusal) → List RefusedReport
-refused_reports told = map refused_report_of told
+refused_reports returned = map refused_report_of returned

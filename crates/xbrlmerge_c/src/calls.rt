@@ -62,8 +62,8 @@ pub extern "C" fn xbrlmerge_merge(
         TellsFirst (IsLoose sheet.now (reports_at reports.now ends.now) level)
         (memory out.old needed.old refusals.old refused.old) (memory out.new needed.new refusals.new refused.new) }
     ensures short { (level : Allowed) → slice_get levels allow ≡ Some level → result ≡ too_short →
-        Asks (λ text told. Merges sheet.now (reports_at reports.now ends.now) level text told
-        ⊎ HasNoText (IsLoose sheet.now (reports_at reports.now ends.now) level) text told)
+        Asks (λ text returned. Merges sheet.now (reports_at reports.now ends.now) level text returned
+        ⊎ HasNoText (IsLoose sheet.now (reports_at reports.now ends.now) level) text returned)
         (memory out.old needed.old refusals.old refused.old) (memory out.new needed.new refusals.new refused.new) }
     ensures sheet { result ≡ sheet_refused → Rejects (IsSheetRefused sheet.now)
         (memory out.old needed.old refusals.old refused.old) (memory out.new needed.new refusals.new refused.new) }

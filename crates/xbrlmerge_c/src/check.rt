@@ -59,9 +59,9 @@ pub extern "C" fn xbrlmerge_check(
             };
             DONE
         }
-        Err(told) if told.reason == Reason::OutOfMemory => NO_MEMORY,
-        Err(told) => {
-            *refusal = RefusedReport::new(1, &told);
+        Err(refused) if refused.reason == Reason::OutOfMemory => NO_MEMORY,
+        Err(refused) => {
+            *refusal = RefusedReport::new(1, &refused);
             REFUSED
         }
     }

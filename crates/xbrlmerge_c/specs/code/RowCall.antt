@@ -39,7 +39,7 @@ StopsRowCall call sheet reports old new = Appends old new [] ⊎ AppendsFrontOfL
 
 -- the listing was appended, and the refusals of the other reports were returned; or the call stopped
 abbrev pub ListsRowCall : RowCall → Sheet → List (List ℕ) → Option (List ℕ) → Option (List ℕ) → Result (List (ℕ × Refusal)) Fault → Type 0
-ListsRowCall call sheet reports old new (Ok told) = AppendsRowCall call sheet reports old new told
+ListsRowCall call sheet reports old new (Ok returned) = AppendsRowCall call sheet reports old new returned
 ListsRowCall call sheet reports old new (Err fault) = StopsBy NoRow NoReason fault × StopsRowCall call sheet reports old new
 
 -- the listing is longer than the bound

@@ -77,7 +77,7 @@ fn called(rt: &HostRuntime, call: Call, sheet: &str, ends: &[usize], size: usize
     let alloc = rt.alloc();
     let (mut out, mut refusals) = ([7; 400], [BEFORE; 2]);
     let (mut needed, mut refused) = (7, 7);
-    let (sheet, reports, told) = (
+    let (sheet, reports, returned) = (
         sheet.as_bytes(),
         REPORTS.as_bytes(),
         refusals.as_mut_slice(),
@@ -92,7 +92,7 @@ fn called(rt: &HostRuntime, call: Call, sheet: &str, ends: &[usize], size: usize
             allow,
             out,
             &mut needed,
-            told,
+            returned,
             &mut refused,
         ),
         (Call::Verdicts, Some(out)) => {
@@ -103,7 +103,7 @@ fn called(rt: &HostRuntime, call: Call, sheet: &str, ends: &[usize], size: usize
                 ends,
                 out,
                 &mut needed,
-                told,
+                returned,
                 &mut refused,
             )
         }
@@ -116,7 +116,7 @@ fn called(rt: &HostRuntime, call: Call, sheet: &str, ends: &[usize], size: usize
                 most,
                 out,
                 &mut needed,
-                told,
+                returned,
                 &mut refused,
             )
         }
@@ -128,7 +128,7 @@ fn called(rt: &HostRuntime, call: Call, sheet: &str, ends: &[usize], size: usize
                 ends,
                 out,
                 &mut needed,
-                told,
+                returned,
                 &mut refused,
             )
         }
@@ -141,7 +141,7 @@ fn called(rt: &HostRuntime, call: Call, sheet: &str, ends: &[usize], size: usize
                 most,
                 out,
                 &mut needed,
-                told,
+                returned,
                 &mut refused,
             )
         }

@@ -19,7 +19,7 @@ returns-in_err-consolidate_bundle-in-Bundle-clause-ends g c =
     let f = c.in_err-consolidate_bundle-in-Bundle.field-0.0 in
     of_error (RequestEnds gives bundle names c.args.request.now old new) c.from_residual.result (error_of f) c.from_residual.ensures.1
     (subst (λ request. RequestEnds gives bundle names request old new (Err (error_of f))) (sym c.in-Bundle.is)
-    (stops_whole (MergesBundle bundle) (RequestGives gives bundle names Bundle) old new Refusals (λ text told is. is) Never (RequestIsLoose gives bundle names Bundle) (λ row told loose. loose)
+    (stops_whole (MergesBundle bundle) (RequestGives gives bundle names Bundle) old new Refusals (λ text returned is. is) Never (RequestIsLoose gives bundle names Bundle) (λ row returned loose. loose)
     (error_of f) (bundle_stops old new bundle f c.in_err-consolidate_bundle-in-Bundle.ensures.err)))
 
 pub returns-in_err-execute_under-in-Under-clause-ends : goal.returns-in_err-execute_under-in-Under-clause-ends
@@ -47,10 +47,10 @@ returns-in_ok-consolidate_bundle-in-Bundle-clause-ends g c =
     let names = c.args.inputs.now.names.now in
     let old = g.S.Sink.told c.args.out.now.sink in
     let new = g.S.Sink.told c.consolidate_bundle.new.out.sink in
-    let told = c.in_ok-consolidate_bundle-in-Bundle.field-0 in
-    subst (λ request. RequestEnds gives bundle names request old new (Ok (Refusals told))) (sym c.in-Bundle.is)
-    (prints_whole (MergesBundle bundle) (RequestGives gives bundle names Bundle) old new Refusals (λ text told is. is) told
-    (bundle_prints old new bundle told c.in_ok-consolidate_bundle-in-Bundle.ensures.ok))
+    let returned = c.in_ok-consolidate_bundle-in-Bundle.field-0 in
+    subst (λ request. RequestEnds gives bundle names request old new (Ok (Refusals returned))) (sym c.in-Bundle.is)
+    (prints_whole (MergesBundle bundle) (RequestGives gives bundle names Bundle) old new Refusals (λ text returned is. is) returned
+    (bundle_prints old new bundle returned c.in_ok-consolidate_bundle-in-Bundle.ensures.ok))
 
 pub returns-in_ok-execute_under-in-Under-clause-ends : goal.returns-in_ok-execute_under-in-Under-clause-ends
 returns-in_ok-execute_under-in-Under-clause-ends g c =
@@ -63,8 +63,8 @@ returns-in_ok-execute_under-in-Under-clause-ends g c =
     let sheet = c.in_ok-sheet-in-Under.sheet in
     let command = c.in-Under.subcommand in
     let later = c.read_sheet.new.self in
-    let told = c.in_ok-execute_under-in-Under.field-0 in
-    let prints = subst (λ files. CommandEnds (g.F.Folder.gives files.now) names sheet command old new (Ok told)) c.read_sheet.ensures.files
-    (subst (λ ns. CommandEnds (g.F.Folder.gives later.files.now) ns.now sheet command old new (Ok told)) c.read_sheet.ensures.names c.in_ok-execute_under-in-Under.ensures.ends) in
-    subst (λ request. RequestEnds gives bundle names request old new (Ok (Refusals told))) (sym c.in-Under.is)
-    (under_prints gives bundle names old new c.in-Under.sheet command read.0 sheet read.1 read.2 told prints)
+    let returned = c.in_ok-execute_under-in-Under.field-0 in
+    let prints = subst (λ files. CommandEnds (g.F.Folder.gives files.now) names sheet command old new (Ok returned)) c.read_sheet.ensures.files
+    (subst (λ ns. CommandEnds (g.F.Folder.gives later.files.now) ns.now sheet command old new (Ok returned)) c.read_sheet.ensures.names c.in_ok-execute_under-in-Under.ensures.ends) in
+    subst (λ request. RequestEnds gives bundle names request old new (Ok (Refusals returned))) (sym c.in-Under.is)
+    (under_prints gives bundle names old new c.in-Under.sheet command read.0 sheet read.1 read.2 returned prints)

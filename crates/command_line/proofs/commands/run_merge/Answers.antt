@@ -26,6 +26,6 @@ returns-clause-ends g c =
     let old = g.S.Sink.told c.args.out.now in
     let new = g.S.Sink.told c.finish_last.new.out in
     let a = c.in_ok-consolidate.field-0 in
-    let told = c.in_ok-finish_last.field-0 in
-    merge_ends gives names c.args.sheet.now old new c.args.allow a c.in_ok-consolidate.ensures.ok (Ok told)
-    (merge_prints old new c.args.allow a.body a.refusals told c.in_ok-finish_last.ensures.ok)
+    let returned = c.in_ok-finish_last.field-0 in
+    merge_ends gives names c.args.sheet.now old new c.args.allow a c.in_ok-consolidate.ensures.ok (Ok returned)
+    (merge_prints old new c.args.allow a.body a.refusals returned c.in_ok-finish_last.ensures.ok)

@@ -13,18 +13,18 @@ pub returns-in-Ok : goal.returns-in-Ok
 returns-in-Ok g c =
     let contents = g.E.Write.contents in
     let start = c.new-console.ensures in
-    let told = c.run_args.ensures in
+    let run = c.run_args.ensures in
     record {
-      done = told.done;
-      ends = inl (c.in-Ok.args, c.in-Ok.ensures.ok, told.ends);
-      status_is = told.status_is;
+      done = run.done;
+      ends = inl (c.in-Ok.args, c.in-Ok.ensures.ok, run.ends);
+      status_is = run.status_is;
       lines = λ plain.
           let same = c.tell_awaited.ensures (λ is. plain.1 (ap (map g.W.AsStr.text) (nil_from_length c.args.words.now (eqb-true _ 0 (sym c.is_empty.ensures ∙ is))))) in
           let terminal : c.tell_awaited.new.self.is_terminal ≡ false = ap (λ k. k.is_terminal) same ∙ start.1 ∙ plain.2.0 in
           let verbose : c.tell_awaited.new.self.is_verbose ≡ false = ap (λ k. k.is_verbose) same ∙ start.2 ∙ plain.2.0 in
           let not_asked : c.in-Ok.args.is_verbose ≡ false = plain.0 c.in-Ok.args c.in-Ok.ensures.ok in
-          subst (λ old. IfSome (lines_of told.done) (Appends old (contents c.run_args.result.console.err))) (ap (λ k. contents k.err) same ∙ ap contents start.0)
-          (told.lines (terminal, rw (verbose, not_asked) refl, plain.2.2));
+          subst (λ old. IfSome (lines_of run.done) (Appends old (contents c.run_args.result.console.err))) (ap (λ k. contents k.err) same ∙ ap contents start.0)
+          (run.lines (terminal, rw (verbose, not_asked) refl, plain.2.2));
     }
 
 pub returns-in-Err : goal.returns-in-Err
@@ -36,13 +36,13 @@ returns-in-Err g c =
     let rest = InputEnd (g.F.Folder.gives c.args.folder.now) before after (g.D.Disk.empty c.args.disk.now) files files (g.R.Read.remaining c.args.streams.input) in
     let contents = g.E.Write.contents in
     let start = c.new-console.ensures in
-    let told = c.ended.ensures.tells in
+    let run = c.ended.ensures.tells in
     record {
-      done = told.done;
-      ends = step_failed (Mean texts) (IsWordsError texts) rest before after files (ap g.O.Write.contents c.ended.ensures.out) c.in-Err.error c.in-Err.ensures.err told.done told.ends;
-      status_is = told.status_is;
+      done = run.done;
+      ends = step_failed (Mean texts) (IsWordsError texts) rest before after files (ap g.O.Write.contents c.ended.ensures.out) c.in-Err.error c.in-Err.ensures.err run.done run.ends;
+      status_is = run.status_is;
       lines = λ plain.
           let same = c.tell_awaited.ensures (λ is. plain.1 (ap (map g.W.AsStr.text) (nil_from_length c.args.words.now (eqb-true _ 0 (sym c.is_empty.ensures ∙ is))))) in
-          subst (λ old. IfSome (lines_of told.done) (Appends old (contents c.ended.result.console.err))) (ap (λ k. contents k.err) same ∙ ap contents start.0)
-          (told.lines (ap (λ k. k.is_terminal) same ∙ start.1 ∙ plain.2.0, ap (λ k. k.is_verbose) same ∙ start.2 ∙ plain.2.0, plain.2.2));
+          subst (λ old. IfSome (lines_of run.done) (Appends old (contents c.ended.result.console.err))) (ap (λ k. contents k.err) same ∙ ap contents start.0)
+          (run.lines (ap (λ k. k.is_terminal) same ∙ start.1 ∙ plain.2.0, ap (λ k. k.is_verbose) same ∙ start.2 ∙ plain.2.0, plain.2.2));
     }

@@ -14,7 +14,7 @@ pub returns-clause-refused : goal.returns-clause-refused
 returns-clause-refused c = λ is. record {
   listed = c.in-Ok.sheet;
   read = c.in-Ok.ensures.ok;
-  refusal = c.in-Err-2.told;
+  refusal = c.in-Err-2.refused;
   refused = search rules;
   numbers_are = search rules;
 }

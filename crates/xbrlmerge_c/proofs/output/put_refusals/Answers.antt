@@ -7,22 +7,22 @@ use Rattle.xbrlmerge_c.specs.declared.output.RefusedReport.{RefusedReport}
 use Rattle.xbrlmerge_c.proofs.output.put_refusals.Goals as goal
 
 -- one loop step adds the record of the next refusal to the records at the start of the buffer
-refusals_more : (told : List (ℕ × Refusal)) (old refusals : List RefusedReport) (i : ℕ) (d : ℕ × Refusal) (made : RefusedReport) →
-    length told ≤ length old → i < length told → made ≡ refused_report_of (get_or told i d) → refusals ≡ refused_reports (take i told) ++ drop i old →
-    set refusals i made ≡ refused_reports (take (i + 1) told) ++ drop (i + 1) old
-refusals_more told old refusals i d made room there is before =
-    let front = refused_reports (take i told) in
+refusals_more : (returned : List (ℕ × Refusal)) (old refusals : List RefusedReport) (i : ℕ) (d : ℕ × Refusal) (made : RefusedReport) →
+    length returned ≤ length old → i < length returned → made ≡ refused_report_of (get_or returned i d) → refusals ≡ refused_reports (take i returned) ++ drop i old →
+    set refusals i made ≡ refused_reports (take (i + 1) returned) ++ drop (i + 1) old
+refusals_more returned old refusals i d made room there is before =
+    let front = refused_reports (take i returned) in
     let within : i < length old = omega arith in
-    let some : i ≤ length told = omega arith in
-    let long : length front ≡ i = length-map (take i told) refused_report_of ∙ length-take-le i told some in
+    let some : i ≤ length returned = omega arith in
+    let long : length front ≡ i = length-map (take i returned) refused_report_of ∙ length-take-le i returned some in
     let next : suc i ≡ i + 1 = omega arith in
     ap (λ rs. set rs i made) (before ∙ ap (λ ys. front ++ ys) (drop-cons old i made within))
     ∙ ap (λ n. set (front ++ get_or old i made ∷ drop (suc i) old) n made) (sym long)
     ∙ set-append_seam front (get_or old i made) (drop (suc i) old) made
     ∙ sym (append_assoc front (made ∷ []) (drop (suc i) old))
-    ∙ ap (λ rs. rs ++ drop (suc i) old) (ap (λ m. front ++ m ∷ []) is ∙ sym (map_more refused_report_of told i d there))
-    ∙ ap (λ n. refused_reports (take (i + 1) told) ++ drop n old) next
+    ∙ ap (λ rs. rs ++ drop (suc i) old) (ap (λ m. front ++ m ∷ []) is ∙ sym (map_more refused_report_of returned i d there))
+    ∙ ap (λ n. refused_reports (take (i + 1) returned) ++ drop n old) next
 
 pub loop-index-preserved : goal.loop-index-preserved
 loop-index-preserved c =
-    refusals_more c.args.told.now c.args.refusals.now c.loop-index.refusals c.loop-index.index _ c.new.result c.requires c.loop-index-test.true c.new.ensures c.loop-index.invariant
+    refusals_more c.args.returned.now c.args.refusals.now c.loop-index.refusals c.loop-index.index _ c.new.result c.requires c.loop-index-test.true c.new.ensures c.loop-index.invariant

@@ -18,7 +18,7 @@ returns-in_err-put_accepted-in-Ok g c =
     let checked = c.in-Ok.checked in
     let is = subst (λ r. MatchResult r (IsChecked sheet bytes) (λ refusal. outcome sheet bytes ≡ Err refusal)) c.in-Ok.is c.in_ok-checked.ensures in
     of_error (Ends (Checks sheet bytes) old new Never) c.from_residual-in_err-put_accepted-in-Ok.result e c.from_residual-in_err-put_accepted-in-Ok.ensures.1
-    (put_stops (Checks sheet bytes) old new [] (accepted_line checked) (inl (record { checked = checked; is = is; text_is = refl; told_is = refl })) Never e c.in_err-put_accepted-in-Ok.ensures)
+    (put_stops (Checks sheet bytes) old new [] (accepted_line checked) (inl (record { checked = checked; is = is; text_is = refl; refusals_are = refl })) Never e c.in_err-put_accepted-in-Ok.ensures)
 
 pub returns-in_ok-push-in-Err : goal.returns-in_ok-push-in-Err
 returns-in_ok-push-in-Err g c =
@@ -26,4 +26,4 @@ returns-in_ok-push-in-Err g c =
     let sheet = c.args.sheet.now in
     let bytes = c.args.bytes.now in
     let is = subst (λ r. MatchResult r (IsChecked sheet bytes) (λ refusal. outcome sheet bytes ≡ Err refusal)) c.in-Err.is c.in_ok-checked.ensures in
-    record { text = []; gives = inr (record { refusal = c.in-Err.refusal; is = is; text_is = refl; told_is = c.in_ok-push-in-Err.ensures.ok ∙ ap (λ told. told ++ (1, c.in-Err.refusal) ∷ []) c.new-refusals.ensures }); appended = Appends-nil old }
+    record { text = []; gives = inr (record { refusal = c.in-Err.refusal; is = is; text_is = refl; refusals_are = c.in_ok-push-in-Err.ensures.ok ∙ ap (λ told. told ++ (1, c.in-Err.refusal) ∷ []) c.new-refusals.ensures }); appended = Appends-nil old }
