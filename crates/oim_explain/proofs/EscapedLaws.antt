@@ -1,5 +1,5 @@
 -- The characters of an escaped text.
-use Rattle.std.proofs.Common.{◌≡◌, ℕ, ◌/◌, ◌%◌, ◌<◌, ◌≤◌, List, [], ◌∷◌, ◌++◌, Bool, not, ◌&&◌, ◌||◌, true, false, refl, sym, ap, ◌∙◌, append-nil, arith, flat_map}
+use Rattle.std.proofs.Common.{◌≡◌, ℕ, ◌/◌, ◌%◌, ◌<◌, ◌≤◌, List, [], ◌∷◌, ◌++◌, Bool, not, ◌&&◌, ◌||◌, true, false, refl, sym, ap, ◌∙◌, append-nil, arith, encode_utf8_all, flat_map}
 use Rattle.std.specs.Prelude.{if◌then◌else◌, nat_le}
 use Rattle.std.specs.List.{list_all, list_any}
 use Rattle.std.specs.Char.{digit_char, encode_utf8, is_control, IsScalar}
@@ -12,7 +12,7 @@ use Rattle.std.proofs.lemmas.Bool.{and_from, and_parts}
 use Rattle.std.proofs.lemmas.Bool.Decides.{nat_tests}
 use Rattle.std.proofs.lemmas.List.Folds.{list_all-append}
 use Rattle.std.proofs.lemmas.Nat.{mod_below}
-use Rattle.std.proofs.lemmas.Str.{IsAscii-append, IsUtf8-append, IsUtf8-encode, IsUtf8-from_ascii, IsUtf8-nil, chars-IsAscii, chars-append, chars-encodes, chars-nil, chars_past_char, scalars-chars}
+use Rattle.std.proofs.lemmas.Str.{IsAscii-append, IsUtf8-append, IsUtf8-encode, IsUtf8-from_ascii, IsUtf8-nil, chars-IsAscii, chars-append, chars-encodes, chars-nil, chars_past_char, encodes-chars, scalars-chars}
 use Rattle.std.proofs.lemmas.Str.Ascii.{IsAscii-cons, IsAscii-nil}
 use Rattle.oim_explain.specs.Escaped.{EscapedIsShown, character_escape, escaped, escaped_character, hidden, is_shown, is_within, unit_escape}
 
@@ -30,6 +30,18 @@ module _ (text rest : List ℕ) (c : ℕ) (utf8 : IsUtf8 text) (is : text ≡ en
 
   pub hidden_step : is_shown c ≡ false → escaped text ≡ character_escape c ++ escaped rest
   hidden_step hidden = escaped_step text rest c utf8 is ∙ ap (λ b. (if b then encode_utf8 c else character_escape c) ++ escaped rest) hidden
+
+-- ---- a text whose characters are all shown
+
+each_as_it_is : (cs : List ℕ) → list_all is_shown cs ≡ true → flat_map escaped_character cs ≡ encode_utf8_all cs
+each_as_it_is [] all = refl
+each_as_it_is (c ∷ cs) all =
+    let both = and_parts (is_shown c) (list_all is_shown cs) all in
+    (λ i. (if both.0 i then encode_utf8 c else character_escape c) ++ each_as_it_is cs both.1 i)
+
+pub as_it_is : (text : List ℕ) → IsUtf8 text → list_all is_shown (chars text) ≡ true → escaped text ≡ text
+unfolding escaped
+as_it_is text utf8 all = each_as_it_is (chars text) all ∙ encodes-chars text utf8
 
 -- ---- the characters of an escape
 

@@ -1,6 +1,7 @@
-ghost use Rattle.std.specs.Prelude.{◌≡◌, ◌%◌, ◌∷◌, [], IfOk, Some, string_bytes};
+ghost use Rattle.std.specs.Prelude.{◌≡◌, ◌%◌, ◌∷◌, [], IfOk, Some, chars, string_bytes};
 ghost use Rattle.std.specs.Char.{digit_char};
 ghost use Rattle.std.specs.Fmt.{WritesOnOk};
+ghost use Rattle.std.specs.List.{list_all};
 ghost use Rattle.oim_explain.specs.Escaped.{character_escape, escaped, is_shown, unit_escape};
 ghost use Rattle.oim_explain.specs.Quoted.{front_of};
 
@@ -19,6 +20,10 @@ impl fmt::Display for Escaped<'_> {
     ghost output = { λ text. Some (escaped text.0.now) };
 
     fn fmt<W: fmt::Write>(&self, f: &mut fmt::Formatter<W>) -> fmt::Result {
+        // nearly all texts, and one call writes them faster than one for each character
+        if are_shown(self.0) {
+            return f.write_str(self.0);
+        }
         for character in self.0.chars() {
             if is_shown(character) {
                 f.write_char(character)?;
@@ -57,6 +62,12 @@ fn write_digit<W: fmt::Write>(f: &mut fmt::Formatter<W>, number: u32) -> fmt::Re
     ensures { WritesOnOk W.write_str_gives f.old result (digit_char (number % 16) ∷ []) f.new }
 {
     f.write_char(char::from_digit(number % 16, 16).unwrap_or('0'))
+}
+
+fn are_shown(text: &str) -> bool
+    ensures { result ≡ list_all is_shown (chars text.now) }
+{
+    text.chars().all(|character| is_shown(character))
 }
 
 #[tactic(auto, unfolding(crate::specs::Escaped::is_shown))]

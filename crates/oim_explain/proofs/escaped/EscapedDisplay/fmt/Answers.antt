@@ -3,8 +3,13 @@ use Rattle.std.proofs.Output.{has_written_append, has_written_of_eq, writes_in_c
 use Rattle.std.proofs.lemmas.List.{nil_from_length}
 use Rattle.std.proofs.lemmas.Str.{IsUtf8-past_char}
 use Rattle.oim_explain.specs.Escaped.{character_escape, escaped}
-use Rattle.oim_explain.proofs.EscapedLaws.{escaped_nil, hidden_step, shown_step}
+use Rattle.oim_explain.proofs.EscapedLaws.{as_it_is, escaped_nil, hidden_step, shown_step}
 use Rattle.oim_explain.proofs.escaped.EscapedDisplay.fmt.Goals as goal
+
+pub returns-then-are_shown-clause-writes : goal.returns-then-are_shown-clause-writes
+returns-then-are_shown-clause-writes g c =
+    λ plain ok.
+    has_written_of_eq _ _ _ _ _ (sym (as_it_is c.args.self.now.0.now (search rules) (sym c.are_shown.ensures ∙ c.if-are_shown.true))) (c.write_str.ensures.writes plain ok)
 
 pub loop-character-init : goal.loop-character-init
 loop-character-init g c = (search rules, λ plain. ([], record { wrote = writes_in_calls_nil _ _; plain = plain }, search rules))
