@@ -212,9 +212,10 @@ fn changes_of<K: Key, V: Merge>(
     ensures values { IfOk result (λ changes. changes.values.items ≡ new_values K.cmp V.merged entries.now others.items) }
     ensures new_entries { IfOk result (λ changes. changes.new_entries.items ≡ new_items K.cmp entry_key entries.now others.items) }
 {
+    // A list that grows holds its items twice for a moment.
     let mut changes = Changes {
         values: Vec::new(alloc),
-        new_entries: Vec::new(alloc),
+        new_entries: Vec::with_capacity(alloc, others.len())?,
     };
     let mut from = 0;
     for other in others {

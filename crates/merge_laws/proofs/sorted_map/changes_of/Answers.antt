@@ -1,4 +1,4 @@
-use Rattle.std.proofs.Common.{◌≡◌, ◌≤◌, ◌∷◌, ◌++◌, [], append-nil, get_or, length, sym, ap, subst, ◌∙◌, arith}
+use Rattle.std.proofs.Common.{◌≡◌, ◌≤◌, ◌∷◌, ◌++◌, [], append-nil, get_or, length, sym, ap, subst, rules, ◌∙◌, arith}
 use Rattle.std.proofs.lemmas.Iterator.Adapters.{YieldsList-from_vec}
 use Rattle.std.proofs.lemmas.Iterator.Consumers.{YieldsList-turn, YieldsList-end}
 use Rattle.std.proofs.lemmas.List.{length_push, take_all}
@@ -25,7 +25,7 @@ loop-other-preserved-in-Ok-1 g c =
     let es = c.args.entries.now in
     let fs = c.args.others.items in
     let f = c.in-Some.other in
-    let turn = YieldsList-turn (YieldsList-from_vec {s = c.into_iter-other-iterator.result} fs (cc) (omega arith)) c.loop-other.yielded c.loop-other.other-iterator c.loop-other.yielded_by c.next.result c.next.new.self f c.in-Some.is c.next.ensures.steps in
+    let turn = YieldsList-turn (YieldsList-from_vec {s = c.into_iter-other-iterator.result} fs (search rules) (omega arith)) c.loop-other.yielded c.loop-other.other-iterator c.loop-other.yielded_by c.next.result c.next.new.self f c.in-Some.is c.next.ensures.steps in
     let next = length_push c.loop-other.yielded f in
     let values = c.loop-other.changes.values.items in
     let news = c.loop-other.changes.new_entries.items in
