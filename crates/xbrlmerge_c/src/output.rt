@@ -53,11 +53,11 @@ impl RefusedReport {
     }
 }
 
-pub(crate) fn put_refusals(returned: &[(u64, Refusal)], refusals: &mut [RefusedReport])
-    requires { length returned.now ≤ length refusals.old }
-    ensures { refusals.new ≡ refused_reports returned.now ++ drop (length returned.now) refusals.old }
+pub(crate) fn put_refusals(found: &[(u64, Refusal)], refusals: &mut [RefusedReport])
+    requires { length found.now ≤ length refusals.old }
+    ensures { refusals.new ≡ refused_reports found.now ++ drop (length found.now) refusals.old }
 {
-    for (index, (report, refusal)) in returned.iter().enumerate() {
+    for (index, (report, refusal)) in found.iter().enumerate() {
         refusals[index] = RefusedReport::new(*report, refusal);
     }
 }
@@ -73,24 +73,24 @@ pub(crate) struct Made {
 
 pub(crate) fn hand_over(
     text: &[u8],
-    returned: &[(u64, Refusal)],
+    found: &[(u64, Refusal)],
     out: &mut [u8],
     needed: &mut usize,
     refusals: &mut [RefusedReport],
     refused: &mut usize,
 ) -> bool
-    ensures fits { result ≡ true → IsHanded text.now returned.now
+    ensures fits { result ≡ true → IsHanded text.now found.now
         (memory out.old needed.old refusals.old refused.old) (memory out.new needed.new refusals.new refused.new) }
-    ensures short { result ≡ false → IsTooShort text.now returned.now
+    ensures short { result ≡ false → IsTooShort text.now found.now
         (memory out.old needed.old refusals.old refused.old) (memory out.new needed.new refusals.new refused.new) }
 {
     *needed = text.len();
-    *refused = returned.len();
-    if out.len() < text.len() || refusals.len() < returned.len() {
+    *refused = found.len();
+    if out.len() < text.len() || refusals.len() < found.len() {
         return false;
     }
     out[..text.len()].copy_from_slice(text);
-    put_refusals(returned, refusals);
+    put_refusals(found, refusals);
     true
 }
 
@@ -106,8 +106,8 @@ pub(crate) fn answer(
 {
     match made {
         Ok(made) => answer_text(&made, out, needed, refusals, refused),
-        Err(Fault::TooLoose { row, refused: returned }) => {
-            if !hand_over(b"", returned.as_slice(), out, needed, refusals, refused) {
+        Err(Fault::TooLoose { row, refused: all }) => {
+            if !hand_over(b"", all.as_slice(), out, needed, refusals, refused) {
                 return TOO_SHORT;
             }
             *needed = row as usize;
@@ -133,9 +133,9 @@ fn answer_text(
     ensures { AnswersText made.now.text.items made.now.refusals (memory out.old needed.old refusals.old refused.old)
         (memory out.new needed.new refusals.new refused.new) result }
 {
-    let returned = made.refusals.as_slice();
-    if !hand_over(made.text.as_slice(), returned, out, needed, refusals, refused) {
+    let found = made.refusals.as_slice();
+    if !hand_over(made.text.as_slice(), found, out, needed, refusals, refused) {
         return TOO_SHORT;
     }
-    if returned.is_empty() { DONE } else { REFUSED }
+    if found.is_empty() { DONE } else { REFUSED }
 }

@@ -25,4 +25,4 @@ refusals_more returned old refusals i d made room there is before =
 
 pub loop-index-preserved : goal.loop-index-preserved
 loop-index-preserved c =
-    refusals_more c.args.returned.now c.args.refusals.now c.loop-index.refusals c.loop-index.index _ c.new.result c.requires c.loop-index-test.true c.new.ensures c.loop-index.invariant
+    refusals_more c.args.found.now c.args.refusals.now c.loop-index.refusals c.loop-index.index _ c.new.result c.requires c.loop-index-test.true c.new.ensures c.loop-index.invariant
