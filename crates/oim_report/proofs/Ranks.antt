@@ -1,5 +1,5 @@
 -- The names of a sheet in ascending order, and their ranks.
-use Rattle.std.proofs.Common.{◌≡◌, ◌≢◌, inl, inr, ℕ, zero, suc, ◌<◌, ◌≤◌, ◌+◌, ◌-◌, List, [], ◌∷◌, ◌++◌, Bool, true, false, cond, Some, None, option_map, unwrap_or, bytes_eq, String, string_bytes, length, get_or, slice_get, map, refl, sym, ap, subst, ◌∙◌, arith, ◌&&◌, T, Ordering, Less, Equal, Greater, string_cmp, append_assoc, append-nil, is_lt}
+use Rattle.std.proofs.Common.{◌≡◌, ◌≢◌, inl, inr, ℕ, zero, suc, ◌<◌, ◌≤◌, ◌+◌, ◌-◌, List, [], ◌∷◌, ◌++◌, Bool, true, false, cond, Some, None, option_map, unwrap_or, bytes_eq, String, string_bytes, length, get_or, slice_get, refl, sym, ap, subst, ◌∙◌, arith, ◌&&◌, T, Ordering, Less, Equal, Greater, string_cmp, append_assoc, append-nil, is_lt}
 use Rattle.std.specs.List.{AllByRecursion, AllWithin}
 use Rattle.std.specs.List.Sorted.{IsStrictlySortedBy}
 use Rattle.std.specs.Map.{keys_of, values_of}

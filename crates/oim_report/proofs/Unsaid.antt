@@ -4,7 +4,8 @@ use Rattle.oim_names.specs.Bindings.{Binding}
 use Rattle.oim_names.specs.Expansion.{entity_refusal, name_refusal, refusal_as}
 use Rattle.oim_names.specs.QName.{is_entity, is_name}
 use Rattle.oim_names.specs.declared.reason.Reason.{Reason}
-use Rattle.oim_names.specs.declared.reason.Reason.TheVariants.{OutOfMemory, NumberForm, NumberDigits}
+use Rattle.oim_names.specs.declared.reason.Reason.TheVariants.{NumberForm, NumberDigits}
+use Rattle.oim_names.specs.declared.reason.Reason.TheVariants as reasons
 use Rattle.oim_names.proofs.Refusals.{named_kept}
 use Rattle.oim_value.specs.Number.{is_number, is_short, number_refusal}
 use Rattle.oim_value.specs.Units.{units_of}
@@ -25,13 +26,15 @@ use Rattle.oim_report.specs.Names.{named, named_as}
 use Rattle.oim_report.specs.Outcome.{fact_outcome}
 use Rattle.oim_report.specs.Said.{fact_of, said_entity, said_fact, said_language, said_unit, text_said}
 use Rattle.oim_report.specs.Sheet.{Sheet}
+use Rattle.oim_report.specs.declared.unread.Unread.{Unread}
+use Rattle.oim_report.specs.declared.unread.Unread.TheVariants.{OutOfMemory}
 use Rattle.oim_report.proofs.Accepted.{ok_or}
 use Rattle.oim_report.proofs.FreeMembers.{language_free}
 use Rattle.oim_report.proofs.Naming.{stands}
 use Rattle.oim_report.proofs.UnitSays.{unit_says}
 
-abbrev pub Stops : {A : Type 0} → Option A → Reason → Type 0
-Stops said r = (r ≡ OutOfMemory) ⊎ (said ≡ None)
+abbrev pub Stops : {A : Type 0} → Option A → Unread → Type 0
+Stops said e = (e ≡ OutOfMemory) ⊎ (said ≡ None)
 
 pub none_unless : {A : Type 0} (o : Option A) → ((a : A) → o ≡ Some a → ⊥) → o ≡ None
 none_unless None never = refl
@@ -46,16 +49,16 @@ was_true false e = absurd (cc)
 unnamed_as : (has_form : List ℕ → Bool) (bs : List Binding) (t : List ℕ) (r : Reason) → refusal_as has_form bs t ≡ Some r → named_as has_form bs t ≡ None
 unnamed_as has_form bs t r refused = none_unless (named_as has_form bs t) (λ n e. let none = sym (named_kept has_form bs t n (stands has_form bs t n e)) ∙ refused in cc)
 
-pub unnamed : (bs : List Binding) (t : List ℕ) (r : Reason) → (r ≡ OutOfMemory) ⊎ (name_refusal bs t ≡ Some r) → Stops (named bs t) r
-unnamed bs t r stops = ⊎_elim (λ memory. inl memory) (λ refused. inr (unnamed_as is_name bs t r refused)) stops
+pub unnamed : (bs : List Binding) (t : List ℕ) (r : Reason) (e : Unread) → (r ≡ reasons.OutOfMemory → e ≡ OutOfMemory) → (r ≡ reasons.OutOfMemory) ⊎ (name_refusal bs t ≡ Some r) → Stops (named bs t) e
+unnamed bs t r e passes stops = ⊎_elim (λ memory. inl (passes memory)) (λ refused. inr (unnamed_as is_name bs t r refused)) stops
 
-pub entity_unsaid : (bs : List Binding) (t : List ℕ) (r : Reason) → (r ≡ OutOfMemory) ⊎ (entity_refusal bs t ≡ Some r) → Stops (said_entity bs (text t)) r
-entity_unsaid bs t r stops = ⊎_elim (λ memory. inl memory) (λ refused. inr (ap (option_map Some) (unnamed_as is_entity bs t r refused))) stops
+pub entity_unsaid : (bs : List Binding) (t : List ℕ) (r : Reason) (e : Unread) → (r ≡ reasons.OutOfMemory → e ≡ OutOfMemory) → (r ≡ reasons.OutOfMemory) ⊎ (entity_refusal bs t ≡ Some r) → Stops (said_entity bs (text t)) e
+entity_unsaid bs t r e passes stops = ⊎_elim (λ memory. inl (passes memory)) (λ refused. inr (ap (option_map Some) (unnamed_as is_entity bs t r refused))) stops
 
-pub unit_unsaid : (bs : List Binding) (kind : ConceptKind) (t : List ℕ) (r : Reason) → (r ≡ OutOfMemory) ⊎ (unit_refusal bs t ≡ Some r) → Stops (said_unit bs kind (text t)) r
-unit_unsaid bs kind t r stops =
-    ⊎_elim (λ memory. inl memory)
-    (λ refused. inr (none_unless (said_unit bs kind (text t)) (λ u e. let none = sym (not_refused bs t u (unit_says bs kind (text t) u e)) ∙ refused in cc)))
+pub unit_unsaid : (bs : List Binding) (kind : ConceptKind) (t : List ℕ) (r : Reason) (e : Unread) → (r ≡ reasons.OutOfMemory → e ≡ OutOfMemory) → (r ≡ reasons.OutOfMemory) ⊎ (unit_refusal bs t ≡ Some r) → Stops (said_unit bs kind (text t)) e
+unit_unsaid bs kind t r e passes stops =
+    ⊎_elim (λ memory. inl (passes memory))
+    (λ refused. inr (none_unless (said_unit bs kind (text t)) (λ u says. let none = sym (not_refused bs t u (unit_says bs kind (text t) u says)) ∙ refused in cc)))
     stops
 
 pub language_unsaid : (kind : ConceptKind) (t : List ℕ) → ¬ (IsTrue (is_language t)) → said_language kind (text t) ≡ None

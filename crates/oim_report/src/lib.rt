@@ -10,7 +10,6 @@ mod findings;
 mod json_values;
 pub mod laws;
 mod limits;
-mod not_in_pieces;
 mod order;
 mod part;
 mod pieces;
@@ -19,6 +18,7 @@ mod refusal;
 mod report;
 mod report_reader;
 mod sheet;
+mod unread;
 
 pub use concept_kind::ConceptKind;
 pub use dimension_kind::DimensionKind;

@@ -10,7 +10,6 @@ use crate::document::info::read_info;
 use crate::fact::fact_reader::{FactReader, read_facts};
 use crate::json_values::json_tree::read_json;
 use crate::limits::PIECE_BYTES;
-use crate::not_in_pieces::NotInPieces;
 use crate::order::order_of;
 use crate::pieces::found_facts::FoundFacts;
 use crate::pieces::outline::read_json_outline;
@@ -20,6 +19,7 @@ use crate::place::Place;
 use crate::refusal::Refusal;
 use crate::report::Report;
 use crate::sheet::Sheet;
+use crate::unread::Unread;
 use oim_names::{Reason, Text};
 use serde_json::Value;
 use std::alloc::Global;
@@ -108,8 +108,8 @@ impl<'s> ReportReader<'s> {
     {
         match self.read_in_pieces(bytes) {
             Ok((report, _identifiers)) => return Ok(report),
-            Err(NotInPieces::Memory(error)) => return Err(Refusal::from(error)),
-            Err(NotInPieces::NeedsTree) => {}
+            Err(Unread::OutOfMemory) => return Err(Refusal::from(Reason::OutOfMemory)),
+            Err(Unread::NeedsTree) => {}
         }
         let tree = read_json(self.alloc, bytes)?;
         self.read_tree(&tree)
@@ -132,8 +132,8 @@ impl<'s> ReportReader<'s> {
     {
         match self.read_in_pieces(bytes) {
             Ok((report, identifiers)) => return Ok((report, identifiers.to_vec(self.alloc)?)),
-            Err(NotInPieces::Memory(error)) => return Err(Refusal::from(error)),
-            Err(NotInPieces::NeedsTree) => {}
+            Err(Unread::OutOfMemory) => return Err(Refusal::from(Reason::OutOfMemory)),
+            Err(Unread::NeedsTree) => {}
         }
         let tree = read_json(self.alloc, bytes)?;
         let report = self.read_tree(&tree)?;
@@ -164,7 +164,7 @@ impl<'s> ReportReader<'s> {
     /// Does the same as `read_identified`, but parses the facts in pieces. Only one piece at a time
     /// is held as a tape. The result is `NeedsTree` if the text cannot be read in pieces, or if the
     /// report is refused.
-    fn read_in_pieces(&mut self, bytes: &[u8]) -> Result<(Report<'s>, Texts), NotInPieces>
+    fn read_in_pieces(&mut self, bytes: &[u8]) -> Result<(Report<'s>, Texts), Unread>
         ensures same { self.new ≡ self.old }
         ensures ok { IfOk result (λ read. outcome self.old bytes.now ≡ Ok read.0.document) }
         ensures sheet { IfOk result (λ read. read.0.sheet ≡ self.old) }
@@ -190,7 +190,7 @@ impl<'s> ReportReader<'s> {
         } = found?;
         let order = order_of(alloc, facts.as_slice(), ranks.as_slice())?;
         if is_above(info.level, facts.as_slice(), order.as_slice()) {
-            return Err(NotInPieces::NeedsTree);
+            return Err(Unread::NeedsTree);
         }
         let report = Report::new(sheet, facts, info.references, info.level, order);
         Ok((report, identifiers))

@@ -1,5 +1,5 @@
-//! Reads the value, entity, period, unit and language of a fact. An error other than `OutOfMemory`
-//! shows only that the part is refused, not why.
+//! Reads the value, entity, period, unit and language of a fact. If a part is refused, the result is
+//! `NeedsTree`, which does not show why.
 //!
 //! A text that a cache lacks is read and, if it is accepted, passed to `TextCache::add`. A condition
 //! that needs more than the text, such as `UnitOnOther`, is tested for each fact.
@@ -16,8 +16,9 @@ ghost use Rattle.oim_report.specs.code.TextCache.{IsTextCache, TextSaysLanguage,
 use crate::concept_kind::ConceptKind;
 use crate::fact::text_cache::TextCache;
 use crate::json_values::json_member::JsonMember;
+use crate::unread::Unread;
 use oim_dims::{Period, Unit, read_language, read_period, read_unit};
-use oim_names::{Aliases, Copied, Name, Reason, Text};
+use oim_names::{Aliases, Copied, Name, Text};
 use oim_value::{Decimals, Value, read_fixed};
 use std::alloc::Global;
 
@@ -27,10 +28,10 @@ pub(crate) fn cached_name(
     aliases: &Aliases,
     names: &mut TextCache<Name>,
     text: &str,
-) -> Result<Name, Reason>
+) -> Result<Name, Unread>
     requires known { IsTextCache (Expands aliases.now) names.old }
     ensures ok { IfOk result (Expands aliases.now text.now) }
-    ensures errors { IfErr result (λ r. (r ≡ Reason.OutOfMemory) ⊎ (named aliases.now text.now ≡ None)) }
+    ensures errors { IfErr result (λ e. (e ≡ Unread.OutOfMemory) ⊎ (named aliases.now text.now ≡ None)) }
     ensures known { IsTextCache (Expands aliases.now) names.new }
 {
     if let Some(known) = names.find(text) {
@@ -47,10 +48,10 @@ pub(crate) fn cached_entity(
     aliases: &Aliases,
     entities: &mut TextCache<Name>,
     entity: JsonMember<'_>,
-) -> Result<Option<Name>, Reason>
+) -> Result<Option<Name>, Unread>
     requires known { IsTextCache (ExpandsEntity aliases.now) entities.old }
     ensures said { IfOk result (λ read. said_entity aliases.now (seen entity.entry) ≡ Some read) }
-    ensures errors { IfErr result (λ r. (r ≡ Reason.OutOfMemory) ⊎ (said_entity aliases.now (seen entity.entry) ≡ None)) }
+    ensures errors { IfErr result (λ e. (e ≡ Unread.OutOfMemory) ⊎ (said_entity aliases.now (seen entity.entry) ≡ None)) }
     ensures known { IsTextCache (ExpandsEntity aliases.now) entities.new }
 {
     match entity {
@@ -63,7 +64,7 @@ pub(crate) fn cached_entity(
             entities.add(text, read.copied(alloc)?)?;
             Ok(Some(read))
         }
-        _ => Err(Reason::MemberForm),
+        _ => Err(Unread::NeedsTree),
     }
 }
 
@@ -71,10 +72,10 @@ pub(crate) fn cached_period(
     alloc: Global,
     periods: &mut TextCache<Period>,
     period: JsonMember<'_>,
-) -> Result<Period, Reason>
+) -> Result<Period, Unread>
     requires known { IsTextCache TextSaysPeriod periods.old }
     ensures said { IfOk result (λ read. said_period (seen period.entry) ≡ Some read) }
-    ensures errors { IfErr result (λ r. (r ≡ Reason.OutOfMemory) ⊎ (said_period (seen period.entry) ≡ None)) }
+    ensures errors { IfErr result (λ e. (e ≡ Unread.OutOfMemory) ⊎ (said_period (seen period.entry) ≡ None)) }
     ensures known { IsTextCache TextSaysPeriod periods.new }
 {
     match period {
@@ -84,12 +85,13 @@ pub(crate) fn cached_period(
                 return Ok(*known);
             }
             let read = read_period(alloc, text);
-            if let Ok(period) = &read {
-                periods.add(text, *period)?;
-            }
-            read
+            let Ok(period) = &read else {
+                return Err(Unread::NeedsTree);
+            };
+            periods.add(text, *period)?;
+            Ok(*period)
         }
-        _ => Err(Reason::MemberForm),
+        _ => Err(Unread::NeedsTree),
     }
 }
 
@@ -100,10 +102,10 @@ pub(crate) fn cached_unit(
     units: &mut TextCache<Option<Unit>>,
     kind: ConceptKind,
     unit: JsonMember<'_>,
-) -> Result<Option<Unit>, Reason>
+) -> Result<Option<Unit>, Unread>
     requires known { IsTextCache (TextSaysUnit aliases.now) units.old }
     ensures said { IfOk result (λ read. said_unit aliases.now kind (seen unit.entry) ≡ Some read) }
-    ensures errors { IfErr result (λ r. (r ≡ Reason.OutOfMemory) ⊎ (said_unit aliases.now kind (seen unit.entry) ≡ None)) }
+    ensures errors { IfErr result (λ e. (e ≡ Unread.OutOfMemory) ⊎ (said_unit aliases.now kind (seen unit.entry) ≡ None)) }
     ensures known { IsTextCache (TextSaysUnit aliases.now) units.new }
 {
     match (kind, unit) {
@@ -116,7 +118,7 @@ pub(crate) fn cached_unit(
             units.add(text, Copied::copied(&read, alloc)?)?;
             Ok(read)
         }
-        _ => Err(Reason::UnitOnOther),
+        _ => Err(Unread::NeedsTree),
     }
 }
 
@@ -126,10 +128,10 @@ pub(crate) fn cached_language(
     languages: &mut TextCache<Text>,
     kind: ConceptKind,
     language: JsonMember<'_>,
-) -> Result<Option<Text>, Reason>
+) -> Result<Option<Text>, Unread>
     requires known { IsTextCache TextSaysLanguage languages.old }
     ensures said { IfOk result (λ read. said_language kind (seen language.entry) ≡ Some read) }
-    ensures errors { IfErr result (λ r. (r ≡ Reason.OutOfMemory) ⊎ (said_language kind (seen language.entry) ≡ None)) }
+    ensures errors { IfErr result (λ e. (e ≡ Unread.OutOfMemory) ⊎ (said_language kind (seen language.entry) ≡ None)) }
     ensures known { IsTextCache TextSaysLanguage languages.new }
 {
     match (kind, language) {
@@ -142,7 +144,7 @@ pub(crate) fn cached_language(
             languages.add(text, read.copied(alloc)?)?;
             Ok(Some(read))
         }
-        _ => Err(Reason::LanguageOnNumeric),
+        _ => Err(Unread::NeedsTree),
     }
 }
 
@@ -152,16 +154,16 @@ pub(crate) fn read_value(
     kind: ConceptKind,
     value: JsonMember<'_>,
     decimals: JsonMember<'_>,
-) -> Result<Value, Reason>
+) -> Result<Value, Unread>
     ensures said { IfOk result
         (λ v. said_value aliases.now kind (seen value.entry) (seen decimals.entry) ≡ Some v) }
-    ensures errors { IfErr result (λ r. (r ≡ Reason.OutOfMemory) ⊎ (said_value aliases.now kind (seen value.entry) (seen decimals.entry) ≡ None)) }
+    ensures errors { IfErr result (λ e. (e ≡ Unread.OutOfMemory) ⊎ (said_value aliases.now kind (seen value.entry) (seen decimals.entry) ≡ None)) }
 {
     let places = read_decimals(kind, decimals)?;
     match value {
         JsonMember::Nil => Ok(Value::Nil),
         JsonMember::Text(text) => read_text(alloc, aliases, kind, places, text),
-        _ => Err(Reason::ValueForm),
+        _ => Err(Unread::NeedsTree),
     }
 }
 
@@ -172,9 +174,9 @@ fn read_text(
     kind: ConceptKind,
     places: Decimals,
     text: &str,
-) -> Result<Value, Reason>
+) -> Result<Value, Unread>
     ensures said { IfOk result (λ v. text_said aliases.now kind places text.now ≡ Some v) }
-    ensures errors { IfErr result (λ r. (r ≡ Reason.OutOfMemory) ⊎ (text_said aliases.now kind places text.now ≡ None)) }
+    ensures errors { IfErr result (λ e. (e ≡ Unread.OutOfMemory) ⊎ (text_said aliases.now kind places text.now ≡ None)) }
 {
     match kind {
         ConceptKind::Numeric => Ok(Value::Number(read_fixed(text)?, places)),
@@ -184,21 +186,21 @@ fn read_text(
 }
 
 // A number without decimals is exact.
-fn read_decimals(kind: ConceptKind, decimals: JsonMember<'_>) -> Result<Decimals, Reason>
+fn read_decimals(kind: ConceptKind, decimals: JsonMember<'_>) -> Result<Decimals, Unread>
     ensures { result_ok result ≡ said_decimals kind (seen decimals.entry) }
 {
     match (kind, decimals) {
         (_, JsonMember::Absent) => Ok(Decimals::INFINITE),
         (ConceptKind::Numeric, JsonMember::Whole(number)) => read_whole(number),
-        _ => Err(Reason::DecimalsForm),
+        _ => Err(Unread::NeedsTree),
     }
 }
 
-fn read_whole(number: i128) -> Result<Decimals, Reason>
+fn read_whole(number: i128) -> Result<Decimals, Unread>
     ensures { result_ok result ≡ said_decimals ConceptKind.Numeric (whole number) }
 {
     match i64::try_from(number) {
-        Ok(number) => Decimals::finite(number),
-        Err(_) => Err(Reason::DecimalsRange),
+        Ok(number) => Ok(Decimals::finite(number)?),
+        Err(_) => Err(Unread::NeedsTree),
     }
 }

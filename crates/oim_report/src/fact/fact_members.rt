@@ -19,7 +19,7 @@ use crate::json_values::json_member::JsonMember;
 use crate::json_values::json_tree::{has_colon, has_member, is_no_object, unknown_in};
 use crate::json_values::skipped::skip_value;
 use crate::limits::{MOST_INSERTED, MOST_SKIPPED_LEVELS};
-use crate::not_in_pieces::NotInPieces;
+use crate::unread::Unread;
 use json::Element;
 use serde_json::{Map, Value};
 use std::alloc::{AllocError, Global};
@@ -177,15 +177,12 @@ impl<'a> DimensionMembers<'a> {
         }
     }
 
-    fn of_element(
-        alloc: Global,
-        object: &Element<'_, 'a>,
-    ) -> Result<DimensionMembers<'a>, NotInPieces>
+    fn of_element(alloc: Global, object: &Element<'_, 'a>) -> Result<DimensionMembers<'a>, Unread>
         ensures { (v : Json) → BeginsWith object.now v
             → IfOk result (λ parts. AreDimensions v (seen_dimensions parts)) }
     {
         let Some(mut members) = object.members() else {
-            return Err(NotInPieces::NeedsTree);
+            return Err(Unread::NeedsTree);
         };
         let mut parts = DimensionMembers::new(alloc);
         while let Some((key, member)) = members.next() {
@@ -194,7 +191,7 @@ impl<'a> DimensionMembers<'a> {
         Ok(parts)
     }
 
-    fn put(&mut self, key: &'a str, member: JsonMember<'a>) -> Result<(), NotInPieces>
+    fn put(&mut self, key: &'a str, member: JsonMember<'a>) -> Result<(), Unread>
         ensures { OnOk result ((d : Data) (ms : Members) → given d ≡ seen member.entry → Ascends ms
             → dimension_parts ms ≡ seen_dimensions self.old
             → dimension_parts (put key.now d ms) ≡ seen_dimensions self.new) }
@@ -207,13 +204,13 @@ impl<'a> DimensionMembers<'a> {
             "language" => self.language = member,
             "noteId" => self.note = member,
             key if has_colon(key) => return self.put_defined(key, member),
-            _ => return Err(NotInPieces::NeedsTree),
+            _ => return Err(Unread::NeedsTree),
         }
         Ok(())
     }
 
     // Inserts a taxonomy-defined dimension in byte order of the keys.
-    fn put_defined(&mut self, key: &'a str, member: JsonMember<'a>) -> Result<(), NotInPieces>
+    fn put_defined(&mut self, key: &'a str, member: JsonMember<'a>) -> Result<(), Unread>
         ensures others { self.new ≡ record self.old { defined = self.new.defined } }
         ensures defined { OnOk result (seen_defined self.new.defined.items
             ≡ with_given key.now (seen member.entry) (seen_defined self.old.defined.items)) }
@@ -223,7 +220,7 @@ impl<'a> DimensionMembers<'a> {
                 self.defined.insert(at, (key, member))?;
                 Ok(())
             }
-            _ => Err(NotInPieces::NeedsTree),
+            _ => Err(Unread::NeedsTree),
         }
     }
 }
@@ -267,12 +264,12 @@ impl<'a> FactMembers<'a> {
     pub(crate) fn of_element(
         alloc: Global,
         object: &Element<'_, 'a>,
-    ) -> Result<FactMembers<'a>, NotInPieces>
+    ) -> Result<FactMembers<'a>, Unread>
         ensures { (v : Json) → BeginsWith object.now v
             → IfOk result (λ parts. IsFactObject v (seen_parts parts)) }
     {
         let Some(mut members) = object.members() else {
-            return Err(NotInPieces::NeedsTree);
+            return Err(Unread::NeedsTree);
         };
         let mut parts = FactMembers::new();
         while let Some((key, member)) = members.next() {
@@ -281,7 +278,7 @@ impl<'a> FactMembers<'a> {
         Ok(parts)
     }
 
-    fn put(&mut self, alloc: Global, key: &str, member: &Element<'_, 'a>) -> Result<(), NotInPieces>
+    fn put(&mut self, alloc: Global, key: &str, member: &Element<'_, 'a>) -> Result<(), Unread>
         ensures { (v : Json) → BeginsWith member.now v
             → OnOk result (IsPut key.now v (seen_parts self.old) (seen_parts self.new)) }
     {
@@ -291,7 +288,7 @@ impl<'a> FactMembers<'a> {
             "dimensions" => self.dimensions = Some(DimensionMembers::of_element(alloc, member)?),
             "links" if is_empty_object(member) => {}
             key if has_colon(key) => skip_value(member, MOST_SKIPPED_LEVELS)?,
-            _ => return Err(NotInPieces::NeedsTree),
+            _ => return Err(Unread::NeedsTree),
         }
         Ok(())
     }

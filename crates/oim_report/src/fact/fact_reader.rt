@@ -27,6 +27,7 @@ use crate::json_values::json_tree::object_at;
 use crate::place::Place;
 use crate::refusal::Refusal;
 use crate::sheet::Sheet;
+use crate::unread::Unread;
 use oim_dims::{Dimensions, Fact, Member};
 use oim_names::{Aliases, Copied, Name, Reason, Text};
 use serde_json::{Map, Value};
@@ -116,8 +117,8 @@ impl<'s> FactReader<'s> {
         };
         match self.read_parts(&parts) {
             Ok((fact, _rank)) => Ok(fact),
-            Err(Reason::OutOfMemory) => Err(Reason::OutOfMemory),
-            Err(_) => Err(self.least_fault(object)?),
+            Err(Unread::OutOfMemory) => Err(Reason::OutOfMemory),
+            Err(Unread::NeedsTree) => Err(self.least_fault(object)?),
         }
     }
 
@@ -140,19 +141,19 @@ impl<'s> FactReader<'s> {
     }
 
     /// Reads a fact from the parts of its object. Returns the fact with the rank of its concept in
-    /// the sheet. An error other than `OutOfMemory` shows only that the parts are those of no fact,
-    /// not why.
-    pub(crate) fn read_parts(&mut self, parts: &FactMembers<'_>) -> Result<(Fact, usize), Reason>
+    /// the sheet. If the parts are those of no fact, the result is `NeedsTree`, which does not show
+    /// why.
+    pub(crate) fn read_parts(&mut self, parts: &FactMembers<'_>) -> Result<(Fact, usize), Unread>
         ensures same { self.new ≡ self.old }
         ensures ok { IfOk result (λ f. (d : Data) → fact_parts d ≡ Some (seen_parts parts.now)
             → fact_outcome self.old.sheet self.old.aliases d ≡ Ok f.0) }
         ensures rank { IfOk result (λ f. IsRank self.old.sheet.concepts f.0.dimensions.concept f.1) }
-        ensures errors { IfErr result (λ r. (r ≡ Reason.OutOfMemory)
+        ensures errors { IfErr result (λ e. (e ≡ Unread.OutOfMemory)
             ⊎ ((d : Data) → fact_parts d ≡ Some (seen_parts parts.now)
             → (f : AFact) → fact_outcome self.old.sheet self.old.aliases d ≢ Ok f)) }
     {
         let Some(dimensions) = well_formed(parts) else {
-            return Err(Reason::MemberForm);
+            return Err(Unread::NeedsTree);
         };
         self.read_content(parts, dimensions)
     }
@@ -161,7 +162,7 @@ impl<'s> FactReader<'s> {
         &mut self,
         parts: &FactMembers<'_>,
         dimensions: &DimensionMembers<'_>,
-    ) -> Result<(Fact, usize), Reason>
+    ) -> Result<(Fact, usize), Unread>
         ensures same { self.new ≡ self.old }
         ensures said { let p = seen_parts parts.now in
             let ds = seen_dimensions dimensions.now in
@@ -169,10 +170,10 @@ impl<'s> FactReader<'s> {
         ensures rank { IfOk result (λ f. IsRank self.old.sheet.concepts f.0.dimensions.concept f.1) }
         ensures errors { let p = seen_parts parts.now in
             let ds = seen_dimensions dimensions.now in
-            IfErr result (λ r. (r ≡ Reason.OutOfMemory) ⊎ (fact_of self.old.sheet self.old.aliases p ds ≡ None)) }
+            IfErr result (λ e. (e ≡ Unread.OutOfMemory) ⊎ (fact_of self.old.sheet self.old.aliases p ds ≡ None)) }
     {
         let Some((name, kind, rank)) = self.find_concept(dimensions.concept)? else {
-            return Err(Reason::UnknownConcept);
+            return Err(Unread::NeedsTree);
         };
         let dimensions = self.read_dimension_set(name, kind, dimensions)?;
         let value = read_value(self.alloc, &self.aliases, kind, parts.value, parts.decimals)?;
@@ -185,13 +186,13 @@ impl<'s> FactReader<'s> {
         concept: &Name,
         kind: ConceptKind,
         parts: &DimensionMembers<'_>,
-    ) -> Result<Dimensions, Reason>
+    ) -> Result<Dimensions, Unread>
         requires { said_concept self.old.aliases (seen parts.now.concept) ≡ Some concept.now }
         ensures same { self.new ≡ self.old }
         ensures said { let ds = seen_dimensions parts.now in
             IfOk result (λ d. said_dimensions self.old.sheet self.old.aliases kind ds ≡ Some d) }
         ensures errors { let ds = seen_dimensions parts.now in
-            IfErr result (λ r. (r ≡ Reason.OutOfMemory) ⊎ (said_dimensions self.old.sheet self.old.aliases kind ds ≡ None)) }
+            IfErr result (λ e. (e ≡ Unread.OutOfMemory) ⊎ (said_dimensions self.old.sheet self.old.aliases kind ds ≡ None)) }
     {
         let mut read = Dimensions::new(self.alloc, concept.copied(self.alloc)?);
         self.read_dimensions(kind, parts, &mut read)?;
@@ -223,14 +224,14 @@ impl<'s> FactReader<'s> {
         kind: ConceptKind,
         parts: &DimensionMembers<'_>,
         read: &mut Dimensions,
-    ) -> Result<(), Reason>
+    ) -> Result<(), Unread>
         requires concept { said_concept self.old.aliases (seen parts.now.concept) ≡ Some read.old.concept }
         requires others { read.old ≡ concept_with read.old.concept [] }
         ensures same { self.new ≡ self.old }
         ensures said { OnOk result
             (said_dimensions self.old.sheet self.old.aliases kind (seen_dimensions parts.now) ≡ Some read.new) }
         ensures errors { let ds = seen_dimensions parts.now in
-            IfErr result (λ r. (r ≡ Reason.OutOfMemory) ⊎ (said_dimensions self.old.sheet self.old.aliases kind ds ≡ None)) }
+            IfErr result (λ e. (e ≡ Unread.OutOfMemory) ⊎ (said_dimensions self.old.sheet self.old.aliases kind ds ≡ None)) }
     {
         self.read_members(parts.defined.as_slice(), read)?;
         let (alloc, aliases, caches) = (self.alloc, &self.aliases, &mut self.caches);
@@ -249,12 +250,12 @@ impl<'s> FactReader<'s> {
         &mut self,
         defined: &[(&str, JsonMember<'_>)],
         read: &mut Dimensions,
-    ) -> Result<(), Reason>
+    ) -> Result<(), Unread>
         ensures same { self.new ≡ self.old }
         ensures said { let all = seen_defined defined.now in
             OnOk result (said_members self.old.sheet self.old.aliases all ≡ Some read.new.members) }
         ensures errors { let all = seen_defined defined.now in
-            IfErr result (λ r. (r ≡ Reason.OutOfMemory) ⊎ (said_members self.old.sheet self.old.aliases all ≡ None)) }
+            IfErr result (λ e. (e ≡ Unread.OutOfMemory) ⊎ (said_members self.old.sheet self.old.aliases all ≡ None)) }
         ensures others { OnOk result (read.new ≡ record read.old { members = read.new.members }) }
     {
         let mut found = Vec::with_capacity(self.alloc, defined.len())?;
@@ -266,28 +267,28 @@ impl<'s> FactReader<'s> {
         Ok(())
     }
 
-    fn read_defined(&mut self, key: &str, member: JsonMember<'_>) -> Result<(Name, Member), Reason>
+    fn read_defined(&mut self, key: &str, member: JsonMember<'_>) -> Result<(Name, Member), Unread>
         ensures same { self.new ≡ self.old }
         ensures name { IfOk result (λ d. named self.old.aliases key.now ≡ Some d.0) }
         ensures said { let kind = dimension_kind self.old.sheet self.old.aliases key.now in
             IfOk result (λ d. said_member self.old.aliases kind (seen member.entry) ≡ Some d.1) }
         ensures errors { let kind = dimension_kind self.old.sheet self.old.aliases key.now in
-            IfErr result (λ r. (r ≡ Reason.OutOfMemory) ⊎ (said_member self.old.aliases kind (seen member.entry) ≡ None)) }
+            IfErr result (λ e. (e ≡ Unread.OutOfMemory) ⊎ (said_member self.old.aliases kind (seen member.entry) ≡ None)) }
     {
         let dimensions = self.sheet.dimensions();
         let found = self.caches.dimensions.find(dimensions, &self.aliases, key)?;
         let Some((name, kind, _rank)) = found else {
-            return Err(Reason::UnknownDimension);
+            return Err(Unread::NeedsTree);
         };
         let member = self.read_member(kind, member)?;
         Ok((name.copied(self.alloc)?, member))
     }
 
-    fn read_member(&mut self, kind: DimensionKind, member: JsonMember<'_>) -> Result<Member, Reason>
+    fn read_member(&mut self, kind: DimensionKind, member: JsonMember<'_>) -> Result<Member, Unread>
         ensures same { self.new ≡ self.old }
         ensures said { IfOk result
             (λ m. said_member self.old.aliases (Some kind) (seen member.entry) ≡ Some m) }
-        ensures errors { IfErr result (λ r. (r ≡ Reason.OutOfMemory) ⊎ (said_member self.old.aliases (Some kind) (seen member.entry) ≡ None)) }
+        ensures errors { IfErr result (λ e. (e ≡ Unread.OutOfMemory) ⊎ (said_member self.old.aliases (Some kind) (seen member.entry) ≡ None)) }
     {
         match (kind, member) {
             (DimensionKind::Explicit, JsonMember::Text(text)) => {
@@ -298,7 +299,7 @@ impl<'s> FactReader<'s> {
                 Ok(Member::Text(Text::new(self.alloc, text)?))
             }
             (DimensionKind::Typed, JsonMember::Nil) => Ok(Member::Nil),
-            _ => Err(Reason::DimensionValue),
+            _ => Err(Unread::NeedsTree),
         }
     }
 }

@@ -10,7 +10,7 @@ ghost use Rattle.oim_report.specs.code.JsonMember.{seen};
 ghost use Rattle.oim_report.specs.code.TapeValues.{IsLeaf};
 ghost use Rattle.oim_report.specs.Json.{given, given_of, is_absent, is_no_text, text_of};
 
-use crate::not_in_pieces::NotInPieces;
+use crate::unread::Unread;
 use fast_float::Numeral;
 use json::Element;
 use serde_json::Value;
@@ -54,7 +54,7 @@ impl<'a> JsonMember<'a> {
 
     /// Returns the value at this place of a tape. The result is `NeedsTree` if the value is not a
     /// text, `null` or an integer that `whole_number` reads.
-    pub(crate) fn of_element(element: &Element<'_, 'a>) -> Result<JsonMember<'a>, NotInPieces>
+    pub(crate) fn of_element(element: &Element<'_, 'a>) -> Result<JsonMember<'a>, Unread>
         ensures { (v : Json) → BeginsWith element.now v → IfOk result (λ m. IsLeaf v (seen m)) }
     {
         if let Some(text) = element.as_str() {
@@ -64,11 +64,11 @@ impl<'a> JsonMember<'a> {
             return Ok(JsonMember::Nil);
         }
         let Some(digits) = element.as_number() else {
-            return Err(NotInPieces::NeedsTree);
+            return Err(Unread::NeedsTree);
         };
         match whole_number(digits) {
             Some(whole) => Ok(JsonMember::Whole(whole)),
-            None => Err(NotInPieces::NeedsTree),
+            None => Err(Unread::NeedsTree),
         }
     }
 

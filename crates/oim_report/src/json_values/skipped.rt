@@ -7,13 +7,13 @@ ghost use Rattle.json.specs.Json as spec;
 ghost use Rattle.oim_report.specs.code.TapeValues.{IsRead};
 
 use crate::json_values::json_member::is_finite_number;
-use crate::not_in_pieces::NotInPieces;
+use crate::unread::Unread;
 use json::{Element, Items, Members};
 
 /// Skips the value at this place of a tape. The result is `NeedsTree` if the value has more than
 /// `levels` levels of arrays and objects, or if it has a number that is too large for a float.
 #[cycle(skip)]
-pub(crate) fn skip_value(element: &Element<'_, '_>, levels: usize) -> Result<(), NotInPieces>
+pub(crate) fn skip_value(element: &Element<'_, '_>, levels: usize) -> Result<(), Unread>
     ensures { (v : Json) → BeginsWith element.now v → OnOk result (IsRead levels v) }
 {
     if let Some(digits) = element.as_number() {
@@ -29,11 +29,11 @@ pub(crate) fn skip_value(element: &Element<'_, '_>, levels: usize) -> Result<(),
 }
 
 #[cycle(skip)]
-fn skip_items(mut items: Items<'_, '_>, levels: usize) -> Result<(), NotInPieces>
+fn skip_items(mut items: Items<'_, '_>, levels: usize) -> Result<(), Unread>
     ensures { (vs : spec.Items) → InItems items.entry vs → OnOk result (IsRead levels (array vs)) }
 {
     if levels == 0 {
-        return Err(NotInPieces::NeedsTree);
+        return Err(Unread::NeedsTree);
     }
     while let Some(item) = items.next() {
         skip_value(&item, levels - 1)?;
@@ -42,11 +42,11 @@ fn skip_items(mut items: Items<'_, '_>, levels: usize) -> Result<(), NotInPieces
 }
 
 #[cycle(skip)]
-fn skip_members(mut members: Members<'_, '_>, levels: usize) -> Result<(), NotInPieces>
+fn skip_members(mut members: Members<'_, '_>, levels: usize) -> Result<(), Unread>
     ensures { (vs : spec.Members) → InMembers members.entry vs → OnOk result (IsRead levels (object vs)) }
 {
     if levels == 0 {
-        return Err(NotInPieces::NeedsTree);
+        return Err(Unread::NeedsTree);
     }
     while let Some((_key, member)) = members.next() {
         skip_value(&member, levels - 1)?;
@@ -54,12 +54,12 @@ fn skip_members(mut members: Members<'_, '_>, levels: usize) -> Result<(), NotIn
     Ok(())
 }
 
-fn skip_number(digits: &str) -> Result<(), NotInPieces>
+fn skip_number(digits: &str) -> Result<(), Unread>
     ensures { OnOk result (IsRead 0 (number digits.now)) }
 {
     if is_finite_number(digits) {
         Ok(())
     } else {
-        Err(NotInPieces::NeedsTree)
+        Err(Unread::NeedsTree)
     }
 }

@@ -12,9 +12,9 @@ ghost use Rattle.oim_report.specs.code.TapeValues.{AreAdded, IsAdded};
 use crate::json_values::json_tree::has_colon;
 use crate::json_values::skipped::skip_value;
 use crate::limits::MOST_LEVELS;
-use crate::not_in_pieces::NotInPieces;
 use crate::pieces::piece_facts::{PieceBuffers, only_object, parse_piece};
 use crate::pieces::taped_tree::tree_of;
+use crate::unread::Unread;
 use json::{Element, Members};
 use serde_json::{Map, Value};
 use std::alloc::Global;
@@ -29,7 +29,7 @@ pub(crate) fn read_beside(
     alloc: Global,
     text: Option<&str>,
     tree: &mut Map<String, Value>,
-) -> Result<(), NotInPieces>
+) -> Result<(), Unread>
     ensures { OnOk result ((ms : AMembers) × IsBeside (option_map (λ t. t.now) text.entry) ms
         × Adds ms (members_view tree.old.entries) (members_view tree.new.entries)) }
 {
@@ -40,7 +40,7 @@ pub(crate) fn read_beside(
     let tape = parse_piece(alloc, &mut buffers, text)?;
     match only_object(&tape.root()) {
         Some(members) => read_members(alloc, members, tree),
-        None => Err(NotInPieces::NeedsTree),
+        None => Err(Unread::NeedsTree),
     }
 }
 
@@ -48,7 +48,7 @@ fn read_members(
     alloc: Global,
     mut members: Members<'_, '_>,
     tree: &mut Map<String, Value>,
-) -> Result<(), NotInPieces>
+) -> Result<(), Unread>
     ensures { (vs : spec.Members) → InMembers members.entry vs → OnOk result
         (AreAdded vs (members_view tree.old.entries) (members_view tree.new.entries)) }
 {
@@ -58,7 +58,7 @@ fn read_members(
         is_empty = false;
     }
     if is_empty {
-        Err(NotInPieces::NeedsTree)
+        Err(Unread::NeedsTree)
     } else {
         Ok(())
     }
@@ -69,7 +69,7 @@ fn read_member(
     key: &str,
     member: &Element<'_, '_>,
     tree: &mut Map<String, Value>,
-) -> Result<(), NotInPieces>
+) -> Result<(), Unread>
     ensures { (v : Json) → BeginsWith member.now v → OnOk result
         (IsAdded key.now v (members_view tree.old.entries) (members_view tree.new.entries)) }
 {
@@ -77,7 +77,7 @@ fn read_member(
         return skip_value(member, MOST_MEMBER_LEVELS);
     }
     if key != "documentInfo" {
-        return Err(NotInPieces::NeedsTree);
+        return Err(Unread::NeedsTree);
     }
     let info = tree_of(alloc, member, MOST_MEMBER_LEVELS)?;
     let copy = String::from_str(alloc, key)?;

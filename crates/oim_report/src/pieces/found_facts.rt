@@ -8,8 +8,8 @@ ghost use Rattle.oim_report.specs.code.Ranks.{AreRanks};
 ghost use Rattle.oim_report.specs.Pieces.{put_all};
 ghost use Rattle.oim_report.specs.Sheet.{Sheet as ASheet};
 
-use crate::not_in_pieces::NotInPieces;
 use crate::pieces::texts::Texts;
+use crate::unread::Unread;
 use oim_dims::Fact;
 use std::alloc::{AllocError, Global};
 use std::collections::BTreeMap;
@@ -68,7 +68,7 @@ impl FoundFacts {
 
     /// Sorts the facts by their identifiers in byte order. If an identifier is repeated, only its
     /// last fact is kept.
-    pub(crate) fn in_order(self, alloc: Global) -> Result<FoundFacts, NotInPieces>
+    pub(crate) fn in_order(self, alloc: Global) -> Result<FoundFacts, Unread>
         ensures found { IfOk result (λ f. (sheet : ASheet) (bs : List Binding) (ms : Members) →
             AreFound sheet bs ms self.identifiers self.facts.items →
             AreFound sheet bs (put_all ms no_members) f.identifiers f.facts.items) }
@@ -108,10 +108,7 @@ fn is_above(last: Option<&str>, identifier: &str) -> bool
     }
 }
 
-fn by_identifier(
-    alloc: Global,
-    read: FoundFacts,
-) -> Result<BTreeMap<String, RankedFact>, NotInPieces>
+fn by_identifier(alloc: Global, read: FoundFacts) -> Result<BTreeMap<String, RankedFact>, Unread>
     ensures found { IfOk result (λ m. (sheet : ASheet) (bs : List Binding) (ms : Members) →
         AreFound sheet bs ms read.identifiers read.facts.items →
         AreFound sheet bs (put_all ms no_members) (map (λ e. string_bytes e.0) m.entries) (map (λ e. e.1.0) m.entries)) }
@@ -124,14 +121,14 @@ fn by_identifier(
     let mut ranks = read.ranks.into_iter();
     for index in 0..read.identifiers.len() {
         let Some(identifier) = read.identifiers.get(index) else {
-            return Err(NotInPieces::NeedsTree);
+            return Err(Unread::NeedsTree);
         };
         let identifier = String::from_str(alloc, identifier)?;
         let Some(fact) = facts.next() else {
-            return Err(NotInPieces::NeedsTree);
+            return Err(Unread::NeedsTree);
         };
         let Some(rank) = ranks.next() else {
-            return Err(NotInPieces::NeedsTree);
+            return Err(Unread::NeedsTree);
         };
         put(&mut found, identifier, (fact, rank))?;
     }

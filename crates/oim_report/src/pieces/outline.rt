@@ -6,9 +6,9 @@ ghost use Rattle.oim_report.specs.Pieces.{IsPiece};
 ghost use Rattle.oim_report.specs.code.Pieces.{IsEnd, IsHead, IsLike, IsOutline, IsSplit, IsTail};
 
 use crate::json_values::json_tree::after_mark;
-use crate::not_in_pieces::NotInPieces;
 use crate::pieces::beside::read_beside;
 use crate::pieces::cuts::{back_start, cut_at, strip_back, strip_front, trim_back};
+use crate::unread::Unread;
 use serde_json::{Map, Value};
 use std::alloc::Global;
 use std::str;
@@ -36,24 +36,24 @@ struct Split<'t> {
     behind: Option<&'t str>,
 }
 
-pub(crate) fn read_json_outline(alloc: Global, bytes: &[u8]) -> Result<Outline<'_>, NotInPieces>
+pub(crate) fn read_json_outline(alloc: Global, bytes: &[u8]) -> Result<Outline<'_>, Unread>
     ensures { IfOk result (λ o. (kept : Members) × (view o.tree ≡ object kept)
         × ((found : Members) → IsPiece o.facts.now found → (all : Members)
         × (json bytes.now ≡ Some (object all)) × IsLike all kept (Some (object found)))) }
 {
     match str::from_utf8(after_mark(bytes)) {
         Ok(text) => read_outline(alloc, text),
-        Err(_) => Err(NotInPieces::NeedsTree),
+        Err(_) => Err(Unread::NeedsTree),
     }
 }
 
 /// Splits a document. If `facts` of the result can be parsed as a piece, the whole document can be
 /// parsed.
-pub(crate) fn read_outline(alloc: Global, text: &str) -> Result<Outline<'_>, NotInPieces>
+pub(crate) fn read_outline(alloc: Global, text: &str) -> Result<Outline<'_>, Unread>
     ensures { IfOk result (λ o. IsOutline text.now (view o.tree) o.facts.now) }
 {
     let Some(split) = split_document(text) else {
-        return Err(NotInPieces::NeedsTree);
+        return Err(Unread::NeedsTree);
     };
     let mut members = Map::new(alloc);
     read_beside(alloc, split.before, &mut members)?;

@@ -12,9 +12,9 @@ ghost use Rattle.oim_report.specs.code.Ranks.{AreRanks};
 use crate::fact::fact_members::FactMembers;
 use crate::fact::fact_reader::FactReader;
 use crate::limits::{MOST_KEPT_BYTES, PIECE_BYTES};
-use crate::not_in_pieces::NotInPieces;
 use crate::pieces::cuts::split_piece;
 use crate::pieces::found_facts::FoundFacts;
+use crate::unread::Unread;
 use json::{Element, Members, Scratch, Tape};
 use std::alloc::{AllocError, Global};
 
@@ -52,7 +52,7 @@ pub(crate) fn read_facts_in_pieces(
     buffers: &mut PieceBuffers,
     text: &str,
     size: usize,
-) -> Result<FoundFacts, NotInPieces>
+) -> Result<FoundFacts, Unread>
     ensures same { reader.new ≡ reader.old }
     ensures found { IfOk result (λ f. (objects : tree.Members) × IsPiece text.now objects
         × AreFound reader.old.sheet reader.old.aliases objects f.identifiers f.facts.items) }
@@ -68,7 +68,7 @@ pub(crate) fn read_facts_in_pieces(
             None => return found.in_order(alloc),
         }
     }
-    Err(NotInPieces::NeedsTree)
+    Err(Unread::NeedsTree)
 }
 
 // Adds the facts of a piece, in the order of the text. The result is `NeedsTree` if the piece cannot
@@ -79,7 +79,7 @@ fn read_piece_facts(
     buffers: &mut PieceBuffers,
     piece: &str,
     found: &mut FoundFacts,
-) -> Result<(), NotInPieces>
+) -> Result<(), Unread>
     ensures same { reader.new ≡ reader.old }
     ensures found { OnOk result ((ms : tree.Members) × IsPiece piece.now (put_all ms no_members)
         × HaveMore reader.old.sheet reader.old.aliases ms found.old.identifiers found.new.identifiers
@@ -89,7 +89,7 @@ fn read_piece_facts(
 {
     let tape = parse_piece(alloc, buffers, piece)?;
     let Some(members) = only_object(&tape.root()) else {
-        return Err(NotInPieces::NeedsTree);
+        return Err(Unread::NeedsTree);
     };
     read_members(alloc, reader, members, found)
 }
@@ -99,7 +99,7 @@ pub(crate) fn parse_piece<'b>(
     alloc: Global,
     buffers: &'b mut PieceBuffers,
     piece: &str,
-) -> Result<Tape<'b>, NotInPieces>
+) -> Result<Tape<'b>, Unread>
     ensures { IfOk result (λ tape. (v : Json) × (document (alone piece.now) ≡ Some v) × BeginsWith tape v) }
 {
     // `json` ignores a refusal when it requests memory for all nodes, so enough is requested here. A
@@ -137,7 +137,7 @@ fn read_members(
     reader: &mut FactReader<'_>,
     mut members: Members<'_, '_>,
     found: &mut FoundFacts,
-) -> Result<(), NotInPieces>
+) -> Result<(), Unread>
     ensures same { reader.new ≡ reader.old }
     ensures found { (vs : spec.Members) → InMembers members.entry vs
         → OnOk result ((ms : tree.Members) × AreData vs ms × HasMember ms
@@ -151,7 +151,7 @@ fn read_members(
         read_member(alloc, reader, key, &object, found)?;
     }
     if found.facts.len() == before {
-        return Err(NotInPieces::NeedsTree);
+        return Err(Unread::NeedsTree);
     }
     Ok(())
 }
@@ -162,7 +162,7 @@ fn read_member(
     key: &str,
     object: &Element<'_, '_>,
     found: &mut FoundFacts,
-) -> Result<(), NotInPieces>
+) -> Result<(), Unread>
     ensures same { reader.new ≡ reader.old }
     ensures found { OnOk result (HaveOneMore reader.old.sheet reader.old.aliases key.now object.now
         found.old.identifiers found.new.identifiers found.old.facts.items found.new.facts.items) }

@@ -8,7 +8,7 @@ ghost use Rattle.serde_json.specs.Data as tree;
 ghost use Rattle.serde_json.specs.View.{view, items_view, members_view};
 ghost use Rattle.oim_report.specs.code.TapeValues.{IsReadAs};
 
-use crate::not_in_pieces::NotInPieces;
+use crate::unread::Unread;
 use json::{Element, Items, Members};
 use serde_json::{Map, Value};
 use std::alloc::Global;
@@ -20,7 +20,7 @@ pub(crate) fn tree_of(
     alloc: Global,
     element: &Element<'_, '_>,
     levels: usize,
-) -> Result<Value, NotInPieces>
+) -> Result<Value, Unread>
     ensures { (v : Json) → BeginsWith element.now v → IfOk result (λ t. IsReadAs levels v (view t)) }
 {
     if let Some(items) = element.items() {
@@ -33,16 +33,12 @@ pub(crate) fn tree_of(
 }
 
 #[cycle(tree)]
-fn items_of(
-    alloc: Global,
-    mut items: Items<'_, '_>,
-    levels: usize,
-) -> Result<Vec<Value>, NotInPieces>
+fn items_of(alloc: Global, mut items: Items<'_, '_>, levels: usize) -> Result<Vec<Value>, Unread>
     ensures { (vs : spec.Items) → InItems items.entry vs → IfOk result
         (λ found. IsReadAs levels (spec.array vs) (tree.array (items_view found.items))) }
 {
     if levels == 0 {
-        return Err(NotInPieces::NeedsTree);
+        return Err(Unread::NeedsTree);
     }
     let mut found = Vec::new(alloc);
     while let Some(item) = items.next() {
@@ -57,12 +53,12 @@ fn members_of(
     alloc: Global,
     mut members: Members<'_, '_>,
     levels: usize,
-) -> Result<Map<String, Value>, NotInPieces>
+) -> Result<Map<String, Value>, Unread>
     ensures { (vs : spec.Members) → InMembers members.entry vs → IfOk result
         (λ found. IsReadAs levels (spec.object vs) (tree.object (members_view found.entries))) }
 {
     if levels == 0 {
-        return Err(NotInPieces::NeedsTree);
+        return Err(Unread::NeedsTree);
     }
     let mut found = Map::new(alloc);
     while let Some((name, member)) = members.next() {
@@ -73,7 +69,7 @@ fn members_of(
     Ok(found)
 }
 
-fn leaf_of(alloc: Global, element: &Element<'_, '_>) -> Result<Value, NotInPieces>
+fn leaf_of(alloc: Global, element: &Element<'_, '_>) -> Result<Value, Unread>
     ensures { (v : Json) → BeginsWith element.now v → IfOk result (λ t. IsReadAs 0 v (view t)) }
 {
     if let Some(text) = element.as_str() {
@@ -85,6 +81,6 @@ fn leaf_of(alloc: Global, element: &Element<'_, '_>) -> Result<Value, NotInPiece
     if element.is_null() {
         Ok(Value::Null)
     } else {
-        Err(NotInPieces::NeedsTree)
+        Err(Unread::NeedsTree)
     }
 }

@@ -38,6 +38,6 @@ returns-in_err-add-in-Numeric-Text-clause-known c =
 pub returns-in_err-read-in-Numeric-Text-clause-errors : goal.returns-in_err-read-in-Numeric-Text-clause-errors
 returns-in_err-read-in-Numeric-Text-clause-errors c =
     let bs = c.args.aliases.now in
-    let p = err_from_is_err_and c.from_residual-in_err-read-in-Numeric-Text.result c.from_residual-in_err-read-in-Numeric-Text.ensures.1 in rw (p.1, p.2)
-    (subst (λ g. Stops (said_unit bs c.args.kind g) c.in_err-read-in-Numeric-Text.field-0.0) (sym (ap seen c.in-Numeric-Text.is-1))
-    (unit_unsaid bs c.args.kind c.in-Numeric-Text.text.now _ c.in_err-read-in-Numeric-Text.ensures.errors))
+    let p = err_from_is_err_and c.from_residual-in_err-read-in-Numeric-Text.result c.from_residual-in_err-read-in-Numeric-Text.ensures.1 in rw p.1
+    (subst (λ g. Stops (said_unit bs c.args.kind g) p.0) (sym (ap seen c.in-Numeric-Text.is-1))
+    (unit_unsaid bs c.args.kind c.in-Numeric-Text.text.now _ p.0 p.2 c.in_err-read-in-Numeric-Text.ensures.errors))

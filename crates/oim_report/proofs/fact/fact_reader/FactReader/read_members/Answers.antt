@@ -37,5 +37,5 @@ returns-in_err-set_members-clause-errors c =
     let l = c.loop-key in
     let own = c.args.self.now in
     let again = c.in_err-set_members.ensures.refused.0 (ap Err c.in_err-set_members.ensures.errors) in
-    let p = err_from_is_err_and c.from_residual-in_err-set_members.result c.from_residual-in_err-set_members.ensures.1 in rw (p.1, p.2)
+    let p = err_from_is_err_and c.from_residual-in_err-set_members.result c.from_residual-in_err-set_members.ensures.1 in rw p.1
     (inr (unsaid_again own.sheet own.aliases c.args.defined.now l.found.items l.key-index c.loop-key-test.false l.invariant.found again))
