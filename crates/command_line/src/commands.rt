@@ -17,12 +17,13 @@ use crate::folder::Folder;
 use crate::inputs::Inputs;
 use crate::print_format::PrintFormat;
 use crate::request::{Request, Subcommand};
-use oim_merge::{Refusals, consolidate_bundle};
+use oim_merge::{Merged, Refusals, consolidate_bundle, write_within};
 use oim_report::Sheet;
 use oim_value::Level;
 use oim_write::{BoundedSink, Sink, put_all};
 use std::alloc::Global;
 use std::io::Write;
+use std::mem;
 
 /// Runs the request and writes its output to `out`. After an error, the output may be incomplete.
 pub(crate) fn execute<'n, F: Folder, E: Write, S: Sink>(
@@ -95,7 +96,11 @@ fn run_merge<'n, F: Folder, E: Write, S: Sink>(
         (S.told out.old) (S.told out.new) result }
     ensures console { inputs.old.console.is_terminal ≡ false → inputs.new.console ≡ inputs.old.console }
 {
-    Ok(inputs.consolidate(sheet)?.finish_last(allow, out)?)
+    let Merged { base, refusals } = inputs.consolidate(sheet)?.into_merged()?;
+    let written = write_within(inputs.alloc, &base, refusals, allow, out);
+    // The program ends after its command, so freeing the facts would only take time.
+    mem::forget(base);
+    Ok(written?)
 }
 
 /// Reads the reports, in order, and writes the verdicts on the facts of the accepted ones to `out`.

@@ -9,7 +9,11 @@ use oim_value::Level;
 use oim_write::{Sink, write_to};
 use std::alloc::Global;
 
-pub(crate) fn write_within<S: Sink>(
+/// Writes the canonical text of a base to the sink, and returns `refusals` unchanged.
+///
+/// Errors: `TooLoose` if a dimension set has duplicates above `allow`, with nothing written;
+/// `Device` if the sink failed; `OutOfMemory`.
+pub fn write_within<S: Sink>(
     alloc: Global,
     base: &Base<'_>,
     refusals: Refusals,

@@ -21,7 +21,6 @@ use oim_value::Level;
 use oim_write::{Encoded, Sink};
 use std::alloc::{AllocError, Global};
 use std::marker::Model;
-use std::mem;
 
 /// Merges reports under a sheet. Writes the canonical text of the accepted reports to the sink
 /// (xBRL-JSON 1.0; the choice of prefixes and identifiers is our own). Returns the refusals with
@@ -223,24 +222,6 @@ impl<'s> Consolidation<'s> {
         write_within(alloc, &base, refusals, allow, out)
     }
 
-    /// Does the same as `finish`, but does not free the facts.
-    ///
-    /// This saves time if the program exits afterwards.
-    ///
-    /// Errors: the same as `finish`.
-    pub fn finish_last<S: Sink>(self, allow: Level, out: &mut S) -> Result<Refusals, Fault>
-        requires { S.failures out.old < 2 ^ 64 - 1 }
-        ensures ok { IfOk result (Writes allow self.entry.body self.entry.refusals (S.told out.old) (S.told out.new)) }
-        ensures err { IfErr result (Stops allow self.entry.body self.entry.refusals (S.told out.old) (S.told out.new)) }
-        ensures failures { S.failures out.new ≡ failures_after_run result (S.failures out.old) }
-    {
-        let alloc = self.alloc;
-        let Merged { base, refusals } = self.into_merged()?;
-        let written = write_within(alloc, &base, refusals, allow, out);
-        mem::forget(base);
-        written
-    }
-
     /// Appends one line for each dimension set of the accepted reports to the sink, as
     /// `verdict_lines` does, and returns the refusals.
     ///
@@ -252,18 +233,6 @@ impl<'s> Consolidation<'s> {
         ensures failures { S.failures out.new ≡ failures_after_run result (S.failures out.old) }
     {
         self.finish_verdicts(&VerdictLines, out)
-    }
-
-    /// Does the same as `finish_lines`, but does not free the facts (see `finish_last`).
-    ///
-    /// Errors: the same as `finish_lines`.
-    pub fn finish_lines_last<S: Sink>(self, out: &mut S) -> Result<Refusals, Fault>
-        requires { S.failures out.old < 2 ^ 64 - 1 }
-        ensures ok { IfOk result (Lists [] line_text self.entry.body self.entry.refusals (S.told out.old) (S.told out.new)) }
-        ensures err { IfErr result (ListStops [] line_text self.entry.body (S.told out.old) (S.told out.new)) }
-        ensures failures { S.failures out.new ≡ failures_after_run result (S.failures out.old) }
-    {
-        self.finish_verdicts_last(&VerdictLines, out)
     }
 
     /// Does the same as `finish_lines` in another format, which may begin with a header.
@@ -282,26 +251,6 @@ impl<'s> Consolidation<'s> {
         let alloc = self.alloc;
         let Merged { base, refusals } = self.into_merged()?;
         write_verdicts(alloc, &base, refusals, format, out)
-    }
-
-    /// Does the same as `finish_verdicts`, but does not free the facts (see `finish_last`).
-    ///
-    /// Errors: the same as `finish_lines`.
-    pub fn finish_verdicts_last<S: Sink, F: VerdictFormat>(
-        self,
-        format: &F,
-        out: &mut S,
-    ) -> Result<Refusals, Fault>
-        requires { S.failures out.old < 2 ^ 64 - 1 }
-        ensures ok { IfOk result (Lists (F.header format.now) (F.row_text format.now) self.entry.body self.entry.refusals (S.told out.old) (S.told out.new)) }
-        ensures err { IfErr result (ListStops (F.header format.now) (F.row_text format.now) self.entry.body (S.told out.old) (S.told out.new)) }
-        ensures failures { S.failures out.new ≡ failures_after_run result (S.failures out.old) }
-    {
-        let alloc = self.alloc;
-        let Merged { base, refusals } = self.into_merged()?;
-        let written = write_verdicts(alloc, &base, refusals, format, out);
-        mem::forget(base);
-        written
     }
 
     /// Returns the base of the accepted reports, and the refusals.

@@ -25,6 +25,7 @@ mod verdict_format;
 mod verdict_rows;
 
 // merging
+pub use allowed_level::write_within;
 pub use bundle::consolidate_bundle;
 pub use consolidation::{Consolidation, Merged, consolidate, verdict_lines};
 pub use fault::Fault;
@@ -35,7 +36,7 @@ pub use mentions::IndexedMention;
 pub use source_format::{SourceFormat, SourceLines};
 pub use traced_merge::{TracedMerge, source_lines};
 pub use verdict_format::{Identifiers, JudgedRow, VerdictFormat};
-pub use verdict_rows::write_verdicts;
+pub use verdict_rows::{VerdictLines, write_verdicts};
 // replicas
 pub use event::Event;
 pub use events::{Events, ReplayFault, read_events};

@@ -17,7 +17,7 @@ use std::alloc::{AllocError, Global};
 
 /// The format of the lines that `verdict_lines` writes.
 #[derive(Clone, Copy, Debug)]
-pub(crate) struct VerdictLines;
+pub struct VerdictLines;
 
 impl VerdictFormat for VerdictLines {
     ghost use Rattle.std.specs.Prelude.{[]};

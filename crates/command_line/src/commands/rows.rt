@@ -2,11 +2,13 @@ ghost use Rattle.std.specs.Prelude.{◌-◌, ◌^◌, ◌<◌};
 ghost use Rattle.oim_write.specs.BoundedSink.{bounded_failures};
 ghost use Rattle.command_line.specs.Endings.{Ends, Never};
 ghost use Rattle.command_line.specs.Outputs.{AreSources, AreVerdicts};
-ghost use Rattle.command_line.specs.declared.print_format.PrintFormat.TheVariants.{Rows};
+ghost use Rattle.command_line.specs.declared.print_format.PrintFormat.TheVariants.{Lines, Rows};
 
 use crate::error::Error;
 use crate::print_format::PrintFormat;
-use oim_merge::{Consolidation, Merged, Refusals, SourceLines, TracedMerge, write_verdicts};
+use oim_merge::{
+    Consolidation, Merged, Refusals, SourceLines, TracedMerge, VerdictLines, write_verdicts,
+};
 use oim_write::{BoundedSink, Sink};
 use row_formats::{RowFormat, SourceRows, has_long_row};
 use std::alloc::Global;
@@ -94,10 +96,27 @@ pub(crate) fn put_verdicts<'n, S: Sink>(
     ensures { Ends (AreVerdicts format consolidation.entry.body consolidation.entry.refusals)
         (S.told out.old.sink) (S.told out.new.sink) Never result }
 {
+    let merged = consolidation.into_merged()?;
     match format {
-        PrintFormat::Lines => Ok(consolidation.finish_lines_last(out)?),
-        PrintFormat::Rows(format) => put_rows(alloc, consolidation.into_merged()?, format, out),
+        PrintFormat::Lines => put_lines(alloc, merged, out),
+        PrintFormat::Rows(format) => put_rows(alloc, merged, format, out),
     }
+}
+
+// The facts are not freed, because the program ends after its command.
+fn put_lines<'n, S: Sink>(
+    alloc: Global,
+    merged: Merged<'_>,
+    out: &mut S,
+) -> Result<Refusals, Error<'n>>
+    requires { S.failures out.old < 2 ^ 64 - 1 }
+    ensures { Ends (AreVerdicts Lines merged.entry.base.body merged.entry.refusals)
+        (S.told out.old) (S.told out.new) Never result }
+{
+    let Merged { base, refusals } = merged;
+    let written = write_verdicts(alloc, &base, refusals, &VerdictLines, out);
+    mem::forget(base);
+    Ok(written?)
 }
 
 /// A row is made in memory before it is written, so a row above the bound is not made.

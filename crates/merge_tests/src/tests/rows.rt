@@ -58,7 +58,6 @@ const SOURCES_SPREADSHEET: &[u8] = b"\xef\xbb\xbfreport,file,identifier,fact\r
 #[derive(Clone, Copy)]
 enum Call {
     Verdicts,
-    LastVerdicts,
     Sources,
 }
 
@@ -110,17 +109,12 @@ fn sources<S: Sink>(
 fn verdicts<S: Sink>(
     alloc: Global,
     sheet: &Sheet,
-    call: Call,
     format: RowFormat,
     sink: &mut S,
 ) -> Result<Refusals, Fault>
     requires { S.failures sink.old < 2 ^ 64 - 1 }
 {
-    let consolidation = added(alloc, sheet)?;
-    match call {
-        Call::LastVerdicts => consolidation.finish_verdicts_last(&format, sink),
-        _ => consolidation.finish_verdicts(&format, sink),
-    }
+    added(alloc, sheet)?.finish_verdicts(&format, sink)
 }
 
 fn asked<S: Sink>(
@@ -136,7 +130,7 @@ fn asked<S: Sink>(
     };
     match call {
         Call::Sources => sources(alloc, &sheet, format, sink),
-        _ => verdicts(alloc, &sheet, call, format, sink),
+        Call::Verdicts => verdicts(alloc, &sheet, format, sink),
     }
 }
 
@@ -157,9 +151,8 @@ fn holds(rt: &HostRuntime, call: Call, format: RowFormat, wanted: &[u8]) -> bool
     answer == Ok(true)
 }
 
-const ROWS: [(Call, RowFormat, &[u8]); 5] = [
+const ROWS: [(Call, RowFormat, &[u8]); 4] = [
     (Call::Verdicts, RowFormat::Json, VERDICTS_JSON),
-    (Call::LastVerdicts, RowFormat::Json, VERDICTS_JSON),
     (Call::Sources, RowFormat::Json, SOURCES_JSON),
     (Call::Verdicts, RowFormat::Csv, VERDICTS_CSV),
     // no cell of a spreadsheet is a formula

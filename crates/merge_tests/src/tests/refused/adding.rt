@@ -63,31 +63,23 @@ fn three<'s>(
     Some(consolidation)
 }
 
-/// Writes the merged text. If `last` is set, the call also consumes the reports.
-fn finishes_once(rt: &HostRuntime, sheet: &Sheet, last: bool, text: &[u8]) -> Option<bool> {
+/// Writes the merged text.
+fn finishes_once(rt: &HostRuntime, sheet: &Sheet, text: &[u8]) -> Option<bool> {
     let Some(consolidation) = three(rt, sheet, TOUCHING, TOUCHING) else {
         return Some(false);
     };
     let mut sink = StdSink::new(Expecting::just(text));
-    let answer = if last {
-        consolidation.finish_last(Level::Consistent, &mut sink)
-    } else {
-        consolidation.finish(Level::Consistent, &mut sink)
-    };
+    let answer = consolidation.finish(Level::Consistent, &mut sink);
     came_to(rt, answer, sink, text)
 }
 
-/// Writes the verdict lines. If `last` is set, the call also consumes the reports.
-fn lists_once(rt: &HostRuntime, sheet: &Sheet, last: bool) -> Option<bool> {
+/// Writes the verdict lines.
+fn lists_once(rt: &HostRuntime, sheet: &Sheet) -> Option<bool> {
     let Some(consolidation) = three(rt, sheet, THREE_SETS, ONE_OF_THREE) else {
         return Some(false);
     };
     let mut sink = StdSink::new(Expecting::just(THREE_LINES));
-    let answer = if last {
-        consolidation.finish_lines_last(&mut sink)
-    } else {
-        consolidation.finish_lines(&mut sink)
-    };
+    let answer = consolidation.finish_lines(&mut sink);
     came_to(rt, answer, sink, THREE_LINES)
 }
 
@@ -126,16 +118,16 @@ fn traces_once(rt: &HostRuntime, sheet: &Sheet) -> Option<bool> {
     came_to(rt, answer, sink, SIX_SOURCES)
 }
 
-fn finishes(rt: &HostRuntime, sheet: &Sheet, last: bool, text: &[u8]) -> bool {
-    match finishes_once(rt, sheet, last, text) {
-        None => finishes_once(rt, sheet, last, text) == Some(true),
+fn finishes(rt: &HostRuntime, sheet: &Sheet, text: &[u8]) -> bool {
+    match finishes_once(rt, sheet, text) {
+        None => finishes_once(rt, sheet, text) == Some(true),
         Some(met) => met,
     }
 }
 
-fn lists(rt: &HostRuntime, sheet: &Sheet, last: bool) -> bool {
-    match lists_once(rt, sheet, last) {
-        None => lists_once(rt, sheet, last) == Some(true),
+fn lists(rt: &HostRuntime, sheet: &Sheet) -> bool {
+    match lists_once(rt, sheet) {
+        None => lists_once(rt, sheet) == Some(true),
         Some(met) => met,
     }
 }
@@ -144,15 +136,14 @@ fn lists(rt: &HostRuntime, sheet: &Sheet, last: bool) -> bool {
 fn reports_that_are_added_are_merged(rt: HostRuntime) -> Result<(), Fail> {
     let sheet = read_sheet(&rt, SHEET)?;
     let text = joined(&rt, &BOTH)?;
-    assert!(rt; finishes(&rt, &sheet, false, &text));
-    assert!(rt; finishes(&rt, &sheet, true, &text));
+    assert!(rt; finishes(&rt, &sheet, &text));
     Ok(())
 }
 
 #[test]
 fn reports_that_are_added_are_judged(rt: HostRuntime) -> Result<(), Fail> {
     let sheet = read_sheet(&rt, SHEET)?;
-    assert!(rt; lists(&rt, &sheet, false) && lists(&rt, &sheet, true));
+    assert!(rt; lists(&rt, &sheet));
     Ok(())
 }
 
