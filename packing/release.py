@@ -8,9 +8,9 @@ import tempfile
 from dataclasses import replace
 
 from packing import bill, contents, debian
-from packing.files import read
+from packing.files import File, read
 from packing.running import run_tool
-from packing.source import Source
+from packing.source import Source, newest_libc
 from packing.tarball import tarball
 
 SUMS = "SHA256SUMS"
@@ -50,10 +50,10 @@ def wheel(source: Source, folder: str) -> None:
 def archive(source: Source) -> bytes:
     """Returns the .tar.xz, with all that can be installed."""
     program = contents.program(source.top, source.program)
-    about = ABOUT.format(version=source.version, libc=debian.newest_libc(program[0].content), notices=bill.notices(source))
+    about = ABOUT.format(version=source.version, libc=newest_libc(program[0].content), notices=bill.notices(source))
     files = [*program, *contents.shared_library(source.library), *contents.documents(source.top),
              *contents.for_developers(source.top, source.library, source.version),
-             contents.File("README", about.encode())]
+             File("README", about.encode())]
     return tarball(files, f"xbrlmerge-{source.version}", source.seconds)
 
 
