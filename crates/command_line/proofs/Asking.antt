@@ -8,7 +8,7 @@ use Rattle.clap.specs.Simple.{Shape}
 use Rattle.clap.specs.Walk.{Held, Text, Walk, arg_by_id, arg_by_index, idle, is_pending, nothing_held, option, option_word, walk_from, walked}
 use Rattle.command_line.specs.Arguments.{Tables}
 use Rattle.command_line.specs.Words.{Work, asked_with, check}
-use Rattle.command_line.specs.WordLaws.{AllowWords, AreReports, AsksFor, CheckWords, ExplainWords, IsName, MergeWords, OptionsWords, ReplayWords, SourcesWords, VerdictsWords, plainly, with_all_options}
+use Rattle.command_line.specs.WordLaws.{AllowWords, AreReports, IsUsage, CheckWords, ExplainWords, IsName, MergeWords, OptionsWords, ReplayWords, SourcesWords, VerdictsWords, plainly, with_all_options}
 use Rattle.oim_value.specs.declared.level.Level.TheVariants.{All, Complete, Consistent, Unique}
 use Rattle.oim_explain.specs.declared.lines.Format.TheVariants as explained
 use Rattle.row_formats.specs.declared.row_format.RowFormat.TheVariants as rows
@@ -57,7 +57,7 @@ LeadTo s options work sheet = (h : Held) × Reaches s (at idle 1 (sheet_given (s
     × ((r : Text) (rs : List Text) → ends_with s h (r ∷ rs) ≡ Some (plainly sheet work (r ∷ rs)))
 
 asks_for : (name : Text) (options : List Text) (work : Work) (s : Places → Shape) → ((x : Places) → Reads (tables x) name (s x))
-    → ((x : Places) (sheet : Text) → LeadTo (s x) options work sheet) → AsksFor name options work
+    → ((x : Places) (sheet : Text) → LeadTo (s x) options work sheet) → IsUsage name options work
 asks_for name options work s reads lead sheet [] plain reports = elim reports [ ]
 asks_for name options work s reads lead sheet (r ∷ rs) plain reports =
     for_tables (λ t. asked_with t (name ∷ codes "--sheet" ∷ sheet ∷ options ++ r ∷ rs) ≡ Some (plainly sheet work (r ∷ rs)))

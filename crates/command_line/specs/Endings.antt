@@ -12,7 +12,7 @@ pub record AppendsPart (old new : Option (List ℕ)) (text : List ℕ) : Type 0 
   pub whole : text ≡ front ++ rest
   pub appended : Appends old new front
 
--- `Gives text result` says which text and which result the run has
+-- `Gives text result` holds if a run may print this text and return this result
 module _ {T : Type 0} (Gives : List ℕ → T → Type 0) (old new : Option (List ℕ)) where
   -- the whole text was appended
   pub record Prints (result : T) : Type 0 where
@@ -20,17 +20,19 @@ module _ {T : Type 0} (Gives : List ℕ → T → Type 0) (old new : Option (Lis
     pub gives : Gives text result
     pub appended : Appends old new text
 
+  -- a beginning of a text that the run may print was appended
   pub record Begins : Type 0 where
     pub result : T
     pub text : List ℕ
     pub gives : Gives text result
     pub part : AppendsPart old new text
 
+  -- nothing was appended, even if no text is known, or a beginning of a text
   abbrev pub IsCutOff : Type 0
   IsCutOff = Appends old new [] ⊎ Begins
 
-  -- Nothing was appended before the error. Only if memory was refused, the device failed or the text is too long, a beginning of the text may
-  -- be there. `Loose` says which row is too loose.
+  -- Nothing was appended before the error, except that a beginning of the text may be there if memory was refused, the device
+  -- failed or the text is too long. `Loose row refusals` holds if this row is the first above the allowed level.
   abbrev pub Stops : (ℕ → NumberedRefusals → Type 0) → Error → Type 0
   Stops Loose (TooLoose row returned) = Loose row returned × Appends old new []
   Stops Loose (Device written) = IsCutOff

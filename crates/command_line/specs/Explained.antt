@@ -43,8 +43,8 @@ module _ (gives : List ℕ → List ℕ → Type 0) (format : Format) where
   AreExplained sheet n [] = ⊤
   AreExplained sheet n (r ∷ rs) = IsExplained sheet n r × AreExplained sheet (n + 1) rs
 
-  -- the repeated members of the sheet, then the faults and repeated members of each report, in the order of the names, and their
-  -- numbers; all this is in `text`
+  -- `text` contains the lines of the sheet's repeated members, the lines of each report in the order of the names, and the line
+  -- with the counts; `faults` is the number of lines before the counts
   pub record ExplainGives (name : Bor (List ℕ)) (names : List (Bor (List ℕ))) (text : List ℕ) (faults : ℕ) : Type 0 where
     pub bytes : List ℕ
     pub sheet : Sheet

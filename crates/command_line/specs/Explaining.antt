@@ -36,7 +36,7 @@ module _ (gives : List ℕ → List ℕ → Type 0) (format : Format) where
     ReportsEnd of_sheet (Err e) = IsNotLoose e × StopsAmong
 
   module _ (name : Bor (List ℕ)) (bytes : List ℕ) (names : List (Bor (List ℕ))) (old new : Option (List ℕ)) where
-    -- the sheet was read, and the lines of its repeated members
+    -- the bytes are a sheet, `of_sheet` has the lines of its repeated members, and both have the property
     pub record OfSheet (P : Sheet → Explained → Type 0) : Type 0 where
       pub sheet : Sheet
       pub read : sheet_outcome bytes ≡ Ok sheet
@@ -44,7 +44,7 @@ module _ (gives : List ℕ → List ℕ → Type 0) (format : Format) where
       pub repeated : Explains (record { report = None; name = name; format = format }) [] of_sheet
       pub has : P sheet of_sheet
 
-    -- these lines were appended before others
+    -- the lines of `of_sheet` were appended first, and then `P` holds of the bytes after them
     abbrev pub Behind : (Option (List ℕ) → Type 0) → Explained → Type 0
     Behind P of_sheet = (mid : Option (List ℕ)) × Appends old mid (string_bytes of_sheet.text) × P mid
 

@@ -3,9 +3,8 @@ use Rattle.std.specs.Prelude.{ℕ, zero, suc, List, [], ◌∷◌, ◌++◌, cod
 use Rattle.std.specs.Fmt.{decimal}
 use Rattle.oim_names.specs.Reasons.{entry_of}
 use Rattle.oim_names.specs.declared.reason.Reason.{Reason}
-use Rattle.oim_report.specs.declared.place.Place.{Place}
-use Rattle.oim_report.specs.declared.place.Place.TheVariants as place
 use Rattle.oim_report.specs.declared.refusal.Refusal.{Refusal}
+use Rattle.oim_explain.specs.Lines.{place_text}
 use Rattle.command_line.specs.declared.error.Error.{Error}
 use Rattle.command_line.specs.declared.error.Error.TheVariants as error
 use Rattle.command_line.specs.declared.error.Success.{Success}
@@ -37,10 +36,6 @@ status_of (Err error) = status_of_error error
 
 -- ---- the lines of refusals
 
-abbrev pub place_text : Place → List ℕ
-place_text place.Document = codes "document"
-place_text (place.Fact number) = codes "fact " ++ decimal number
-
 abbrev pub refusal_line : ℕ × Refusal → List ℕ
 refusal_line numbered =
     let entry = entry_of numbered.1.reason in
@@ -71,7 +66,7 @@ error_lines (error.TooLoose row refused) = Some (refusal_lines refused ++ (codes
 error_lines (error.Sheet reason explained kind) = Some (sheet_line reason ++ explained_lines explained)
 error_lines e = error_line e
 
--- what is printed at the end of a run, if no second lines are asked for
+-- what standard error gets at the end of a plain run; None if that includes a file name or the text of clap
 abbrev pub lines_of : Result Success Error → Option (List ℕ)
 lines_of (Ok (success.Refusals refusals)) = Some (refusal_lines refusals)
 lines_of (Ok (success.Faults faults)) = Some []

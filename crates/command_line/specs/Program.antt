@@ -77,11 +77,12 @@ IsPlain is_terminal is_verbose is_whole = (is_terminal ≡ false) × (is_verbose
 abbrev pub AreNotVerbose : List Text → Type 0
 AreNotVerbose words = (args : Args) → Mean words args → args.is_verbose ≡ false
 
--- nor is a bundle awaited on a terminal
+-- a whole run is plain if also no option asks for second lines and no line about an awaited bundle is printed
 abbrev pub IsPlainRun : List Text → Bool → Bool → Bool → Type 0
 IsPlainRun words is_input_terminal is_terminal is_whole = AreNotVerbose words × (words ≡ [] → is_input_terminal ≡ false) × IsPlain is_terminal false is_whole
 
--- the status and the lines of one result, which has the property
+-- a run ended with `done`, for which `Ends` holds; it returned the status of `done` and, if it is plain, appended its lines to
+-- standard error
 pub record Tells (Ends : Result Success Error → Type 0) (status : ℕ) (Plain : Type 0) (err_old err_new : Option (List ℕ)) : Type 0 where
   pub done : Result Success Error
   pub ends : Ends done

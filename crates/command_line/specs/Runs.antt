@@ -44,7 +44,7 @@ pub record MergesBundle (bundle text : List ℕ) (returned : NumberedRefusals) :
 
 -- what was printed when `explain` ended; no row is too loose
 module _ (gives : List ℕ → List ℕ → Type 0) (names : List (Bor (List ℕ))) (name : Bor (List ℕ)) (format : Format) (old new : Option (List ℕ)) where
-  -- nothing else was printed than a beginning of the output for the first reports
+  -- a beginning of the output for the first reports was printed, and nothing else
   pub record ExplainStops (error : Error) : Type 0 where
     pub not_loose : IsNotLoose error
     pub front : List (Bor (List ℕ))
@@ -76,7 +76,7 @@ module _ (gives : List ℕ → List ℕ → Type 0) (bundle : List ℕ) (names :
 
 -- ---- where the output goes
 
--- a file with the bytes `written` is in the place of another exactly after a success
+-- after a success the new file is in the place of the old one; after an error the old one is unchanged
 abbrev pub IsPlaced : Option (List ℕ) → Option (List ℕ) → Option (List ℕ) → Result Success Error → Type 0
 IsPlaced written old new done = MatchResult done (λ success. Keeps written new) (λ error. new ≡ old)
 
@@ -86,7 +86,9 @@ pub record Replaces (Ends : Option (List ℕ) → Option (List ℕ) → Result S
   pub ends : Ends empty written done
   pub placed : IsPlaced written old new done
 
--- the output went to standard output, and no file changed, or into the place of the file with a name
+-- How a request ends, where `Ends old new done` is how it ends if it writes to bytes `old` and leaves `new`. Without a name,
+-- standard output goes from `out_old` to `out_new`, and no file changes. With a name, a new file, which begins as `empty`,
+-- takes the place of the file after a success, and standard output does not change. `old` and `new` give the bytes of files.
 abbrev pub OutputEnds : (Option (List ℕ) → Option (List ℕ) → Result Success Error → Type 0) → Option (Bor (List ℕ)) → Option (List ℕ) → Option (List ℕ) → Option (List ℕ) → (List ℕ → Option (List ℕ)) → (List ℕ → Option (List ℕ)) → Result Success Error → Type 0
 OutputEnds Ends None out_old out_new empty old new done = Ends out_old out_new done × ((name : List ℕ) → new name ≡ old name)
 OutputEnds Ends (Some name) out_old out_new empty old new done = Replaces Ends empty (old name.now) (new name.now) done × (out_new ≡ out_old)

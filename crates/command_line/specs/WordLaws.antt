@@ -26,7 +26,7 @@ abbrev pub AreReports : List Text → Type 0
 AreReports [] = ⊥
 AreReports (x ∷ xs) = AreNames (x ∷ xs) × (length (x ∷ xs) < 2 ^ 64)
 
--- the words ask for this
+-- whatever tables of names clap is given, the words ask for this command
 abbrev pub Ask : List Text → Asked → Type 0
 Ask words a = (t : Tables) → AreTables t → asked_with t words ≡ Some a
 
@@ -44,17 +44,17 @@ plainly sheet work names = record {
   is_verbose = false;
 }
 
--- `NAME --sheet SHEET OPTIONS.. REPORTS..` is this work on these reports, in this order
-abbrev pub AsksFor : Text → List Text → Work → Type 0
-AsksFor name options work = (sheet : Text) (reports : List Text) → IsName sheet → AreReports reports
+-- `NAME --sheet SHEET OPTIONS.. REPORTS..` asks for this work on these reports, in this order
+abbrev pub IsUsage : Text → List Text → Work → Type 0
+IsUsage name options work = (sheet : Text) (reports : List Text) → IsName sheet → AreReports reports
     → Ask (name ∷ codes "--sheet" ∷ sheet ∷ options ++ reports) (plainly sheet work reports)
 
 -- without `--allow`, any level is allowed
 abbrev pub MergeWords : Type 0
-MergeWords = AsksFor (codes "merge") [] (merge All)
+MergeWords = IsUsage (codes "merge") [] (merge All)
 
 abbrev pub AllowWords : Type 0
-AllowWords = (level : Level) → AsksFor (codes "merge") (codes "--allow" ∷ (level_entry level).text ∷ []) (merge level)
+AllowWords = (level : Level) → IsUsage (codes "merge") (codes "--allow" ∷ (level_entry level).text ∷ []) (merge level)
 
 abbrev pub format_words : PrintFormat → List Text
 format_words printed.Lines = []
@@ -63,21 +63,21 @@ format_words (printed.Rows rows.Csv) = codes "--format" ∷ codes "csv" ∷ []
 format_words (printed.Rows rows.SpreadsheetCsv) = codes "--format" ∷ codes "csv" ∷ codes "--spreadsheet" ∷ []
 
 abbrev pub VerdictsWords : Type 0
-VerdictsWords = (format : PrintFormat) → AsksFor (codes "verdicts") (format_words format) (verdicts format)
+VerdictsWords = (format : PrintFormat) → IsUsage (codes "verdicts") (format_words format) (verdicts format)
 
 abbrev pub SourcesWords : Type 0
-SourcesWords = (format : PrintFormat) → AsksFor (codes "sources") (format_words format) (sources format)
+SourcesWords = (format : PrintFormat) → IsUsage (codes "sources") (format_words format) (sources format)
 
 abbrev pub explained_words : Format → List Text
 explained_words explained.Text = []
 explained_words explained.Json = codes "--format" ∷ codes "json" ∷ []
 
 abbrev pub ExplainWords : Type 0
-ExplainWords = (format : Format) → AsksFor (codes "explain") (explained_words format) (explain format)
+ExplainWords = (format : Format) → IsUsage (codes "explain") (explained_words format) (explain format)
 
 abbrev pub ReplayWords : Type 0
 ReplayWords = (events : Text) → IsName events
-    → AsksFor (codes "replay") (codes "--replicas" ∷ codes "2" ∷ codes "--events" ∷ events ∷ []) (replay 2 events)
+    → IsUsage (codes "replay") (codes "--replicas" ∷ codes "2" ∷ codes "--events" ∷ events ∷ []) (replay 2 events)
 
 abbrev pub CheckWords : Type 0
 CheckWords = (sheet report : Text) → IsName sheet → IsName report

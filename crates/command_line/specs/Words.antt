@@ -179,11 +179,11 @@ abbrev pub CallForHelp : List Text → Type 0
 CallForHelp words = (t : Tables) × AreTables t
     × (IsAmong kind.DisplayHelp (fault_of (program_app false t) words) ⊎ IsAmong kind.DisplayVersion (fault_of (program_app false t) words))
 
--- the arguments are the command that the words ask for
+-- the arguments and clap's matches of the words give the same command
 abbrev pub AskFor : List Text → Args → Type 0
 AskFor words args = (t : Tables) × AreTables t × (a : Asked) × (asked_of args ≡ Some a) × (asked_with t words ≡ Some a)
 
--- the request, and nothing else
+-- the request without options; `is_null` has no effect, because no file lists names
 abbrev pub IsAlone : Request → Args → Type 0
 IsAlone r args = (args.request ≡ r) × (args.words.items ≡ []) × (args.list ≡ None) × (args.output ≡ None) × (args.most ≡ None)
     × (args.is_quiet ≡ false) × (args.is_verbose ≡ false)

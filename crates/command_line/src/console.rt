@@ -43,8 +43,9 @@ pub(crate) struct Console<E> {
     /// True if a second line is printed for a refusal or a fault.
     pub is_verbose: bool,
     is_shown: bool,
-    /// True if each write of `tell` so far succeeded. Only the contract of `tell` needs this: if it is
-    /// false, lines may be missing on standard error.
+    /// True if no line of a refusal or an error failed to be written so far. The progress line and the
+    /// line with the file of a refused report do not count. Only contracts use this: if it is false,
+    /// lines may be missing on standard error.
     is_whole: bool,
 }
 
@@ -122,8 +123,8 @@ fn status(done: &Result<Success, Error<'_>>) -> u8
     }
 }
 
-// The functions below return true if each write succeeded. File names are escaped, because a line end
-// in a name could fake a line.
+// The functions below that return `bool` return true if each write succeeded, except of the line with
+// the file of a refused report. File names are escaped, because a line end in a name could fake a line.
 
 fn print_done<E: Write>(
     err: &mut E,

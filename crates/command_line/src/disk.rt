@@ -75,7 +75,7 @@ impl<W: Write> Write for Unseen<W> {
 #[derive(Clone, Copy)]
 pub(crate) struct System<'f, F>(pub &'f F);
 
-// The contracts of std say nothing of the bytes of a file.
+// The contracts of std do not describe the bytes of a file.
 impl<F: Files> Disk for System<'_, F> {
     type New = Unseen<F::File>;
 

@@ -52,7 +52,7 @@ pub(crate) enum Error<'n> {
     TooLoose(u64, Refusals),
     /// The output failed after this many bytes.
     Device(u64),
-    /// The output is longer than this bound, and these bytes of it were written.
+    /// The output is longer than this bound, in bytes. Standard output may have a beginning of it.
     TooMuch(u64),
     OutOfMemory,
 }

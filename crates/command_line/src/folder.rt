@@ -26,7 +26,7 @@ pub(crate) trait Folder {
         ensures err { IfErr result IsReadError };
 }
 
-// The contracts of std say nothing of the bytes of a file.
+// The contracts of std do not describe the bytes of a file.
 impl<F: Files> Folder for F {
     ghost gives = { λ _ _ _. ⊤ };
 

@@ -30,8 +30,9 @@ pub(crate) struct Inputs<'n, F, E> {
     pub output_per_byte: u64,
     /// The bytes of output that the bytes read since the last call of `take_allowance` allow.
     pub allowance: u64,
-    /// The reports that were read so far, and their bytes.
+    /// The number of reports that were read so far.
     pub read: usize,
+    /// The number of bytes of these reports.
     pub bytes: u64,
     pub console: Console<E>,
 }

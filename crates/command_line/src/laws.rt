@@ -14,8 +14,8 @@ pub fn allow_words()
     ensures { AllowWords }
 {}
 
-/// `verdicts --sheet SHEET REPORT..` asks for the verdicts on these reports, as lines, or in the
-/// format that `--format`, and for a spreadsheet `--spreadsheet`, names.
+/// `verdicts --sheet SHEET REPORT..` asks for the verdicts on these reports, as lines. `--format
+/// json`, `--format csv` and `--format csv --spreadsheet` ask for another format.
 #[tactic(auto, using(crate::proofs::Asking::verdicts_words))]
 pub fn verdicts_words()
     ensures { VerdictsWords }

@@ -54,7 +54,8 @@ fn write_out<'n, F: Folder, E: Write, O: Write + Drop>(
 }
 
 /// Flushes standard output if the command ran to its end, a row was above the allowed level, or the
-/// output was too long.
+/// output was too long. If standard output failed, now or before, the error gets `written`, the
+/// number of bytes that standard output took in this run.
 fn flushed<'n, O: Write>(
     done: Result<Success, Error<'n>>,
     written: u64,
@@ -111,6 +112,7 @@ fn write_file<'n, F: Folder, D: Disk, E: Write>(
     done
 }
 
+/// Puts the new file in place after a success. A failed write of it is returned as `Unwritten`.
 fn settle<'n, D: Disk>(
     disk: &mut D,
     done: Result<Success, Error<'n>>,

@@ -15,7 +15,7 @@ use std::io::Read;
 #[derive(Drop)]
 pub(crate) struct Args<'w> {
     pub request: Request<'w>,
-    /// The report names in the arguments. They precede the names in the file.
+    /// The report names among the arguments, not all arguments. They precede the names in the file.
     pub words: Vec<&'w str>,
     /// The file that lists more report names; it may be standard input.
     pub list: Option<&'w str>,
@@ -150,7 +150,7 @@ impl Request<'_> {
     fn is_bounded(&self) -> bool {
         match self {
             Request::Explain(..) => true,
-            Request::Under(_, subcommand) => subcommand.prints_rows(),
+            Request::Under(_, subcommand) => subcommand.repeats_names(),
             Request::Bundle | Request::Help(_) => false,
         }
     }
@@ -169,8 +169,9 @@ pub(crate) enum Subcommand<'w> {
 }
 
 impl Subcommand<'_> {
-    /// True if the output repeats the names of the facts, as JSON and CSV do.
-    fn prints_rows(self) -> bool {
+    /// True if the output repeats URIs or file names, as JSON and CSV do. It may then be much longer
+    /// than the reports.
+    fn repeats_names(self) -> bool {
         matches!(
             self,
             Subcommand::Verdicts(PrintFormat::Rows(_)) | Subcommand::Sources(PrintFormat::Rows(_))

@@ -58,26 +58,27 @@ pub(crate) fn read_words<W: AsStr>(alloc: Global, words: &[W]) -> Result<Args<'_
                 Ok(alone(alloc, Request::Help(error)))
             }
             ErrorKind::OutOfMemory => Err(Error::OutOfMemory),
-            _ => Err(Error::from(error_shown(alloc, words)?)),
+            _ => Err(Error::from(printable_error(alloc, words)?)),
         },
     }
 }
 
 /// Returns the error for the escaped arguments, since clap prints arguments unescaped. If the
 /// escaped arguments are valid, the error for the arguments is returned.
-fn error_shown<W: AsStr>(alloc: Global, words: &[W]) -> Result<clap::Error, AllocError> {
+fn printable_error<W: AsStr>(alloc: Global, words: &[W]) -> Result<clap::Error, AllocError> {
     let escaped = escape_each(alloc, words)?;
-    match refusal(alloc, escaped.as_slice())? {
+    match usage_error(alloc, escaped.as_slice())? {
         Some(error) => Ok(error),
-        None => match refusal(alloc, words)? {
+        None => match usage_error(alloc, words)? {
             Some(error) => Ok(error),
             None => missing_command(alloc),
         },
     }
 }
 
-/// Returns why clap refuses the arguments, with the options that need another one.
-fn refusal<W: AsStr>(alloc: Global, words: &[W]) -> Result<Option<clap::Error>, AllocError> {
+/// Returns the error if clap refuses the arguments, also because an option lacks another one that it
+/// needs.
+fn usage_error<W: AsStr>(alloc: Global, words: &[W]) -> Result<Option<clap::Error>, AllocError> {
     match program(alloc, true)?.try_get_matches_from(words) {
         Ok(matches) if matches.subcommand().is_none() => Ok(Some(missing_command(alloc)?)),
         Ok(_) => Ok(None),
@@ -136,7 +137,9 @@ fn args_of<'w>(alloc: Global, matches: &ArgMatches<'w>) -> Result<Option<Args<'w
     }
 }
 
-// The help lists the commands in this order.
+// The help lists the commands in this order. If `is_strict`, clap also refuses an option that lacks
+// another one that it needs. clap's contracts do not cover such rules, so `parse` is not strict, and
+// `args_in` tests for this. Only error messages come from the strict program.
 fn program<'w>(alloc: Global, is_strict: bool) -> Building<'w>
     ensures { IfOk result (λ c. (t : Tables) × AreTables t × IsApp (program_app is_strict t) c) }
 {

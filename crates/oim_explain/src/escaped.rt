@@ -20,7 +20,7 @@ impl fmt::Display for Escaped<'_> {
     ghost output = { λ text. Some (escaped text.0.now) };
 
     fn fmt<W: fmt::Write>(&self, f: &mut fmt::Formatter<W>) -> fmt::Result {
-        // nearly all texts, and one call writes them faster than one for each character
+        // Most texts have no hidden characters. One call writes them faster than one for each character.
         if are_shown(self.0) {
             return f.write_str(self.0);
         }

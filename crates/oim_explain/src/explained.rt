@@ -27,11 +27,12 @@ use serde_json::{Error, Map, Value};
 use std::alloc::{AllocError, Global};
 
 /// Returns one line for each fault of a report that is read under a sheet, in the order of
-/// `faults`, and then the lines of repeated members. The line of a fault begins with the name of
-/// the file, the fact's identifier if the fault is in a fact, and the number and name of the fault.
+/// `faults`, and then the lines of repeated members (own). In the format `Json`, a line is one
+/// object. In the format `Text`, the line of a fault begins with the name of the file, the fact's
+/// identifier if the fault is in a fact, and the number and name of the fault; its sentence follows.
 /// Each line contains only characters that are shown (`Escaped`).
 ///
-/// The sentence after that shows at most 80 characters of an identifier, a key or a value. A member
+/// A sentence shows at most 80 characters of an identifier, a key or a value. A member
 /// has a line if its key is repeated in the root, in `documentInfo`, `namespaces`, `features` or
 /// `facts`, in a fact, or in its `dimensions`. Only the last member with that key is read (RFC
 /// 8259, section 4).
@@ -204,7 +205,8 @@ fn push_of_fact(
     let alloc = lines.alloc;
     let (identifier, object) = fact_at(report, number);
     let subject = Subject::Fact(number, identifier);
-    // a fact has no fault if a prefix is not bound
+    // `aliases` is None only if an entry of `namespaces` is at fault. Then only faults of the document
+    // are listed, so this case does not occur.
     let Some(aliases) = &report.aliases else {
         return lines.push(&Finding::new(subject, reason, None));
     };
@@ -215,7 +217,8 @@ fn push_of_fact(
     })
 }
 
-/// Returns the identifier and the object of a fact. Each number in a fault is the number of a fact.
+/// Returns the identifier and the object of the fact with this number, from 1. A fault has the number
+/// of an existing fact, so `None` does not occur.
 fn fact_at<'t>(report: &ReportParts<'t>, number: u64) -> (&'t str, &'t Value)
     ensures { result.0.now ≡ get_or (identifiers_of report.now.facts.items) (number - 1) [] }
 {
@@ -225,7 +228,7 @@ fn fact_at<'t>(report: &ReportParts<'t>, number: u64) -> (&'t str, &'t Value)
     }
 }
 
-/// Returns what a name means that is not in the sheet, if the sheet has a similar name.
+/// If the sheet lacks a name but has a similar one, returns the namespaces of both.
 fn meaning_of<'a>(
     alloc: Global,
     names: &'a SheetNames<'_>,

@@ -10,6 +10,7 @@ use oim_report::Part;
 use serde_json::Value;
 use std::alloc::{AllocError, Global};
 
+/// A fault of a file, with what its sentence shows.
 #[derive(Clone, Copy)]
 pub(crate) struct Finding<'a> {
     pub subject: Subject<'a>,

@@ -70,6 +70,7 @@ fn is_canonical(
 fn rise(report: &Report<'_>) -> bool
     ensures { IsTrue result ↔ IsSet fact_cmp report.now.document.facts }
 {
+    // the contract of `known` states that `order` sorts the facts
     report.known();
     count_up(report.order()) && report.facts().is_sorted_by(differ)
 }

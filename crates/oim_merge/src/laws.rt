@@ -71,6 +71,7 @@ pub fn texts_give_bodies()
 pub fn bases_read_back(base: &Base<'_>)
     ensures { IsReadAsBody base.now.sheet (canonical base.now.body) base.now.body }
 {
+    // the contract of `sheet` states that the body fits the sheet
     let _sheet = base.sheet();
 }
 

@@ -88,6 +88,8 @@ impl<'s> Messages<'s> {
             return Ok(index);
         }
         let text = exact_text(alloc, base)?;
+        // the contract of `sheet` states that the base fits the sheet, as `AreHeld` requires of a new
+        // text
         let _sheet = base.sheet();
         match self.find(&text) {
             Ok(index) => Ok(index),

@@ -29,7 +29,7 @@ pub(crate) fn none_read<'s>(alloc: Global, texts: usize) -> Result<Vec<Reading<'
 
 /// Adds the facts and references of the text at `index` to a base. The text is read only
 /// the first time, and the result is cached. If the text is refused, the base does not change, and
-/// the refusal is returned. A struct of the six parameters would serve only this call.
+/// the refusal is returned.
 ///
 /// Errors: out of memory.
 pub(crate) fn take_at<'s>(
@@ -104,6 +104,8 @@ pub(crate) fn join_new(base: &mut Base<'_>, other: &Base<'_>) -> Result<(), Allo
     ensures { OnOk result (base.new ≡ joined_with base.old other.now) }
 {
     if base.same_as(other) {
+        // the contract of `sheet` states that facts and references ascend, so an equal base adds
+        // nothing
         let _sheet = base.sheet();
         return Ok(());
     }

@@ -54,6 +54,7 @@ impl<'s> Replicas<'s> {
         })
     }
 
+    /// Returns whether the replicas, the report and the sent text that the event names exist.
     pub(crate) fn has_named(&self, event: Event, reports: usize) -> bool
         ensures { IsTrue result ↔ (names_none (length self.now.bases.items) reports
             (length (sent_texts self.now.messages)) event ≡ false) }

@@ -108,6 +108,7 @@ fn push_rows<S: Sink, F: VerdictFormat>(
     ensures err { IfErr result (λ fault. BreaksRows (F.row_text format.now) base.now.body.facts (rows_of base.now.body.facts) (S.told out.old) (S.told out.new) buffer.old (written_of fault)) }
     ensures failures { S.failures out.new ≡ failures_after_write result (S.failures out.old) }
 {
+    // the contract of `sheet` states that the facts ascend and fit the sheet
     let _sheet = base.sheet();
     let mut scratch = Scratch::new(alloc);
     let mut identifiers = Identifiers {

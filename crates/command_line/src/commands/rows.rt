@@ -1,3 +1,5 @@
+//! The commands `verdicts` and `sources`.
+
 ghost use Rattle.std.specs.Prelude.{◌-◌, ◌^◌, ◌<◌};
 ghost use Rattle.oim_write.specs.BoundedSink.{bounded_failures};
 ghost use Rattle.command_line.specs.Endings.{Ends, Never};
@@ -13,8 +15,6 @@ use oim_write::{BoundedSink, Sink};
 use row_formats::{RowFormat, SourceRows, has_long_row};
 use std::alloc::Global;
 use std::mem;
-
-// The commands that print rows.
 
 pub(crate) const VERDICTS_ABOUT: &str =
     "Prints a verdict for each set of facts with the same dimensions";
