@@ -1,13 +1,16 @@
-ghost use Rattle.std.specs.Prelude.{◌≡◌, ◌+◌, ◌^◌, ◌<◌, OnOk};
+ghost use Rattle.std.specs.Prelude.{◌≡◌, ◌+◌, ◌-◌, ◌^◌, ◌<◌, OnOk};
 
 use super::BOTH;
 use super::merges::{THREE_LINES, THREE_SETS, came_to};
 use crate::tests::sinks::TOUCHING;
-use oim_merge::{Consolidation, SourceLines, TracedMerge};
+use oim_merge::{
+    Consolidation, Fault, Merged, Refusals, SourceLines, TracedMerge, VerdictLines, write_verdicts,
+    write_within,
+};
 use oim_report::Sheet;
 use oim_value::Level;
-use oim_write::StdSink;
-use std::alloc::AllocError;
+use oim_write::{Sink, StdSink};
+use std::alloc::{AllocError, Global};
 use std::test::Fail;
 use test_helpers::asked_again::{SHEET, joined, may_repeat, read_sheet};
 use test_helpers::expecting::Expecting;
@@ -63,23 +66,53 @@ fn three<'s>(
     Some(consolidation)
 }
 
-/// Writes the merged text.
-fn finishes_once(rt: &HostRuntime, sheet: &Sheet, text: &[u8]) -> Option<bool> {
+fn write_base<S: Sink>(
+    alloc: Global,
+    consolidation: Consolidation<'_>,
+    sink: &mut S,
+) -> Result<Refusals, Fault>
+    requires { S.failures sink.old < 2 ^ 64 - 1 }
+{
+    let Merged { base, refusals } = consolidation.into_merged()?;
+    write_within(alloc, &base, refusals, Level::Consistent, sink)
+}
+
+fn list_base<S: Sink>(
+    alloc: Global,
+    consolidation: Consolidation<'_>,
+    sink: &mut S,
+) -> Result<Refusals, Fault>
+    requires { S.failures sink.old < 2 ^ 64 - 1 }
+{
+    let Merged { base, refusals } = consolidation.into_merged()?;
+    write_verdicts(alloc, &base, refusals, &VerdictLines, sink)
+}
+
+/// Writes the merged text. If `of_base` is set, the base is taken out of the consolidation first.
+fn finishes_once(rt: &HostRuntime, sheet: &Sheet, of_base: bool, text: &[u8]) -> Option<bool> {
     let Some(consolidation) = three(rt, sheet, TOUCHING, TOUCHING) else {
         return Some(false);
     };
     let mut sink = StdSink::new(Expecting::just(text));
-    let answer = consolidation.finish(Level::Consistent, &mut sink);
+    let answer = if of_base {
+        write_base(rt.alloc(), consolidation, &mut sink)
+    } else {
+        consolidation.finish(Level::Consistent, &mut sink)
+    };
     came_to(rt, answer, sink, text)
 }
 
-/// Writes the verdict lines.
-fn lists_once(rt: &HostRuntime, sheet: &Sheet) -> Option<bool> {
+/// Writes the verdict lines. If `of_base` is set, the base is taken out of the consolidation first.
+fn lists_once(rt: &HostRuntime, sheet: &Sheet, of_base: bool) -> Option<bool> {
     let Some(consolidation) = three(rt, sheet, THREE_SETS, ONE_OF_THREE) else {
         return Some(false);
     };
     let mut sink = StdSink::new(Expecting::just(THREE_LINES));
-    let answer = consolidation.finish_lines(&mut sink);
+    let answer = if of_base {
+        list_base(rt.alloc(), consolidation, &mut sink)
+    } else {
+        consolidation.finish_lines(&mut sink)
+    };
     came_to(rt, answer, sink, THREE_LINES)
 }
 
@@ -118,16 +151,16 @@ fn traces_once(rt: &HostRuntime, sheet: &Sheet) -> Option<bool> {
     came_to(rt, answer, sink, SIX_SOURCES)
 }
 
-fn finishes(rt: &HostRuntime, sheet: &Sheet, text: &[u8]) -> bool {
-    match finishes_once(rt, sheet, text) {
-        None => finishes_once(rt, sheet, text) == Some(true),
+fn finishes(rt: &HostRuntime, sheet: &Sheet, of_base: bool, text: &[u8]) -> bool {
+    match finishes_once(rt, sheet, of_base, text) {
+        None => finishes_once(rt, sheet, of_base, text) == Some(true),
         Some(met) => met,
     }
 }
 
-fn lists(rt: &HostRuntime, sheet: &Sheet) -> bool {
-    match lists_once(rt, sheet) {
-        None => lists_once(rt, sheet) == Some(true),
+fn lists(rt: &HostRuntime, sheet: &Sheet, of_base: bool) -> bool {
+    match lists_once(rt, sheet, of_base) {
+        None => lists_once(rt, sheet, of_base) == Some(true),
         Some(met) => met,
     }
 }
@@ -136,14 +169,15 @@ fn lists(rt: &HostRuntime, sheet: &Sheet) -> bool {
 fn reports_that_are_added_are_merged(rt: HostRuntime) -> Result<(), Fail> {
     let sheet = read_sheet(&rt, SHEET)?;
     let text = joined(&rt, &BOTH)?;
-    assert!(rt; finishes(&rt, &sheet, &text));
+    assert!(rt; finishes(&rt, &sheet, false, &text));
+    assert!(rt; finishes(&rt, &sheet, true, &text));
     Ok(())
 }
 
 #[test]
 fn reports_that_are_added_are_judged(rt: HostRuntime) -> Result<(), Fail> {
     let sheet = read_sheet(&rt, SHEET)?;
-    assert!(rt; lists(&rt, &sheet));
+    assert!(rt; lists(&rt, &sheet, false) && lists(&rt, &sheet, true));
     Ok(())
 }
 
