@@ -45,18 +45,22 @@ fn add_row<'b>(facts: &mut Vec<LentFact<'b>>, row: Row<'b>) -> Result<(), AllocE
     Ok(())
 }
 
-/// Returns the number of facts that are less than this one.
+/// Returns the number of facts that are less than this one. If the fact at the index `guess` equals
+/// it, this is the number.
 ///
 /// A URI may be long, and most facts of a report have one. So the fact is first looked for by an
 /// order that reads no long URI. If the fact at the index that is found equals it, this is the
 /// number, and each URI was read once.
-pub(crate) fn index_of(facts: &[LentFact<'_>], fact: &Fact) -> usize
+pub(crate) fn index_of(facts: &[LentFact<'_>], guess: usize, fact: &Fact) -> usize
     requires { IsSet fact_cmp (map lent facts.now) }
     ensures { result ≡ count_by (λ f. is_lt (fact_cmp f fact.now)) (map lent facts.now) }
 {
-    let guess = facts.partition_point(|one| is_likely_less(one, fact));
     if is_at(facts, guess, fact) {
         return guess;
+    }
+    let likely = facts.partition_point(|one| is_likely_less(one, fact));
+    if is_at(facts, likely, fact) {
+        return likely;
     }
     facts.partition_point(|one| is_less(one, fact))
 }

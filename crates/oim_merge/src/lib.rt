@@ -20,6 +20,7 @@ mod replicas;
 mod source;
 mod source_format;
 mod source_reader;
+mod successors;
 mod traced_merge;
 mod verdict_format;
 mod verdict_rows;

@@ -6,6 +6,7 @@ ghost use Rattle.oim_merge.specs.Sources.{by_fact, mentions_in};
 ghost use Rattle.oim_merge.specs.code.BufferedRows.{lent};
 
 use crate::fact_list::{LentFact, facts_of, index_of};
+use crate::successors::Successors;
 use fact_base::Base;
 use oim_dims::Fact;
 use oim_names::{Copied, Text};
@@ -104,8 +105,10 @@ fn indexed(
     ensures { IfOk result (λ ms. ms.items ≡ all_indexed (map lent facts.now) mentions.items) }
 {
     let mut indexed = Vec::with_capacity(alloc, mentions.len())?;
+    let mut successors = Successors::new(alloc, facts.len())?;
     for mention in mentions {
-        let index = index_of(facts, &mention.fact);
+        let index = index_of(facts, successors.guess(), &mention.fact);
+        successors.push(index);
         indexed.push(mention.with_index(index))?;
     }
     Ok(indexed)
