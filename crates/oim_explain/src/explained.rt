@@ -1,27 +1,27 @@
-ghost use Rattle.std.specs.Prelude.{◌≡◌, ◌-◌, ◌++◌, ◌∷◌, [], ℕ, List, Some, None, get_or, IfErr, IfOk, IsTrue, OnOk, codes, map, option_map, replicate, string_bytes};
+ghost use Rattle.std.specs.Prelude.{◌≡◌, ◌-◌, ◌++◌, ◌∷◌, [], ℕ, List, Some, None, get_or, IfErr, IfOk, OnOk, codes, map, option_map, replicate, string_bytes};
 ghost use Rattle.serde_json.specs.Errors.{IsMemory};
 ghost use Rattle.serde_json.specs.View.{members_view, view};
-ghost use Rattle.oim_report.specs.Faults.{faults, tree_faults};
+ghost use Rattle.oim_report.specs.Faults.{tree_faults};
 ghost use Rattle.oim_report.specs.Identifiers.{tree_identifiers};
 ghost use Rattle.oim_report.specs.Json.{json, object_at};
 ghost use Rattle.oim_explain.specs.Escaped.{escaped};
 ghost use Rattle.oim_explain.specs.Explained.{Explains, printed_fault, printed_faults};
 ghost use Rattle.oim_explain.specs.Lines.{repeated_member};
-ghost use Rattle.oim_report.specs.Outcome.{at};
-ghost use Rattle.oim_explain.specs.code.Added.{AddsLines, identifiers_of};
+ghost use Rattle.oim_explain.specs.code.Added.{AddsLines, texts_of};
 
 use super::escaped::Escaped;
 use super::file_kind::{kind_of_sheet, kind_of_tree, kind_of_unread};
 use super::finding::{Finding, Meaning};
 use super::lines::{Explained, Input, Lines};
 use super::nesting::is_too_deep;
+use super::prefixes::aliases_in;
 use super::repeated::push_repeated;
 use super::sheet_names::SheetNames;
 use super::subject::Subject;
 use oim_names::{Aliases, Reason};
 use oim_report::{
-    MOST_LEVELS, Part, Place, Refusal, Sheet, after_mark, document_part, fact_part, facts_apart,
-    read_report, report_aliases, sheet_part, tree_faults,
+    Fault, MOST_LEVELS, Part, Place, Refusal, after_mark, is_accepted_in_pieces, sheet_part,
+    tree_faults,
 };
 use serde_json::{Error, Map, Value};
 use std::alloc::{AllocError, Global};
@@ -60,7 +60,8 @@ fn push_all(lines: &mut Lines<'_>, names: &SheetNames<'_>, bytes: &[u8]) -> Resu
         OnOk result ((n : ℕ) × AddsLines lines.old lines.new (found ++ replicate n repeated_member)) }
 {
     let alloc = lines.alloc;
-    if is_accepted(alloc, names.sheet, bytes)? {
+    // an accepted report has no faults, and this is faster than to search for them
+    if is_accepted_in_pieces(alloc, names.sheet, bytes)? {
         return push_repeated(lines, Subject::Report, bytes);
     }
     match tree_of(alloc, bytes) {
@@ -72,18 +73,6 @@ fn push_all(lines: &mut Lines<'_>, names: &SheetNames<'_>, bytes: &[u8]) -> Resu
             let message = message_of(alloc, bytes, &error)?;
             lines.push(&unread(Subject::Report, message.as_str(), bytes))
         }
-    }
-}
-
-// Returns whether a report is accepted, and so has no faults. Reading a report is faster than the
-// search for faults, and needs less memory.
-fn is_accepted(alloc: Global, sheet: &Sheet, bytes: &[u8]) -> Result<bool, AllocError>
-    ensures { IfOk result (λ accepted. IsTrue accepted → faults sheet.now bytes.now ≡ []) }
-{
-    match read_report(alloc, sheet, bytes) {
-        Ok(_report) => Ok(true),
-        Err(refusal) if refusal.reason == Reason::OutOfMemory => Err(AllocError),
-        Err(_) => Ok(false),
     }
 }
 
@@ -118,7 +107,7 @@ fn unread<'m>(subject: Subject<'m>, message: &'m str, bytes: &[u8]) -> Finding<'
     Finding {
         message: Some(message),
         kind: kind_of_unread(subject, bytes),
-        ..Finding::new(subject, Reason::NotJson, None)
+        ..Finding::new(subject, Reason::NotJson, Part::Nothing)
     }
 }
 
@@ -130,9 +119,8 @@ fn push_faults(lines: &mut Lines<'_>, names: &SheetNames<'_>, tree: Value) -> Re
     let alloc = lines.alloc;
     let faults = tree_faults(alloc, names.sheet, &tree)?;
     let report = ReportParts {
-        tree: &tree,
-        aliases: report_aliases(alloc, &tree)?,
-        facts: facts_of(alloc, &tree)?,
+        aliases: aliases_of(alloc, &tree)?,
+        identifiers: identifiers_of(alloc, &tree)?,
     };
     let found = faults.as_slice();
     for index in 0..found.len() {
@@ -149,11 +137,9 @@ fn push_faults(lines: &mut Lines<'_>, names: &SheetNames<'_>, tree: Value) -> Re
 /// The parts of a report that help to describe its faults.
 #[derive(Drop)]
 struct ReportParts<'t> {
-    tree: &'t Value,
-    /// None if an entry of `namespaces` does not bind a prefix.
-    aliases: Option<Aliases>,
-    /// The identifiers and objects of the facts, in byte order of the identifiers.
-    facts: Vec<(&'t str, &'t Value)>,
+    aliases: Aliases,
+    /// The identifiers of the facts, in byte order.
+    identifiers: Vec<&'t str>,
 }
 
 /// Adds the line of a fault. `kind` is the guessed kind of the file, for a fault of the document.
@@ -161,70 +147,40 @@ fn push_fault(
     lines: &mut Lines<'_>,
     names: &SheetNames<'_>,
     report: &ReportParts<'_>,
-    refusal: Refusal,
+    fault: Fault<'_>,
     kind: Option<&'static str>,
 ) -> Result<(), AllocError>
-    ensures { let is = identifiers_of report.now.facts.items in
-        OnOk result (AddsLines lines.old lines.new (printed_fault is refusal ∷ [])) }
+    ensures { let is = texts_of report.now.identifiers.items in
+        OnOk result (AddsLines lines.old lines.new (printed_fault is fault.entry.refusal ∷ [])) }
 {
+    let Fault { refusal, part } = fault;
     let Refusal { reason, place } = refusal;
+    let alloc = lines.alloc;
     match place {
-        Place::Document => {
-            let part = document_fault(lines.alloc, names.sheet, report, reason)?;
+        Place::Document => lines.push(&Finding {
+            kind,
+            ..Finding::new(Subject::Report, reason, part)
+        }),
+        Place::Fact(number) => {
+            let subject = Subject::Fact(number, report.identifier(number));
             lines.push(&Finding {
-                kind,
-                ..Finding::new(Subject::Report, reason, part)
+                meaning: meaning_of(alloc, names, report, reason, part)?,
+                ..Finding::new(subject, reason, part)
             })
         }
-        Place::Fact(number) => push_of_fact(lines, names, report, number, reason),
     }
 }
 
-fn document_fault<'t>(
-    alloc: Global,
-    sheet: &Sheet,
-    report: &ReportParts<'t>,
-    reason: Reason,
-) -> Result<Option<Part<'t>>, AllocError> {
-    match reason {
-        Reason::DisallowedDuplicates => two_facts(alloc, sheet, report),
-        reason => document_part(alloc, report.tree, reason),
-    }
-}
-
-fn push_of_fact(
-    lines: &mut Lines<'_>,
-    names: &SheetNames<'_>,
-    report: &ReportParts<'_>,
-    number: u64,
-    reason: Reason,
-) -> Result<(), AllocError>
-    ensures { let is = identifiers_of report.now.facts.items in
-        OnOk result (AddsLines lines.old lines.new (printed_fault is (at (Place.Fact number) reason) ∷ [])) }
-{
-    let alloc = lines.alloc;
-    let (identifier, object) = fact_at(report, number);
-    let subject = Subject::Fact(number, identifier);
-    // `aliases` is None only if an entry of `namespaces` is at fault. Then only faults of the document
-    // are listed, so this case does not occur.
-    let Some(aliases) = &report.aliases else {
-        return lines.push(&Finding::new(subject, reason, None));
-    };
-    let part = fact_part(alloc, names.sheet, aliases, object, reason)?;
-    lines.push(&Finding {
-        meaning: meaning_of(alloc, names, aliases, reason, part)?,
-        ..Finding::new(subject, reason, part)
-    })
-}
-
-/// Returns the identifier and the object of the fact with this number, from 1. A fault has the number
-/// of an existing fact, so `None` does not occur.
-fn fact_at<'t>(report: &ReportParts<'t>, number: u64) -> (&'t str, &'t Value)
-    ensures { result.0.now ≡ get_or (identifiers_of report.now.facts.items) (number - 1) [] }
-{
-    match report.facts.get(number.saturating_sub(1) as usize) {
-        Some((identifier, object)) => (*identifier, *object),
-        None => ("", report.tree),
+impl<'t> ReportParts<'t> {
+    /// Returns the identifier of the fact with this number, from 1. A fault has the number of an
+    /// existing fact, so the text for other numbers is never printed.
+    fn identifier(&self, number: u64) -> &'t str
+        ensures { result.now ≡ get_or (texts_of self.now.identifiers.items) (number - 1) [] }
+    {
+        match self.identifiers.get(number.saturating_sub(1) as usize) {
+            Some(identifier) => *identifier,
+            None => "",
+        }
     }
 }
 
@@ -232,14 +188,14 @@ fn fact_at<'t>(report: &ReportParts<'t>, number: u64) -> (&'t str, &'t Value)
 fn meaning_of<'a>(
     alloc: Global,
     names: &'a SheetNames<'_>,
-    aliases: &'a Aliases,
+    report: &'a ReportParts<'_>,
     reason: Reason,
-    part: Option<Part<'a>>,
+    part: Part<'a>,
 ) -> Result<Option<Meaning<'a>>, AllocError> {
     let Some(text) = unlisted(reason, part) else {
         return Ok(None);
     };
-    let Ok((uri, local)) = aliases.resolve(text) else {
+    let Ok((uri, local)) = report.aliases.resolve(text) else {
         return Ok(None);
     };
     let found = names.similar(alloc, reason, text)?;
@@ -251,40 +207,32 @@ fn meaning_of<'a>(
 }
 
 /// Returns the name at fault if it is not in the sheet.
-fn unlisted(reason: Reason, part: Option<Part<'_>>) -> Option<&str> {
-    match (reason, part?) {
+fn unlisted(reason: Reason, part: Part<'_>) -> Option<&str> {
+    match (reason, part) {
         (Reason::UnknownConcept, Part::Value(value)) => value.as_str(),
         (Reason::UnknownDimension, Part::Key(text) | Part::Name(text)) => Some(text),
         _ => None,
     }
 }
 
-fn two_facts<'t>(
-    alloc: Global,
-    sheet: &Sheet,
-    report: &ReportParts<'t>,
-) -> Result<Option<Part<'t>>, AllocError> {
-    let Some((one, other)) = facts_apart(alloc, sheet, report.tree)? else {
-        return Ok(None);
-    };
-    match (report.facts.get(one), report.facts.get(other)) {
-        (Some((one, _)), Some((other, _))) => Ok(Some(Part::Two(one, other))),
-        _ => Ok(None),
-    }
+fn aliases_of(alloc: Global, tree: &Value) -> Result<Aliases, AllocError> {
+    let info = tree.get("documentInfo");
+    let namespaces = info.and_then(|info| info.get("namespaces"));
+    aliases_in(alloc, namespaces.and_then(Value::as_object))
 }
 
-/// Returns the facts in byte order of their identifiers.
-fn facts_of(alloc: Global, tree: &Value) -> Result<Vec<(&str, &Value)>, AllocError>
-    ensures { IfOk result (λ facts. identifiers_of facts.items ≡ tree_identifiers (view tree.now)) }
+/// Returns the identifiers of the facts, in byte order.
+fn identifiers_of(alloc: Global, tree: &Value) -> Result<Vec<&str>, AllocError>
+    ensures { IfOk result (λ is. texts_of is.items ≡ tree_identifiers (view tree.now)) }
 {
-    let mut facts = Vec::new(alloc);
+    let mut identifiers = Vec::new(alloc);
     let Some(members) = members_of_facts(tree) else {
-        return Ok(facts);
+        return Ok(identifiers);
     };
-    for (identifier, object) in members.iter() {
-        facts.push((identifier.as_str(), object))?;
+    for (identifier, _object) in members.iter() {
+        identifiers.push(identifier.as_str())?;
     }
-    Ok(facts)
+    Ok(identifiers)
 }
 
 fn members_of_facts(tree: &Value) -> Option<&Map<String, Value>>
@@ -327,7 +275,7 @@ fn sentence_of_tree(alloc: Global, tree: &Value) -> Result<String, AllocError> {
     };
     let finding = Finding {
         kind: kind_of_sheet(tree),
-        ..Finding::new(Subject::Sheet, reason, Some(part))
+        ..Finding::new(Subject::Sheet, reason, part)
     };
     finding.sentence(alloc)
 }

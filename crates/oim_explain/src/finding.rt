@@ -37,15 +37,13 @@ pub(crate) struct Meaning<'a> {
 impl<'a> Finding<'a> {
     /// A floating-point number in `value` or `decimals` is not shown, because it might be printed
     /// in another spelling than the file's.
-    pub(crate) fn new(subject: Subject<'a>, reason: Reason, part: Option<Part<'a>>) -> Finding<'a>
+    pub(crate) fn new(subject: Subject<'a>, reason: Reason, part: Part<'a>) -> Finding<'a>
         ensures subject { result.subject ≡ subject.entry }
         ensures reason { result.reason ≡ reason }
     {
         let part = match part {
-            Some(Part::Value(value)) if value.is_f64() && reason >= Reason::ValueForm =>
-                Part::Nothing,
-            Some(part) => part,
-            None => Part::Nothing,
+            Part::Value(value) if value.is_f64() && reason >= Reason::ValueForm => Part::Nothing,
+            part => part,
         };
         Finding {
             subject,

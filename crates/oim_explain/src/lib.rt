@@ -16,6 +16,7 @@ mod format_keys;
 pub mod laws;
 mod lines;
 mod nesting;
+mod prefixes;
 mod quoted;
 mod repeated;
 mod sentence;

@@ -1,5 +1,6 @@
 ghost use Rattle.std.specs.Prelude.{◌≡◌, IfOk};
 
+use super::prefixes::aliases_in;
 use oim_names::{Aliases, Reason, split_name};
 use oim_report::{Sheet, after_mark};
 use serde_json::Value;
@@ -45,16 +46,10 @@ impl<'s> SheetNames<'s> {
         let Some(namespaces) = tree.get("namespaces").and_then(Value::as_object) else {
             return Ok(());
         };
-        for (prefix, uri) in namespaces.iter() {
-            match self
-                .aliases
-                .add(prefix.as_str(), uri.as_str().unwrap_or_default())
-            {
-                Err(Reason::OutOfMemory) => return Err(AllocError),
-                _ => self
-                    .prefixes
-                    .push(String::from_str(alloc, prefix.as_str())?)?,
-            }
+        self.aliases = aliases_in(alloc, Some(namespaces))?;
+        for (prefix, _uri) in namespaces.iter() {
+            self.prefixes
+                .push(String::from_str(alloc, prefix.as_str())?)?;
         }
         Ok(())
     }

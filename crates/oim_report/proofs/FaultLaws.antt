@@ -4,11 +4,12 @@ use Rattle.std.specs.Prelude.{◌↔◌, option_and_then, if◌then◌else◌}
 use Rattle.std.specs.Result.{result_err}
 use Rattle.std.specs.List.{AllByRecursion, cons_option, filter_map}
 use Rattle.std.specs.Ordering.{is_lt}
-use Rattle.std.specs.Option.{option_map_or, option_to_list, unwrap_or}
+use Rattle.std.specs.Option.{option_map_or, unwrap_or}
 use Rattle.oim_names.specs.Bindings.{Binding}
 use Rattle.oim_names.specs.declared.reason.Reason.{Reason}
 use Rattle.oim_names.specs.declared.reason.Reason.TheVariants.{DisallowedDuplicates, NotJson, OutOfMemory}
 use Rattle.oim_value.specs.Level.{level_cmp}
+use Rattle.oim_value.specs.declared.level.Level.{Level}
 use Rattle.oim_value.specs.declared.level.Level.TheVariants.{All as AllLevel}
 use Rattle.oim_dims.specs.declared.fact.Fact.{Fact}
 use Rattle.serde_json.specs.Data.{Data}
@@ -278,6 +279,10 @@ one_level : (b : Bool) (d : Document) → first_of (if b then at AtDocument Disa
 one_level true d = refl
 one_level false d = refl
 
+no_err : {A : Type 0} (r : Result A Refusal) → None ≡ result_err r → (a : A) × (r ≡ Ok a)
+no_err (Ok a) h = (a, refl)
+no_err (Err e) h = absurd (cc)
+
 module _ (sheet : Sheet) (tree : Data) where
   abbrev found : List Refusal
   found = faults_from sheet (bindings_of tree) 1 (values (facts_of tree))
@@ -301,14 +306,13 @@ module _ (sheet : Sheet) (tree : Data) where
       by_document (told (document_holds tree)) (document_refusal tree) (then_allowed (map_ok (document_with tree) said)) (or_else found (level_faults sheet tree)) (first_told (document_holds tree))
       (by_facts said refl (facts_first sheet (bindings_of tree) 1 (values (facts_of tree))))
 
-  at_most_one : (b : Bool) (r : Refusal) → option_to_list (first_of (if b then r ∷ [] else [])) ≡ (if b then r ∷ [] else [])
-  at_most_one true r = refl
-  at_most_one false r = refl
+  -- if no condition applies to a fact, all facts are said
+  pub all_said : found ≡ [] → (fs : List Fact) × (said ≡ Ok fs)
+  all_said free = no_err said (sym (ap first_of free) ∙ facts_first sheet (bindings_of tree) 1 (values (facts_of tree)))
 
-  pub level_alone : map (at AtDocument) (told (document_holds tree)) ≡ [] → found ≡ [] → option_to_list (result_err (tree_outcome sheet (Some tree))) ≡ tree_faults sheet tree
-  level_alone none free =
-      let last : tree_faults sheet tree ≡ level_faults sheet tree = λ i. or_else (none i) (or_else (free i) (level_faults sheet tree)) in
-      ap option_to_list (sym tree_first) ∙ ap (λ x. option_to_list (first_of x)) last ∙ at_most_one (is_above_level sheet tree) (at AtDocument DisallowedDuplicates) ∙ sym last
+  pub above_declared : (fs : List Fact) (level : Level) → said ≡ Ok fs → level_said tree ≡ Some level → is_above_level sheet tree ≡ is_lt (level_cmp level (level_of fs))
+  above_declared fs level is declared =
+      (λ i. is_lt (level_cmp (unwrap_or (declared i) AllLevel) (level_of (facts_are sheet (bindings_of tree) 1 (values (facts_of tree)) fs is i))))
 
 by_read : (sheet : Sheet) (o : Option Data) → first_of (option_map_or (tree_faults sheet) o (at AtDocument NotJson ∷ [])) ≡ result_err (tree_outcome sheet o)
 by_read sheet None = refl
@@ -318,17 +322,13 @@ pub first_fault : FirstFaultIsAnswered
 unfolding faults outcome
 first_fault sheet bytes = by_read sheet (json bytes)
 
-is_ok : (said : Result Document Refusal) → None ≡ result_err said → (d : Document) × (said ≡ Ok d)
-is_ok (Ok d) h = (d, refl)
-is_ok (Err r) h = absurd (cc)
-
 is_empty : (rs : List Refusal) → first_of rs ≡ None → rs ≡ []
 is_empty [] h = refl
 is_empty (r ∷ rs) h = absurd (cc)
 
 pub no_faults : NoFaultsWhereAccepted
 no_faults sheet bytes = (
-  (λ none. let d = is_ok (outcome sheet bytes) (sym (ap first_of none) ∙ first_fault sheet bytes) in (d.0, (accepted_where_free sheet bytes d.0).0 d.1)),
+  (λ none. let d = no_err (outcome sheet bytes) (sym (ap first_of none) ∙ first_fault sheet bytes) in (d.0, (accepted_where_free sheet bytes d.0).0 d.1)),
   (λ some. is_empty (faults sheet bytes) (first_fault sheet bytes ∙ ap result_err ((accepted_where_free sheet bytes some.0).1 some.1))),
 )
 

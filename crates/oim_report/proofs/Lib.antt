@@ -15,6 +15,7 @@ pub mod Passed
 pub mod Indices
 pub mod Facts
 pub mod FaultLaws
+pub mod FaultParts
 pub mod ReferenceTexts
 pub mod Accepted
 pub mod CutUtf8

@@ -1,12 +1,10 @@
 -- Two facts of a report that its declared level does not allow together (own).
 use Rattle.std.specs.Prelude.{◌≡◌, ◌==◌, ◌&&◌, ℕ, List, Bool, false, not, IsTrue, Some, None, Ok, slice_get}
 use Rattle.std.specs.Option.{option_map_or}
-use Rattle.std.specs.Ordering.{is_lt}
-use Rattle.oim_value.specs.Level.{level_cmp}
 use Rattle.oim_value.specs.declared.level.Level.{Level}
 use Rattle.oim_dims.specs.declared.fact.Fact.{Fact}
 use Rattle.serde_json.specs.Data.{Data}
-use Rattle.oim_report.specs.Duplicates.{allows, level_of}
+use Rattle.oim_report.specs.Duplicates.{allows}
 use Rattle.oim_report.specs.Holds.{document_refusal}
 use Rattle.oim_report.specs.Info.{bindings_of, facts_of, level_said}
 use Rattle.oim_report.specs.Outcome.{facts_said}
@@ -25,12 +23,3 @@ pub record AreFactsApart (sheet : Sheet) (tree : Data) (i j : ℕ) : Type 0 wher
   pub said : facts_said sheet (bindings_of tree) (facts_of tree) ≡ Ok facts
   pub declared : level_said tree ≡ Some level
   pub apart : IsTrue (are_apart level facts i j)
-
--- no condition applies to the document, all facts are accepted, and the level of the facts is above the declared level
-pub record HasFactsApart (sheet : Sheet) (tree : Data) : Type 0 where
-  pub facts : List Fact
-  pub level : Level
-  pub accepted : document_refusal tree ≡ None
-  pub said : facts_said sheet (bindings_of tree) (facts_of tree) ≡ Ok facts
-  pub declared : level_said tree ≡ Some level
-  pub above : IsTrue (is_lt (level_cmp level (level_of facts)))

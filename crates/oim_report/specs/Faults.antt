@@ -1,5 +1,5 @@
 -- The faults of a report, each with its place (own).
-use Rattle.std.specs.Prelude.{◌≡◌, ◌↔◌, ℕ, ◌+◌, List, [], ◌∷◌, ◌++◌, map, Bool, if◌then◌else◌, Option, Some, None, option_and_then}
+use Rattle.std.specs.Prelude.{◌≡◌, ◌↔◌, ◌⊎◌, ℕ, ◌+◌, List, [], ◌∷◌, ◌++◌, map, get_or, slice_get, Bool, if◌then◌else◌, Option, Some, None, option_and_then}
 use Rattle.std.specs.Option.{option_map_or, unwrap_or}
 use Rattle.std.specs.List.{filter_map}
 use Rattle.std.specs.Ordering.{is_lt}
@@ -12,16 +12,21 @@ use Rattle.oim_dims.specs.declared.fact.Fact.{Fact}
 use Rattle.serde_json.specs.Data.{Data}
 use Rattle.oim_report.specs.declared.place.Place.TheVariants.{Document as AtDocument, Fact as AtFact}
 use Rattle.oim_report.specs.declared.refusal.Refusal.{Refusal}
+use Rattle.oim_report.specs.declared.fault.Fault.{Fault as HeldFault}
+use Rattle.oim_report.specs.declared.fault_list.Faults.{Faults as HeldFaults}
+use Rattle.oim_report.specs.Apart.{AreFactsApart}
 use Rattle.oim_report.specs.Outcome.{Accepts, at, outcome}
 use Rattle.oim_report.specs.Document.{Document}
 use Rattle.oim_report.specs.Duplicates.{level_of}
 use Rattle.oim_report.specs.Info.{bindings_of, facts_of, level_said}
+use Rattle.oim_report.specs.Identifiers.{tree_identifiers}
 use Rattle.oim_report.specs.Json.{json, values}
 use Rattle.oim_report.specs.FactMembers.{fact_parts}
 use Rattle.oim_report.specs.Said.{said_fact}
 use Rattle.oim_report.specs.Sheet.{Sheet}
 use Rattle.oim_report.specs.Holds.{document_holds, holds}
 use Rattle.oim_report.specs.Least.{told}
+use Rattle.oim_report.specs.Shown.{Shown, document_part, fact_part, seen, two}
 
 -- ---- the facts
 
@@ -57,6 +62,42 @@ tree_faults sheet tree =
 -- the faults of a report; `NotJson` is the only fault of bytes that are not JSON
 unfoldable pub faults : Sheet → List ℕ → List Refusal
 faults sheet bytes = option_map_or (tree_faults sheet) (json bytes) (at AtDocument NotJson ∷ [])
+
+-- ---- the part of each fault
+
+-- a refusal, and the part that is shown for it
+pub record ShownFault : Type 0 where
+  pub refusal : Refusal
+  pub part : Shown
+
+abbrev pub shown_fault : HeldFault → ShownFault
+shown_fault f = record { refusal = f.refusal; part = seen f.part }
+
+abbrev pub listed : HeldFaults → List ShownFault
+listed faults = map shown_fault faults.faults.items
+
+abbrev pub refusals_of : List ShownFault → List Refusal
+refusals_of faults = map (λ (f : ShownFault). f.refusal) faults
+
+-- a condition on the document, with its part
+abbrev pub IsOfDocument : Data → ShownFault → Type 0
+IsOfDocument tree f = (f.refusal.place ≡ AtDocument) × (document_part tree f.refusal.reason ≡ Some f.part)
+
+-- a condition on a fact, with its part; facts are numbered from 1
+abbrev pub IsOfFact : Sheet → Data → ShownFault → Type 0
+IsOfFact sheet tree f =
+    (n : ℕ) × (d : Data) × (f.refusal.place ≡ AtFact (n + 1)) × (slice_get (values (facts_of tree)) n ≡ Some d)
+    × (fact_part sheet (bindings_of tree) d f.refusal.reason ≡ Some f.part)
+
+-- the refused duplicates, with the identifiers of two facts that the declared level does not allow together
+abbrev pub IsOfDuplicates : Sheet → Data → ShownFault → Type 0
+IsOfDuplicates sheet tree f =
+    (i : ℕ) × (j : ℕ) × AreFactsApart sheet tree i j × (f.refusal ≡ at AtDocument DisallowedDuplicates)
+    × (f.part ≡ two (get_or (tree_identifiers tree) i []) (get_or (tree_identifiers tree) j []))
+
+-- the fault has the part that is shown for it
+abbrev pub HasPart : Sheet → Data → ShownFault → Type 0
+HasPart sheet tree f = IsOfDocument tree f ⊎ (IsOfFact sheet tree f ⊎ IsOfDuplicates sheet tree f)
 
 -- ---- laws
 

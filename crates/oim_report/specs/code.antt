@@ -6,6 +6,7 @@ pub mod FoundFacts
 pub mod Groups
 pub mod JsonMember
 pub mod KindLaws
+pub mod ListedFaults
 pub mod Pieces
 pub mod Ranks
 pub mod MemberTests

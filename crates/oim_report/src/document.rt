@@ -2,6 +2,7 @@
 //! identifiers, and the level of duplicates of the facts.
 
 pub(crate) mod base_url;
+pub(crate) mod document_faults;
 pub(crate) mod document_part;
 pub(crate) mod duplicates;
 pub(crate) mod features;

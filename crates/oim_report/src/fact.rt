@@ -2,6 +2,7 @@
 
 pub(crate) mod dimension_part;
 pub(crate) mod fact_content;
+pub(crate) mod fact_faults;
 pub(crate) mod fact_members;
 pub(crate) mod fact_part;
 pub(crate) mod fact_reader;

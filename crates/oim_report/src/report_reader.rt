@@ -1,6 +1,6 @@
-ghost use Rattle.std.specs.Prelude.{◌≡◌, ◌⊎◌, Some, Ok, Err, IfOk, IfErr};
+ghost use Rattle.std.specs.Prelude.{◌≡◌, ◌⊎◌, Some, Ok, Err, IfOk, IfErr, IsTrue};
 ghost use Rattle.serde_json.specs.View.{view};
-ghost use Rattle.oim_report.specs.Document.{SaysDocument};
+ghost use Rattle.oim_report.specs.Document.{Document as ADocument, SaysDocument};
 ghost use Rattle.oim_report.specs.Identifiers.{identifiers};
 ghost use Rattle.oim_report.specs.Outcome.{at, outcome, tree_outcome};
 
@@ -22,7 +22,7 @@ use crate::sheet::Sheet;
 use crate::unread::Unread;
 use oim_names::{Reason, Text};
 use serde_json::Value;
-use std::alloc::Global;
+use std::alloc::{AllocError, Global};
 use std::marker::Model;
 
 /// Reads a report under a sheet (xBRL-JSON 1.0; further conditions are our own).
@@ -39,6 +39,23 @@ pub fn read_report<'s>(alloc: Global, sheet: &'s Sheet, bytes: &[u8]) -> Result<
         (λ r. (r ≡ at Place.Document Reason.OutOfMemory) ⊎ (outcome sheet.now bytes.now ≡ Err r)) }
 {
     ReportReader::new(alloc, sheet).read(bytes)
+}
+
+/// Returns `true` only if a report is accepted under a sheet (own). The result is `false` if the
+/// report is refused, or if its facts cannot be read in pieces.
+///
+/// For a refused report, this is faster than `read_report`, and needs less memory.
+///
+/// Errors: out of memory.
+pub fn is_accepted_in_pieces(alloc: Global, sheet: &Sheet, bytes: &[u8]) -> Result<bool, AllocError>
+    ensures { IfOk result
+        (λ accepted. IsTrue accepted → (d : ADocument) × (outcome sheet.now bytes.now ≡ Ok d)) }
+{
+    match ReportReader::new(alloc, sheet).read_in_pieces(bytes) {
+        Ok(_read) => Ok(true),
+        Err(Unread::OutOfMemory) => Err(AllocError),
+        Err(Unread::NeedsTree) => Ok(false),
+    }
 }
 
 /// Reads reports under one sheet, one after another. Reports often bind the same prefixes to the
@@ -176,7 +193,6 @@ impl<'s> ReportReader<'s> {
         let info = read_info(alloc, &outline.tree)?;
         self.facts.turn_to(info.aliases);
         let found = read_facts_in_pieces(
-            alloc,
             &mut self.facts,
             &mut self.buffers,
             outline.facts,

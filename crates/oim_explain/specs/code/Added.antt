@@ -32,9 +32,8 @@ of_subject reason subject = record { refusal = Some (at (place_of subject) reaso
 abbrev pub of_finding : Finding → Printed
 of_finding finding = of_subject finding.reason finding.subject
 
--- the identifiers of facts that are held as pairs
-abbrev pub identifiers_of : {B : Type 0} → List (Bor (List ℕ) × B) → List (List ℕ)
-identifiers_of facts = map (λ f. f.0.now) facts
+abbrev pub texts_of : List (Bor (List ℕ)) → List (List ℕ)
+texts_of texts = map (λ t. t.now) texts
 
 -- these lines were appended
 pub record AddsLines (old new : Lines) (printed : List Printed) : Type 0 where

@@ -32,7 +32,7 @@ use std::alloc::{AllocError, Global};
 ///
 /// Errors: out of memory.
 #[tactic(auto, unfolding(crate::specs::Holds::document_holds, crate::specs::Shown::document_shown))]
-pub fn document_part(
+pub(crate) fn document_part(
     alloc: Global,
     tree: &Value,
     reason: Reason,

@@ -43,7 +43,7 @@ pub(crate) fn read_namespaces(
 /// prefix to a URI.
 ///
 /// Errors: out of memory.
-pub fn report_aliases(alloc: Global, tree: &Value) -> Result<Option<Aliases>, AllocError>
+pub(crate) fn report_aliases(alloc: Global, tree: &Value) -> Result<Option<Aliases>, AllocError>
     ensures { let refused = any_in binds_nothing (namespaces_of (view tree.now)) in
         IfOk result (λ aliases. aliases ≡ (if refused then None else Some (bindings_of (view tree.now)))) }
 {

@@ -23,30 +23,12 @@ pub(crate) struct FactInScope<'s, 'a> {
     pub(crate) object: &'a Value,
 }
 
-/// Returns the part at fault if the condition `reason` applies to a fact object under a sheet and
-/// these prefixes, otherwise `None` (own). If several parts are at fault, the first in the order of
-/// `fact_shown` is returned.
-///
-/// Errors: out of memory.
-pub fn fact_part<'a>(
-    alloc: Global,
-    sheet: &Sheet,
-    aliases: &Aliases,
-    object: &'a Value,
-    reason: Reason,
-) -> Result<Option<Part<'a>>, AllocError>
-    ensures { IfOk result (λ part. option_map seen part
-        ≡ fact_part sheet.now aliases.now (view object.now) reason) }
-{
-    let fact = FactInScope {
-        sheet,
-        aliases,
-        object,
-    };
-    fact.part(alloc, reason)
-}
-
 impl<'a> FactInScope<'_, 'a> {
+    /// Returns the part at fault if the condition `reason` applies to the fact object, otherwise
+    /// `None` (own). If several parts are at fault, the first in the order of `fact_shown` is
+    /// returned.
+    ///
+    /// Errors: out of memory.
     #[tactic(auto, unfolding(crate::specs::Holds::holds, crate::specs::Shown::fact_shown), using(crate::proofs::ShownFaults::name_shown, crate::proofs::ShownFaults::unlisted_shown))]
     pub(crate) fn part(&self, alloc: Global, reason: Reason) -> Result<Option<Part<'a>>, AllocError>
         ensures { IfOk result (λ part. option_map seen part

@@ -83,6 +83,10 @@ impl<'s> FactReader<'s> {
         }
     }
 
+    pub(crate) fn alloc(&self) -> Global {
+        self.alloc
+    }
+
     pub(crate) fn sheet(&self) -> &'s Sheet
         ensures { result.now ≡ self.now.sheet }
     {
@@ -132,9 +136,9 @@ impl<'s> FactReader<'s> {
             aliases: &self.aliases,
             object,
         };
-        fact.add_faults(self.alloc, Place::Document, &mut faults)?;
+        faults.add_fact(&fact, Place::Document)?;
         match faults.as_slice().first() {
-            Some(refusal) => Ok(refusal.reason),
+            Some(fault) => Ok(fault.refusal.reason),
             // the object is not that of a fact, so a condition applies
             None => unreachable!(),
         }

@@ -47,7 +47,6 @@ impl PieceBuffers {
 /// Returns the facts in `text`, in byte order of their identifiers. The result is `NeedsTree` if a
 /// piece cannot be read or a fact is refused.
 pub(crate) fn read_facts_in_pieces(
-    alloc: Global,
     reader: &mut FactReader<'_>,
     buffers: &mut PieceBuffers,
     text: &str,
@@ -58,11 +57,12 @@ pub(crate) fn read_facts_in_pieces(
         × AreFound reader.old.sheet reader.old.aliases objects f.identifiers f.facts.items) }
     ensures ranks { IfOk result (λ f. AreRanks reader.old.sheet.concepts f.facts.items f.ranks.items) }
 {
+    let alloc = reader.alloc();
     let mut found = FoundFacts::new(alloc);
     let mut left = text;
     for _ in 0..text.len() {
         let (piece, rest) = split_piece(left, size);
-        read_piece_facts(alloc, reader, buffers, piece, &mut found)?;
+        read_piece_facts(reader, buffers, piece, &mut found)?;
         match rest {
             Some(rest) => left = rest,
             None => return found.in_order(alloc),
@@ -74,7 +74,6 @@ pub(crate) fn read_facts_in_pieces(
 // Adds the facts of a piece, in the order of the text. The result is `NeedsTree` if the piece cannot
 // be read, a fact cannot be read from a tape, or a fact is refused.
 fn read_piece_facts(
-    alloc: Global,
     reader: &mut FactReader<'_>,
     buffers: &mut PieceBuffers,
     piece: &str,
@@ -87,11 +86,11 @@ fn read_piece_facts(
     ensures ranks { OnOk result (AreRanks reader.old.sheet.concepts found.old.facts.items found.old.ranks.items
         → AreRanks reader.old.sheet.concepts found.new.facts.items found.new.ranks.items) }
 {
-    let tape = parse_piece(alloc, buffers, piece)?;
+    let tape = parse_piece(reader.alloc(), buffers, piece)?;
     let Some(members) = only_object(&tape.root()) else {
         return Err(Unread::NeedsTree);
     };
-    read_members(alloc, reader, members, found)
+    read_members(reader, members, found)
 }
 
 /// Parses an array with one object, whose members are the piece.
@@ -133,7 +132,6 @@ pub(crate) fn only_object<'t, 'a>(root: &Element<'t, 'a>) -> Option<Members<'t, 
 }
 
 fn read_members(
-    alloc: Global,
     reader: &mut FactReader<'_>,
     mut members: Members<'_, '_>,
     found: &mut FoundFacts,
@@ -148,7 +146,7 @@ fn read_members(
 {
     let before = found.facts.len();
     while let Some((key, object)) = members.next() {
-        read_member(alloc, reader, key, &object, found)?;
+        read_member(reader, key, &object, found)?;
     }
     if found.facts.len() == before {
         return Err(Unread::NeedsTree);
@@ -157,7 +155,6 @@ fn read_members(
 }
 
 fn read_member(
-    alloc: Global,
     reader: &mut FactReader<'_>,
     key: &str,
     object: &Element<'_, '_>,
@@ -169,7 +166,7 @@ fn read_member(
     ensures ranks { OnOk result (AreRanks reader.old.sheet.concepts found.old.facts.items found.old.ranks.items
         → AreRanks reader.old.sheet.concepts found.new.facts.items found.new.ranks.items) }
 {
-    let parts = FactMembers::of_element(alloc, object)?;
+    let parts = FactMembers::of_element(reader.alloc(), object)?;
     let (fact, rank) = reader.read_parts(&parts)?;
     found.push(key, fact, rank)?;
     Ok(())

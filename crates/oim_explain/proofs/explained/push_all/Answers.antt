@@ -1,6 +1,7 @@
 use Rattle.std.proofs.Common.{[], ◌∷◌, ◌++◌, replicate, ap, subst, sym, ◌∙◌}
 use Rattle.std.proofs.lemmas.Result.{on_ok_weaker}
 use Rattle.serde_json.specs.View.{view}
+use Rattle.oim_report.proofs.FaultLaws.{accepted_where_free, no_faults}
 use Rattle.oim_explain.specs.Explained.{printed_faults}
 use Rattle.oim_explain.specs.Lines.{repeated_member}
 use Rattle.oim_explain.specs.code.Added.{AddsLines, of_subject}
@@ -11,7 +12,10 @@ use Rattle.oim_explain.proofs.explained.push_all.Goals as goal
 
 pub returns-then-branch : goal.returns-then-branch
 returns-then-branch c =
-    let none = printed_accepted c.args.names.now.sheet.now c.args.bytes.now (c.in_ok-is_accepted.ensures c.if-branch.true) in
+    let sheet = c.args.names.now.sheet.now in
+    let bytes = c.args.bytes.now in
+    let accepted = c.in_ok-is_accepted_in_pieces.ensures c.if-branch.true in
+    let none = printed_accepted sheet bytes ((no_faults sheet bytes).1 (accepted.0, (accepted_where_free sheet bytes accepted.0).0 accepted.1)) in
     on_ok_weaker c.push_repeated.result
     (λ some. (some.0, subst (λ found. AddsLines c.args.lines.now c.push_repeated.new.lines (found ++ replicate some.0 repeated_member)) (sym none) some.1))
     c.push_repeated.ensures

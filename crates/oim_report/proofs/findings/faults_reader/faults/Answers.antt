@@ -13,6 +13,6 @@ unfolding faults
 returns-in_ok-push-in-None c =
     let found = c.in_ok-tree.ensures in
     let none : json c.args.bytes.now ≡ None = nothing_said c.read_json.result (json c.args.bytes.now) NotJson (sym c.in-None.is ∙ found.0) found.1 c.read_json.ensures.refused in
-    c.in_ok-push-in-None.ensures
-    ∙ (λ i. c.new-faults.ensures i ++ c.from.ensures i ∷ [])
+    c.in_ok-push-in-None.ensures.items
+    ∙ (λ i. c.new-refusals.ensures.items i ++ c.from.ensures i ∷ [])
     ∙ ap (λ o. option_map_or (tree_faults c.args.sheet.now) o (at Document NotJson ∷ [])) (sym none)

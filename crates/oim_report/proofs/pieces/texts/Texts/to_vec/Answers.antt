@@ -1,4 +1,4 @@
-use Rattle.std.proofs.Common.{rules, ◌≡◌, ◌+◌, ◌<◌, ◌++◌, ◌∷◌, [], Some, None, length, slice_get, option_map, sym, ap, ◌∙◌}
+use Rattle.std.proofs.Common.{rules, ◌≡◌, ◌<◌, ◌++◌, ◌∷◌, [], Some, None, length, slice_get, option_map, sym, ap, ◌∙◌}
 use Rattle.oim_report.proofs.TextSpans.{some_within, take_next}
 use Rattle.oim_report.proofs.pieces.texts.Texts.to_vec.Goals.{in-Some+in_ok-new+in_ok-push, in_default}
 use Rattle.oim_report.proofs.pieces.texts.Texts.to_vec.Goals as goal

@@ -2,8 +2,8 @@ use Rattle.std.proofs.Common.{◌≡◌, ◌++◌}
 use Rattle.serde_json.specs.View.{view, members_view}
 use Rattle.oim_report.specs.Identifiers.{identifiers_in, tree_identifiers}
 use Rattle.oim_report.specs.Json.{entries}
-use Rattle.oim_explain.specs.code.Added.{identifiers_of}
-use Rattle.oim_explain.proofs.explained.facts_of.Given as goal
+use Rattle.oim_explain.specs.code.Added.{texts_of}
+use Rattle.oim_explain.proofs.explained.identifiers_of.Given as goal
 
 abbrev pub invariant-loop-identifier : goal.invariant-loop-identifier
-invariant-loop-identifier l = identifiers_of l.facts.items ++ identifiers_in (entries (members_view l.identifier-iterator)) ≡ tree_identifiers (view l.fn.tree)
+invariant-loop-identifier l = texts_of l.identifiers.items ++ identifiers_in (entries (members_view l.identifier-iterator)) ≡ tree_identifiers (view l.fn.tree)

@@ -1,0 +1,14 @@
+use Rattle.std.proofs.Common.{◌≡◌, ◌++◌, map, drop}
+use Rattle.std.specs.List.{filter}
+use Rattle.serde_json.specs.View.{view}
+use Rattle.oim_report.specs.Faults.{listed}
+use Rattle.oim_report.specs.Holds.{document_holds}
+use Rattle.oim_report.specs.Least.{is_shown}
+use Rattle.oim_report.specs.code.ListedFaults.{document_fault}
+use Rattle.oim_report.proofs.fault_list.Faults.add_each_of_document.Given as goal
+
+abbrev pub invariant-loop-reason : goal.invariant-loop-reason
+invariant-loop-reason l =
+    let tree = view l.tree in
+    let found = filter (is_shown (document_holds tree)) in
+    listed l.self ++ map (document_fault tree) (found (drop l.reason-index l.reasons)) ≡ listed l.fn.self ++ map (document_fault tree) (found l.reasons)

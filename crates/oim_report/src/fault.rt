@@ -1,0 +1,10 @@
+use crate::part::Part;
+use crate::refusal::Refusal;
+
+/// A fault of a report.
+#[derive(Clone, Copy)]
+pub struct Fault<'t> {
+    pub refusal: Refusal,
+    /// The part of the report to which the refusal's reason applies.
+    pub part: Part<'t>,
+}
