@@ -119,6 +119,7 @@ fn push_faults(lines: &mut Lines<'_>, names: &SheetNames<'_>, tree: Value) -> Re
     let alloc = lines.alloc;
     let faults = tree_faults(alloc, names.sheet, &tree)?;
     let report = ReportParts {
+        names,
         aliases: aliases_of(alloc, &tree)?,
         identifiers: identifiers_of(alloc, &tree)?,
     };
@@ -129,49 +130,49 @@ fn push_faults(lines: &mut Lines<'_>, names: &SheetNames<'_>, tree: Value) -> Re
         } else {
             None
         };
-        push_fault(lines, names, &report, found[index], kind)?;
+        report.push_fault(lines, found[index], kind)?;
     }
     Ok(())
 }
 
-/// The parts of a report that help to describe its faults.
+/// What helps to describe the faults of a report.
 #[derive(Drop)]
-struct ReportParts<'t> {
+struct ReportParts<'t, 's> {
+    names: &'t SheetNames<'s>,
     aliases: Aliases,
     /// The identifiers of the facts, in byte order.
     identifiers: Vec<&'t str>,
 }
 
-/// Adds the line of a fault. `kind` is the guessed kind of the file, for a fault of the document.
-fn push_fault(
-    lines: &mut Lines<'_>,
-    names: &SheetNames<'_>,
-    report: &ReportParts<'_>,
-    fault: Fault<'_>,
-    kind: Option<&'static str>,
-) -> Result<(), AllocError>
-    ensures { let is = texts_of report.now.identifiers.items in
-        OnOk result (AddsLines lines.old lines.new (printed_fault is fault.entry.refusal ∷ [])) }
-{
-    let Fault { refusal, part } = fault;
-    let Refusal { reason, place } = refusal;
-    let alloc = lines.alloc;
-    match place {
-        Place::Document => lines.push(&Finding {
-            kind,
-            ..Finding::new(Subject::Report, reason, part)
-        }),
-        Place::Fact(number) => {
-            let subject = Subject::Fact(number, report.identifier(number));
-            lines.push(&Finding {
-                meaning: meaning_of(alloc, names, report, reason, part)?,
-                ..Finding::new(subject, reason, part)
-            })
+impl<'t, 's> ReportParts<'t, 's> {
+    /// Adds the line of a fault. `kind` is the guessed kind of the file, for a fault of the
+    /// document.
+    fn push_fault(
+        &self,
+        lines: &mut Lines<'_>,
+        fault: Fault<'_>,
+        kind: Option<&'static str>,
+    ) -> Result<(), AllocError>
+        ensures { let is = texts_of self.now.identifiers.items in
+            OnOk result (AddsLines lines.old lines.new (printed_fault is fault.entry.refusal ∷ [])) }
+    {
+        let Fault { refusal, part } = fault;
+        let Refusal { reason, place } = refusal;
+        match place {
+            Place::Document => lines.push(&Finding {
+                kind,
+                ..Finding::new(Subject::Report, reason, part)
+            }),
+            Place::Fact(number) => {
+                let subject = Subject::Fact(number, self.identifier(number));
+                lines.push(&Finding {
+                    meaning: self.meaning_of(lines.alloc, reason, part)?,
+                    ..Finding::new(subject, reason, part)
+                })
+            }
         }
     }
-}
 
-impl<'t> ReportParts<'t> {
     /// Returns the identifier of the fact with this number, from 1. A fault has the number of an
     /// existing fact, so the text for other numbers is never printed.
     fn identifier(&self, number: u64) -> &'t str
@@ -182,28 +183,27 @@ impl<'t> ReportParts<'t> {
             None => "",
         }
     }
-}
 
-/// If the sheet lacks a name but has a similar one, returns the namespaces of both.
-fn meaning_of<'a>(
-    alloc: Global,
-    names: &'a SheetNames<'_>,
-    report: &'a ReportParts<'_>,
-    reason: Reason,
-    part: Part<'a>,
-) -> Result<Option<Meaning<'a>>, AllocError> {
-    let Some(text) = unlisted(reason, part) else {
-        return Ok(None);
-    };
-    let Ok((uri, local)) = report.aliases.resolve(text) else {
-        return Ok(None);
-    };
-    let found = names.similar(alloc, reason, text)?;
-    Ok(found.map(|listed_uri| Meaning {
-        local,
-        uri,
-        listed_uri,
-    }))
+    /// If the sheet lacks a name but has a similar one, returns the namespaces of both.
+    fn meaning_of<'a>(
+        &'a self,
+        alloc: Global,
+        reason: Reason,
+        part: Part<'a>,
+    ) -> Result<Option<Meaning<'a>>, AllocError> {
+        let Some(text) = unlisted(reason, part) else {
+            return Ok(None);
+        };
+        let Ok((uri, local)) = self.aliases.resolve(text) else {
+            return Ok(None);
+        };
+        let found = self.names.similar(alloc, reason, text)?;
+        Ok(found.map(|listed_uri| Meaning {
+            local,
+            uri,
+            listed_uri,
+        }))
+    }
 }
 
 /// Returns the name at fault if it is not in the sheet.

@@ -2,13 +2,8 @@ use Rattle.std.proofs.Common.{◌≡◌, ◌<◌, ◌≤◌, [], ◌∷◌, get_
 use Rattle.std.proofs.Math.ListN.{get_or-map}
 use Rattle.std.proofs.lemmas.List.{length-map, take_all}
 use Rattle.serde_json.specs.View.{view}
-use Rattle.oim_names.specs.declared.reason.Reason.TheVariants.{OutOfMemory}
-use Rattle.oim_report.specs.declared.fault.Fault.{Fault}
-use Rattle.oim_report.specs.declared.part.Part.TheVariants.{Nothing}
 use Rattle.oim_report.specs.Faults.{refusals_of, tree_faults}
 use Rattle.oim_report.specs.Identifiers.{tree_identifiers}
-use Rattle.oim_report.specs.Outcome.{at}
-use Rattle.oim_report.specs.declared.place.Place.TheVariants.{Document}
 use Rattle.oim_explain.specs.Explained.{printed_fault}
 use Rattle.oim_explain.specs.code.Added.{AddsLines}
 use Rattle.oim_explain.proofs.Appended.{adds_none, next_line}
@@ -26,12 +21,13 @@ loop-index-preserved c =
     let i = c.loop-index.index in
     let mid = c.loop-index.lines in
     let new = c.push_fault.new.lines in
-    let none : Fault = record { refusal = at Document OutOfMemory; part = Nothing } in
+    let fault = c.index-found-index.result in
     let same : map refusal_in found ≡ all = sym (refusals_in found) ∙ ap refusals_of c.as_slice-found.ensures ∙ c.in_ok-faults.ensures.refusals in
     let within : i < length all = subst (λ n. i < n) (sym (length-map found refusal_in) ∙ ap length same) c.loop-index-test.true in
-    let here : refusal_in (get_or found i none) ≡ get_or all i none.refusal = sym (get_or-map refusal_in found i none) ∙ ap (λ faults. get_or faults i none.refusal) same in
-    let line = subst (λ ids. AddsLines mid new (printed_fault ids (refusal_in (get_or found i none)) ∷ [])) c.in_ok-identifiers_of.ensures c.in_ok-push_fault.ensures in
-    next_line c.args.lines.now mid new (printed_fault is) all i none.refusal within c.loop-index.invariant
+    let here : refusal_in fault ≡ get_or all i (refusal_in fault) =
+    ap refusal_in c.index-found-index.is ∙ sym (get_or-map refusal_in found i fault) ∙ ap (λ faults. get_or faults i (refusal_in fault)) same in
+    let line = subst (λ ids. AddsLines mid new (printed_fault ids (refusal_in fault) ∷ [])) c.in_ok-identifiers_of.ensures c.in_ok-push_fault.ensures in
+    next_line c.args.lines.now mid new (printed_fault is) all i (refusal_in fault) within c.loop-index.invariant
     (subst (λ refusal. AddsLines mid new (printed_fault is refusal ∷ [])) here line)
 
 pub returns : goal.returns

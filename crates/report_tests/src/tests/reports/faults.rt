@@ -1,5 +1,5 @@
 use super::{END, Outcome, SHEET, is_outcome, joined, may_repeat, read_sheet, told};
-use oim_report::{Faults, Refusal, Sheet, faults};
+use oim_report::{Refusal, Sheet, faults};
 use std::alloc::AllocError;
 use std::test::Fail;
 
@@ -105,7 +105,7 @@ const FACTS: Rows<'static> = &[
     ),
 ];
 
-fn faults_of(rt: &HostRuntime, sheet: &Sheet, bytes: &[u8]) -> Result<Faults, AllocError> {
+fn faults_of(rt: &HostRuntime, sheet: &Sheet, bytes: &[u8]) -> Result<Vec<Refusal>, AllocError> {
     match faults(rt.alloc(), sheet, bytes) {
         Err(_) if may_repeat(rt) => faults(rt.alloc(), sheet, bytes),
         found => found,
