@@ -2,8 +2,8 @@ use oim_report::MOST_LEVELS;
 use serde_json::Error;
 
 /// Returns whether the parser stopped at an object or array that is nested too deep. The parser's
-/// message does not state this. The parser's position is after the bracket, or at the bracket if the text
-/// ends there.
+/// message does not state this. The parser's position is after the bracket, or at the bracket if the
+/// text ends there.
 pub(crate) fn is_too_deep(bytes: &[u8], error: &Error) -> bool {
     let mut nesting = Nesting::default();
     let (mut line, mut column) = (1usize, 1usize);
