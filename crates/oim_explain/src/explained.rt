@@ -60,7 +60,7 @@ fn push_all(lines: &mut Lines<'_>, names: &SheetNames<'_>, bytes: &[u8]) -> Resu
         OnOk result ((n : ℕ) × AddsLines lines.old lines.new (found ++ replicate n repeated_member)) }
 {
     let alloc = lines.alloc;
-    // an accepted report has no faults, and this is faster than to search for them
+    // an accepted report has no faults, and reading it in pieces needs less memory than a tree
     if is_accepted_in_pieces(alloc, names.sheet, bytes)? {
         return push_repeated(lines, Subject::Report, bytes);
     }
@@ -118,7 +118,7 @@ fn push_faults(lines: &mut Lines<'_>, names: &SheetNames<'_>, tree: Value) -> Re
 {
     let alloc = lines.alloc;
     let faults = tree_faults(alloc, names.sheet, &tree)?;
-    let report = ReportParts {
+    let report = FaultContext {
         names,
         aliases: aliases_of(alloc, &tree)?,
         identifiers: identifiers_of(alloc, &tree)?,
@@ -135,16 +135,16 @@ fn push_faults(lines: &mut Lines<'_>, names: &SheetNames<'_>, tree: Value) -> Re
     Ok(())
 }
 
-/// What helps to describe the faults of a report.
+/// The data that describe the faults of a report.
 #[derive(Drop)]
-struct ReportParts<'t, 's> {
+struct FaultContext<'t, 's> {
     names: &'t SheetNames<'s>,
     aliases: Aliases,
     /// The identifiers of the facts, in byte order.
     identifiers: Vec<&'t str>,
 }
 
-impl<'t, 's> ReportParts<'t, 's> {
+impl<'t, 's> FaultContext<'t, 's> {
     /// Adds the line of a fault. `kind` is the guessed kind of the file, for a fault of the
     /// document.
     fn push_fault(

@@ -67,7 +67,7 @@ impl<'n> Lines<'n> {
             reason: finding.reason,
             place: finding.subject.place(),
         };
-        self.put(&Fault {
+        self.put(&PrintedFault {
             refusal: Some(refusal),
             identifier: finding.subject.identifier(),
             part: finding.part,
@@ -81,7 +81,7 @@ impl<'n> Lines<'n> {
     pub(crate) fn push_repeated(&mut self, key: &str, sentence: &str) -> Result<(), AllocError>
         ensures { OnOk result (AddsLines self.old self.new (repeated_member ∷ [])) }
     {
-        self.put(&Fault {
+        self.put(&PrintedFault {
             refusal: None,
             identifier: None,
             part: Part::Key(key),
@@ -90,7 +90,7 @@ impl<'n> Lines<'n> {
     }
 
     /// Adds the line of a fault. The whole line is escaped, so it is one line.
-    fn put(&mut self, fault: &Fault<'_, '_>) -> Result<(), AllocError>
+    fn put(&mut self, fault: &PrintedFault<'_, '_>) -> Result<(), AllocError>
         ensures { OnOk result (AddsLines self.old self.new (of_fault fault.now ∷ [])) }
     {
         let line = fault.line(self.alloc, &self.input)?;
@@ -103,14 +103,14 @@ impl<'n> Lines<'n> {
 /// A fault as it is printed. For a repeated member, which is not a refusal, only the last two
 /// fields are set.
 #[derive(Clone, Copy)]
-struct Fault<'f, 's> {
+struct PrintedFault<'f, 's> {
     refusal: Option<Refusal>,
     identifier: Option<&'f str>,
     part: Part<'f>,
     sentence: &'s str,
 }
 
-impl Fault<'_, '_> {
+impl PrintedFault<'_, '_> {
     fn line(&self, alloc: Global, input: &Input<'_>) -> Result<String, AllocError>
         ensures { let is_line = IsLineIn input.now.format input.now (of_fault self.now) in
             IfOk result (λ line. is_line (string_bytes line)) }

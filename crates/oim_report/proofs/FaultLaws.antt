@@ -314,6 +314,13 @@ module _ (sheet : Sheet) (tree : Data) where
   above_declared fs level is declared =
       (λ i. is_lt (level_cmp (unwrap_or (declared i) AllLevel) (level_of (facts_are sheet (bindings_of tree) 1 (values (facts_of tree)) fs is i))))
 
+no_first : (rs : List Refusal) → first_of rs ≡ None → rs ≡ []
+no_first [] h = refl
+no_first (r ∷ rs) h = absurd (cc)
+
+pub accepted_has_none : (sheet : Sheet) (tree : Data) (d : Document) → tree_outcome sheet (Some tree) ≡ Ok d → tree_faults sheet tree ≡ []
+accepted_has_none sheet tree d e = no_first (tree_faults sheet tree) (tree_first sheet tree ∙ ap result_err e)
+
 by_read : (sheet : Sheet) (o : Option Data) → first_of (option_map_or (tree_faults sheet) o (at AtDocument NotJson ∷ [])) ≡ result_err (tree_outcome sheet o)
 by_read sheet None = refl
 by_read sheet (Some tree) = tree_first sheet tree
@@ -322,14 +329,10 @@ pub first_fault : FirstFaultIsAnswered
 unfolding faults outcome
 first_fault sheet bytes = by_read sheet (json bytes)
 
-is_empty : (rs : List Refusal) → first_of rs ≡ None → rs ≡ []
-is_empty [] h = refl
-is_empty (r ∷ rs) h = absurd (cc)
-
 pub no_faults : NoFaultsWhereAccepted
 no_faults sheet bytes = (
   (λ none. let d = no_err (outcome sheet bytes) (sym (ap first_of none) ∙ first_fault sheet bytes) in (d.0, (accepted_where_free sheet bytes d.0).0 d.1)),
-  (λ some. is_empty (faults sheet bytes) (first_fault sheet bytes ∙ ap result_err ((accepted_where_free sheet bytes some.0).1 some.1))),
+  (λ some. no_first (faults sheet bytes) (first_fault sheet bytes ∙ ap result_err ((accepted_where_free sheet bytes some.0).1 some.1))),
 )
 
 -- ---- The definitions refuse no report or sheet for lack of memory.

@@ -42,7 +42,7 @@ pub fn read_report<'s>(alloc: Global, sheet: &'s Sheet, bytes: &[u8]) -> Result<
 }
 
 /// Returns `true` only if a report is accepted under a sheet (own). The result is `false` if the
-/// report is refused, or if its facts cannot be read in pieces.
+/// report is refused, or if it cannot be read in pieces.
 ///
 /// For a refused report, this is faster than `read_report`, and needs less memory.
 ///

@@ -10,12 +10,12 @@ use Rattle.oim_names.specs.declared.reason.Reason.{Reason}
 use Rattle.oim_explain.specs.Explained.{counted}
 use Rattle.oim_explain.specs.Lines.{AreLines, Printed, repeated_member}
 use Rattle.oim_explain.specs.declared.finding.Finding.{Finding}
-use Rattle.oim_explain.specs.declared.lines.Fault.{Fault}
+use Rattle.oim_explain.specs.declared.lines.PrintedFault.{PrintedFault}
 use Rattle.oim_explain.specs.declared.lines.Lines.{Lines}
 use Rattle.oim_explain.specs.declared.subject.Subject.{Subject}
 use Rattle.oim_explain.specs.declared.subject.Subject.TheVariants as subject
 
-abbrev pub of_fault : Fault → Printed
+abbrev pub of_fault : PrintedFault → Printed
 of_fault fault = record { refusal = fault.refusal; identifier = option_map (λ i. i.now) fault.identifier }
 
 abbrev pub place_of : Subject → Place

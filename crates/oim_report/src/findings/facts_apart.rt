@@ -1,4 +1,4 @@
-ghost use Rattle.std.specs.Prelude.{◌≡◌, ◌⊎◌, List, [], false, get_or, is_some, None, Ok, Some, IfNone, IfOk, IfSome, IsTrue};
+ghost use Rattle.std.specs.Prelude.{◌≡◌, List, [], false, get_or, is_some, None, Ok, Some, IfNone, IfOk, IfSome, IsTrue};
 ghost use Rattle.std.specs.List.{list_any};
 ghost use Rattle.std.specs.Ordering.{is_lt};
 ghost use Rattle.oim_value.specs.Level.{level_cmp};
@@ -32,10 +32,10 @@ use std::alloc::{AllocError, Global};
 
 /// Returns the refusal of a report's duplicates with the identifiers of two facts that the declared
 /// level does not allow together. The result is `None` if the level allows the facts, or if one of
-/// them is refused. `info` is what the report's `documentInfo` declares.
+/// them is refused. `info` is the content of the report's `documentInfo`.
 ///
 /// Errors: out of memory.
-pub(crate) fn facts_apart<'t>(
+pub(crate) fn refused_duplicates<'t>(
     alloc: Global,
     sheet: &Sheet,
     info: Info,
@@ -59,12 +59,12 @@ pub(crate) fn facts_apart<'t>(
     };
     let order = order_of(alloc, facts.as_slice(), &[])?;
     match first_apart(facts.as_slice(), order.as_slice(), info.level) {
-        Some((one, other)) => Ok(Some(duplicates_fault(tree, one, other))),
+        Some((one, other)) => Ok(Some(fault_of_two(tree, one, other))),
         None => Ok(None),
     }
 }
 
-fn duplicates_fault(tree: &Value, one: usize, other: usize) -> Fault<'_>
+fn fault_of_two(tree: &Value, one: usize, other: usize) -> Fault<'_>
     ensures refusal { result.refusal ≡ at Place.Document Reason.DisallowedDuplicates }
     ensures part { let is = tree_identifiers (view tree.now) in
         seen result.part ≡ two (get_or is one []) (get_or is other []) }
@@ -91,7 +91,8 @@ fn identifier_at(tree: &Value, index: usize) -> &str
     ""
 }
 
-// A walk finds the later fact of the pair in sorted order, and another one finds the earlier fact.
+// If the level is exceeded, one walk finds the later fact of the pair in sorted order, and another
+// one finds the earlier fact.
 fn first_apart(facts: &[Fact], order: &[usize], level: Level) -> Option<(usize, usize)>
     requires { IsOrderOf facts.now order.now }
     ensures above { is_some result ≡ is_lt (level_cmp level (level_of facts.now)) }

@@ -1,4 +1,4 @@
-ghost use Rattle.std.specs.Prelude.{◌≡◌, ◌++◌, IfOk, OnOk};
+ghost use Rattle.std.specs.Prelude.{◌≡◌, ◌++◌, [], IfOk, IsTrue, OnOk};
 ghost use Rattle.std.specs.List.{AllByRecursion};
 ghost use Rattle.serde_json.specs.View.{view};
 ghost use Rattle.oim_report.specs.Faults.{HasPart, faults, listed, refusals_of, tree_faults};
@@ -6,13 +6,14 @@ ghost use Rattle.oim_report.specs.Info.{facts_of};
 ghost use Rattle.oim_report.specs.Json.{values};
 ghost use Rattle.oim_report.specs.code.ListedFaults.{facts_faults};
 
-use super::facts_apart::facts_apart;
+use super::facts_apart::refused_duplicates;
 use crate::document::info::read_info;
 use crate::fact::fact_part::FactInScope;
 use crate::fault_list::Faults;
 use crate::json_values::json_tree::{object_at, read_json};
 use crate::place::Place;
 use crate::refusal::{Refusal, unless_memory};
+use crate::report_reader::ReportReader;
 use crate::sheet::Sheet;
 use oim_names::{Aliases, Reason};
 use serde_json::Value;
@@ -42,8 +43,10 @@ pub fn faults(alloc: Global, sheet: &Sheet, bytes: &[u8]) -> Result<Vec<Refusal>
 
 /// Does the same as `faults` for a JSON value, and returns each fault with the part at fault. If
 /// several parts are at fault for the same reason, it returns the first in the order of
-/// `document_shown` or `fact_shown`. `Part::Two` contains the identifiers of two facts that the
-/// declared level of duplicates does not allow together.
+/// `document_shown` or `fact_shown`. If `xbrl:allowedDuplicates` is declared under several prefixes,
+/// each time with a valid level, the part is the object `features`. For `DisallowedDuplicates`, the
+/// part is `Part::Two` with the identifiers of two facts that the declared level does not allow
+/// together.
 ///
 /// Errors: out of memory.
 pub fn tree_faults<'t>(
@@ -55,6 +58,9 @@ pub fn tree_faults<'t>(
     ensures parts { IfOk result (λ found. AllByRecursion (HasPart sheet.now (view tree.now)) (listed found)) }
 {
     let mut faults = Faults::new(alloc);
+    if is_accepted(alloc, sheet, tree)? {
+        return Ok(faults);
+    }
     faults.add_document(tree)?;
     if !faults.is_empty() {
         return Ok(faults);
@@ -69,10 +75,22 @@ pub fn tree_faults<'t>(
     if !faults.is_empty() {
         return Ok(faults);
     }
-    if let Some(fault) = facts_apart(alloc, sheet, info, tree)? {
+    if let Some(fault) = refused_duplicates(alloc, sheet, info, tree)? {
         faults.push(fault)?;
     }
     Ok(faults)
+}
+
+// Returns whether a report is accepted. To read a report is faster than to search for its faults.
+fn is_accepted(alloc: Global, sheet: &Sheet, tree: &Value) -> Result<bool, AllocError>
+    ensures { IfOk result
+        (λ accepted. IsTrue accepted → tree_faults sheet.now (view tree.now) ≡ []) }
+{
+    match ReportReader::new(alloc, sheet).read_tree(tree) {
+        Ok(_report) => Ok(true),
+        Err(refusal) if refusal.reason == Reason::OutOfMemory => Err(AllocError),
+        Err(_) => Ok(false),
+    }
 }
 
 impl<'t> Faults<'t> {

@@ -73,7 +73,7 @@ returns-clause-refusals c =
     let said = all_said sheet tree last.1 in
     let here : facts_said sheet c.in-Ok.info.aliases (facts_of tree) ≡ Ok said.0 = ap (λ bs. facts_said sheet bs (facts_of tree)) c.in-Ok.ensures.aliases ∙ said.1 in
     let above = above_declared sheet tree said.0 c.in-Ok.info.level said.1 c.in-Ok.ensures.level ∙ sym (c.in_ok-fault.ensures.above said.0 here) in
-    elim c.match-branch-4.branch [
+    elim c.match-branch-5.branch [
       | in-Some+in_ok-push w ↦
           let found = ap listed w.faults-is ∙ w.in_ok-push.ensures ∙ ap (λ l. l ++ shown_fault w.in-Some.fault ∷ []) last.0 in
           ap refusals_of found ∙ ap (λ r. r ∷ []) (apart sheet tree _ w.in-Some.fault w.in-Some.is c.in_ok-fault.ensures.apart).3 ∙ last_listed sheet tree true free.1 last.1 (above ∙ ap is_some w.in-Some.is)
@@ -90,7 +90,7 @@ returns-clause-parts c =
     let free = document_free sheet tree _ shown (sym c.is_empty.ensures ∙ c.if-not-is_empty.false) in
     let more = c.in_ok-add_facts.ensures ∙ (λ i. free.0 i ++ facts_faults sheet (c.in-Ok.ensures.aliases i) 1 objects) in
     let last = facts_free sheet tree _ more (sym c.is_empty-2.ensures ∙ c.if-not-is_empty-2.false) in
-    elim c.match-branch-4.branch [
+    elim c.match-branch-5.branch [
       | in-Some+in_ok-push w ↦
           let found = ap listed w.faults-is ∙ w.in_ok-push.ensures ∙ ap (λ l. l ++ shown_fault w.in-Some.fault ∷ []) last.0 in
           subst (AllByRecursion (HasPart sheet tree)) (sym found) (inr (inr (apart sheet tree _ w.in-Some.fault w.in-Some.is c.in_ok-fault.ensures.apart)), tt)

@@ -1,5 +1,5 @@
 use Rattle.std.proofs.Common.{append_assoc}
-use Rattle.oim_explain.proofs.lines.Fault.text_line.Goals as goal
+use Rattle.oim_explain.proofs.lines.PrintedFault.text_line.Goals as goal
 
 pub returns : goal.returns
 returns c = (

@@ -4,7 +4,7 @@ use Rattle.json.specs.Token.{end_object, key, string}
 use Rattle.oim_explain.specs.Lines.{object_front}
 use Rattle.oim_explain.specs.code.Added.{of_fault}
 use Rattle.oim_explain.proofs.Appended.{tokens_one, tokens_then}
-use Rattle.oim_explain.proofs.lines.Fault.json_line.Goals as goal
+use Rattle.oim_explain.proofs.lines.PrintedFault.json_line.Goals as goal
 
 pub text_of-requires : goal.text_of-requires
 text_of-requires c =

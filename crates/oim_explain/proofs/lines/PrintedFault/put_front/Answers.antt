@@ -1,6 +1,6 @@
 use Rattle.std.proofs.lemmas.Result.{on_ok_weaker}
 use Rattle.oim_explain.proofs.Appended.{tokens_one, tokens_then}
-use Rattle.oim_explain.proofs.lines.Fault.put_front.Goals as goal
+use Rattle.oim_explain.proofs.lines.PrintedFault.put_front.Goals as goal
 
 pub returns : goal.returns
 returns c =
