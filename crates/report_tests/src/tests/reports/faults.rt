@@ -1,5 +1,5 @@
 use super::{END, Outcome, SHEET, is_outcome, joined, may_repeat, read_sheet, told};
-use oim_report::{Refusal, Sheet, faults};
+use oim_report::{Refusal, Sheet, faults, is_accepted_in_pieces};
 use std::alloc::AllocError;
 use std::test::Fail;
 
@@ -158,5 +158,22 @@ fn each_fault_of_a_document_is_told(rt: HostRuntime) -> Result<(), Fail> {
 fn each_fault_of_a_fact_is_told(rt: HostRuntime) -> Result<(), Fail> {
     let sheet = read_sheet(&rt, SHEET)?;
     assert!(rt; hold(&rt, &sheet, START, FACTS, END)?);
+    Ok(())
+}
+
+fn is_accepted(rt: &HostRuntime, sheet: &Sheet, fact: &str) -> Result<bool, AllocError> {
+    let report = joined(rt, &[START, fact, END])?;
+    match is_accepted_in_pieces(rt.alloc(), sheet, &report) {
+        Err(_) if may_repeat(rt) => is_accepted_in_pieces(rt.alloc(), sheet, &report),
+        found => found,
+    }
+}
+
+#[test]
+fn reports_are_accepted_in_pieces(rt: HostRuntime) -> Result<(), Fail> {
+    let sheet = read_sheet(&rt, SHEET)?;
+    let fact = r#""a":{"value":"1","dimensions":{"concept":"eg:A"}}"#;
+    assert!(rt; is_accepted(&rt, &sheet, fact)?);
+    assert!(rt; !is_accepted(&rt, &sheet, r#""a":7"#)?);
     Ok(())
 }
