@@ -1,5 +1,5 @@
 -- The caller's memory after a call, by status.
-use Rattle.std.proofs.Common.{◌≡◌, ◌≤◌, ◌<◌, ◌⊎◌, inl, inr, ℕ, List, [], Result, Ok, Err, refl, ◌∙◌, arith}
+use Rattle.std.proofs.Common.{◌≡◌, ◌≤◌, ◌<◌, ◌⊎◌, inl, inr, ℕ, List, [], Result, Ok, Err, refl, arith}
 use Rattle.std.specs.Prelude.{IfOk, IfErr}
 use Rattle.oim_names.specs.declared.reason.Reason.{Reason}
 use Rattle.oim_report.specs.declared.refusal.Refusal.{Refusal}

@@ -6,10 +6,11 @@ ghost use Rattle.xbrlmerge_c.specs.Calls.{AnswersRowCall, IsLoose, IsSheetRefuse
 ghost use Rattle.xbrlmerge_c.specs.Ends.{AreEnds, reports_at};
 ghost use Rattle.xbrlmerge_c.specs.CallerMemory.{Asks, Hands, HasNoText, Rejects, TellsFirst, memory};
 ghost use Rattle.xbrlmerge_c.specs.Statuses.{bad_ends, bad_level, done, no_memory, refused_some, sheet_refused, too_loose, too_short};
+ghost use Rattle.xbrlmerge_c.specs.code.Reports.{HasValidEnds, texts_of};
 ghost use Rattle.xbrlmerge_c.specs.declared.row_call.RowCall.TheVariants.{Sources, SourcesJson, Verdicts, VerdictsJson};
 
 use crate::output::{BAD_ENDS, BAD_LEVEL, Made, RefusedReport, answer};
-use crate::reports::{add_reports, are_ends, read_sheet};
+use crate::reports::{Reports, add_reports, read_sheet};
 use crate::row_call::{RowCall, bound_of};
 use oim_merge::Fault;
 use oim_value::Level;
@@ -75,29 +76,22 @@ pub extern "C" fn xbrlmerge_merge(
     let Some(level) = level_numbered(allow) else {
         return BAD_LEVEL;
     };
-    if !are_ends(reports, ends) {
+    let reports = Reports::new(reports, ends);
+    if !reports.has_valid_ends() {
         return BAD_ENDS;
     }
-    let made = merged(alloc, sheet, reports, ends, level);
+    let made = merged(alloc, sheet, &reports, level);
     answer(made, out, needed, refusals, refused)
 }
 
 /// A sink in memory fails only if memory is refused, so `Device` means the same as `OutOfMemory`.
-fn merged(
-    alloc: Global,
-    sheet: &[u8],
-    reports: &[u8],
-    ends: &[usize],
-    level: Level,
-) -> Result<Made, Fault>
-    requires { AreEnds reports.now ends.now }
-    ensures ok { IfOk result (λ made.
-        Merges sheet.now (reports_at reports.now ends.now) level made.text.items made.refusals) }
-    ensures err { IfErr result
-        (StopsBy (IsLoose sheet.now (reports_at reports.now ends.now) level) (IsSheetRefused sheet.now)) }
+fn merged(alloc: Global, sheet: &[u8], reports: &Reports<'_>, level: Level) -> Result<Made, Fault>
+    requires { HasValidEnds reports.now }
+    ensures ok { IfOk result (λ made. Merges sheet.now (texts_of reports.now) level made.text.items made.refusals) }
+    ensures err { IfErr result (StopsBy (IsLoose sheet.now (texts_of reports.now) level) (IsSheetRefused sheet.now)) }
 {
     let sheet = read_sheet(alloc, sheet)?;
-    let consolidation = add_reports(alloc, &sheet, reports, ends)?;
+    let consolidation = add_reports(alloc, &sheet, reports)?;
     let mut sink = StdSink::new(Vec::new(alloc));
     let refusals = consolidation.finish(level, &mut sink)?;
     Ok(Made {
@@ -124,9 +118,8 @@ pub extern "C" fn xbrlmerge_verdicts(
     ensures { AnswersRowCall Verdicts None sheet.now reports.now ends.now result
         (memory out.old needed.old refusals.old refused.old) (memory out.new needed.new refusals.new refused.new) }
 {
-    RowCall::Verdicts.list(
-        None, alloc, sheet, reports, ends, out, needed, refusals, refused,
-    )
+    let reports = Reports::new(reports, ends);
+    RowCall::Verdicts.list(None, alloc, sheet, &reports, out, needed, refusals, refused)
 }
 
 /// Writes a line for each source of a fact, as `oim_merge::source_lines` does. Otherwise the call
@@ -145,9 +138,8 @@ pub extern "C" fn xbrlmerge_sources(
     ensures { AnswersRowCall Sources None sheet.now reports.now ends.now result
         (memory out.old needed.old refusals.old refused.old) (memory out.new needed.new refusals.new refused.new) }
 {
-    RowCall::Sources.list(
-        None, alloc, sheet, reports, ends, out, needed, refusals, refused,
-    )
+    let reports = Reports::new(reports, ends);
+    RowCall::Sources.list(None, alloc, sheet, &reports, out, needed, refusals, refused)
 }
 
 /// Writes one JSON object for each row, one per line, as `verdicts --format json` does. The text has
@@ -172,8 +164,9 @@ pub extern "C" fn xbrlmerge_verdicts_json(
         (memory out.old needed.old refusals.old refused.old) (memory out.new needed.new refusals.new refused.new) }
 {
     let bound = Some(bound_of(most, sheet, reports));
+    let reports = Reports::new(reports, ends);
     RowCall::VerdictsJson.list(
-        bound, alloc, sheet, reports, ends, out, needed, refusals, refused,
+        bound, alloc, sheet, &reports, out, needed, refusals, refused,
     )
 }
 
@@ -195,7 +188,8 @@ pub extern "C" fn xbrlmerge_sources_json(
         (memory out.old needed.old refusals.old refused.old) (memory out.new needed.new refusals.new refused.new) }
 {
     let bound = Some(bound_of(most, sheet, reports));
+    let reports = Reports::new(reports, ends);
     RowCall::SourcesJson.list(
-        bound, alloc, sheet, reports, ends, out, needed, refusals, refused,
+        bound, alloc, sheet, &reports, out, needed, refusals, refused,
     )
 }

@@ -5,39 +5,54 @@ ghost use Rattle.oim_merge.specs.Traced.{traced};
 ghost use Rattle.oim_report.specs.Sheet.{sheet_outcome};
 ghost use Rattle.xbrlmerge_c.specs.Answers.{NoRow, StopsBy};
 ghost use Rattle.xbrlmerge_c.specs.Calls.{IsSheetRefused};
-ghost use Rattle.xbrlmerge_c.specs.Ends.{AreEnds, reports_at};
+ghost use Rattle.xbrlmerge_c.specs.code.Reports.{HasValidEnds, texts_of};
 
 use oim_merge::{Consolidation, Fault, Merged, TracedMerge};
 use oim_names::Reason;
 use oim_report::Sheet;
 use std::alloc::{AllocError, Global};
 
-pub(crate) fn are_ends(bytes: &[u8], ends: &[usize]) -> bool
-    ensures { IsTrue result ↔ AreEnds bytes.now ends.now }
-{
-    let mut from = 0;
-    for end in ends {
-        if *end < from || *end > bytes.len() {
-            return false;
-        }
-        from = *end;
+/// The reports as C passes them: their bytes one after another, and the index after each report.
+#[derive(Clone, Copy)]
+pub(crate) struct Reports<'r> {
+    pub bytes: &'r [u8],
+    pub ends: &'r [usize],
+}
+
+impl<'r> Reports<'r> {
+    pub(crate) fn new(bytes: &'r [u8], ends: &'r [usize]) -> Reports<'r>
+        ensures bytes { result.bytes.now ≡ bytes.now }
+        ensures ends { result.ends.now ≡ ends.now }
+    {
+        Reports { bytes, ends }
     }
-    true
+
+    pub(crate) fn has_valid_ends(&self) -> bool
+        ensures { IsTrue result ↔ HasValidEnds self.now }
+    {
+        let mut from = 0;
+        for end in self.ends {
+            if *end < from || *end > self.bytes.len() {
+                return false;
+            }
+            from = *end;
+        }
+        true
+    }
 }
 
 pub(crate) fn add_reports<'s>(
     alloc: Global,
     sheet: &'s Sheet,
-    reports: &[u8],
-    ends: &[usize],
+    reports: &Reports<'_>,
 ) -> Result<Consolidation<'s>, AllocError>
-    requires { AreEnds reports.now ends.now }
-    ensures { IfOk result (λ consolidation. consolidation ≡ added sheet.now (reports_at reports.now ends.now)) }
+    requires { HasValidEnds reports.now }
+    ensures { IfOk result (λ consolidation. consolidation ≡ added sheet.now (texts_of reports.now)) }
 {
     let mut consolidation = Consolidation::new(alloc, sheet);
     let mut from = 0;
-    for end in ends {
-        consolidation.add(&reports[from..*end])?;
+    for end in reports.ends {
+        consolidation.add(&reports.bytes[from..*end])?;
         from = *end;
     }
     Ok(consolidation)
@@ -46,29 +61,27 @@ pub(crate) fn add_reports<'s>(
 pub(crate) fn merge_reports<'s>(
     alloc: Global,
     sheet: &'s Sheet,
-    reports: &[u8],
-    ends: &[usize],
+    reports: &Reports<'_>,
 ) -> Result<Merged<'s>, AllocError>
-    requires { AreEnds reports.now ends.now }
-    ensures base { IfOk result (λ made. made.base.body ≡ merged sheet.now (reports_at reports.now ends.now)) }
-    ensures refusals { IfOk result (λ made. made.refusals ≡ refused sheet.now (reports_at reports.now ends.now)) }
+    requires { HasValidEnds reports.now }
+    ensures base { IfOk result (λ made. made.base.body ≡ merged sheet.now (texts_of reports.now)) }
+    ensures refusals { IfOk result (λ made. made.refusals ≡ refused sheet.now (texts_of reports.now)) }
 {
-    add_reports(alloc, sheet, reports, ends)?.into_merged()
+    add_reports(alloc, sheet, reports)?.into_merged()
 }
 
 pub(crate) fn trace_reports<'s>(
     alloc: Global,
     sheet: &'s Sheet,
-    reports: &[u8],
-    ends: &[usize],
+    reports: &Reports<'_>,
 ) -> Result<TracedMerge<'s>, AllocError>
-    requires { AreEnds reports.now ends.now }
-    ensures { IfOk result (λ merge. merge ≡ traced sheet.now (reports_at reports.now ends.now)) }
+    requires { HasValidEnds reports.now }
+    ensures { IfOk result (λ merge. merge ≡ traced sheet.now (texts_of reports.now)) }
 {
     let mut merge = TracedMerge::new(alloc, sheet);
     let mut from = 0;
-    for end in ends {
-        merge.add(&reports[from..*end])?;
+    for end in reports.ends {
+        merge.add(&reports.bytes[from..*end])?;
         from = *end;
     }
     Ok(merge)

@@ -1,13 +1,13 @@
 ghost use Rattle.std.specs.Prelude.{◌≡◌, ◌-◌, ◌^◌, ◌<◌, None, IfErr, IfOk, IfSome, true, false};
 ghost use Rattle.xbrlmerge_c.specs.Answers.{NoReason, NoRow, StopsBy};
 ghost use Rattle.xbrlmerge_c.specs.Calls.{AnswersRowCall, IsBeyond, IsSheetRefused, IsTooMuch, IsWithin, Lists, bound_of};
-ghost use Rattle.xbrlmerge_c.specs.Ends.{AreEnds, reports_at};
 ghost use Rattle.xbrlmerge_c.specs.CallerMemory.{memory};
+ghost use Rattle.xbrlmerge_c.specs.code.Reports.{HasValidEnds, texts_of};
 ghost use Rattle.xbrlmerge_c.specs.code.RowCall.{AreLong, ListsRowCall, WritesRowCall};
 ghost use Rattle.xbrlmerge_c.specs.declared.row_call.RowCall.TheVariants.{Sources, SourcesJson, Verdicts, VerdictsJson};
 
 use crate::output::{BAD_ENDS, Made, RefusedReport, TOO_MUCH, answer};
-use crate::reports::{add_reports, are_ends, merge_reports, read_sheet, trace_reports};
+use crate::reports::{Reports, add_reports, merge_reports, read_sheet, trace_reports};
 use fact_base::Base;
 use oim_merge::{Fault, Merged, Refusals, SourceLines, write_verdicts};
 use oim_report::Sheet;
@@ -32,20 +32,19 @@ impl RowCall {
         bound: Option<u64>,
         alloc: Global,
         sheet: &[u8],
-        reports: &[u8],
-        ends: &[usize],
+        reports: &Reports<'_>,
         out: &mut [u8],
         needed: &mut usize,
         refusals: &mut [RefusedReport],
         refused: &mut usize,
     ) -> u32
-        ensures { AnswersRowCall self bound sheet.now reports.now ends.now result
+        ensures { AnswersRowCall self bound sheet.now reports.now.bytes.now reports.now.ends.now result
             (memory out.old needed.old refusals.old refused.old) (memory out.new needed.new refusals.new refused.new) }
     {
-        if !are_ends(reports, ends) {
+        if !reports.has_valid_ends() {
             return BAD_ENDS;
         }
-        match listed(alloc, self, bound, sheet, reports, ends) {
+        match listed(alloc, self, bound, sheet, reports) {
             Some(made) => answer(made, out, needed, refusals, refused),
             None => TOO_MUCH,
         }
@@ -72,14 +71,12 @@ fn listed(
     call: RowCall,
     bound: Option<u64>,
     sheet: &[u8],
-    reports: &[u8],
-    ends: &[usize],
+    reports: &Reports<'_>,
 ) -> Option<Result<Made, Fault>>
-    requires { AreEnds reports.now ends.now }
-    ensures ok { IfSome result (λ made. IfOk made (λ made.
-        Lists call bound sheet.now (reports_at reports.now ends.now) made.text.items made.refusals)) }
+    requires { HasValidEnds reports.now }
+    ensures ok { IfSome result (λ made. IfOk made (λ made. Lists call bound sheet.now (texts_of reports.now) made.text.items made.refusals)) }
     ensures err { IfSome result (λ made. IfErr made (StopsBy NoRow (IsSheetRefused sheet.now))) }
-    ensures beyond { result ≡ None → IsTooMuch call bound sheet.now (reports_at reports.now ends.now) }
+    ensures beyond { result ≡ None → IsTooMuch call bound sheet.now (texts_of reports.now) }
 {
     let sheet = match read_sheet(alloc, sheet) {
         Ok(sheet) => sheet,
@@ -88,7 +85,7 @@ fn listed(
     // One byte above the bound shows that the listing is longer than the bound.
     let most = bound.unwrap_or(u64::MAX).saturating_add(1);
     let mut sink = BoundedSink::new(StdSink::new(Vec::new(alloc)), most);
-    let written = write(alloc, call, bound, &sheet, reports, ends, &mut sink);
+    let written = write(alloc, call, bound, &sheet, reports, &mut sink);
     let text = sink.into_inner().into_inner();
     if is_beyond(bound, &text) {
         return None;
@@ -110,90 +107,83 @@ fn is_beyond(bound: Option<u64>, text: &[u8]) -> bool
     }
 }
 
-// In the functions below, C passes the reports as one slice of bytes and the index after each report.
-
 /// Writes the listing, or returns None without writing if one of its rows is longer than the bound.
 fn write<S: Sink>(
     alloc: Global,
     call: RowCall,
     bound: Option<u64>,
     sheet: &Sheet,
-    reports: &[u8],
-    ends: &[usize],
+    reports: &Reports<'_>,
     out: &mut S,
 ) -> Option<Result<Refusals, Fault>>
     requires sink { S.failures out.old < 2 ^ 64 - 1 }
-    requires ends { AreEnds reports.now ends.now }
-    ensures { WritesRowCall call bound sheet.now (reports_at reports.now ends.now) (S.told out.old) (S.told out.new) result }
+    requires ends { HasValidEnds reports.now }
+    ensures { WritesRowCall call bound sheet.now (texts_of reports.now) (S.told out.old) (S.told out.new) result }
 {
     match call {
-        RowCall::Verdicts => Some(write_lines(alloc, sheet, reports, ends, out)),
-        RowCall::Sources => Some(write_sources(alloc, sheet, reports, ends, out)),
-        RowCall::VerdictsJson => write_rows(alloc, bound, sheet, reports, ends, out),
-        RowCall::SourcesJson => Some(write_json_sources(alloc, sheet, reports, ends, out)),
+        RowCall::Verdicts => Some(write_lines(alloc, sheet, reports, out)),
+        RowCall::Sources => Some(write_sources(alloc, sheet, reports, out)),
+        RowCall::VerdictsJson => write_rows(alloc, bound, sheet, reports, out),
+        RowCall::SourcesJson => Some(write_json_sources(alloc, sheet, reports, out)),
     }
 }
 
 fn write_lines<S: Sink>(
     alloc: Global,
     sheet: &Sheet,
-    reports: &[u8],
-    ends: &[usize],
+    reports: &Reports<'_>,
     out: &mut S,
 ) -> Result<Refusals, Fault>
     requires sink { S.failures out.old < 2 ^ 64 - 1 }
-    requires ends { AreEnds reports.now ends.now }
-    ensures { ListsRowCall Verdicts sheet.now (reports_at reports.now ends.now) (S.told out.old) (S.told out.new) result }
+    requires ends { HasValidEnds reports.now }
+    ensures { ListsRowCall Verdicts sheet.now (texts_of reports.now) (S.told out.old) (S.told out.new) result }
 {
-    add_reports(alloc, sheet, reports, ends)?.finish_lines(out)
+    add_reports(alloc, sheet, reports)?.finish_lines(out)
 }
 
 fn write_sources<S: Sink>(
     alloc: Global,
     sheet: &Sheet,
-    reports: &[u8],
-    ends: &[usize],
+    reports: &Reports<'_>,
     out: &mut S,
 ) -> Result<Refusals, Fault>
     requires sink { S.failures out.old < 2 ^ 64 - 1 }
-    requires ends { AreEnds reports.now ends.now }
-    ensures { ListsRowCall Sources sheet.now (reports_at reports.now ends.now) (S.told out.old) (S.told out.new) result }
+    requires ends { HasValidEnds reports.now }
+    ensures { ListsRowCall Sources sheet.now (texts_of reports.now) (S.told out.old) (S.told out.new) result }
 {
-    trace_reports(alloc, sheet, reports, ends)?.finish(&SourceLines, out)
+    trace_reports(alloc, sheet, reports)?.finish(&SourceLines, out)
 }
 
 fn write_json_sources<S: Sink>(
     alloc: Global,
     sheet: &Sheet,
-    reports: &[u8],
-    ends: &[usize],
+    reports: &Reports<'_>,
     out: &mut S,
 ) -> Result<Refusals, Fault>
     requires sink { S.failures out.old < 2 ^ 64 - 1 }
-    requires ends { AreEnds reports.now ends.now }
-    ensures { ListsRowCall SourcesJson sheet.now (reports_at reports.now ends.now) (S.told out.old) (S.told out.new) result }
+    requires ends { HasValidEnds reports.now }
+    ensures { ListsRowCall SourcesJson sheet.now (texts_of reports.now) (S.told out.old) (S.told out.new) result }
 {
     // the caller passes bytes without names
     let rows = SourceRows {
         format: RowFormat::Json,
         files: &[],
     };
-    trace_reports(alloc, sheet, reports, ends)?.finish(&rows, out)
+    trace_reports(alloc, sheet, reports)?.finish(&rows, out)
 }
 
 fn write_rows<S: Sink>(
     alloc: Global,
     bound: Option<u64>,
     sheet: &Sheet,
-    reports: &[u8],
-    ends: &[usize],
+    reports: &Reports<'_>,
     out: &mut S,
 ) -> Option<Result<Refusals, Fault>>
     requires sink { S.failures out.old < 2 ^ 64 - 1 }
-    requires ends { AreEnds reports.now ends.now }
-    ensures { WritesRowCall VerdictsJson bound sheet.now (reports_at reports.now ends.now) (S.told out.old) (S.told out.new) result }
+    requires ends { HasValidEnds reports.now }
+    ensures { WritesRowCall VerdictsJson bound sheet.now (texts_of reports.now) (S.told out.old) (S.told out.new) result }
 {
-    let merged = match merge_reports(alloc, sheet, reports, ends) {
+    let merged = match merge_reports(alloc, sheet, reports) {
         Ok(merged) => merged,
         Err(AllocError) => return Some(Err(Fault::OutOfMemory(0))),
     };

@@ -1,12 +1,13 @@
 use Rattle.std.proofs.Common.{◌≡◌, drop, length}
 use Rattle.oim_merge.specs.Traced.{untraced, with_all_traced}
-use Rattle.xbrlmerge_c.specs.Ends.{AreEndsFrom, reports_at, reports_from}
+use Rattle.xbrlmerge_c.specs.Ends.{AreEndsFrom, reports_from}
+use Rattle.xbrlmerge_c.specs.code.Reports.{texts_of}
 use Rattle.xbrlmerge_c.proofs.reports.trace_reports.Given as goal
 
 -- adding the remaining reports gives the result of adding all reports
 abbrev pub invariant-loop-end : goal.invariant-loop-end
 invariant-loop-end l = record {
-  all : with_all_traced l.merge (reports_from l.from l.reports (drop l.end-index l.ends)) ≡ with_all_traced (untraced l.sheet) (reports_at l.reports l.ends);
+  all : with_all_traced l.merge (reports_from l.from l.reports.bytes.now (drop l.end-index l.reports.ends.now)) ≡ with_all_traced (untraced l.sheet) (texts_of l.reports);
   count : l.merge.added.reports ≡ l.end-index;
-  ends : AreEndsFrom l.from (length l.reports) (drop l.end-index l.ends);
+  ends : AreEndsFrom l.from (length l.reports.bytes.now) (drop l.end-index l.reports.ends.now);
 }

@@ -1,6 +1,6 @@
 use Rattle.std.proofs.Common.{◌≡◌, [], Some, sym, subst, ◌∙◌}
 use Rattle.xbrlmerge_c.specs.Calls.{IsBeyond, IsTextOf, IsWithin}
-use Rattle.xbrlmerge_c.specs.Ends.{reports_at}
+use Rattle.xbrlmerge_c.specs.code.Reports.{texts_of}
 use Rattle.xbrlmerge_c.specs.code.RowCall.{ListsRowCall}
 use Rattle.xbrlmerge_c.proofs.Listings.{too_long, too_much}
 use Rattle.xbrlmerge_c.proofs.Said.{lists}
@@ -8,7 +8,7 @@ use Rattle.xbrlmerge_c.proofs.row_call.listed.Goals as goal
 
 pub returns-then-is_beyond-clause-beyond : goal.returns-then-is_beyond-clause-beyond
 returns-then-is_beyond-clause-beyond c = λ is.
-    let reports = reports_at c.args.reports.now c.args.ends.now in
+    let reports = texts_of c.args.reports.now in
     let before = c.new-sink.result.sink.writer.items in
     let after = c.write-written.new.out.sink.writer.items in
     let none : before ≡ [] = (λ i. (c.new-sink.ensures.sink i).writer.items) ∙ (λ i. (c.new-2.ensures.writer i).items) ∙ c.new.ensures.items in
@@ -18,7 +18,7 @@ returns-then-is_beyond-clause-beyond c = λ is.
 
 pub returns-in-Some-Ok-clause-ok : goal.returns-in-Some-Ok-clause-ok
 returns-in-Some-Ok-clause-ok c =
-    let reports = reports_at c.args.reports.now c.args.ends.now in
+    let reports = texts_of c.args.reports.now in
     let before = c.new-sink.result.sink.writer.items in
     let after = c.write-written.new.out.sink.writer.items in
     let none : before ≡ [] = (λ i. (c.new-sink.ensures.sink i).writer.items) ∙ (λ i. (c.new-2.ensures.writer i).items) ∙ c.new.ensures.items in
@@ -35,4 +35,4 @@ returns-in-Some-Ok-clause-ok c =
 
 pub returns-clause-beyond : goal.returns-clause-beyond
 returns-clause-beyond c = λ is.
-    too_long c.args.sheet.now (reports_at c.args.reports.now c.args.ends.now) c.in-Ok.sheet c.in-Ok.ensures.ok c.args.bound c.args.call c.in-None.ensures
+    too_long c.args.sheet.now (texts_of c.args.reports.now) c.in-Ok.sheet c.in-Ok.ensures.ok c.args.bound c.args.call c.in-None.ensures

@@ -1,12 +1,12 @@
-use Rattle.std.proofs.Common.{◌≡◌, ◌≤◌, arith, refl, ◌∙◌}
+use Rattle.std.proofs.Common.{◌≤◌, arith, refl}
 use Rattle.xbrlmerge_c.specs.Answers.{NoRow}
 use Rattle.xbrlmerge_c.specs.Calls.{IsSheetRefused, Lists}
-use Rattle.xbrlmerge_c.specs.Ends.{reports_at}
+use Rattle.xbrlmerge_c.specs.code.Reports.{texts_of}
 use Rattle.xbrlmerge_c.proofs.Answered as answered
 use Rattle.xbrlmerge_c.proofs.row_call.RowCall.list.Goals as goal
 
-pub returns-then-not-are_ends : goal.returns-then-not-are_ends
-returns-then-not-are_ends c = record {
+pub returns-then-not-has_valid_ends : goal.returns-then-not-has_valid_ends
+returns-then-not-has_valid_ends c = record {
   within = omega arith;
   not_loose = λ is. cc;
   has_level = λ is. cc;
@@ -16,7 +16,7 @@ returns-then-not-are_ends c = record {
   some_refused = λ is. cc;
   short = λ is. cc;
   sheet_is_refused = λ is. cc;
-  no_ends = λ is ends. let holds = c.are_ends.ensures.1 ends in let refused = c.if-not-are_ends.true in cc;
+  no_ends = λ is ends. let holds = c.has_valid_ends.ensures.1 ends in let refused = c.if-not-has_valid_ends.true in cc;
   is_too_much = λ is. cc;
   same = λ high. refl;
 }
@@ -33,14 +33,14 @@ returns-in-None c = record {
   short = λ is. cc;
   sheet_is_refused = λ is. cc;
   no_ends = λ is. cc;
-  is_too_much = λ is. (c.are_ends.ensures.0 c.if-not-are_ends.false, c.listed.ensures.beyond c.in-None.is);
+  is_too_much = λ is. (c.has_valid_ends.ensures.0 c.if-not-has_valid_ends.false, c.listed.ensures.beyond c.in-None.is);
   same = λ high. refl;
 }
 
 pub returns-in-Some : goal.returns-in-Some
 returns-in-Some c =
     let sheet = c.args.sheet.now in
-    let lists = Lists c.args.self c.args.bound sheet (reports_at c.args.reports.now c.args.ends.now) in
+    let lists = Lists c.args.self c.args.bound sheet (texts_of c.args.reports.now) in
     let made = c.in-Some.made in
     let ok = c.in-Some.ensures.ok in
     let err = c.in-Some.ensures.err in
@@ -50,7 +50,7 @@ returns-in-Some c =
       within = omega (arith, low);
       not_loose = λ is. answered.never_loose (IsSheetRefused sheet) made _ _ _ err answers is;
       has_level = λ is. omega (arith, low, is);
-      are_ends = λ low. c.are_ends.ensures.0 c.if-not-are_ends.false;
+      are_ends = λ low. c.has_valid_ends.ensures.0 c.if-not-has_valid_ends.false;
       listed = λ low. answered.hands lists made _ _ _ ok answers low;
       none_refused = λ is. answered.none_refused made _ _ _ answers is;
       some_refused = λ is. answered.some_refused made _ _ _ answers is;
