@@ -1,5 +1,4 @@
-use Rattle.std.proofs.Common.{◌≤◌, ap, subst, sym, ◌∙◌, arith}
-use Rattle.std.proofs.lemmas.Option.{none-some}
+use Rattle.std.proofs.Common.{ap, subst, ◌∙◌}
 use Rattle.std.specs.Option.{unwrap_or}
 use Rattle.std.specs.Prelude.{IfErr, IfOk}
 use Rattle.xbrlmerge_c.specs.Answers.{StopsBy}
@@ -8,11 +7,6 @@ use Rattle.xbrlmerge_c.specs.code.Reports.{texts_of}
 use Rattle.xbrlmerge_c.proofs.Answered as answered
 use Rattle.xbrlmerge_c.proofs.calls.xbrlmerge_merge.Goals as goal
 
-pub returns-clause-statuses : goal.returns-clause-statuses
-returns-clause-statuses c =
-    let low : c.answer.result ≤ 5 = answered.within c.merged-made.result _ _ _ c.answer.ensures in
-    omega (arith, low)
-
 pub returns-clause-done : goal.returns-clause-done
 returns-clause-done c = λ level is low.
     let same = ap (λ o. unwrap_or o level) (c.in-Some.ensures ∙ is) in
@@ -20,12 +14,6 @@ returns-clause-done c = λ level is low.
     let reports = texts_of c.new-reports.result in
     let merges = subst (λ l. IfOk c.merged-made.result (λ m. Merges sheet reports l m.text.items m.refusals)) same c.merged-made.ensures.ok in
     rw (← c.new-reports.ensures.bytes, ← c.new-reports.ensures.ends) (answered.hands (Merges sheet reports level) c.merged-made.result _ _ _ merges c.answer.ensures low)
-
-pub returns-clause-none_refused : goal.returns-clause-none_refused
-returns-clause-none_refused c = λ is. answered.none_refused c.merged-made.result _ _ _ c.answer.ensures is
-
-pub returns-clause-some_refused : goal.returns-clause-some_refused
-returns-clause-some_refused c = λ is. answered.some_refused c.merged-made.result _ _ _ c.answer.ensures is
 
 pub returns-clause-loose : goal.returns-clause-loose
 returns-clause-loose c = λ level is loose.
@@ -49,16 +37,3 @@ returns-clause-sheet c = λ is.
     let sheet = c.args.sheet.now in
     let reports = texts_of c.new-reports.result in
     answered.rejects (IsLoose sheet reports c.in-Some.level) (IsSheetRefused sheet) c.merged-made.result _ _ _ c.merged-made.ensures.err c.answer.ensures is
-
-pub returns-clause-bad_ends : goal.returns-clause-bad_ends
-returns-clause-bad_ends c = λ is ends.
-    let low : c.answer.result ≤ 5 = answered.within c.merged-made.result _ _ _ c.answer.ensures in
-    omega (arith, low, is)
-
-pub returns-clause-bad_level : goal.returns-clause-bad_level
-returns-clause-bad_level c =
-    let low : c.answer.result ≤ 5 = answered.within c.merged-made.result _ _ _ c.answer.ensures in
-    ((λ is. absurd (omega (arith, low, is))), (λ none. absurd (none-some _ (sym (c.in-Some.ensures ∙ none)))))
-
-pub returns-clause-kept : goal.returns-clause-kept
-returns-clause-kept c = λ high. answered.kept c.merged-made.result _ _ _ c.answer.ensures high

@@ -1,41 +1,12 @@
-use Rattle.std.proofs.Common.{◌≤◌, arith, refl}
+use Rattle.std.proofs.Common.{◌≤◌, arith}
 use Rattle.xbrlmerge_c.specs.Answers.{NoRow}
 use Rattle.xbrlmerge_c.specs.Calls.{IsSheetRefused, Lists}
 use Rattle.xbrlmerge_c.specs.code.Reports.{texts_of}
 use Rattle.xbrlmerge_c.proofs.Answered as answered
 use Rattle.xbrlmerge_c.proofs.row_call.RowCall.list.Goals as goal
 
-pub returns-then-not-has_valid_ends : goal.returns-then-not-has_valid_ends
-returns-then-not-has_valid_ends c = record {
-  within = omega arith;
-  not_loose = λ is. cc;
-  has_level = λ is. cc;
-  are_ends = λ low. absurd (omega (arith, low));
-  listed = λ low. absurd (omega (arith, low));
-  none_refused = λ is. cc;
-  some_refused = λ is. cc;
-  short = λ is. cc;
-  sheet_is_refused = λ is. cc;
-  no_ends = λ is ends. let holds = c.has_valid_ends.ensures.1 ends in let refused = c.if-not-has_valid_ends.true in cc;
-  is_too_much = λ is. cc;
-  same = λ high. refl;
-}
-
 pub returns-in-None : goal.returns-in-None
-returns-in-None c = record {
-  within = omega arith;
-  not_loose = λ is. cc;
-  has_level = λ is. cc;
-  are_ends = λ low. absurd (omega (arith, low));
-  listed = λ low. absurd (omega (arith, low));
-  none_refused = λ is. cc;
-  some_refused = λ is. cc;
-  short = λ is. cc;
-  sheet_is_refused = λ is. cc;
-  no_ends = λ is. cc;
-  is_too_much = λ is. (c.has_valid_ends.ensures.0 c.if-not-has_valid_ends.false, c.listed.ensures.beyond c.in-None.is);
-  same = λ high. refl;
-}
+returns-in-None c = grind (arith, c.has_valid_ends.ensures.0 c.if-not-has_valid_ends.false, c.listed.ensures.beyond c.in-None.is)
 
 pub returns-in-Some : goal.returns-in-Some
 returns-in-Some c =
