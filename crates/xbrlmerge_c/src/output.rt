@@ -1,5 +1,5 @@
 ghost use Rattle.std.specs.Prelude.{◌≡◌, ◌≤◌, ◌++◌, drop, length, true, false};
-ghost use Rattle.xbrlmerge_c.specs.code.Answers.{Answers, AnswersText};
+ghost use Rattle.xbrlmerge_c.specs.code.Answers.{Answers};
 ghost use Rattle.xbrlmerge_c.specs.CallerMemory.{IsHanded, IsTooShort, memory};
 ghost use Rattle.xbrlmerge_c.specs.Refusals.{refused_report, refused_reports};
 
@@ -105,7 +105,13 @@ pub(crate) fn answer(
         (memory out.new needed.new refusals.new refused.new) result }
 {
     match made {
-        Ok(made) => answer_text(&made, out, needed, refusals, refused),
+        Ok(made) => {
+            let found = made.refusals.as_slice();
+            if !hand_over(made.text.as_slice(), found, out, needed, refusals, refused) {
+                return TOO_SHORT;
+            }
+            if found.is_empty() { DONE } else { REFUSED }
+        }
         Err(Fault::TooLoose { row, refused: all }) => {
             if !hand_over(b"", all.as_slice(), out, needed, refusals, refused) {
                 return TOO_SHORT;
@@ -121,21 +127,4 @@ pub(crate) fn answer(
         Err(Fault::OutOfMemory(_)) => NO_MEMORY,
         Err(Fault::Device(_)) => NO_MEMORY,
     }
-}
-
-fn answer_text(
-    made: &Made,
-    out: &mut [u8],
-    needed: &mut usize,
-    refusals: &mut [RefusedReport],
-    refused: &mut usize,
-) -> u32
-    ensures { AnswersText made.now.text.items made.now.refusals (memory out.old needed.old refusals.old refused.old)
-        (memory out.new needed.new refusals.new refused.new) result }
-{
-    let found = made.refusals.as_slice();
-    if !hand_over(made.text.as_slice(), found, out, needed, refusals, refused) {
-        return TOO_SHORT;
-    }
-    if found.is_empty() { DONE } else { REFUSED }
 }
