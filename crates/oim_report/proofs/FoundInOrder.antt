@@ -1,5 +1,5 @@
 -- Facts that were found in a text, sorted by their identifiers.
-use Rattle.std.proofs.Common.{◌≡◌, ℕ, List, [], ◌∷◌, Bool, false, Option, Some, None, Result, Ok, Err, refl, sym, ap, ◌∙◌, subst, codes, not, is_none, option_and_then, if◌then◌else◌, IfOk, IsUtf8, unwrap_or, suc, ◌+◌, ◌++◌, length, drop, take, slice_get, map, true, cond, String, Global, string_bytes, arith, append_assoc, append-nil, string_cmp, Ordering, Less, Equal, Greater}
+use Rattle.std.proofs.Common.{◌≡◌, ℕ, List, [], ◌∷◌, Bool, false, Option, Some, None, Result, Ok, Err, refl, sym, ap, ◌∙◌, subst, codes, not, is_none, option_and_then, if◌then◌else◌, IfOk, IfErr, IsUtf8, unwrap_or, suc, ◌+◌, ◌++◌, length, drop, take, slice_get, map, true, cond, String, Global, string_bytes, arith, append_assoc, append-nil, string_cmp, Ordering, Less, Equal, Greater}
 use Rattle.std.proofs.lemmas.Bool.{or_parts, or_from, false≢true}
 use Rattle.std.proofs.lemmas.Option.{get_or_from_slice_get, slice_get_within}
 use Rattle.std.specs.Ordering.{nat_cmp, match_ordering, is_lt}
@@ -19,6 +19,7 @@ use Rattle.oim_value.specs.declared.level.Level.TheVariants.{All as AllLevel}
 use Rattle.oim_dims.specs.declared.fact.Fact.{Fact}
 use Rattle.oim_report.specs.declared.place.Place.TheVariants.{Document as AtDocument}
 use Rattle.oim_report.specs.Document.{Document}
+use Rattle.oim_report.specs.declared.refusal.Refusal.{Refusal}
 use Rattle.oim_report.specs.Duplicates.{level_of}
 use Rattle.oim_report.specs.Info.{info, namespaces_of, bindings_of, taxonomy_of, features_of, facts_of, said_base_url, said_references, declarations, said_level, base_url_said, references_said, level_said, root_keys, info_keys, document_type}
 use Rattle.oim_report.specs.Holds.{document_refusal}
@@ -33,7 +34,7 @@ use Rattle.oim_report.specs.code.Pieces.{IsLike, IsOutline}
 use Rattle.oim_report.proofs.PieceTexts.{append}
 use Rattle.oim_report.specs.code.TapeValues.{Ascends}
 use Rattle.oim_report.specs.PlainJson.{IsBefore}
-use Rattle.oim_report.specs.code.FoundFacts.{AreFound, HaveMore, is_above, rise_after}
+use Rattle.oim_report.specs.code.FoundFacts.{AreFound, AreRelated, HaveMore, is_above, rise_after}
 use Rattle.oim_report.specs.Identifiers.{identifiers_in}
 use Rattle.oim_report.specs.code.Ranks.{AreRanks, IsRank}
 use Rattle.oim_report.proofs.DocumentHolds.{document_least, has_misshapen_part, has_other_type, has_unknown_part, info_refusal, shape_refusal}
@@ -110,20 +111,41 @@ not_refused_whole kept fs all like e =
     let shape : shape_refusal (object all) ≡ None = λ i. first_holding ((misshapen_same kept fs all like each.0 i, MemberForm) ∷ (unknown_same kept fs all like each.1 i, UnknownMember) ∷ ((type_same kept fs all like ∙ each.2) i, DocumentType) ∷ []) in
     sym (document_least (object all)) ∙ (λ i. first_refusal (shape i ∷ (info_refusal_same kept fs all like ∙ info.0) i ∷ []))
 
-pub whole_outcome : (sheet : Sheet) (bytes : List ℕ) (tree : Data) (kept fs all : Members) (facts : List Fact) (references : List (List ℕ)) (level : Level) → tree ≡ object kept → IsLike all kept (Some (object fs)) → json bytes ≡ Some (object all)
-    → document_refusal tree ≡ None → facts_said sheet (bindings_of tree) fs ≡ Ok facts → references_said tree ≡ Some references → level_said tree ≡ Some level → is_lt (level_cmp level (level_of facts)) ≡ false
-    → outcome sheet bytes ≡ Ok (record { facts = facts; references = references; level = level })
-unfolding outcome
-whole_outcome sheet bytes tree kept fs all facts references level t like read accepted said r l above =
-    let whole = object all in
-    let none = not_refused_whole kept fs all like (ap document_refusal (sym t) ∙ accepted) in
-    let same : facts_said sheet (bindings_of whole) (facts_of whole) ≡ Ok facts = (λ i. facts_said sheet ((bindings_same kept fs all like ∙ ap bindings_of (sym t)) i) (facts_same kept fs all like i)) ∙ said in
-    let refs : references_said whole ≡ Some references = references_same kept fs all like ∙ ap references_said (sym t) ∙ r in
-    let lev : level_said whole ≡ Some level = level_same kept fs all like ∙ ap level_said (sym t) ∙ l in
-    let document : Document = record { facts = facts; references = references; level = level } in
-    let made : document_with whole facts ≡ document = λ i. record { facts = facts; references = unwrap_or (refs i) []; level = unwrap_or (lev i) AllLevel } in
-    ap (tree_outcome sheet) read ∙ ap (λ o. unless_refused o (then_allowed (map_ok (document_with whole) (facts_said sheet (bindings_of whole) (facts_of whole))))) none
-    ∙ ap (λ o. then_allowed (map_ok (document_with whole) o)) same ∙ ap allowed made ∙ ap (λ b. if b then Err (at AtDocument DisallowedDuplicates) else Ok document) above
+module _ (sheet : Sheet) (bytes : List ℕ) (tree : Data) (kept fs all : Members) (t : tree ≡ object kept) (like : IsLike all kept (Some (object fs))) (reads : json bytes ≡ Some (object all)) (accepted : document_refusal tree ≡ None) where
+  facts_decide : (said : Result (List Fact) Refusal) → facts_said sheet (bindings_of tree) fs ≡ said → outcome sheet bytes ≡ then_allowed (map_ok (document_with (object all)) said)
+  unfolding outcome
+  facts_decide said e =
+      let whole = object all in
+      let none = not_refused_whole kept fs all like (ap document_refusal (sym t) ∙ accepted) in
+      let same : facts_said sheet (bindings_of whole) (facts_of whole) ≡ said = (λ i. facts_said sheet ((bindings_same kept fs all like ∙ ap bindings_of (sym t)) i) (facts_same kept fs all like i)) ∙ e in
+      ap (tree_outcome sheet) reads ∙ ap (λ o. unless_refused o (then_allowed (map_ok (document_with whole) (facts_said sheet (bindings_of whole) (facts_of whole))))) none
+      ∙ ap (λ o. then_allowed (map_ok (document_with whole) o)) same
+
+  pub whole_refused : (r : Refusal) → facts_said sheet (bindings_of tree) fs ≡ Err r → outcome sheet bytes ≡ Err r
+  whole_refused r said = facts_decide (Err r) said
+
+  module _ (facts : List Fact) (references : List (List ℕ)) (level : Level) (said : facts_said sheet (bindings_of tree) fs ≡ Ok facts) (r : references_said tree ≡ Some references) (l : level_said tree ≡ Some level) where
+    abbrev whole : Document
+    whole = record { facts = facts; references = references; level = level }
+
+    by_level : (above : Bool) → is_lt (level_cmp level (level_of facts)) ≡ above → outcome sheet bytes ≡ (if above then Err (at AtDocument DisallowedDuplicates) else Ok whole)
+    by_level above e =
+        let refs : references_said (object all) ≡ Some references = references_same kept fs all like ∙ ap references_said (sym t) ∙ r in
+        let lev : level_said (object all) ≡ Some level = level_same kept fs all like ∙ ap level_said (sym t) ∙ l in
+        let made : document_with (object all) facts ≡ whole = λ i. record { facts = facts; references = unwrap_or (refs i) []; level = unwrap_or (lev i) AllLevel } in
+        facts_decide (Ok facts) said ∙ ap allowed made ∙ ap (λ b. if b then Err (at AtDocument DisallowedDuplicates) else Ok whole) e
+
+    pub whole_outcome : is_lt (level_cmp level (level_of facts)) ≡ false → outcome sheet bytes ≡ Ok (record { facts = facts; references = references; level = level })
+    whole_outcome within = by_level false within
+
+    pub whole_above : is_lt (level_cmp level (level_of facts)) ≡ true → outcome sheet bytes ≡ Err (at AtDocument DisallowedDuplicates)
+    whole_above above = by_level true above
+
+pub if_ok : {A E : Type 0} (r : Result A E) (a : A) (P : A → Type 0) → r ≡ Ok a → IfOk r P → P a
+if_ok r a P e h = subst (λ s. IfOk s P) e h
+
+pub if_err : {A E : Type 0} (r : Result A E) (x : E) (P : E → Type 0) → r ≡ Err x → IfErr r P → P x
+if_err r x P e h = subst (λ s. IfErr s P) e h
 
 pub json_outline : {A E : Type 0} (r : Result A E) (t : A → Data) (f : A → List ℕ) (bytes text : List ℕ) → IfOk r (λ o. IsOutline text (t o) (f o)) → IsUtf8 text → text ≡ without_mark bytes
     → IfOk r (λ o. (kept : Members) × (t o ≡ object kept) × ((found : Members) → IsPiece (f o) found → (all : Members) × (json bytes ≡ Some (object all)) × IsLike all kept (Some (object found))))
@@ -143,6 +165,9 @@ module _ (sheet : Sheet) (bs : List Binding) where
 
   pub found_more : (ms ns : Members) (ss ts : List (List ℕ)) (fs gs : List Fact) → AreFound sheet bs ms ss fs → HaveMore sheet bs ns ss ts fs gs → AreFound sheet bs (append ms ns) ts gs
   found_more ms ns ss ts fs gs h more = found_by (append ms ns) _ ts _ gs more.pushed more.added (found_append ms ns ss more.new_ids fs more.new_facts h more.found)
+
+  pub found_alone : (ms : Members) (ss ts : List (List ℕ)) (fs gs : List Fact) → ss ≡ [] → fs ≡ [] → HaveMore sheet bs ms ss ts fs gs → AreFound sheet bs ms ts gs
+  found_alone ms ss ts fs gs e f h = found_by ms h.new_ids ts h.new_facts gs (h.pushed ∙ ap (λ l. l ++ h.new_ids) e) (h.added ∙ ap (λ l. l ++ h.new_facts) f) h.found
 
   -- ---- the facts that the pieces denote
 
@@ -199,22 +224,22 @@ module _ (sheet : Sheet) (bs : List Binding) where
   found_length (member l d ms) (s ∷ ss) (f ∷ fs) h = ap suc (found_length ms ss fs h.2)
   found_length ms ss fs h = absurd h
 
-  -- ---- facts stored by identifier, each as the part `fact` of a value
+-- ---- items stored by identifier, each as a part of a value
 
-  module _ {V : Type 0} (fact : V → Fact) where
-    abbrev pub AreKept : Members → List (String Global × V) → Type 0
-    AreKept ms es = AreFound sheet bs ms (map (λ e. string_bytes e.0) es) (map (λ e. fact e.1) es)
+module _ {X V : Type 0} (says : Data → X → Type 0) (part : V → X) where
+  abbrev pub AreKept : Members → List (String Global × V) → Type 0
+  AreKept ms es = AreRelated says ms (map (λ e. string_bytes e.0) es) (map (λ e. part e.1) es)
 
-    pub kept_put : (k : List ℕ) (d : Data) (s : String Global) (v : V) (ms : Members) (es : List (String Global × V)) → string_bytes s ≡ k → fact_outcome sheet bs d ≡ Ok (fact v) → AreKept ms es → AreKept (put k d ms) (insert_entry string_cmp es s v)
-    kept_put k d s v no_members [] e o h = (e, o, tt)
-    kept_put k d s v (member l y ms) (x ∷ es) e o h =
-        let here = ap (λ z. slice_cmp nat_cmp z (string_bytes x.0)) e ∙ ap (slice_cmp nat_cmp k) h.0 in
-        elim (slice_cmp nat_cmp k l) as (λ p. slice_cmp nat_cmp k l ≡ p → AreKept (match_ordering p (member k d (member l y ms)) (member l d ms) (member l y (put k d ms))) (insert_entry string_cmp (x ∷ es) s v)) [
-          | Less ↦ λ p. subst (λ q. AreKept (member k d (member l y ms)) (match_ordering q ((s, v) ∷ x ∷ es) ((x.0, v) ∷ es) (x ∷ insert_entry string_cmp es s v))) (sym (here ∙ p)) (e, o, h)
-          | Equal ↦ λ p. subst (λ q. AreKept (member l d ms) (match_ordering q ((s, v) ∷ x ∷ es) ((x.0, v) ∷ es) (x ∷ insert_entry string_cmp es s v))) (sym (here ∙ p)) (h.0, o, h.2)
-          | Greater ↦ λ p. subst (λ q. AreKept (member l y (put k d ms)) (match_ordering q ((s, v) ∷ x ∷ es) ((x.0, v) ∷ es) (x ∷ insert_entry string_cmp es s v))) (sym (here ∙ p)) (h.0, h.1, kept_put k d s v ms es e o h.2)
-        ] refl
-    kept_put k d s v ms es e o h = absurd h
+  pub kept_put : (k : List ℕ) (d : Data) (s : String Global) (v : V) (ms : Members) (es : List (String Global × V)) → string_bytes s ≡ k → says d (part v) → AreKept ms es → AreKept (put k d ms) (insert_entry string_cmp es s v)
+  kept_put k d s v no_members [] e o h = (e, o, tt)
+  kept_put k d s v (member l y ms) (x ∷ es) e o h =
+      let here = ap (λ z. slice_cmp nat_cmp z (string_bytes x.0)) e ∙ ap (slice_cmp nat_cmp k) h.0 in
+      elim (slice_cmp nat_cmp k l) as (λ p. slice_cmp nat_cmp k l ≡ p → AreKept (match_ordering p (member k d (member l y ms)) (member l d ms) (member l y (put k d ms))) (insert_entry string_cmp (x ∷ es) s v)) [
+        | Less ↦ λ p. subst (λ q. AreKept (member k d (member l y ms)) (match_ordering q ((s, v) ∷ x ∷ es) ((x.0, v) ∷ es) (x ∷ insert_entry string_cmp es s v))) (sym (here ∙ p)) (e, o, h)
+        | Equal ↦ λ p. subst (λ q. AreKept (member l d ms) (match_ordering q ((s, v) ∷ x ∷ es) ((x.0, v) ∷ es) (x ∷ insert_entry string_cmp es s v))) (sym (here ∙ p)) (h.0, o, h.2)
+        | Greater ↦ λ p. subst (λ q. AreKept (member l y (put k d ms)) (match_ordering q ((s, v) ∷ x ∷ es) ((x.0, v) ∷ es) (x ∷ insert_entry string_cmp es s v))) (sym (here ∙ p)) (h.0, h.1, kept_put k d s v ms es e o h.2)
+      ] refl
+  kept_put k d s v ms es e o h = absurd h
 
 -- ---- the steps of the loops
 
@@ -242,21 +267,22 @@ pub keys_more : (ids : List (List ℕ)) (i : ℕ) (keys : List (String Global)) 
 keys_more ids i keys s k here key are =
     take_next ids i k here ∙ (λ j. are j ++ sym key j ∷ []) ∙ sym (map-append string_bytes keys (s ∷ []))
 
-kept_all : {V : Type 0} (fact : V → Fact) (sheet : Sheet) (bs : List Binding) (ms now : Members) (ss : List (String Global)) (vs : List V) (es : List (String Global × V)) → AreFound sheet bs ms (map string_bytes ss) (map fact vs) → AreKept sheet bs fact now es → AreKept sheet bs fact (put_all ms now) (put_entries ss vs es)
-kept_all fact sheet bs no_members now [] vs es h k = k
-kept_all fact sheet bs (member l d ms) now (s ∷ ss) (v ∷ vs) es h k = kept_all fact sheet bs ms (put l d now) ss vs (insert_entry string_cmp es s v) h.2 (kept_put sheet bs fact l d s v now es h.0 h.1 k)
-kept_all fact sheet bs ms now ss vs es h k = absurd h
+kept_all : {X V : Type 0} (says : Data → X → Type 0) (part : V → X) (ms now : Members) (ss : List (String Global)) (vs : List V) (es : List (String Global × V)) → AreRelated says ms (map string_bytes ss) (map part vs) → AreKept says part now es → AreKept says part (put_all ms now) (put_entries ss vs es)
+kept_all says part no_members now [] vs es h k = k
+kept_all says part (member l d ms) now (s ∷ ss) (v ∷ vs) es h k = kept_all says part ms (put l d now) ss vs (insert_entry string_cmp es s v) h.2 (kept_put says part l d s v now es h.0 h.1 k)
+kept_all says part ms now ss vs es h k = absurd h
 
 none_left : {X : Type 0} (xs front rest : List X) (n : ℕ) → xs ≡ front ++ rest → length xs ≡ n → length front ≡ n → xs ≡ front
 none_left xs front [] n e l k = e ∙ append-nil front
 none_left xs front (y ∷ ys) n e l k = absurd (let long = ap length e ∙ length-append front (y ∷ ys) in omega (arith, l, k, long))
 
 pub all_kept : {V : Type 0} (fact : V → Fact) (sheet : Sheet) (bs : List Binding) (ms : Members) (ids : List (List ℕ)) (ss : List (String Global)) (fs rest : List Fact) (taken : List V) (es : List (String Global × V)) → AreFound sheet bs ms ids fs → ids ≡ map string_bytes ss → fs ≡ map fact taken ++ rest
-    → length taken ≡ length ss → es ≡ put_entries ss taken [] → AreKept sheet bs fact (put_all ms no_members) es
+    → length taken ≡ length ss → es ≡ put_entries ss taken [] → AreFound sheet bs (put_all ms no_members) (map (λ e. string_bytes e.0) es) (map (λ e. fact e.1) es)
 all_kept fact sheet bs ms ids ss fs rest taken es h same e l k =
+    let says : Data → Fact → Type 0 = λ d f. fact_outcome sheet bs d ≡ Ok f in
     let keyed : AreFound sheet bs ms (map string_bytes ss) fs = subst (λ is. AreFound sheet bs ms is fs) same h in
     let all = none_left fs (map fact taken) rest (length ss) e (found_length sheet bs ms (map string_bytes ss) fs keyed ∙ length-map ss string_bytes) (length-map taken fact ∙ l) in
-    subst (AreKept sheet bs fact (put_all ms no_members)) (sym k) (kept_all fact sheet bs ms no_members ss taken [] (subst (AreFound sheet bs ms (map string_bytes ss)) all keyed) tt)
+    subst (AreKept says fact (put_all ms no_members)) (sym k) (kept_all says fact ms no_members ss taken [] (subst (AreFound sheet bs ms (map string_bytes ss)) all keyed) tt)
 
 pub taken_one : {X V : Type 0} (part : V → X) (xs left old : List X) (taken : List V) (v : V) → xs ≡ map part taken ++ old → old ≡ part v ∷ left → xs ≡ map part (taken ++ v ∷ []) ++ left
 taken_one part xs left old taken v e o =

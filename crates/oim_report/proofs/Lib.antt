@@ -61,6 +61,8 @@ pub mod TapedTrees
 pub mod BesideFacts
 pub mod Outlines
 pub mod FoundInOrder
+pub mod Judged
+pub mod Appended
 pub mod DimensionRuns
 pub mod StatedLaws
 pub mod TextSpans

@@ -10,6 +10,7 @@ use Rattle.serde_json.specs.Data.{Data, no_items, item, array, Members, object, 
 use Rattle.serde_json.specs.Read.{of_json, of_items, of_members, number_of, max_depth, read}
 use Rattle.serde_json.specs.Data as d
 use Rattle.oim_report.specs.Pieces.{alone, one_data, HasMember, IsPiece, put_all}
+use Rattle.oim_report.specs.code.Pieces.{IsUpTo}
 use Rattle.oim_report.specs.code.TapeValues.{one, Ascends}
 use Rattle.oim_report.proofs.PieceTexts.{append}
 use Rattle.oim_report.proofs.JoinedMembers.{Reads, HasSome, plus, joined}
@@ -118,18 +119,13 @@ both_pieces a b found more p q = record {
   reads = read_back (a ++ 44 ∷ b) (put_all more found) (joined_as a b found more p.some q.some (read_as a found p.reads) (read_as b more q.reads));
 }
 
-put_append : (ms ns onto : Members) → put_all (append ms ns) onto ≡ put_all ns (put_all ms onto)
+pub put_append : (ms ns onto : Members) → put_all (append ms ns) onto ≡ put_all ns (put_all ms onto)
 put_append no_members ns onto = refl
 put_append (member k d ms) ns onto = put_append ms ns (put k d onto)
 
-put_again : (ns old onto : Members) → Ascends old → put_all (put_all ns old) onto ≡ put_all ns (put_all old onto)
+pub put_again : (ns old onto : Members) → Ascends old → put_all (put_all ns old) onto ≡ put_all ns (put_all old onto)
 put_again no_members old onto h = refl
 put_again (member k d ns) old onto h = put_again ns (put k d old) onto (ascends_put k d old h) ∙ ap (put_all ns) (put_onto k d old onto h)
-
--- the text before `left` was read as these members, in the order of the text
-abbrev pub IsUpTo : List ℕ → List ℕ → Members → Type 0
-IsUpTo text left no_members = left ≡ text
-IsUpTo text left (member k d ms) = (done : List ℕ) × (text ≡ done ++ 44 ∷ left) × IsPiece done (put_all (member k d ms) no_members)
 
 with_piece : (text left piece : List ℕ) (ms ns : Members) → IsUpTo text left ms → IsPiece piece (put_all ns no_members) → (done : List ℕ) × ((rest : List ℕ) → left ≡ piece ++ rest → text ≡ done ++ rest) × IsPiece done (put_all (append ms ns) no_members)
 with_piece text left piece no_members ns up p = (piece, (λ rest s. sym up ∙ s), p)

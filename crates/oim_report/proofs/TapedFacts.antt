@@ -174,11 +174,11 @@ none_reading s vs tape ids facts here = record {
   found = record { new_ids = []; new_facts = []; pushed = sym (append-nil ids); added = sym (append-nil facts); found = tt };
 }
 
-append_more : (ms : Members) (k : List ℕ) (d : Data) (more : Members) → append (append ms (member k d no_members)) more ≡ append ms (member k d more)
+pub append_more : (ms : Members) (k : List ℕ) (d : Data) (more : Members) → append (append ms (member k d no_members)) more ≡ append ms (member k d more)
 append_more no_members k d more = refl
 append_more (member l e ms) k d more = ap (member l e) (append_more ms k d more)
 
-append_none : (ms : Members) → append ms no_members ≡ ms
+pub append_none : (ms : Members) → append ms no_members ≡ ms
 append_none no_members = refl
 append_none (member k d ms) = ap (member k d) (append_none ms)
 

@@ -1,10 +1,12 @@
 -- Definitions that no public contract uses, such as stored forms of values, tests of parts and intermediate laws.
+pub mod Appended
 pub mod Beside
 pub mod DimensionRuns
 pub mod Findings
 pub mod FoundFacts
 pub mod Groups
 pub mod JsonMember
+pub mod Judged
 pub mod KindLaws
 pub mod ListedFaults
 pub mod Pieces

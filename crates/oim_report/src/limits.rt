@@ -4,6 +4,10 @@ pub const MOST_REFERENCE_BYTES: usize = 65_536;
 /// The greatest number of levels of nested arrays and objects, which is the limit of `serde_json`.
 pub const MOST_LEVELS: usize = 127;
 
+/// The greatest number of levels of a member's value in a piece, because a piece is parsed inside an
+/// array and an object.
+pub const MOST_MEMBER_LEVELS: usize = MOST_LEVELS - 2;
+
 /// The greatest number of texts in a cache. The limit bounds the memory of the cache, and the time
 /// of a search among texts with the same hash.
 pub const MOST_MEANINGS: usize = 4_096;

@@ -9,11 +9,11 @@ use crate::document::identifiers::identifiers_of;
 use crate::document::info::read_info;
 use crate::fact::fact_reader::{FactReader, read_facts};
 use crate::json_values::json_tree::read_json;
-use crate::limits::PIECE_BYTES;
 use crate::order::order_of;
+use crate::pieces::facts_in_pieces::read_facts_in_pieces;
 use crate::pieces::found_facts::FoundFacts;
 use crate::pieces::outline::read_json_outline;
-use crate::pieces::piece_facts::{PieceBuffers, read_facts_in_pieces};
+use crate::pieces::piece_facts::PieceBuffers;
 use crate::pieces::texts::Texts;
 use crate::place::Place;
 use crate::refusal::Refusal;
@@ -44,7 +44,7 @@ pub fn read_report<'s>(alloc: Global, sheet: &'s Sheet, bytes: &[u8]) -> Result<
 /// Returns `true` only if a report is accepted under a sheet (own). The result is `false` if the
 /// report is refused, or if it cannot be read in pieces.
 ///
-/// For a refused report, this is faster than `read_report`, and needs less memory.
+/// Unlike `read_report`, this parses at most one piece at a time as a tree.
 ///
 /// Errors: out of memory.
 pub fn is_accepted_in_pieces(alloc: Global, sheet: &Sheet, bytes: &[u8]) -> Result<bool, AllocError>
@@ -52,9 +52,9 @@ pub fn is_accepted_in_pieces(alloc: Global, sheet: &Sheet, bytes: &[u8]) -> Resu
         (λ accepted. IsTrue accepted → (d : ADocument) × (outcome sheet.now bytes.now ≡ Ok d)) }
 {
     match ReportReader::new(alloc, sheet).read_in_pieces(bytes) {
-        Ok(_read) => Ok(true),
+        Ok(Ok(_read)) => Ok(true),
+        Ok(Err(_)) | Err(Unread::NeedsTree) => Ok(false),
         Err(Unread::OutOfMemory) => Err(AllocError),
-        Err(Unread::NeedsTree) => Ok(false),
     }
 }
 
@@ -124,7 +124,8 @@ impl<'s> ReportReader<'s> {
             (λ r. (r ≡ at Place.Document Reason.OutOfMemory) ⊎ (outcome self.old bytes.now ≡ Err r)) }
     {
         match self.read_in_pieces(bytes) {
-            Ok((report, _identifiers)) => return Ok(report),
+            Ok(Ok((report, _identifiers))) => return Ok(report),
+            Ok(Err(refusal)) => return Err(refusal),
             Err(Unread::OutOfMemory) => return Err(Refusal::from(Reason::OutOfMemory)),
             Err(Unread::NeedsTree) => {}
         }
@@ -148,7 +149,8 @@ impl<'s> ReportReader<'s> {
             (λ r. (r ≡ at Place.Document Reason.OutOfMemory) ⊎ (outcome self.old bytes.now ≡ Err r)) }
     {
         match self.read_in_pieces(bytes) {
-            Ok((report, identifiers)) => return Ok((report, identifiers.to_vec(self.alloc)?)),
+            Ok(Ok((report, identifiers))) => return Ok((report, identifiers.to_vec(self.alloc)?)),
+            Ok(Err(refusal)) => return Err(refusal),
             Err(Unread::OutOfMemory) => return Err(Refusal::from(Reason::OutOfMemory)),
             Err(Unread::NeedsTree) => {}
         }
@@ -179,36 +181,41 @@ impl<'s> ReportReader<'s> {
     }
 
     /// Does the same as `read_identified`, but parses the facts in pieces. Only one piece at a time
-    /// is held as a tape. The result is `NeedsTree` if the text cannot be read in pieces, or if the
-    /// report is refused.
-    fn read_in_pieces(&mut self, bytes: &[u8]) -> Result<(Report<'s>, Texts), Unread>
+    /// is held as a tape or a tree. The result is `NeedsTree` if the text cannot be read in pieces,
+    /// if a condition applies to the document, or if a tape does not give all facts of the only
+    /// piece.
+    fn read_in_pieces(
+        &mut self,
+        bytes: &[u8],
+    ) -> Result<Result<(Report<'s>, Texts), Refusal>, Unread>
         ensures same { self.new ≡ self.old }
-        ensures ok { IfOk result (λ read. outcome self.old bytes.now ≡ Ok read.0.document) }
-        ensures sheet { IfOk result (λ read. read.0.sheet ≡ self.old) }
-        ensures identifiers { IfOk result (λ read. identifiers bytes.now ≡ Some read.1) }
+        ensures ok { IfOk result
+            (λ o. IfOk o (λ read. outcome self.old bytes.now ≡ Ok read.0.document)) }
+        ensures sheet { IfOk result (λ o. IfOk o (λ read. read.0.sheet ≡ self.old)) }
+        ensures identifiers { IfOk result
+            (λ o. IfOk o (λ read. identifiers bytes.now ≡ Some read.1)) }
+        ensures refused { IfOk result (λ o. IfErr o (λ r. outcome self.old bytes.now ≡ Err r)) }
     {
         let alloc = self.alloc;
         let sheet = self.facts.sheet();
         let outline = read_json_outline(alloc, bytes)?;
         let info = read_info(alloc, &outline.tree)?;
         self.facts.turn_to(info.aliases);
-        let found = read_facts_in_pieces(
-            &mut self.facts,
-            &mut self.buffers,
-            outline.facts,
-            PIECE_BYTES,
-        );
+        let found = read_facts_in_pieces(&mut self.facts, &mut self.buffers, outline.facts);
         self.buffers.free_if_large(alloc);
         let FoundFacts {
             identifiers,
             facts,
             ranks,
-        } = found?;
+        } = match found? {
+            Ok(found) => found,
+            Err(refusal) => return Ok(Err(refusal)),
+        };
         let order = order_of(alloc, facts.as_slice(), ranks.as_slice())?;
         if is_above(info.level, facts.as_slice(), order.as_slice()) {
-            return Err(Unread::NeedsTree);
+            return Ok(Err(Refusal::from(Reason::DisallowedDuplicates)));
         }
         let report = Report::new(sheet, facts, info.references, info.level, order);
-        Ok((report, identifiers))
+        Ok(Ok((report, identifiers)))
     }
 }

@@ -11,7 +11,7 @@ pub(crate) enum Unread {
     /// A request for memory is refused.
     OutOfMemory,
     /// The text cannot be read in pieces or from a tape, or a condition refuses it. The tree of the
-    /// text shows which.
+    /// piece or of the whole text shows which.
     NeedsTree,
 }
 

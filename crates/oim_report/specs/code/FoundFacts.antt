@@ -13,14 +13,18 @@ use Rattle.serde_json.specs.Read.{of_json}
 use Rattle.oim_report.specs.Outcome.{fact_outcome}
 use Rattle.oim_report.specs.Sheet.{Sheet}
 
+-- the lists are the keys of the members, and for each member's value an item, which `says` relates to it
+abbrev pub AreRelated : {X : Type 0} → (Data → X → Type 0) → Members → List (List ℕ) → List X → Type 0
+AreRelated says no_members [] [] = ⊤
+AreRelated says no_members [] (x ∷ xs) = ⊥
+AreRelated says no_members (s ∷ ss) xs = ⊥
+AreRelated says (member k d ms) [] xs = ⊥
+AreRelated says (member k d ms) (s ∷ ss) [] = ⊥
+AreRelated says (member k d ms) (s ∷ ss) (x ∷ xs) = (s ≡ k) × says d x × AreRelated says ms ss xs
+
 -- the lists are the keys of the members and the facts that the members' values denote
 abbrev pub AreFound : Sheet → List Binding → Members → List (List ℕ) → List Fact → Type 0
-AreFound sheet bs no_members [] [] = ⊤
-AreFound sheet bs no_members [] (f ∷ fs) = ⊥
-AreFound sheet bs no_members (s ∷ ss) fs = ⊥
-AreFound sheet bs (member k d ms) [] fs = ⊥
-AreFound sheet bs (member k d ms) (s ∷ ss) [] = ⊥
-AreFound sheet bs (member k d ms) (s ∷ ss) (f ∷ fs) = (s ≡ k) × (fact_outcome sheet bs d ≡ Ok f) × AreFound sheet bs ms ss fs
+AreFound sheet bs ms ids facts = AreRelated (λ d f. fact_outcome sheet bs d ≡ Ok f) ms ids facts
 
 -- the lists have more identifiers and facts, which are those of the members
 pub record HaveMore (sheet : Sheet) (bs : List Binding) (ms : Members) (ids more_ids : List (List ℕ)) (facts more_facts : List Fact) : Type 0 where

@@ -1,7 +1,7 @@
 -- How the members of `facts` are cut into pieces, and how a document is split around `facts` (own).
 use Rattle.std.specs.Prelude.{◌≡◌, ℕ, codes, List, [], ◌∷◌, ◌++◌, true, false, Option, Some, None, ⊤}
 use Rattle.json.specs.Word.{is_space}
-use Rattle.serde_json.specs.Data.{Data, object, Members, no_members}
+use Rattle.serde_json.specs.Data.{Data, object, Members, no_members, member}
 use Rattle.serde_json.specs.Find.{get_member}
 use Rattle.serde_json.specs.Read.{read}
 use Rattle.oim_report.specs.Info.{root_keys}
@@ -12,6 +12,11 @@ use Rattle.oim_report.specs.Pieces.{IsPiece, put_all}
 abbrev pub with_rest : List ℕ → Option (List ℕ) → List ℕ
 with_rest piece None = piece
 with_rest piece (Some rest) = piece ++ 44 ∷ rest
+
+-- `left` follows a piece and a comma, and the piece has these members, put one after another; without members, `left` is the text
+abbrev pub IsUpTo : List ℕ → List ℕ → Members → Type 0
+IsUpTo text left no_members = left ≡ text
+IsUpTo text left (member k d ms) = (done : List ℕ) × (text ≡ done ++ 44 ∷ left) × IsPiece done (put_all (member k d ms) no_members)
 
 -- white space (RFC 8259)
 abbrev pub AreSpaces : List ℕ → Type 0

@@ -106,12 +106,15 @@ impl<'s> FactReader<'s> {
         self.caches = TextCaches::new(self.alloc);
     }
 
-    /// Reads the JSON value of a fact. An error is the lowest-numbered condition that applies, or
-    /// `OutOfMemory`. Most facts are accepted, so each part is visited once, and the lowest-numbered
-    /// condition is searched for only after an error.
-    pub(crate) fn read(&mut self, object: &Value) -> Result<Fact, Reason>
+    /// Reads the JSON value of a fact. Returns the fact with the rank of its concept in the sheet. An
+    /// error is the lowest-numbered condition that applies, or `OutOfMemory`. Most facts are
+    /// accepted, so each part is visited once, and the lowest-numbered condition is searched for
+    /// only after an error.
+    pub(crate) fn read(&mut self, object: &Value) -> Result<(Fact, usize), Reason>
         ensures same { self.new ≡ self.old }
-        ensures ok { IfOk result (λ f. fact_outcome self.old.sheet self.old.aliases (view object.now) ≡ Ok f) }
+        ensures ok { IfOk result
+            (λ f. fact_outcome self.old.sheet self.old.aliases (view object.now) ≡ Ok f.0) }
+        ensures rank { IfOk result (λ f. IsRank self.old.sheet.concepts f.0.dimensions.concept f.1) }
         ensures errors { IfErr result
             (λ r. (r ≡ Reason.OutOfMemory)
             ⊎ (fact_outcome self.old.sheet self.old.aliases (view object.now) ≡ Err r)) }
@@ -120,7 +123,7 @@ impl<'s> FactReader<'s> {
             return Err(self.least_fault(object)?);
         };
         match self.read_parts(&parts) {
-            Ok((fact, _rank)) => Ok(fact),
+            Ok(found) => Ok(found),
             Err(Unread::OutOfMemory) => Err(Reason::OutOfMemory),
             Err(Unread::NeedsTree) => Err(self.least_fault(object)?),
         }
@@ -362,7 +365,7 @@ fn read_each(
     let mut number: u64 = 1;
     for (_identifier, object) in objects.iter() {
         match reader.read(object) {
-            Ok(fact) => facts.push_reserved(fact),
+            Ok((fact, _rank)) => facts.push_reserved(fact),
             Err(reason) => return Err(Refusal::of_fact(reason, number)),
         }
         number += 1;

@@ -11,17 +11,13 @@ ghost use Rattle.oim_report.specs.code.TapeValues.{AreAdded, IsAdded};
 
 use crate::json_values::json_tree::has_colon;
 use crate::json_values::skipped::skip_value;
-use crate::limits::MOST_LEVELS;
+use crate::limits::MOST_MEMBER_LEVELS;
 use crate::pieces::piece_facts::{PieceBuffers, only_object, parse_piece};
 use crate::pieces::taped_tree::tree_of;
 use crate::unread::Unread;
 use json::{Element, Members};
 use serde_json::{Map, Value};
 use std::alloc::Global;
-
-// The greatest number of levels of a member's value, because a piece is parsed inside an array and
-// an object.
-const MOST_MEMBER_LEVELS: usize = MOST_LEVELS - 2;
 
 /// Reads the members before or after `facts`. Puts `documentInfo` into `tree`, and skips members of
 /// extensions. The result is `NeedsTree` if there are others.

@@ -1,18 +1,18 @@
-ghost use Rattle.std.specs.Prelude.{◌≡◌, IfOk, IfSome, OnOk, Some, string_bytes};
+ghost use Rattle.std.specs.Prelude.{◌≡◌, ◌⊎◌, Err, IfOk, IfSome, OnOk, Some, string_bytes};
 ghost use Rattle.json.specs.Find.{BeginsWith, InMembers};
 ghost use Rattle.json.specs.Json.{Json, document};
 ghost use Rattle.json.specs.Json as spec;
 ghost use Rattle.serde_json.specs.Data as tree;
 ghost use Rattle.serde_json.specs.Data.{no_members};
 ghost use Rattle.oim_report.specs.Pieces.{alone, put_all, HasMember, IsPiece};
-ghost use Rattle.oim_report.specs.code.FoundFacts.{AreFound, HaveMore, HaveOneMore};
+ghost use Rattle.oim_report.specs.code.FoundFacts.{HaveMore, HaveOneMore};
+ghost use Rattle.oim_report.specs.code.Appended.{AreAppended};
 ghost use Rattle.oim_report.specs.code.TapeValues.{AreData, one};
 ghost use Rattle.oim_report.specs.code.Ranks.{AreRanks};
 
 use crate::fact::fact_members::FactMembers;
 use crate::fact::fact_reader::FactReader;
 use crate::limits::{MOST_KEPT_BYTES, PIECE_BYTES};
-use crate::pieces::cuts::split_piece;
 use crate::pieces::found_facts::FoundFacts;
 use crate::unread::Unread;
 use json::{Element, Members, Scratch, Tape};
@@ -44,36 +44,9 @@ impl PieceBuffers {
     }
 }
 
-/// Returns the facts in `text`, in byte order of their identifiers. The result is `NeedsTree` if a
-/// piece cannot be read or a fact is refused.
-pub(crate) fn read_facts_in_pieces(
-    reader: &mut FactReader<'_>,
-    buffers: &mut PieceBuffers,
-    text: &str,
-    size: usize,
-) -> Result<FoundFacts, Unread>
-    ensures same { reader.new ≡ reader.old }
-    ensures found { IfOk result (λ f. (objects : tree.Members) × IsPiece text.now objects
-        × AreFound reader.old.sheet reader.old.aliases objects f.identifiers f.facts.items) }
-    ensures ranks { IfOk result (λ f. AreRanks reader.old.sheet.concepts f.facts.items f.ranks.items) }
-{
-    let alloc = reader.alloc();
-    let mut found = FoundFacts::new(alloc);
-    let mut left = text;
-    for _ in 0..text.len() {
-        let (piece, rest) = split_piece(left, size);
-        read_piece_facts(reader, buffers, piece, &mut found)?;
-        match rest {
-            Some(rest) => left = rest,
-            None => return found.in_order(alloc),
-        }
-    }
-    Err(Unread::NeedsTree)
-}
-
-// Adds the facts of a piece, in the order of the text. The result is `NeedsTree` if the piece cannot
-// be read, a fact cannot be read from a tape, or a fact is refused.
-fn read_piece_facts(
+/// Adds the facts of a piece, in the order of the text, as far as a tape gives accepted facts. The
+/// result is `NeedsTree` if the piece or a fact cannot be read from a tape, or if a fact is refused.
+pub(crate) fn read_taped_facts(
     reader: &mut FactReader<'_>,
     buffers: &mut PieceBuffers,
     piece: &str,
@@ -85,6 +58,7 @@ fn read_piece_facts(
         found.old.facts.items found.new.facts.items) }
     ensures ranks { OnOk result (AreRanks reader.old.sheet.concepts found.old.facts.items found.old.ranks.items
         → AreRanks reader.old.sheet.concepts found.new.facts.items found.new.ranks.items) }
+    ensures kept { (result ≡ Err Unread.OutOfMemory) ⊎ AreAppended found.old found.new }
 {
     let tape = parse_piece(reader.alloc(), buffers, piece)?;
     let Some(members) = only_object(&tape.root()) else {
@@ -109,8 +83,8 @@ pub(crate) fn parse_piece<'b>(
     Ok(Tape::parse(text.as_str(), scratch, nodes)?)
 }
 
-// Sets `buffer` to an array with one object, whose members are the piece.
-fn fill_alone(buffer: &mut String, piece: &str) -> Result<(), AllocError>
+/// Sets `buffer` to an array with one object, whose members are the piece.
+pub(crate) fn fill_alone(buffer: &mut String, piece: &str) -> Result<(), AllocError>
     ensures { OnOk result (string_bytes buffer.new ≡ alone piece.now) }
 {
     buffer.clear();
@@ -143,6 +117,7 @@ fn read_members(
         found.old.facts.items found.new.facts.items) }
     ensures ranks { OnOk result (AreRanks reader.old.sheet.concepts found.old.facts.items found.old.ranks.items
         → AreRanks reader.old.sheet.concepts found.new.facts.items found.new.ranks.items) }
+    ensures kept { (result ≡ Err Unread.OutOfMemory) ⊎ AreAppended found.old found.new }
 {
     let before = found.facts.len();
     while let Some((key, object)) = members.next() {
@@ -165,6 +140,7 @@ fn read_member(
         found.old.identifiers found.new.identifiers found.old.facts.items found.new.facts.items) }
     ensures ranks { OnOk result (AreRanks reader.old.sheet.concepts found.old.facts.items found.old.ranks.items
         → AreRanks reader.old.sheet.concepts found.new.facts.items found.new.ranks.items) }
+    ensures kept { (result ≡ Err Unread.OutOfMemory) ⊎ AreAppended found.old found.new }
 {
     let parts = FactMembers::of_element(reader.alloc(), object)?;
     let (fact, rank) = reader.read_parts(&parts)?;

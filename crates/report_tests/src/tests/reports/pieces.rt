@@ -3,14 +3,14 @@ use super::{
 };
 use oim_report::Sheet;
 use oim_value::Level;
-use oim_value::Level::{All, Unique};
+use oim_value::Level::{All, Complete, Unique};
 use std::alloc::AllocError;
 use std::test::Fail;
 
 // Reports that are long enough to be read in pieces. Each `@` is replaced by 70,000 bytes of
 // letters.
 // The number of facts of each report, their level, and the report.
-const LEVELS: [(usize, Level, &str); 4] = [
+const LEVELS: [(usize, Level, &str); 6] = [
     // members in any order, and with spaces
     (
         2,
@@ -35,10 +35,22 @@ const LEVELS: [(usize, Level, &str); 4] = [
         All,
         r#"{"documentInfo":{"documentType":"https://xbrl.org/2021/xbrl-json","namespaces":{"eg":"http://example.org/t"}},"facts":{"f,":{"value":"@},","dimensions":{"concept":"eg:T"}},"f}":{"value":"@\"","dimensions":{"concept":"eg:T"}},"f},":{"value":"@\\","dimensions":{"concept":"eg:T"}},"f\"":{"value":"@},\"","dimensions":{"concept":"eg:T"}},"f}},":{"value":"@\\\"","dimensions":{"concept":"eg:T"}},"f{":{"value":"@:{","dimensions":{"concept":"eg:T"}},"f},\"":{"value":"@[","dimensions":{"concept":"eg:T"}},"f}":{"value":"}},","dimensions":{"concept":"eg:T"}}}}"#,
     ),
+    // no tape gives a fact with an extension of 18 levels
+    (
+        3,
+        All,
+        r#"{"documentInfo":{"documentType":"https://xbrl.org/2021/xbrl-json","namespaces":{"eg":"http://example.org/t"}},"facts":{"a":{"value":"@","dimensions":{"concept":"eg:T"}},"b":{"eg:deep":[[[[[[[[[[[[[[[[[[]]]]]]]]]]]]]]]]]],"value":"@","dimensions":{"concept":"eg:T"}},"c":{"value":"other","dimensions":{"concept":"eg:T"}}}}"#,
+    ),
+    // only the last fact with an identifier counts
+    (
+        3,
+        Complete,
+        r#"{"documentInfo":{"documentType":"https://xbrl.org/2021/xbrl-json","namespaces":{"eg":"http://example.org/t"}},"facts":{"a":{"value":"@","dimensions":{"concept":"eg:T"}},"b":{},"c":{"value":"@","dimensions":{"concept":"eg:T"}},"b":{"value":"@","dimensions":{"concept":"eg:T"}},"a":{"value":"@","dimensions":{"concept":"eg:T"}}}}"#,
+    ),
 ];
 
 // A refusal has its place in the whole report.
-const REFUSED: [(Outcome, &str); 5] = [
+const REFUSED: [(Outcome, &str); 9] = [
     (
         (2, 2),
         r#"{"documentInfo":{"documentType":"https://xbrl.org/2021/xbrl-json","namespaces":{"eg":"http://example.org/t"}},"facts":{"b":{"value":"@","dimensions":{"concept":"eg:T"}},"c":{},"a":{"value":"@","dimensions":{"concept":"eg:T"}},"b":{}}}"#,
@@ -60,6 +72,26 @@ const REFUSED: [(Outcome, &str); 5] = [
     (
         (1, 0),
         r#"{"documentInfo":{"documentType":"https://xbrl.org/2021/xbrl-json","namespaces":{"eg":"http://example.org/t"}},"facts":{"a":{"value":"@","dimensions":{"concept":"eg:T"}},"b":{"eg:deep":[{"a":1e999}],"value":"@","dimensions":{"concept":"eg:T"}}}}"#,
+    ),
+    // the first refused fact comes last in the text
+    (
+        (2, 1),
+        r#"{"documentInfo":{"documentType":"https://xbrl.org/2021/xbrl-json","namespaces":{"eg":"http://example.org/t"}},"facts":{"c":{},"b":{"value":"@","dimensions":{"concept":"eg:T"}},"d":{"value":"@","dimensions":{"concept":"eg:T"}},"a":{}}}"#,
+    ),
+    // a refused fact after one that no tape gives
+    (
+        (2, 3),
+        r#"{"documentInfo":{"documentType":"https://xbrl.org/2021/xbrl-json","namespaces":{"eg":"http://example.org/t"}},"facts":{"b":{"eg:deep":[[[[[[[[[[[[[[[[[[]]]]]]]]]]]]]]]]]],"value":"@","dimensions":{"concept":"eg:T"}},"a":{"value":"@","dimensions":{"concept":"eg:T"}},"c":{}}}"#,
+    ),
+    // a later piece is not JSON
+    (
+        (1, 0),
+        r#"{"documentInfo":{"documentType":"https://xbrl.org/2021/xbrl-json","namespaces":{"eg":"http://example.org/t"}},"facts":{"a":{},"b":{"value":"@","dimensions":{"concept":"eg:T"}},"c":{"value":"@","dimensions":{"concept":"eg:T"},}}}"#,
+    ),
+    // duplicates above the declared level
+    (
+        (31, 0),
+        r#"{"documentInfo":{"documentType":"https://xbrl.org/2021/xbrl-json","namespaces":{"eg":"http://example.org/t","xbrl":"https://xbrl.org/2021"},"features":{"xbrl:allowedDuplicates":"none"}},"facts":{"a":{"value":"@","dimensions":{"concept":"eg:T"}},"b":{"value":"@","dimensions":{"concept":"eg:T"}}}}"#,
     ),
 ];
 

@@ -1,3 +1,5 @@
+use Rattle.std.proofs.Common.{inr}
+use Rattle.oim_report.proofs.Appended.{by_none}
 use Rattle.oim_report.proofs.FoundInOrder.{ranked_by, ranks_append}
 use Rattle.oim_report.proofs.pieces.piece_facts.read_member.Goals as goal
 
@@ -16,3 +18,9 @@ returns-clause-ranks c h =
     let m = c.args.reader.now.sheet.concepts in
     let found = c.args.found.now in
     ranked_by m _ _ _ _ c.in_ok-push.ensures.facts c.in_ok-push.ensures.ranks (ranks_append m found.facts.items _ found.ranks.items _ h (c.in_ok-fact.ensures.rank, tt))
+
+pub returns-in_err-parts-clause-kept : goal.returns-in_err-parts-clause-kept
+returns-in_err-parts-clause-kept c = inr (by_none c.args.found.now)
+
+pub returns-in_err-fact-clause-kept : goal.returns-in_err-fact-clause-kept
+returns-in_err-fact-clause-kept c = inr (by_none c.args.found.now)

@@ -1,4 +1,6 @@
 use Rattle.std.proofs.Common.{rules, ◌≡◌, length, refl, ◌∙◌, subst}
+use Rattle.std.proofs.Common.{inl, inr, ⊎_elim}
+use Rattle.oim_report.proofs.Appended.{by_both, by_none}
 use Rattle.oim_report.specs.code.Scope.{Scope}
 use Rattle.oim_report.specs.code.FoundFacts.{HaveOneMore}
 use Rattle.oim_report.specs.code.Ranks.{AreRanks}
@@ -6,7 +8,7 @@ use Rattle.oim_report.proofs.TapedFacts.{none_reading, one_read, all_found, foun
 use Rattle.oim_report.proofs.pieces.piece_facts.read_members.Goals as goal
 
 pub loop-key-init : goal.loop-key-init
-loop-key-init c = ((λ vs here. none_reading c.args.reader.now vs c.args.members _ _ here), refl, λ h. h)
+loop-key-init c = ((λ vs here. none_reading c.args.reader.now vs c.args.members _ _ here), refl, (λ h. h), by_none c.args.found.now)
 
 pub loop-key-preserved : goal.loop-key-preserved
 loop-key-preserved c =
@@ -17,6 +19,7 @@ loop-key-preserved c =
       (λ vs here. one_read s vs _ _ _ _ _ _ _ _ (c.in-Some.key.now, c.in-Some.object) c.in-Some.ensures.value more (l.invariant.0 vs here)),
       c.read_member.ensures.same ∙ l.invariant.1,
       λ h. ranks (l.invariant.2 h),
+      ⊎_elim (λ memory. absurd (cc)) (λ more. by_both c.args.found.now l.found c.read_member.new.found l.invariant.3 more) c.in_ok-read_member.ensures.kept,
     )
 
 pub returns-clause-found : goal.returns-clause-found
@@ -28,3 +31,14 @@ returns-clause-found c = λ vs here.
 
 pub returns-clause-ranks : goal.returns-clause-ranks
 returns-clause-ranks c = c.loop-key.invariant.2
+
+pub returns-in_err-read_member-clause-kept : goal.returns-in_err-read_member-clause-kept
+returns-in_err-read_member-clause-kept c =
+    let l = c.loop-key in
+    ⊎_elim (λ memory. inl (search rules)) (λ more. inr (by_both c.args.found.now l.found c.read_member.new.found l.invariant.3 more)) c.in_err-read_member.ensures.kept
+
+pub returns-then-len-before-clause-kept : goal.returns-then-len-before-clause-kept
+returns-then-len-before-clause-kept c = inr c.loop-key.invariant.3
+
+pub returns-clause-kept : goal.returns-clause-kept
+returns-clause-kept c = inr c.loop-key.invariant.3

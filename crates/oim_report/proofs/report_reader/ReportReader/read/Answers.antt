@@ -1,8 +1,8 @@
-use Rattle.std.proofs.Common.{◌≡◌, Ok, Some, subst, IfOk}
+use Rattle.std.proofs.Common.{rules, ◌≡◌, Ok, Some, subst, IfOk}
 use Rattle.std.proofs.lemmas.Result.{IfOk-weaker}
 use Rattle.serde_json.specs.View.{view}
 use Rattle.oim_report.specs.Document.{SaysDocument}
-use Rattle.oim_report.specs.Outcome.{tree_outcome}
+use Rattle.oim_report.specs.Outcome.{outcome, tree_outcome}
 use Rattle.oim_report.specs.Report.{Reading}
 use Rattle.oim_report.proofs.Documents.{document_said, outcomes_are_said}
 use Rattle.oim_report.proofs.report_reader.ReportReader.read.Goals as goal
@@ -14,5 +14,7 @@ returns-clause-said c =
     subst (λ s. IfOk c.read_tree.result (λ (r : Reading). SaysDocument s c.args.bytes.now r.document)) c.read_in_pieces.ensures.same
     (IfOk-weaker c.read_tree.result (λ (r : Reading). tree_outcome sheet tree ≡ Ok r.document) (λ (r : Reading). SaysDocument sheet c.args.bytes.now r.document) (λ r said. document_said sheet c.args.bytes.now tree r.document c.in_ok-tree.ensures.value said) c.read_tree.ensures.ok)
 
-pub returns-in-Ok-clause-said : goal.returns-in-Ok-clause-said
-returns-in-Ok-clause-said c = outcomes_are_said c.args.self.now c.args.bytes.now _ c.in-Ok.ensures.ok
+pub returns-in-Ok-Ok-clause-said : goal.returns-in-Ok-Ok-clause-said
+returns-in-Ok-Ok-clause-said c =
+    let said : outcome c.args.self.now c.args.bytes.now ≡ Ok c.in-Ok-Ok.report.document = search rules in
+    outcomes_are_said c.args.self.now c.args.bytes.now _ said

@@ -4,8 +4,8 @@ use denote.Shadow.{shadow}
 use Rattle.serde_json.specs.Data.{Members}
 use Rattle.oim_report.specs.code.FoundFacts.{AreFound}
 use Rattle.oim_report.specs.code.Ranks.{AreRanks}
-use Rattle.oim_report.proofs.PiecesInTurn.{IsUpTo}
-use Rattle.oim_report.proofs.pieces.piece_facts.read_facts_in_pieces.Given as goal
+use Rattle.oim_report.specs.code.Pieces.{IsUpTo}
+use Rattle.oim_report.proofs.pieces.facts_in_pieces.read_facts_in_pieces.Given as goal
 
 -- the rest of the text is UTF-8, the facts before the rest were found, and the reader is unchanged
 abbrev pub invariant-loop : goal.invariant-loop

@@ -1,0 +1,95 @@
+-- The judgements of facts, and the first refused fact.
+use Rattle.std.proofs.Common.{◌≡◌, ℕ, ◌+◌, List, [], ◌∷◌, ◌++◌, Option, Some, None, IfOk, IfSome, Result, Err, map, String, Global, string_bytes, string_cmp, refl, sym, ap, ◌∙◌, subst}
+use Rattle.std.specs.Prelude.{ok_or}
+use Rattle.std.specs.BTreeMap.{insert_entry}
+use Rattle.oim_names.specs.Bindings.{Binding}
+use Rattle.oim_names.specs.declared.reason.Reason.{Reason}
+use Rattle.oim_dims.specs.declared.fact.Fact.{Fact}
+use Rattle.serde_json.specs.Data.{Data, Members, no_members, member, put}
+use Rattle.oim_report.specs.declared.pieces.judgement.Judgement.{Judgement}
+use Rattle.oim_report.specs.declared.pieces.judgement.Judgement.TheVariants.{Accepted, Refused}
+use Rattle.oim_report.specs.declared.place.Place.TheVariants.{Fact as AtFact}
+use Rattle.oim_report.specs.declared.refusal.Refusal.{Refusal}
+use Rattle.oim_report.specs.Json.{values}
+use Rattle.oim_report.specs.Outcome.{at, all_or_first, fact_outcome}
+use Rattle.oim_report.specs.Pieces.{put_all}
+use Rattle.oim_report.specs.Refusal.{map_ok}
+use Rattle.oim_report.specs.Sheet.{Sheet}
+use Rattle.oim_report.specs.code.FoundFacts.{AreFound}
+use Rattle.oim_report.specs.code.Judged.{AreJudged, IsJudged}
+use Rattle.oim_report.proofs.FoundInOrder.{kept_put}
+
+-- the entries after accepted facts with these identifiers
+abbrev pub put_accepted : List (String Global) → List (String Global × Judgement) → List (String Global × Judgement)
+put_accepted [] es = es
+put_accepted (s ∷ ss) es = put_accepted ss (insert_entry string_cmp es s Accepted)
+
+pub accepted_one : (ss : List (String Global)) (s : String Global) (es : List (String Global × Judgement)) → put_accepted (ss ++ s ∷ []) es ≡ insert_entry string_cmp (put_accepted ss es) s Accepted
+accepted_one [] s es = refl
+accepted_one (t ∷ ss) s es = accepted_one ss s (insert_entry string_cmp es t Accepted)
+
+module _ (sheet : Sheet) (bs : List Binding) where
+  pub judged_put : (k : List ℕ) (d : Data) (s : String Global) (j : Judgement) (ms : Members) (es : List (String Global × Judgement)) → string_bytes s ≡ k → IsJudged (fact_outcome sheet bs d) j → AreJudged sheet bs ms es
+      → AreJudged sheet bs (put k d ms) (insert_entry string_cmp es s j)
+  judged_put k d s j ms es e o h = kept_put (λ d j. IsJudged (fact_outcome sheet bs d) j) (λ j. j) k d s j ms es e o h
+
+  pub accepted_put : (ms onto : Members) (ss : List (String Global)) (fs : List Fact) (es : List (String Global × Judgement)) → AreFound sheet bs ms (map string_bytes ss) fs → AreJudged sheet bs onto es → AreJudged sheet bs (put_all ms onto) (put_accepted ss es)
+  accepted_put no_members onto [] [] es h k = k
+  accepted_put (member l d ms) onto (s ∷ ss) (f ∷ fs) es h k =
+      accepted_put ms (put l d onto) ss fs (insert_entry string_cmp es s Accepted) h.2 (judged_put l d s Accepted onto es h.0 (f, h.1) k)
+  accepted_put ms onto ss fs es h k = absurd h
+
+  -- the members of the entries that are left, and the members that were put so far
+  pub record AreAbsorbed (all onto : Members) (left now : List (String Global × Judgement)) : Type 0 where
+    pub rest : Members
+    pub put_now : Members
+    pub are : AreJudged sheet bs rest left
+    pub judged : AreJudged sheet bs put_now now
+    pub puts : put_all rest put_now ≡ put_all all onto
+
+  pub one_absorbed : (all onto : Members) (s : String Global) (j : Judgement) (left rest now : List (String Global × Judgement)) → left ≡ (s, j) ∷ rest → AreAbsorbed all onto left now → AreAbsorbed all onto rest (insert_entry string_cmp now s j)
+  one_absorbed all onto s j left rest now e h = by_rest h.rest (subst (AreJudged sheet bs h.rest) e h.are) h.puts
+    where
+      by_rest : (ms : Members) → AreJudged sheet bs ms ((s, j) ∷ rest) → put_all ms h.put_now ≡ put_all all onto → AreAbsorbed all onto rest (insert_entry string_cmp now s j)
+      by_rest no_members are puts = absurd are
+      by_rest (member k d ms) are puts = record { rest = ms; put_now = put k d h.put_now; are = are.2; judged = judged_put k d s j h.put_now now are.0 are.1 h.judged; puts = puts }
+
+  pub all_absorbed : (all onto : Members) (left now : List (String Global × Judgement)) → left ≡ [] → AreAbsorbed all onto left now → AreJudged sheet bs (put_all all onto) now
+  all_absorbed all onto left now e h = by_rest h.rest (subst (AreJudged sheet bs h.rest) e h.are) h.puts
+    where
+      by_rest : (ms : Members) → AreJudged sheet bs ms [] → put_all ms h.put_now ≡ put_all all onto → AreJudged sheet bs (put_all all onto) now
+      by_rest no_members are puts = subst (λ ns. AreJudged sheet bs ns now) puts h.judged
+      by_rest (member k d ms) are puts = absurd are
+
+  -- ---- the first refused fact
+
+  abbrev outcomes : Members → List (Result Fact Reason)
+  outcomes ms = map (fact_outcome sheet bs) (values ms)
+
+  -- the members of the entries that follow an accepted fact
+  pub record AreLater (n : ℕ) (ms : Members) (es : List (String Global × Judgement)) : Type 0 where
+    pub later : Members
+    pub are : AreJudged sheet bs later es
+    pub refuse : (r : Refusal) → all_or_first (n + 1) (outcomes later) ≡ Err r → all_or_first n (outcomes ms) ≡ Err r
+
+  pub accepted_first : (n : ℕ) (ms : Members) (s : String Global) (es : List (String Global × Judgement)) → AreJudged sheet bs ms ((s, Accepted) ∷ es) → AreLater n ms es
+  accepted_first n no_members s es h = absurd h
+  accepted_first n (member k d ms) s es h = record {
+    later = ms;
+    are = h.2;
+    refuse = λ r later. ap (λ o. all_or_first n (o ∷ outcomes ms)) h.1.1 ∙ ap (map_ok (λ fs. h.1.0 ∷ fs)) later;
+  }
+
+  -- the first member denotes no fact
+  pub record IsRefused (n : ℕ) (ms : Members) (reason : Reason) : Type 0 where
+    pub object : Data
+    pub refused : fact_outcome sheet bs object ≡ Err reason
+    pub first : all_or_first n (outcomes ms) ≡ Err (at (AtFact n) reason)
+
+  pub refused_first : (n : ℕ) (ms : Members) (s : String Global) (reason : Reason) (es : List (String Global × Judgement)) → AreJudged sheet bs ms ((s, Refused reason) ∷ es) → IsRefused n ms reason
+  refused_first n no_members s reason es h = absurd h
+  refused_first n (member k d ms) s reason es h = record { object = d; refused = h.1; first = ap (λ o. all_or_first n (o ∷ outcomes ms)) h.1 }
+
+pub if_refused : {E : Type 0} (o : Option Refusal) (e : E) (r : Result Refusal E) (P Q : Refusal → Type 0) → r ≡ ok_or o e → IfSome o P → ((x : Refusal) → P x → Q x) → IfOk r Q
+if_refused None e r P Q is h then = subst (λ x. IfOk x Q) (sym is) tt
+if_refused (Some x) e r P Q is h then = subst (λ y. IfOk y Q) (sym is) (then x h)
