@@ -175,7 +175,7 @@ impl Dimensions {
         ensures errors { IfErr result (λ e. (e ≡ Reason.DimensionValue) ⊎ (e ≡ Reason.OutOfMemory)) }
         ensures err { OnErr result (self.new ≡ self.old) }
     {
-        match index_of(self.members.as_slice(), &name) {
+        match insertion_index(self.members.as_slice(), &name) {
             Some(index) => Ok(self.members.insert(index, (name, member))?),
             None => Err(Reason::DimensionValue),
         }
@@ -220,7 +220,8 @@ fn do_names_rise(members: &[(Name, Member)]) -> bool
     true
 }
 
-fn index_of(members: &[(Name, Member)], name: &Name) -> Option<usize>
+// Returns the index at which `name` is inserted, or `None` if a member has the name.
+fn insertion_index(members: &[(Name, Member)], name: &Name) -> Option<usize>
     requires { rises members.now ≡ true }
     ensures there { (result ≡ None) ↔ IsTrue (has_name name.now members.now) }
     ensures bound { IfSome result (λ index. index ≤ length members.now) }

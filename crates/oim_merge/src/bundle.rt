@@ -62,13 +62,13 @@ pub(crate) fn cut_line(bytes: &[u8]) -> (&[u8], &[u8])
     ensures line { result.0.now ≡ before_first is_line_end bytes.now }
     ensures rest { result.1.now ≡ after_first is_line_end bytes.now }
 {
-    match index_of(b'\n', bytes) {
+    match position_of(b'\n', bytes) {
         Some(end) => (&bytes[..end], &bytes[end + 1..]),
         None => (bytes, &[]),
     }
 }
 
-pub(crate) fn index_of(byte: u8, bytes: &[u8]) -> Option<usize>
+pub(crate) fn position_of(byte: u8, bytes: &[u8]) -> Option<usize>
     ensures index { result ≡ position (λ c. c == byte) bytes.now }
     ensures within { IfSome result (λ index. index < length bytes.now) }
 {

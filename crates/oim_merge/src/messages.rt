@@ -65,13 +65,14 @@ impl<'s> Messages<'s> {
         ensures current { OnOk result (IsCurrent self.new.texts.items base.now current.new) }
         ensures stay { OnOk result (Stay self.old.texts.items self.new.texts.items) }
     {
-        let index = self.index_of(alloc, base, *current)?;
+        let index = self.intern(alloc, base, *current)?;
         self.sent.push(index)?;
         *current = Some(index);
         Ok(())
     }
 
-    fn index_of(
+    // Returns the index of the base's text among the distinct texts, and adds the text if it is new.
+    fn intern(
         &mut self,
         alloc: Global,
         base: &Base<'_>,

@@ -114,38 +114,38 @@ fn push_fact(
     ensures { OnOk result (fields_of fields.new ≡ fields_of fields.old
         ++ (dimension_fields cells.spreadsheet dimensions.now ++ value_fields cells.spreadsheet value.now)) }
 {
-    let mut room = String::new(cells.alloc);
-    push_name(cells, fields, &mut room, dimensions.concept())?;
-    push_entity(cells, fields, &mut room, dimensions.entity())?;
+    let mut scratch = String::new(cells.alloc);
+    push_name(cells, fields, &mut scratch, dimensions.concept())?;
+    push_entity(cells, fields, &mut scratch, dimensions.entity())?;
     push_period(cells, fields, dimensions.period())?;
-    push_unit(cells, fields, &mut room, dimensions.unit())?;
+    push_unit(cells, fields, &mut scratch, dimensions.unit())?;
     push_text(cells, fields, dimensions.language())?;
-    push_defined(cells, fields, &mut room, dimensions.members())?;
-    push_value(cells, fields, &mut room, value)
+    push_defined(cells, fields, &mut scratch, dimensions.members())?;
+    push_value(cells, fields, &mut scratch, value)
 }
 
 fn push_name(
     cells: Cells,
     fields: &mut StringRecord,
-    room: &mut String,
+    scratch: &mut String,
     name: &Name,
 ) -> Result<(), AllocError>
     ensures { OnOk result (fields_of fields.new ≡ fields_of fields.old ++ cell cells.spreadsheet (braced name.now) ∷ []) }
 {
-    spell(room, &Braced, name)?;
-    cells.push(fields, room.as_str())
+    spell(scratch, &Braced, name)?;
+    cells.push(fields, scratch.as_str())
 }
 
 fn push_entity(
     cells: Cells,
     fields: &mut StringRecord,
-    room: &mut String,
+    scratch: &mut String,
     entity: Option<&Name>,
 ) -> Result<(), AllocError>
     ensures { OnOk result (fields_of fields.new ≡ fields_of fields.old ++ cell cells.spreadsheet (or_empty (option_spelled braced (option_copied entity.entry))) ∷ []) }
 {
     match entity {
-        Some(entity) => push_name(cells, fields, room, entity),
+        Some(entity) => push_name(cells, fields, scratch, entity),
         None => cells.push(fields, ""),
     }
 }
@@ -169,7 +169,7 @@ fn push_period(cells: Cells, fields: &mut StringRecord, period: Period) -> Resul
 fn push_unit(
     cells: Cells,
     fields: &mut StringRecord,
-    room: &mut String,
+    scratch: &mut String,
     unit: Option<&Unit>,
 ) -> Result<(), AllocError>
     ensures { OnOk result (fields_of fields.new ≡ fields_of fields.old ++ cell cells.spreadsheet (or_empty (option_unit_text braced (option_copied unit.entry))) ∷ []) }
@@ -177,14 +177,14 @@ fn push_unit(
     let Some(unit) = unit else {
         return cells.push(fields, "");
     };
-    spell_unit(room, &Braced, unit)?;
-    cells.push(fields, room.as_str())
+    spell_unit(scratch, &Braced, unit)?;
+    cells.push(fields, scratch.as_str())
 }
 
 fn push_defined(
     cells: Cells,
     fields: &mut StringRecord,
-    room: &mut String,
+    scratch: &mut String,
     members: &[(Name, Member)],
 ) -> Result<(), AllocError>
     ensures { OnOk result (fields_of fields.new ≡ fields_of fields.old ++ cell cells.spreadsheet (defined_text members.now) ∷ []) }
@@ -192,7 +192,7 @@ fn push_defined(
     if members.is_empty() {
         return cells.push(fields, "");
     }
-    let text = members_json(cells.alloc, room, members)?;
+    let text = members_json(cells.alloc, scratch, members)?;
     match str::from_utf8(text.as_slice()) {
         Ok(text) => cells.push(fields, text),
         Err(_) => Err(AllocError),
@@ -202,7 +202,7 @@ fn push_defined(
 fn push_value(
     cells: Cells,
     fields: &mut StringRecord,
-    room: &mut String,
+    scratch: &mut String,
     value: &Value,
 ) -> Result<(), AllocError>
     ensures { OnOk result (fields_of fields.new ≡ fields_of fields.old ++ value_fields cells.spreadsheet value.now) }
@@ -212,8 +212,8 @@ fn push_value(
         Value::Number(number, decimals) => push_number(cells.alloc, fields, *number, *decimals),
         Value::Text(text) => push_alone(cells, fields, text.as_str()),
         Value::Name(name) => {
-            spell(room, &Braced, name)?;
-            push_alone(cells, fields, room.as_str())
+            spell(scratch, &Braced, name)?;
+            push_alone(cells, fields, scratch.as_str())
         }
     }
 }
@@ -285,14 +285,14 @@ fn push_four(
 
 fn members_json(
     alloc: Global,
-    room: &mut String,
+    scratch: &mut String,
     members: &[(Name, Member)],
 ) -> Result<Vec<u8>, AllocError>
     ensures { IfOk result (λ text. text.items ≡ compact_text (object (defined_members braced members.now no_members))) }
 {
     let mut json = Writer::new(Vec::new(alloc));
     json.begin_object()?;
-    write_defined(&mut json, &Braced, room, members)?;
+    write_defined(&mut json, &Braced, scratch, members)?;
     json.end_object()?;
     Ok(json.into_inner())
 }

@@ -215,7 +215,7 @@ impl<'a> DimensionMembers<'a> {
         ensures defined { OnOk result (seen_defined self.new.defined.items
             ≡ with_given key.now (seen member.entry) (seen_defined self.old.defined.items)) }
     {
-        match index_of(self.defined.as_slice(), key) {
+        match insertion_index(self.defined.as_slice(), key) {
             Some(at) if self.defined.len() < MOST_INSERTED => {
                 self.defined.insert(at, (key, member))?;
                 Ok(())
@@ -227,7 +227,7 @@ impl<'a> DimensionMembers<'a> {
 
 // Returns the index at which `key` is inserted in a list that is in byte order of the keys, or
 // `None` if the list has the key.
-fn index_of(defined: &[(&str, JsonMember<'_>)], key: &str) -> Option<usize>
+fn insertion_index(defined: &[(&str, JsonMember<'_>)], key: &str) -> Option<usize>
     ensures within { IfSome result (λ at. at ≤ length defined.now) }
     ensures index { IfSome result (λ at. (g : Given)
         → with_given key.now g (seen_defined defined.now) ≡ insert (seen_defined defined.now) at (key.now, g)) }

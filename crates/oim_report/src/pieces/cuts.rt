@@ -10,7 +10,7 @@ ghost use Rattle.oim_report.specs.code.Pieces.{AreSpaces, AfterSpaces, BeforeSpa
 pub(crate) fn split_piece(text: &str, size: usize) -> (&str, Option<&str>)
     ensures { text.now ≡ with_rest result.0.now (option_map (λ r. r.now) result.1) }
 {
-    match guess_end(text, size) {
+    match guess_piece_end(text, size) {
         Some(at) => match cut_at(text, at, ",") {
             Some((piece, rest)) => (piece, Some(rest)),
             None => (text, None),
@@ -30,7 +30,7 @@ pub(crate) fn cut_at<'t>(text: &'t str, at: usize, mark: &str) -> Option<(&'t st
 // Guesses the end of a piece of `size` bytes or more: a comma directly after a closing brace and
 // before a fact. A wrong guess costs only time, because a report with an unreadable piece is read
 // as a whole.
-fn guess_end(text: &str, size: usize) -> Option<usize> {
+fn guess_piece_end(text: &str, size: usize) -> Option<usize> {
     let mut rest = text_after(text, size)?;
     for _ in 0..text.len() {
         let (_front, after_brace) = rest.split_once('}')?;

@@ -15,7 +15,8 @@ use std::alloc::{AllocError, Global};
 use std::collections::BTreeMap;
 
 /// The facts of one or more pieces, with their identifiers: piece by piece, and within a piece in the
-/// order of the text or of the identifiers. Identifiers may be repeated. For each fact, `ranks` has the rank of its concept in the sheet.
+/// order of the text or of the identifiers. Identifiers may be repeated. For each fact, `ranks` has
+/// the rank of its concept in the sheet.
 #[derive(Drop)]
 pub(crate) struct FoundFacts {
     pub(crate) identifiers: Texts,

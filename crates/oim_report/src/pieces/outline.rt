@@ -13,8 +13,8 @@ use serde_json::{Map, Value};
 use std::alloc::Global;
 use std::str;
 
-// `guess_end` first looks for the end of `facts` only in this many of the last bytes of a document,
-// not counting white space at the end. This number is used if `facts` is the first member.
+// `guess_facts_end` first looks for the end of `facts` only in this many of the last bytes of a
+// document, not counting white space at the end. This number is used if `facts` is the first member.
 const SEARCHED_IF_FIRST: usize = 4_096;
 
 // Used if members precede `facts`: usually nothing follows then, so a longer search would only cost
@@ -101,7 +101,7 @@ fn split_tail(text: &str, searched: usize) -> Option<(&str, Option<&str>)>
     ensures { IfSome result (λ p. IsTail text.now p.0.now (option_map (λ t. t.now) p.1)) }
 {
     let inner = strip_front(strip_front(text, ":")?, "{")?;
-    let end = guess_end(trim_back(inner)?.as_bytes(), searched);
+    let end = guess_facts_end(trim_back(inner)?.as_bytes(), searched);
     let (front, rest) = cut_at(inner, end, "}")?;
     let facts = trim_back(front)?;
     let behind = split_end(rest)?;
@@ -123,7 +123,7 @@ fn split_end(text: &str) -> Option<Option<&str>>
 
 // Guesses the index of the brace that closes `facts`. If no fact seems to end before it, all bytes
 // are searched.
-fn guess_end(bytes: &[u8], searched: usize) -> usize {
+fn guess_facts_end(bytes: &[u8], searched: usize) -> usize {
     let end = guess_within(bytes, searched);
     let front = bytes.get(..end).unwrap_or(&[]);
     let facts = front.get(..back_start(front)).unwrap_or(&[]);

@@ -1,7 +1,7 @@
 use Rattle.std.proofs.Common.{rules, ◌≡◌, ◌+◌, length, sym, ap, ◌∙◌, insert}
 use Rattle.oim_report.specs.code.SeenMembers.{seen_defined}
 use Rattle.oim_report.proofs.MembersPut.{above_next, before_next, behind_all}
-use Rattle.oim_report.proofs.fact.fact_members.index_of.Goals as goal
+use Rattle.oim_report.proofs.fact.fact_members.insertion_index.Goals as goal
 
 pub returns-in-Less-clause-index : goal.returns-in-Less-clause-index
 returns-in-Less-clause-index c = λ g.

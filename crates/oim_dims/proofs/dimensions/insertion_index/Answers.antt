@@ -1,7 +1,7 @@
 use Rattle.std.proofs.Common.{◌≡◌, sym, false, arith}
 use Rattle.oim_dims.specs.DimensionSet.{has_name}
 use Rattle.oim_dims.proofs.Indices.{below_here}
-use Rattle.oim_dims.proofs.dimensions.index_of.Goals as goal
+use Rattle.oim_dims.proofs.dimensions.insertion_index.Goals as goal
 
 pub returns-in-Less-clause-there : goal.returns-in-Less-clause-there
 returns-in-Less-clause-there c =

@@ -6,7 +6,7 @@ use Rattle.oim_merge.specs.code.Held.{AreWithin, IsTextAt, IsWritten, Stay}
 use Rattle.oim_merge.specs.Replay.{texts_at}
 use Rattle.oim_merge.specs.code.Readings.{AreReadings}
 use Rattle.oim_merge.proofs.StoredTexts.{among_more, kept_new, stands_last, stay_with_more, within_longer}
-use Rattle.oim_merge.proofs.messages.Messages.index_of.Goals as goal
+use Rattle.oim_merge.proofs.messages.Messages.intern.Goals as goal
 
 pub returns-in_ok-push-in-Err-2-clause-index : goal.returns-in_ok-push-in-Err-2-clause-index
 returns-in_ok-push-in-Err-2-clause-index c =
