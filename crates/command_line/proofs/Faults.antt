@@ -15,7 +15,7 @@ use Rattle.oim_merge.specs.Reports.{merged, refused}
 use Rattle.oim_merge.specs.Run.{BundleStops, ConsolidatesBundle, IsSheetOf, Writes, Stops as MergeStops, StopsBehindSheet, StopsWithin}
 use Rattle.oim_merge.specs.SourceCalls.{AppendsMentions, MentionsStop, mention_texts}
 use Rattle.oim_merge.specs.Traced.{Traced, traced}
-use Rattle.oim_merge.specs.VerdictCalls.{AppendsFrontOfRows, ListStops, Lists}
+use Rattle.oim_merge.specs.VerdictCalls.{AppendsFrontOfRows, RowsStop, ListsRows}
 use Rattle.oim_merge.specs.declared.fault.Fault.{Fault}
 use Rattle.oim_merge.specs.declared.fault.Fault.TheVariants as fault
 use Rattle.command_line.specs.Endings.{Ends, IsCutOff, Never, Prints, Stops}
@@ -55,7 +55,7 @@ module _ (old new : Option (List ℕ)) where
   -- ---- rows
 
   module _ (format : PrintFormat) (b : Body) (refusals : NumberedRefusals) where
-    pub verdicts_print : (returned : NumberedRefusals) → Lists (verdicts_header format) (verdict_written format) b refusals old new returned → Prints (AreVerdicts format b refusals) old new returned
+    pub verdicts_print : (returned : NumberedRefusals) → ListsRows (verdicts_header format) (verdict_written format) b refusals old new returned → Prints (AreVerdicts format b refusals) old new returned
     verdicts_print returned w = record {
       text = verdicts_header format ++ w.listed.rows;
       gives = record { rows = w.listed.rows; are = w.listed.are; text_is = refl; refusals_are = w.refusals_are };
@@ -67,7 +67,7 @@ module _ (old new : Option (List ℕ)) where
         let text = verdicts_header format ++ w.rows in
         begins (AreVerdicts format b refusals) old new refusals text (record { rows = w.rows; are = w.are; text_is = refl; refusals_are = refl }) (part_of_front old new text n w.front)
 
-    pub verdicts_stop : (f : Fault) → ListStops (verdicts_header format) (verdict_written format) b old new f → Stops (AreVerdicts format b refusals) old new Never (error_of f)
+    pub verdicts_stop : (f : Fault) → RowsStop (verdicts_header format) (verdict_written format) b old new f → Stops (AreVerdicts format b refusals) old new Never (error_of f)
     verdicts_stop (fault.OutOfMemory n) (inl before) = inl before.1
     verdicts_stop (fault.OutOfMemory n) (inr front) = verdicts_begin n front
     verdicts_stop (fault.Device n) front = verdicts_begin n front

@@ -27,7 +27,7 @@ use Rattle.oim_merge.specs.Judged.{DependsOnItsNames}
 use Rattle.oim_merge.specs.Identifiers.{HasIndices, named}
 use Rattle.oim_merge.proofs.Evidenced.{evidence_exists, one_evidence}
 use Rattle.std.proofs.lemmas.Option.{slice_get_within}
-use Rattle.oim_merge.specs.VerdictCalls.{ListStops}
+use Rattle.oim_merge.specs.VerdictCalls.{RowsStop}
 use Rattle.oim_merge.specs.Run.{fault_of}
 use Rattle.oim_write.specs.Sink.{AppendsFront, written_of}
 use Rattle.oim_write.specs.declared.write_fault.WriteFault.{WriteFault}
@@ -76,7 +76,7 @@ lines_are_one = rows_are_one line_text
 
 -- a fault occurred after a first part of the header and the rows was appended
 pub list_stops : (header : List ℕ) (written : RowText) (b : Body) (rows : List ℕ) {old new : Option (List ℕ)} {text : List ℕ} (fault : WriteFault) →
-    AreRowsOf written b rows → text ≡ header ++ rows → AppendsFront old new text (written_of fault) → ListStops header written b old new (fault_of fault)
+    AreRowsOf written b rows → text ≡ header ++ rows → AppendsFront old new text (written_of fault) → RowsStop header written b old new (fault_of fault)
 list_stops header written b rows {old} {new} (OutOfMemory n) are is front = inr (record { rows = rows; are = are; front = subst (λ t. AppendsFront old new t n) is front })
 list_stops header written b rows {old} {new} (Device n) are is front = record { rows = rows; are = are; front = subst (λ t. AppendsFront old new t n) is front }
 

@@ -25,22 +25,22 @@ module _ (header : List ℕ) (written : RowText) where
     pub front : AppendsFront old new (header ++ rows) count
 
   -- the header and the rows of a body were appended, and these refusals were returned
-  pub record Lists (b : Body) (refusals : List (ℕ × Refusal)) (old new : Option (List ℕ)) (returned : List (ℕ × Refusal)) : Type 0 where
+  pub record ListsRows (b : Body) (refusals : List (ℕ × Refusal)) (old new : Option (List ℕ)) (returned : List (ℕ × Refusal)) : Type 0 where
     pub refusals_are : returned ≡ refusals
     pub listed : AppendsRows b old new
 
   -- a fault: memory was refused or the device failed; a first part of the header and the rows was appended, or nothing yet
-  abbrev pub ListStops : Body → Option (List ℕ) → Option (List ℕ) → Fault → Type 0
-  ListStops b old new (OutOfMemory count) = StopsBefore old new count ⊎ AppendsFrontOfRows b old new count
-  ListStops b old new (Device count) = AppendsFrontOfRows b old new count
-  ListStops b old new (TooLoose row returned) = ⊥
-  ListStops b old new (SheetFault reason) = ⊥
+  abbrev pub RowsStop : Body → Option (List ℕ) → Option (List ℕ) → Fault → Type 0
+  RowsStop b old new (OutOfMemory count) = StopsBefore old new count ⊎ AppendsFrontOfRows b old new count
+  RowsStop b old new (Device count) = AppendsFrontOfRows b old new count
+  RowsStop b old new (TooLoose row returned) = ⊥
+  RowsStop b old new (SheetFault reason) = ⊥
 
 -- ---- verdict lines
 
 -- the verdict lines of the accepted reports were appended, and the refusals of the other reports were returned
 abbrev pub ListsVerdicts : Sheet → List (List ℕ) → Option (List ℕ) → Option (List ℕ) → List (ℕ × Refusal) → Type 0
-ListsVerdicts sheet reports = Lists [] line_text (merged sheet reports) (refused sheet reports)
+ListsVerdicts sheet reports = ListsRows [] line_text (merged sheet reports) (refused sheet reports)
 
-abbrev pub ListingStops : Sheet → List (List ℕ) → Option (List ℕ) → Option (List ℕ) → Fault → Type 0
-ListingStops sheet reports = ListStops [] line_text (merged sheet reports)
+abbrev pub VerdictsStop : Sheet → List (List ℕ) → Option (List ℕ) → Option (List ℕ) → Fault → Type 0
+VerdictsStop sheet reports = RowsStop [] line_text (merged sheet reports)

@@ -3,7 +3,7 @@ ghost use Rattle.oim_report.specs.Identifiers.{identifiers};
 ghost use Rattle.oim_report.specs.Outcome.{outcome};
 ghost use Rattle.oim_merge.specs.Added.{added, begun, with_report};
 ghost use Rattle.oim_merge.specs.Lines.{line_text};
-ghost use Rattle.oim_merge.specs.VerdictCalls.{ListStops, ListingStops, Lists, ListsVerdicts};
+ghost use Rattle.oim_merge.specs.VerdictCalls.{RowsStop, VerdictsStop, ListsRows, ListsVerdicts};
 ghost use Rattle.oim_merge.specs.Run.{Consolidates, ConsolidationStops, Stops, Writes, failures_after_run};
 ghost use Rattle.oim_merge.specs.Sources.{mentions_of};
 ghost use Rattle.oim_merge.specs.code.Outcomes.{IsOutcome};
@@ -57,7 +57,7 @@ pub fn verdict_lines<S: Sink>(
 ) -> Result<Refusals, Fault>
     requires { S.failures out.old < 2 ^ 64 - 1 }
     ensures ok { IfOk result (ListsVerdicts sheet.now reports.now (S.told out.old) (S.told out.new)) }
-    ensures err { IfErr result (ListingStops sheet.now reports.now (S.told out.old) (S.told out.new)) }
+    ensures err { IfErr result (VerdictsStop sheet.now reports.now (S.told out.old) (S.told out.new)) }
     ensures failures { S.failures out.new ≡ failures_after_run result (S.failures out.old) }
 {
     Consolidation::of(alloc, sheet, reports)?.finish_lines(out)
@@ -228,8 +228,8 @@ impl<'s> Consolidation<'s> {
     /// Errors: `Device` if the sink failed; `OutOfMemory`.
     pub fn finish_lines<S: Sink>(self, out: &mut S) -> Result<Refusals, Fault>
         requires { S.failures out.old < 2 ^ 64 - 1 }
-        ensures ok { IfOk result (Lists [] line_text self.entry.body self.entry.refusals (S.told out.old) (S.told out.new)) }
-        ensures err { IfErr result (ListStops [] line_text self.entry.body (S.told out.old) (S.told out.new)) }
+        ensures ok { IfOk result (ListsRows [] line_text self.entry.body self.entry.refusals (S.told out.old) (S.told out.new)) }
+        ensures err { IfErr result (RowsStop [] line_text self.entry.body (S.told out.old) (S.told out.new)) }
         ensures failures { S.failures out.new ≡ failures_after_run result (S.failures out.old) }
     {
         self.finish_verdicts(&VerdictLines, out)
@@ -244,8 +244,8 @@ impl<'s> Consolidation<'s> {
         out: &mut S,
     ) -> Result<Refusals, Fault>
         requires { S.failures out.old < 2 ^ 64 - 1 }
-        ensures ok { IfOk result (Lists (F.header format.now) (F.row_text format.now) self.entry.body self.entry.refusals (S.told out.old) (S.told out.new)) }
-        ensures err { IfErr result (ListStops (F.header format.now) (F.row_text format.now) self.entry.body (S.told out.old) (S.told out.new)) }
+        ensures ok { IfOk result (ListsRows (F.header format.now) (F.row_text format.now) self.entry.body self.entry.refusals (S.told out.old) (S.told out.new)) }
+        ensures err { IfErr result (RowsStop (F.header format.now) (F.row_text format.now) self.entry.body (S.told out.old) (S.told out.new)) }
         ensures failures { S.failures out.new ≡ failures_after_run result (S.failures out.old) }
     {
         let alloc = self.alloc;

@@ -3,7 +3,7 @@ ghost use Rattle.fact_base.specs.Rows.{rows_of};
 ghost use Rattle.oim_write.specs.Sink.{failures_after_write, written_of};
 ghost use Rattle.oim_merge.specs.Judged.{IsJudged, names_of};
 ghost use Rattle.oim_merge.specs.Lines.{evidence_text};
-ghost use Rattle.oim_merge.specs.VerdictCalls.{ListStops, Lists};
+ghost use Rattle.oim_merge.specs.VerdictCalls.{RowsStop, ListsRows};
 ghost use Rattle.oim_merge.specs.code.BufferedRows.{BreaksRows, PassesRows};
 ghost use Rattle.oim_merge.specs.Run.{failures_after_run};
 
@@ -82,8 +82,8 @@ pub fn write_verdicts<S: Sink, F: VerdictFormat>(
     out: &mut S,
 ) -> Result<Refusals, Fault>
     requires { S.failures out.old < 2 ^ 64 - 1 }
-    ensures ok { IfOk result (Lists (F.header format.now) (F.row_text format.now) base.now.body refusals (S.told out.old) (S.told out.new)) }
-    ensures err { IfErr result (ListStops (F.header format.now) (F.row_text format.now) base.now.body (S.told out.old) (S.told out.new)) }
+    ensures ok { IfOk result (ListsRows (F.header format.now) (F.row_text format.now) base.now.body refusals (S.told out.old) (S.told out.new)) }
+    ensures err { IfErr result (RowsStop (F.header format.now) (F.row_text format.now) base.now.body (S.told out.old) (S.told out.new)) }
     ensures failures { S.failures out.new ≡ failures_after_run result (S.failures out.old) }
 {
     // the contract of `sheet` states that the facts fit the sheet, so each row has evidence

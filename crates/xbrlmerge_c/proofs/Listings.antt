@@ -8,7 +8,7 @@ use Rattle.oim_report.specs.Sheet.{Sheet, sheet_outcome}
 use Rattle.oim_report.specs.declared.refusal.Refusal.{Refusal}
 use Rattle.oim_merge.specs.Lines.{RowText, line_text}
 use Rattle.oim_merge.specs.Added.{Added, added}
-use Rattle.oim_merge.specs.VerdictCalls.{AppendsFrontOfRows, ListStops, Lists}
+use Rattle.oim_merge.specs.VerdictCalls.{AppendsFrontOfRows, RowsStop, ListsRows}
 use Rattle.oim_merge.specs.Reports.{merged, refused}
 use Rattle.oim_merge.specs.SourceCalls.{AppendsMentions, MentionsStop}
 use Rattle.oim_merge.specs.Sources.{SourceText, source_line}
@@ -27,7 +27,7 @@ use Rattle.xbrlmerge_c.specs.declared.row_call.RowCall.{RowCall}
 use Rattle.xbrlmerge_c.specs.declared.row_call.RowCall.TheVariants.{Sources, SourcesJson, Verdicts, VerdictsJson}
 
 module _ (old new : Option (List ℕ)) where
-  rows_stop : (head : List ℕ) (written : RowText) (b : Body) (fault : Fault) → ListStops head written b old new fault → Appends old new [] ⊎ ((count : ℕ) × AppendsFrontOfRows head written b old new count)
+  rows_stop : (head : List ℕ) (written : RowText) (b : Body) (fault : Fault) → RowsStop head written b old new fault → Appends old new [] ⊎ ((count : ℕ) × AppendsFrontOfRows head written b old new count)
   rows_stop head written b (OutOfMemory count) (inl before) = inl before.1
   rows_stop head written b (OutOfMemory count) (inr front) = inr (count, front)
   rows_stop head written b (Device count) front = inr (count, front)
@@ -41,14 +41,14 @@ module _ (old new : Option (List ℕ)) where
   lines_front sheet reports (inl before) = inl before
   lines_front sheet reports (inr f) = inr (front_of Verdicts sheet reports f.1.rows f.0 f.1.are f.1.front)
 
-  pub lines_stop : (sheet : Sheet) (reports : List (List ℕ)) (fault : Fault) → ListStops [] line_text (merged sheet reports) old new fault → StopsRowCall Verdicts sheet reports old new
+  pub lines_stop : (sheet : Sheet) (reports : List (List ℕ)) (fault : Fault) → RowsStop [] line_text (merged sheet reports) old new fault → StopsRowCall Verdicts sheet reports old new
   lines_stop sheet reports fault stops = lines_front sheet reports (rows_stop [] line_text (merged sheet reports) fault stops)
 
   json_front : (sheet : Sheet) (reports : List (List ℕ)) → Appends old new [] ⊎ ((count : ℕ) × AppendsFrontOfRows (header Json) (row_text Json) (merged sheet reports) old new count) → StopsRowCall VerdictsJson sheet reports old new
   json_front sheet reports (inl before) = inl before
   json_front sheet reports (inr f) = inr (front_of VerdictsJson sheet reports f.1.rows f.0 (record { rows = f.1.rows; are = f.1.are; whole = refl }) f.1.front)
 
-  pub json_rows_stop : (sheet : Sheet) (reports : List (List ℕ)) (fault : Fault) → ListStops (header Json) (row_text Json) (merged sheet reports) old new fault → StopsRowCall VerdictsJson sheet reports old new
+  pub json_rows_stop : (sheet : Sheet) (reports : List (List ℕ)) (fault : Fault) → RowsStop (header Json) (row_text Json) (merged sheet reports) old new fault → StopsRowCall VerdictsJson sheet reports old new
   json_rows_stop sheet reports fault stops = json_front sheet reports (rows_stop (header Json) (row_text Json) (merged sheet reports) fault stops)
 
   pub sources_stop : (sheet : Sheet) (reports : List (List ℕ)) (fault : Fault) → MentionsStop [] source_line (traced sheet reports) old new fault → StopsRowCall Sources sheet reports old new
@@ -65,7 +65,7 @@ module _ (old new : Option (List ℕ)) where
 
 -- ---- the result of a call
 
-rows_fault : (head : List ℕ) (written : RowText) (b : Body) (old new : Option (List ℕ)) (fault : Fault) → ListStops head written b old new fault → StopsBy NoRow NoReason fault
+rows_fault : (head : List ℕ) (written : RowText) (b : Body) (old new : Option (List ℕ)) (fault : Fault) → RowsStop head written b old new fault → StopsBy NoRow NoReason fault
 rows_fault head written b old new (OutOfMemory count) s = tt
 rows_fault head written b old new (Device count) s = tt
 rows_fault head written b old new (TooLoose row returned) s = s
@@ -79,18 +79,18 @@ mentions_fault head written t old new (SheetFault reason) s = s
 
 module _ (sheet : Sheet) (reports : List (List ℕ)) (old new : Option (List ℕ)) where
   pub lines_listed : (a : Added) → a ≡ added sheet reports → (result : Result (List (ℕ × Refusal)) Fault) →
-      IfOk result (Lists [] line_text a.body a.refusals old new) → IfErr result (ListStops [] line_text a.body old new) → ListsRowCall Verdicts sheet reports old new result
-  lines_listed a is (Ok returned) ok err = subst (λ (x : Added). Lists [] line_text x.body x.refusals old new returned) is ok
+      IfOk result (ListsRows [] line_text a.body a.refusals old new) → IfErr result (RowsStop [] line_text a.body old new) → ListsRowCall Verdicts sheet reports old new result
+  lines_listed a is (Ok returned) ok err = subst (λ (x : Added). ListsRows [] line_text x.body x.refusals old new returned) is ok
   lines_listed a is (Err fault) ok err =
-      (rows_fault [] line_text a.body old new fault err, lines_stop old new sheet reports fault (subst (λ (x : Added). ListStops [] line_text x.body old new fault) is err))
+      (rows_fault [] line_text a.body old new fault err, lines_stop old new sheet reports fault (subst (λ (x : Added). RowsStop [] line_text x.body old new fault) is err))
 
   pub rows_listed : (b : Body) (refusals : List (ℕ × Refusal)) → b ≡ merged sheet reports → refusals ≡ refused sheet reports → (result : Result (List (ℕ × Refusal)) Fault) →
-      IfOk result (Lists (header Json) (row_text Json) b refusals old new) → IfErr result (ListStops (header Json) (row_text Json) b old new) → ListsRowCall VerdictsJson sheet reports old new result
+      IfOk result (ListsRows (header Json) (row_text Json) b refusals old new) → IfErr result (RowsStop (header Json) (row_text Json) b old new) → ListsRowCall VerdictsJson sheet reports old new result
   rows_listed b refusals is are (Ok returned) ok err =
-      subst (λ (rs : List (ℕ × Refusal)). Lists (header Json) (row_text Json) (merged sheet reports) rs old new returned) are
-      (subst (λ (x : Body). Lists (header Json) (row_text Json) x refusals old new returned) is ok)
+      subst (λ (rs : List (ℕ × Refusal)). ListsRows (header Json) (row_text Json) (merged sheet reports) rs old new returned) are
+      (subst (λ (x : Body). ListsRows (header Json) (row_text Json) x refusals old new returned) is ok)
   rows_listed b refusals is are (Err fault) ok err =
-      (rows_fault (header Json) (row_text Json) b old new fault err, json_rows_stop old new sheet reports fault (subst (λ (x : Body). ListStops (header Json) (row_text Json) x old new fault) is err))
+      (rows_fault (header Json) (row_text Json) b old new fault err, json_rows_stop old new sheet reports fault (subst (λ (x : Body). RowsStop (header Json) (row_text Json) x old new fault) is err))
 
   pub sources_listed : (t : Traced) → t ≡ traced sheet reports → (result : Result (List (ℕ × Refusal)) Fault) →
       IfOk result (AppendsMentions [] source_line t old new) → IfErr result (MentionsStop [] source_line t old new) → ListsRowCall Sources sheet reports old new result

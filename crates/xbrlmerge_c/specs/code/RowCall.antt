@@ -3,7 +3,7 @@ use Rattle.std.specs.Prelude.{◌≡◌, ◌⊎◌, ℕ, List, [], ◌++◌, Opt
 use Rattle.std.specs.Io.KnownBytes.{Appends}
 use Rattle.oim_report.specs.Sheet.{Sheet}
 use Rattle.oim_report.specs.declared.refusal.Refusal.{Refusal}
-use Rattle.oim_merge.specs.VerdictCalls.{Lists, ListsVerdicts}
+use Rattle.oim_merge.specs.VerdictCalls.{ListsRows, ListsVerdicts}
 use Rattle.oim_merge.specs.Reports.{merged, refused}
 use Rattle.oim_merge.specs.SourceCalls.{AppendsMentions, ListsSources}
 use Rattle.oim_merge.specs.Traced.{traced}
@@ -21,7 +21,7 @@ use Rattle.xbrlmerge_c.specs.declared.row_call.RowCall.TheVariants.{Sources, Sou
 abbrev pub AppendsRowCall : RowCall → Sheet → List (List ℕ) → Option (List ℕ) → Option (List ℕ) → List (ℕ × Refusal) → Type 0
 AppendsRowCall Verdicts = ListsVerdicts
 AppendsRowCall Sources = ListsSources
-AppendsRowCall VerdictsJson = λ sheet reports. Lists (header Json) (row_text Json) (merged sheet reports) (refused sheet reports)
+AppendsRowCall VerdictsJson = λ sheet reports. ListsRows (header Json) (row_text Json) (merged sheet reports) (refused sheet reports)
 AppendsRowCall SourcesJson = λ sheet reports. AppendsMentions (source_header Json) (source_text Json []) (traced sheet reports)
 
 -- a first part of the listing was appended
