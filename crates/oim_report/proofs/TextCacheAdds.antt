@@ -4,7 +4,7 @@ use Rattle.std.specs.Cmp.Lexicographic.{bytes_decides}
 use Rattle.std.specs.HashMap.{HashMap, Updates, IsUnchanged, get_by_text}
 use Rattle.std.specs.Map.{lookup, update}
 use Rattle.std.proofs.lemmas.Map.Text.{hash_map_updates_text}
-use Rattle.oim_report.specs.declared.fact.text_cache.TextCache.{TextCache}
+use Rattle.oim_report.specs.declared.fact_reader.text_cache.TextCache.{TextCache}
 use Rattle.oim_report.specs.code.TextCache.{Adds, IsTextCache, meaning}
 
 either : {A : Type 0} (R : List ℕ → A → Type 0) (g : TextCache A) (t u : List ℕ) (a b : A) → IsTextCache R g → R t a → (c : Bool) → bytes_eq t u ≡ c → cond c (Some a) (meaning g u) ≡ Some b → R u b

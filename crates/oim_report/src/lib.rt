@@ -5,6 +5,7 @@ mod concept_kind;
 mod dimension_kind;
 mod document;
 mod fact;
+mod fact_reader;
 mod fault;
 mod fault_list;
 mod findings;

@@ -7,7 +7,7 @@ ghost use Rattle.oim_report.specs.Outcome.{at, outcome, tree_outcome};
 use crate::document::duplicates::is_above;
 use crate::document::identifiers::identifiers_of;
 use crate::document::info::read_info;
-use crate::fact::fact_reader::{FactReader, read_facts};
+use crate::fact_reader::{FactReader, read_facts};
 use crate::json_values::json_tree::read_json;
 use crate::order::order_of;
 use crate::pieces::facts_in_pieces::read_facts_in_pieces;

@@ -21,9 +21,9 @@ use Rattle.oim_dims.specs.declared.period.Period.TheVariants.{Forever}
 use Rattle.oim_report.specs.Names.{named}
 use Rattle.oim_report.specs.Sheet.{Sheet}
 use Rattle.oim_report.specs.code.Ranks.{IsRank, IsSpan}
-use Rattle.oim_report.specs.declared.fact.text_cache.NameCache.{NameCache}
-use Rattle.oim_report.specs.declared.fact.text_cache.TextCache.{TextCache}
-use Rattle.oim_report.specs.declared.fact.text_cache.TextCaches.{TextCaches}
+use Rattle.oim_report.specs.declared.fact_reader.text_cache.NameCache.{NameCache}
+use Rattle.oim_report.specs.declared.fact_reader.text_cache.TextCache.{TextCache}
+use Rattle.oim_report.specs.declared.fact_reader.text_cache.TextCaches.{TextCaches}
 
 abbrev pub meaning : {A : Type 0} → TextCache A → List ℕ → Option A
 meaning g t = get_by_text g.meanings t

@@ -16,7 +16,7 @@ ghost use Rattle.oim_report.specs.Shown.{seen, two};
 
 use crate::document::duplicates::{is_above, level_within};
 use crate::document::info::Info;
-use crate::fact::fact_reader::{FactReader, read_facts};
+use crate::fact_reader::{FactReader, read_facts};
 use crate::fault::Fault;
 use crate::json_values::json_tree::object_at;
 use crate::order::order_of;

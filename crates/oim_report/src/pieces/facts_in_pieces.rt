@@ -7,7 +7,7 @@ ghost use Rattle.oim_report.specs.Pieces.{put_all, IsPiece};
 ghost use Rattle.oim_report.specs.code.FoundFacts.{AreFound, HaveMore};
 ghost use Rattle.oim_report.specs.code.Ranks.{AreRanks};
 
-use crate::fact::fact_reader::FactReader;
+use crate::fact_reader::FactReader;
 use crate::limits::PIECE_BYTES;
 use crate::pieces::cuts::split_piece;
 use crate::pieces::first_refused::first_refused;

@@ -9,7 +9,7 @@ ghost use Rattle.oim_report.specs.code.FoundFacts.{AreFound};
 ghost use Rattle.oim_report.specs.code.Judged.{AreJudged, IsJudged};
 ghost use Rattle.oim_report.specs.code.Pieces.{IsUpTo};
 
-use crate::fact::fact_reader::FactReader;
+use crate::fact_reader::FactReader;
 use crate::limits::PIECE_BYTES;
 use crate::pieces::cuts::split_piece;
 use crate::pieces::found_facts::FoundFacts;

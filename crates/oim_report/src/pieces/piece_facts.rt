@@ -11,7 +11,7 @@ ghost use Rattle.oim_report.specs.code.TapeValues.{AreData, one};
 ghost use Rattle.oim_report.specs.code.Ranks.{AreRanks};
 
 use crate::fact::fact_members::FactMembers;
-use crate::fact::fact_reader::FactReader;
+use crate::fact_reader::FactReader;
 use crate::limits::{MOST_KEPT_BYTES, PIECE_BYTES};
 use crate::pieces::found_facts::FoundFacts;
 use crate::unread::Unread;

@@ -9,7 +9,7 @@ ghost use Rattle.oim_report.specs.Pieces.{alone, one_data, put_all, HasMember, I
 ghost use Rattle.oim_report.specs.code.FoundFacts.{AreFound, HaveMore};
 ghost use Rattle.oim_report.specs.code.Ranks.{AreRanks};
 
-use crate::fact::fact_reader::FactReader;
+use crate::fact_reader::FactReader;
 use crate::json_values::json_tree::has_member;
 use crate::pieces::found_facts::FoundFacts;
 use crate::pieces::piece_facts::{PieceBuffers, fill_alone};

@@ -1,0 +1,12 @@
+use Rattle.std.proofs.Common.{⊎_elim, sym, ap, ◌∙◌, option_map}
+use Rattle.serde_json.specs.View.{view}
+use Rattle.oim_report.specs.Outcome.{fact_outcome}
+use Rattle.oim_report.specs.code.SeenMembers.{seen_parts}
+use Rattle.oim_report.proofs.fact_reader.FactReader.read.Goals as goal
+
+pub least_fault-requires-in-Err-NeedsTree : goal.least_fault-requires-in-Err-NeedsTree
+least_fault-requires-in-Err-NeedsTree c = λ f said.
+    let object = view c.args.object.now in
+    let are = sym c.in_ok-parts.ensures ∙ ap (option_map seen_parts) c.in-Some.is in
+    let here = ap (λ s. fact_outcome s.sheet s.aliases object) (sym c.in-Err-NeedsTree.ensures.same) ∙ said in
+    ⊎_elim (λ memory. absurd (cc)) (λ never. never object are f here) c.in-Err-NeedsTree.ensures.errors
