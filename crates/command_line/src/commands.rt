@@ -1,4 +1,4 @@
-//! The commands, in the files of the folder `commands`.
+//! Runs the commands. The files of the folder `commands` have their help and their own parts.
 
 ghost use Rattle.std.specs.Prelude.{◌≡◌, ◌-◌, ◌^◌, ◌<◌, false, OnOk};
 ghost use Rattle.oim_write.specs.BoundedSink.{bounded_failures};

@@ -48,7 +48,7 @@ fn read_file<'n, F: Files>(alloc: Global, files: &F, name: &'n str) -> Result<En
     }
 }
 
-/// Reads the file with this name to its end.
+/// Reads to the end. Errors name the file `name`.
 pub(crate) fn read_bytes<'n, R: Read + Drop>(
     alloc: Global,
     reader: R,

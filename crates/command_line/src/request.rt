@@ -145,8 +145,8 @@ pub(crate) enum Request<'w> {
 }
 
 impl Request<'_> {
-    /// True if the output has a bound by default. The length of other output follows from the
-    /// merged report, or it is a line.
+    /// True if the output has a bound by default. Other output repeats no URI, so it is not much
+    /// longer than the reports, except that `replay` writes a merged report for each replica.
     fn is_bounded(&self) -> bool {
         match self {
             Request::Explain(..) => true,

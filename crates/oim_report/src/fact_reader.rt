@@ -334,17 +334,14 @@ fn set_entity(dimensions: &mut Dimensions, entity: Option<Name>)
     }
 }
 
-pub(crate) fn read_facts(
-    alloc: Global,
-    reader: &mut FactReader<'_>,
-    tree: &Value,
-) -> Result<Vec<Fact>, Refusal>
+pub(crate) fn read_facts(reader: &mut FactReader<'_>, tree: &Value) -> Result<Vec<Fact>, Refusal>
     ensures same { reader.new ≡ reader.old }
     ensures ok { let said = facts_said reader.old.sheet reader.old.aliases (facts_of (view tree.now)) in
         IfOk result (λ facts. said ≡ Ok facts.items) }
     ensures errors { let said = facts_said reader.old.sheet reader.old.aliases (facts_of (view tree.now)) in
         IfErr result (λ r. (r ≡ at Place.Document Reason.OutOfMemory) ⊎ (said ≡ Err r)) }
 {
+    let alloc = reader.alloc();
     let Some(objects) = object_at(tree, "facts") else {
         return Ok(Vec::new(alloc));
     };

@@ -12,8 +12,8 @@ pub const MOST_MEMBER_LEVELS: usize = MOST_LEVELS - 2;
 /// of a search among texts with the same hash.
 pub const MOST_MEANINGS: usize = 4_096;
 
-/// The greatest length in bytes of a text in a cache. The limit bounds the memory of the caches,
-/// which a `ReportReader` keeps even after a report is refused.
+/// The greatest length in bytes of a text in a cache. The limit bounds the memory of the texts, which
+/// a `ReportReader` keeps even after a report is refused.
 pub const MOST_MEANING_BYTES: usize = 256;
 
 /// The least size in bytes of each piece of a report's facts, except the last piece. Larger pieces

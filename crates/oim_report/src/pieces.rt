@@ -1,4 +1,4 @@
-//! Reads a long report in pieces.
+//! Reads a report in pieces.
 
 pub(crate) mod beside;
 pub(crate) mod cuts;

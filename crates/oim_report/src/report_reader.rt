@@ -136,8 +136,6 @@ impl<'s> ReportReader<'s> {
     /// Reads a report as `read` does, and its identifiers as `fact_identifiers` does (xBRL-JSON
     /// 1.0; further conditions are our own).
     ///
-    /// The bytes are parsed only once.
-    ///
     /// Errors: as for `read`.
     #[tactic(auto, unfolding(crate::specs::Outcome::outcome))]
     pub fn read_identified(&mut self, bytes: &[u8]) -> Result<(Report<'s>, Vec<Text>), Refusal>
@@ -172,7 +170,7 @@ impl<'s> ReportReader<'s> {
         let sheet = self.facts.sheet();
         let info = read_info(alloc, tree)?;
         self.facts.turn_to(info.aliases);
-        let facts = read_facts(alloc, &mut self.facts, tree)?;
+        let facts = read_facts(&mut self.facts, tree)?;
         let order = order_of(alloc, facts.as_slice(), &[])?;
         if is_above(info.level, facts.as_slice(), order.as_slice()) {
             return Err(Refusal::from(Reason::DisallowedDuplicates));

@@ -52,7 +52,7 @@ pub(crate) fn refused_duplicates<'t>(
 {
     let mut reader = FactReader::new(alloc, sheet);
     reader.turn_to(info.aliases);
-    let facts = match read_facts(alloc, &mut reader, tree) {
+    let facts = match read_facts(&mut reader, tree) {
         Ok(facts) => facts,
         Err(refusal) if refusal.reason == Reason::OutOfMemory => return Err(AllocError),
         Err(_) => return Ok(None),

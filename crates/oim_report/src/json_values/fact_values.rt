@@ -1,4 +1,4 @@
-//! Reads single JSON values while `findings` searches for faults.
+//! Reads single JSON values, for the search for a fault's part.
 
 ghost use Rattle.std.specs.Prelude.{◌≡◌, is_none, codes, option_map, option_and_then};
 ghost use Rattle.serde_json.specs.View.{view};
