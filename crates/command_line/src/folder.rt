@@ -4,7 +4,7 @@ ghost use Rattle.command_line.specs.Faults.{IsReadError};
 use crate::causes::why_unread;
 use crate::error::Error;
 use oim_merge::{ReadFault, StdSource, read_all};
-use oim_write::Encoded;
+use oim_names::Encoded;
 use std::alloc::Global;
 use std::fs::File;
 use std::io::Read;

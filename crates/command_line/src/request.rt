@@ -6,8 +6,9 @@ use crate::error::{Error, STANDARD_INPUT};
 use crate::folder::{Folder, read_bytes};
 use crate::print_format::PrintFormat;
 use oim_explain::Format;
+use oim_names::Encoded;
 use oim_value::Level;
-use oim_write::{BOUND_PER_BYTE, Encoded, default_bound};
+use oim_write::{BOUND_PER_BYTE, default_bound};
 use std::alloc::Global;
 use std::io::Read;
 

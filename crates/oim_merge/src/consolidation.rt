@@ -15,10 +15,10 @@ use crate::refusals::Refusals;
 use crate::verdict_format::VerdictFormat;
 use crate::verdict_rows::{VerdictLines, write_verdicts};
 use fact_base::{Base, BaseBuilder};
-use oim_names::Reason;
+use oim_names::{Encoded, Reason};
 use oim_report::{Refusal, Report, ReportReader, Sheet};
 use oim_value::Level;
-use oim_write::{Encoded, Sink};
+use oim_write::Sink;
 use std::alloc::{AllocError, Global};
 use std::marker::Model;
 

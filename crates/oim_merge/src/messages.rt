@@ -8,8 +8,9 @@ ghost use Rattle.oim_write.specs.Bytes.{canonical};
 
 use crate::readings::{Reading, none_read, take_at};
 use fact_base::Base;
+use oim_names::Encoded;
 use oim_report::Sheet;
-use oim_write::{Encoded, text};
+use oim_write::text;
 use std::alloc::{AllocError, Global};
 use std::cmp::Ordering;
 

@@ -8,8 +8,8 @@ ghost use Rattle.oim_merge.specs.Replicas.{joined_with, with_outcome};
 
 use crate::consolidation::read;
 use fact_base::Base;
+use oim_names::Encoded;
 use oim_report::{Refusal, Report, ReportReader, Sheet};
-use oim_write::Encoded;
 use std::alloc::{AllocError, Global};
 
 /// The cached result of reading a text under a sheet: none yet, a base, or a refusal. A base is

@@ -7,8 +7,8 @@ use crate::messages::Messages;
 use crate::refusals::Refusals;
 use crate::replicas::Replicas;
 use fact_base::Base;
+use oim_names::Encoded;
 use oim_report::Sheet;
-use oim_write::Encoded;
 use std::alloc::Global;
 use std::marker::Model;
 

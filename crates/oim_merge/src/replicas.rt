@@ -11,8 +11,8 @@ use crate::messages::Messages;
 use crate::readings::{Reading, join_new, none_read, take_at};
 use crate::refusals::Refusals;
 use fact_base::Base;
+use oim_names::Encoded;
 use oim_report::Sheet;
-use oim_write::Encoded;
 use std::alloc::{AllocError, Global};
 
 /// Replicas while a schedule runs, with the texts that they sent, the refused takes, and the

@@ -3,7 +3,7 @@ ghost use Rattle.std.specs.Io.KnownBytes.{Consumes, IsAtEnd, Keeps};
 ghost use Rattle.oim_merge.specs.Source.{GivesBefore, failures_after_read};
 
 use crate::source::{Source, SourceError};
-use oim_write::Encoded;
+use oim_names::Encoded;
 use std::alloc::{AllocError, Global};
 use thiserror::Error;
 

@@ -11,8 +11,9 @@ use crate::fault::Fault;
 use crate::mentions::{IndexedMention, Mention, indexed_by_fact};
 use crate::refusals::Refusals;
 use crate::source_format::{SourceFormat, SourceLines};
+use oim_names::Encoded;
 use oim_report::Sheet;
-use oim_write::{Encoded, Sink, SinkBuffer, WriteFault, identifier};
+use oim_write::{Sink, SinkBuffer, WriteFault, identifier};
 use std::alloc::{AllocError, Global};
 use std::marker::Model;
 

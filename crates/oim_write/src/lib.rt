@@ -3,7 +3,6 @@
 
 mod bounded_sink;
 mod concept_texts;
-mod encoded;
 mod fact_text;
 mod fixed_text;
 mod labels;
@@ -18,7 +17,6 @@ mod write_fault;
 mod writer;
 
 pub use bounded_sink::{BOUND_PER_BYTE, BoundedSink, default_bound};
-pub use encoded::Encoded;
 pub use fact_text::{write_decimals, write_defined, write_dimensions, write_value};
 pub use labels::identifier;
 pub use prefix_table::prefixes;
@@ -27,3 +25,6 @@ pub use sink::{Sink, SinkError, StdSink, put_all};
 pub use sink_buffer::SinkBuffer;
 pub use write_fault::WriteFault;
 pub use writer::{text, write_to};
+
+// `text` returns it
+pub use oim_names::Encoded;

@@ -8,7 +8,6 @@ ghost use Rattle.oim_write.specs.Sink.{AppendsFront, failures_after_write, writt
 ghost use Rattle.oim_write.specs.Tree.{name_text};
 
 use crate::concept_texts::ConceptTexts;
-use crate::encoded::Encoded;
 use crate::labels::width_of;
 use crate::parts::{Labels, append_fact, append_reference, head};
 use crate::prefix_table::PrefixTable;
@@ -17,7 +16,7 @@ use crate::sink::{Sink, StdSink};
 use crate::sink_buffer::SinkBuffer;
 use crate::write_fault::WriteFault;
 use fact_base::{Base, Row};
-use oim_names::Text;
+use oim_names::{Encoded, Text};
 use std::alloc::{AllocError, Global};
 
 /// Returns the canonical text of a base (xBRL-JSON 1.0; the choice of prefixes and identifiers is
