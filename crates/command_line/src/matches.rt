@@ -45,16 +45,11 @@ pub(crate) fn args_in<'w>(
 fn request_in<'w>(name: &str, matches: &ArgMatches<'w>) -> Option<Request<'w>>
     ensures { option_map work_in result ≡ option_map Some (request_asked name.now (rows_of (found_of matches.now))) }
 {
-    let Some(sheet) = text_in(matches, "sheet") else {
-        return None;
-    };
+    let sheet = text_in(matches, "sheet")?;
     if name == "explain" {
         return Some(Request::Explain(sheet, explained_in(matches)));
     }
-    match subcommand_in(name, matches) {
-        Some(subcommand) => Some(Request::Under(sheet, subcommand)),
-        None => None,
-    }
+    Some(Request::Under(sheet, subcommand_in(name, matches)?))
 }
 
 fn subcommand_in<'w>(name: &str, matches: &ArgMatches<'w>) -> Option<Subcommand<'w>>
@@ -79,20 +74,14 @@ fn subcommand_in<'w>(name: &str, matches: &ArgMatches<'w>) -> Option<Subcommand<
 fn level_in(matches: &ArgMatches<'_>) -> Option<Level>
     ensures { result ≡ option_and_then level_with (first_of (codes "allow") (rows_of (found_of matches.now))) }
 {
-    match text_in(matches, "allow") {
-        Some(text) => Level::read(text),
-        None => None,
-    }
+    Level::read(text_in(matches, "allow")?)
 }
 
 fn format_in(matches: &ArgMatches<'_>) -> Option<PrintFormat>
     ensures { result ≡ format_asked (rows_of (found_of matches.now)) }
 {
     let for_spreadsheet = flag_in(matches, "spreadsheet");
-    match text_in(matches, "format") {
-        Some(text) => read_format(text, for_spreadsheet),
-        None => None,
-    }
+    read_format(text_in(matches, "format")?, for_spreadsheet)
 }
 
 fn read_format(text: &str, for_spreadsheet: bool) -> Option<PrintFormat>

@@ -18,7 +18,11 @@ static FORMATS: [&str; 3] = ["lines", "json", "csv"];
 /// The formats of `explain`.
 static EXPLAINED: [&str; 2] = ["text", "json"];
 
-pub(crate) fn merge_words<'w>(alloc: Global, levels: &'w [&'w str], is_strict: bool) -> Building<'w>
+pub(crate) fn merge_command<'w>(
+    alloc: Global,
+    levels: &'w [&'w str],
+    is_strict: bool,
+) -> Building<'w>
     ensures { IfOk result (IsApp (merge_app is_strict levels.entry)) }
 {
     let allow = option(
@@ -32,7 +36,7 @@ pub(crate) fn merge_words<'w>(alloc: Global, levels: &'w [&'w str], is_strict: b
     with_reports(alloc, command, is_strict)
 }
 
-pub(crate) fn rows_words<'w>(
+pub(crate) fn rows_command<'w>(
     alloc: Global,
     command: Building<'w>,
     formats: &'w [&'w str],
@@ -52,14 +56,14 @@ pub(crate) fn rows_words<'w>(
     with_reports(alloc, command, is_strict)
 }
 
-pub(crate) fn check_words<'w>(alloc: Global) -> Building<'w>
+pub(crate) fn check_command<'w>(alloc: Global) -> Building<'w>
     ensures { IfOk result (IsApp check_app) }
 {
     let command = with_output(alloc, command(alloc, "check", check::ABOUT, check::MORE));
     with(command, report(alloc))
 }
 
-pub(crate) fn explain_words<'w>(
+pub(crate) fn explain_command<'w>(
     alloc: Global,
     formats: &'w [&'w str],
     is_strict: bool,
@@ -75,7 +79,7 @@ pub(crate) fn explain_words<'w>(
     )
 }
 
-pub(crate) fn replay_words<'w>(alloc: Global, is_strict: bool) -> Building<'w>
+pub(crate) fn replay_command<'w>(alloc: Global, is_strict: bool) -> Building<'w>
     ensures { IfOk result (IsApp (replay_app is_strict)) }
 {
     let replicas = option(

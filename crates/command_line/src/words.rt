@@ -11,7 +11,8 @@ use crate::error::Error;
 use crate::matches::args_in;
 use crate::request::{Args, Request};
 use crate::subcommands::{
-    check_words, explain_words, explained, formats, levels, merge_words, replay_words, rows_words,
+    check_command, explain_command, explained, formats, levels, merge_command, replay_command,
+    rows_command,
 };
 use clap::error::ErrorKind;
 use clap::{ArgMatches, Command};
@@ -146,12 +147,12 @@ fn program<'w>(alloc: Global, is_strict: bool) -> Building<'w>
     let (levels, formats, explained) = (levels(), formats(), explained());
     let verdicts = command(alloc, "verdicts", rows::VERDICTS_ABOUT, rows::VERDICTS_MORE);
     let sources = command(alloc, "sources", rows::SOURCES_ABOUT, rows::SOURCES_MORE);
-    let program = with_command(top(alloc), merge_words(alloc, levels, is_strict));
-    let program = with_command(program, rows_words(alloc, verdicts, formats, is_strict));
-    let program = with_command(program, rows_words(alloc, sources, formats, is_strict));
-    let program = with_command(program, check_words(alloc));
-    let program = with_command(program, explain_words(alloc, explained, is_strict));
-    with_command(program, replay_words(alloc, is_strict))
+    let program = with_command(top(alloc), merge_command(alloc, levels, is_strict));
+    let program = with_command(program, rows_command(alloc, verdicts, formats, is_strict));
+    let program = with_command(program, rows_command(alloc, sources, formats, is_strict));
+    let program = with_command(program, check_command(alloc));
+    let program = with_command(program, explain_command(alloc, explained, is_strict));
+    with_command(program, replay_command(alloc, is_strict))
 }
 
 fn top<'w>(alloc: Global) -> Building<'w>

@@ -121,14 +121,14 @@ fn write<S: Sink>(
     ensures { WritesRowCall call bound sheet.now (texts_of reports.now) (S.told out.old) (S.told out.new) result }
 {
     match call {
-        RowCall::Verdicts => Some(write_lines(alloc, sheet, reports, out)),
-        RowCall::Sources => Some(write_sources(alloc, sheet, reports, out)),
-        RowCall::VerdictsJson => write_rows(alloc, bound, sheet, reports, out),
+        RowCall::Verdicts => Some(write_verdict_lines(alloc, sheet, reports, out)),
+        RowCall::Sources => Some(write_source_lines(alloc, sheet, reports, out)),
+        RowCall::VerdictsJson => write_json_verdicts(alloc, bound, sheet, reports, out),
         RowCall::SourcesJson => Some(write_json_sources(alloc, sheet, reports, out)),
     }
 }
 
-fn write_lines<S: Sink>(
+fn write_verdict_lines<S: Sink>(
     alloc: Global,
     sheet: &Sheet,
     reports: &Reports<'_>,
@@ -141,7 +141,7 @@ fn write_lines<S: Sink>(
     add_reports(alloc, sheet, reports)?.finish_lines(out)
 }
 
-fn write_sources<S: Sink>(
+fn write_source_lines<S: Sink>(
     alloc: Global,
     sheet: &Sheet,
     reports: &Reports<'_>,
@@ -172,7 +172,7 @@ fn write_json_sources<S: Sink>(
     trace_reports(alloc, sheet, reports)?.finish(&rows, out)
 }
 
-fn write_rows<S: Sink>(
+fn write_json_verdicts<S: Sink>(
     alloc: Global,
     bound: Option<u64>,
     sheet: &Sheet,

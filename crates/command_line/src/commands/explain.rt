@@ -80,16 +80,9 @@ pub(crate) fn run<'n, F: Folder, E: Write, S: Sink>(
     ensures console { inputs.old.console.is_terminal ≡ false → inputs.new.console ≡ inputs.old.console }
 {
     let bytes = inputs.read(name)?;
-    let Counts { faulty, faults } = put_under(name, format, bytes.as_bytes(), inputs, out)?;
-    put_counts(
-        inputs.alloc,
-        format,
-        inputs.names.len(),
-        faulty,
-        faults,
-        out,
-    )?;
-    Ok(Success::Faults(faults))
+    let counts = put_under(name, format, bytes.as_bytes(), inputs, out)?;
+    put_counts(inputs.alloc, format, inputs.names.len(), counts, out)?;
+    Ok(Success::Faults(counts.faults))
 }
 
 /// Writes the line with the counts, in the format `Text`.
@@ -97,15 +90,15 @@ fn put_counts<'n, S: Sink>(
     alloc: Global,
     format: Format,
     reports: usize,
-    faulty: u64,
-    faults: u64,
+    counts: Counts,
     out: &mut S,
 ) -> Result<(), Error<'n>>
     requires { S.failures out.old < 2 ^ 64 - 1 }
-    ensures { Puts (counts_line format reports faulty faults) (S.told out.old) (S.told out.new) result }
+    ensures { Puts (counts_line format reports counts.faulty counts.faults) (S.told out.old) (S.told out.new) result }
 {
     match format {
         Format::Text => {
+            let Counts { faulty, faults } = counts;
             let line = format!(in alloc;
                 "reports: {reports}, with faults: {faulty}, faults: {faults}\n"
             )?;

@@ -17,20 +17,20 @@ returns-in_err-bytes-clause-ends g c =
     of_error (ExplainEnds gives names c.args.name c.args.format old old) c.from_residual.result e c.from_residual.ensures.1
     (nothing_explained gives names c.args.name c.args.format old e (read_not_loose e c.in_err-bytes.ensures.err))
 
-pub returns-in_err-faulty-clause-ends : goal.returns-in_err-faulty-clause-ends
-returns-in_err-faulty-clause-ends g c =
+pub returns-in_err-counts-clause-ends : goal.returns-in_err-counts-clause-ends
+returns-in_err-counts-clause-ends g c =
     let gives = g.F.Folder.gives c.args.inputs.now.files.now in
     let names = c.args.inputs.now.names.now in
     let format = c.args.format in
     let old = g.S.Sink.told c.args.out.now.sink in
     let new = g.S.Sink.told c.put_under.new.out.sink in
-    let e = c.in_err-faulty.field-0.0 in
+    let e = c.in_err-counts.field-0.0 in
     let bytes = c.in_ok-bytes.bytes in
     let later = c.read.new.self in
-    let of_bytes = subst (λ bs. UnderEnds (g.F.Folder.gives later.files.now) format c.args.name bs later.names.now old new (Err e)) c.as_bytes.ensures c.in_err-faulty.ensures.ends in
+    let of_bytes = subst (λ bs. UnderEnds (g.F.Folder.gives later.files.now) format c.args.name bs later.names.now old new (Err e)) c.as_bytes.ensures c.in_err-counts.ensures.ends in
     let of_files = subst (λ files. UnderEnds (g.F.Folder.gives files.now) format c.args.name bytes later.names.now old new (Err e)) c.read.ensures.files of_bytes in
     let ends = subst (λ ns. UnderEnds gives format c.args.name bytes ns.now old new (Err e)) c.read.ensures.names of_files in
-    of_error (ExplainEnds gives names c.args.name format old new) c.from_residual-in_err-faulty.result e c.from_residual-in_err-faulty.ensures.1
+    of_error (ExplainEnds gives names c.args.name format old new) c.from_residual-in_err-counts.result e c.from_residual-in_err-counts.ensures.1
     (under_stops gives format c.args.name names bytes c.in_ok-bytes.ensures.ok old new e ends)
 
 pub returns-in_err-put_counts-clause-ends : goal.returns-in_err-put_counts-clause-ends
@@ -42,10 +42,10 @@ returns-in_err-put_counts-clause-ends g c =
     let mid = g.S.Sink.told c.put_under.new.out.sink in
     let new = g.S.Sink.told c.put_counts.new.out.sink in
     let e = c.in_err-put_counts.field-0.0 in
-    let counts = c.in_ok-faulty.field-0 in
+    let counts = c.in_ok-counts.counts in
     let bytes = c.in_ok-bytes.bytes in
     let later = c.read.new.self in
-    let of_bytes = subst (λ bs. UnderEnds (g.F.Folder.gives later.files.now) format c.args.name bs later.names.now old mid (Ok counts)) c.as_bytes.ensures c.in_ok-faulty.ensures.ends in
+    let of_bytes = subst (λ bs. UnderEnds (g.F.Folder.gives later.files.now) format c.args.name bs later.names.now old mid (Ok counts)) c.as_bytes.ensures c.in_ok-counts.ensures.ends in
     let of_files = subst (λ files. UnderEnds (g.F.Folder.gives files.now) format c.args.name bytes later.names.now old mid (Ok counts)) c.read.ensures.files of_bytes in
     let ends = subst (λ ns. UnderEnds gives format c.args.name bytes ns.now old mid (Ok counts)) c.read.ensures.names of_files in
     let put = subst (λ ns. Puts (counts_line format (length ns.now) counts.faulty counts.faults) mid new (Err e)) (c.put_under.ensures.names ∙ c.read.ensures.names) c.in_err-put_counts.ensures in
@@ -61,10 +61,10 @@ returns-clause-ends g c =
     let old = g.S.Sink.told c.args.out.now.sink in
     let mid = g.S.Sink.told c.put_under.new.out.sink in
     let new = g.S.Sink.told c.put_counts.new.out.sink in
-    let counts = c.in_ok-faulty.field-0 in
+    let counts = c.in_ok-counts.counts in
     let bytes = c.in_ok-bytes.bytes in
     let later = c.read.new.self in
-    let of_bytes = subst (λ bs. UnderEnds (g.F.Folder.gives later.files.now) format c.args.name bs later.names.now old mid (Ok counts)) c.as_bytes.ensures c.in_ok-faulty.ensures.ends in
+    let of_bytes = subst (λ bs. UnderEnds (g.F.Folder.gives later.files.now) format c.args.name bs later.names.now old mid (Ok counts)) c.as_bytes.ensures c.in_ok-counts.ensures.ends in
     let of_files = subst (λ files. UnderEnds (g.F.Folder.gives files.now) format c.args.name bytes later.names.now old mid (Ok counts)) c.read.ensures.files of_bytes in
     let ends = subst (λ ns. UnderEnds gives format c.args.name bytes ns.now old mid (Ok counts)) c.read.ensures.names of_files in
     let last = subst (λ ns. Appends mid new (counts_line format (length ns.now) counts.faulty counts.faults)) (c.put_under.ensures.names ∙ c.read.ensures.names) c.in_ok-put_counts.ensures in

@@ -3,7 +3,7 @@ use Rattle.std.proofs.KnownBytes.{Appends-nil}
 use Rattle.std.proofs.lemmas.Result.{err_from_is_err_and}
 use Rattle.xbrlmerge_c.specs.code.Reports.{texts_of}
 use Rattle.xbrlmerge_c.proofs.Listings.{sources_listed}
-use Rattle.xbrlmerge_c.proofs.row_call.write_sources.Goals as goal
+use Rattle.xbrlmerge_c.proofs.row_call.write_source_lines.Goals as goal
 
 pub returns-in_err-trace_reports : goal.returns-in_err-trace_reports
 returns-in_err-trace_reports g c =

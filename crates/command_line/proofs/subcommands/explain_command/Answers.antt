@@ -1,6 +1,6 @@
 use Rattle.std.proofs.Common.{◌∙◌, ap, codes}
 use Rattle.command_line.specs.Arguments.{explain_app, one_of_names}
-use Rattle.command_line.proofs.subcommands.explain_words.Goals as goal
+use Rattle.command_line.proofs.subcommands.explain_command.Goals as goal
 
 pub returns : goal.returns
 unfolding explain_app

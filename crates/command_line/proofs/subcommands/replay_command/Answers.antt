@@ -3,7 +3,7 @@ use Rattle.clap.specs.Words.{rule_of}
 use Rattle.clap.specs.declared.builder.arg.Arg.{Arg}
 use Rattle.clap.specs.declared.builder.value_parser.ValueParser.TheVariants.{Signed}
 use Rattle.command_line.specs.Arguments.{as_required, parsed_by, replay_app}
-use Rattle.command_line.proofs.subcommands.replay_words.Goals as goal
+use Rattle.command_line.proofs.subcommands.replay_command.Goals as goal
 
 pub returns : goal.returns
 unfolding replay_app

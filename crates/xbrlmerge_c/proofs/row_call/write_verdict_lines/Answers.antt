@@ -3,7 +3,7 @@ use Rattle.std.proofs.KnownBytes.{Appends-nil}
 use Rattle.std.proofs.lemmas.Result.{err_from_is_err_and}
 use Rattle.xbrlmerge_c.specs.code.Reports.{texts_of}
 use Rattle.xbrlmerge_c.proofs.Listings.{lines_listed}
-use Rattle.xbrlmerge_c.proofs.row_call.write_lines.Goals as goal
+use Rattle.xbrlmerge_c.proofs.row_call.write_verdict_lines.Goals as goal
 
 pub returns-in_err-add_reports : goal.returns-in_err-add_reports
 returns-in_err-add_reports g c =

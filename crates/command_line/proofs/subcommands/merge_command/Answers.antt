@@ -1,6 +1,6 @@
 use Rattle.std.proofs.Common.{◌∙◌, ap, codes}
 use Rattle.command_line.specs.Arguments.{merge_app, one_of_names}
-use Rattle.command_line.proofs.subcommands.merge_words.Goals as goal
+use Rattle.command_line.proofs.subcommands.merge_command.Goals as goal
 
 pub returns : goal.returns
 unfolding merge_app

@@ -1,5 +1,5 @@
 use Rattle.command_line.specs.Arguments.{check_app}
-use Rattle.command_line.proofs.subcommands.check_words.Goals as goal
+use Rattle.command_line.proofs.subcommands.check_command.Goals as goal
 
 pub returns : goal.returns
 unfolding check_app

@@ -1,6 +1,6 @@
 use Rattle.std.proofs.Common.{◌∙◌, ap, codes}
 use Rattle.command_line.specs.Arguments.{rows_app, one_of_names}
-use Rattle.command_line.proofs.subcommands.rows_words.Goals as goal
+use Rattle.command_line.proofs.subcommands.rows_command.Goals as goal
 
 pub returns : goal.returns
 unfolding rows_app

@@ -2,7 +2,7 @@ use Rattle.std.proofs.Common.{inl}
 use Rattle.std.proofs.KnownBytes.{Appends-nil}
 use Rattle.xbrlmerge_c.specs.code.Reports.{texts_of}
 use Rattle.xbrlmerge_c.proofs.Listings.{long_rows, rows_listed}
-use Rattle.xbrlmerge_c.proofs.row_call.write_rows.Goals as goal
+use Rattle.xbrlmerge_c.proofs.row_call.write_json_verdicts.Goals as goal
 
 pub returns-in-Err : goal.returns-in-Err
 returns-in-Err g c = (tt, inl (Appends-nil (g.S.Sink.told c.args.out.now)))
