@@ -146,8 +146,7 @@ pub(crate) enum Request<'w> {
 }
 
 impl Request<'_> {
-    /// True if the output has a bound by default. Other output repeats no URI, so it is not much
-    /// longer than the reports, except that `replay` writes a merged report for each replica.
+    /// True if the output has a bound by default. Other output does not repeat the URIs of names.
     fn is_bounded(&self) -> bool {
         match self {
             Request::Explain(..) => true,
