@@ -23,7 +23,7 @@ impl Cells {
             return fields.push_field(text);
         }
         let guarded = guard(self.alloc, text.as_bytes())?;
-        // a `'` stands only beside ASCII, so the text is still UTF-8
+        // a `'` is added only at the start or behind an ASCII byte, so the text is still UTF-8
         match str::from_utf8(guarded.as_slice()) {
             Ok(text) => fields.push_field(text),
             Err(_) => Err(AllocError),
@@ -59,7 +59,7 @@ fn mark(backward: &mut Vec<u8>, formula: bool) -> Result<(), AllocError>
     Ok(())
 }
 
-// True if a formula begins at this byte; `formula` tells whether one begins behind it.
+// True if a formula begins at this byte; `formula` is true if one begins behind it.
 fn begins(byte: u8, formula: bool) -> bool
     ensures { result ≡ (if is_skipped byte then formula else is_sign byte) }
 {

@@ -22,7 +22,7 @@ use csv::StringRecord;
 use fact_base::Evidence;
 use json::Writer;
 use oim_dims::{Dimensions, Member, Period, Unit, spell, spell_unit, write_period};
-use oim_merge::JudgedRow;
+use oim_merge::{IndexedMention, JudgedRow};
 use oim_names::{Name, Text};
 use oim_value::{Decimals, Fixed, Value, write_fixed, write_units};
 use oim_write::write_defined;
@@ -56,36 +56,34 @@ pub(crate) fn csv_row(spreadsheet: bool, judged: &JudgedRow<'_>) -> Result<Vec<u
     requires { IsJudged judged.now }
     ensures { IfOk result (λ text. text.items ≡ judged_text (csv_row spreadsheet) judged.now) }
 {
-    let mut text = Vec::new(judged.identifiers.alloc);
+    let alloc = judged.identifiers.alloc;
+    let cells = Cells { alloc, spreadsheet };
+    let mut text = Vec::new(alloc);
     for (index, value) in judged.row.values.iter().enumerate() {
-        push_record(&mut text, spreadsheet, judged, index, value)?;
+        let record = csv_fact(cells, judged, index, value)?;
+        text.extend_from_slice(record.as_slice())?;
     }
     Ok(text)
 }
 
-fn push_record(
-    text: &mut Vec<u8>,
-    spreadsheet: bool,
+fn csv_fact(
+    cells: Cells,
     judged: &JudgedRow<'_>,
     index: usize,
     value: &Value,
-) -> Result<(), AllocError>
+) -> Result<Vec<u8>, AllocError>
     requires judged { IsJudged judged.now }
     requires index { index < length judged.now.row.values.now }
-    ensures { OnOk result (text.new.items ≡ text.old.items ++ record_text
-        (fact_fields spreadsheet judged.now.number judged.now.row.dimensions.now judged.now.evidence
+    ensures { IfOk result (λ text. text.items ≡ record_text
+        (fact_fields cells.spreadsheet judged.now.number judged.now.row.dimensions.now judged.now.evidence
         (evidence_fields (names_of judged.now) judged.now.evidence)
         (names_of judged.now index) value.now)) }
 {
-    let alloc = judged.identifiers.alloc;
-    let mut record = StringRecord::with_capacity(alloc, RECORD, FIELDS)?;
+    let mut record = StringRecord::with_capacity(cells.alloc, RECORD, FIELDS)?;
     push_front(&mut record, judged, index)?;
-    let cells = Cells { alloc, spreadsheet };
     push_fact(cells, &mut record, judged.row.dimensions, value)?;
     push_evidence(&mut record, judged)?;
-    let line = text_of_record(alloc, &record)?;
-    text.extend_from_slice(line.as_slice())?;
-    Ok(())
+    text_of_record(cells.alloc, &record)
 }
 
 fn push_front(
@@ -193,6 +191,7 @@ fn push_defined(
         return cells.push(fields, "");
     }
     let text = members_json(cells.alloc, scratch, members)?;
+    // JSON is UTF-8, so this does not fail
     match str::from_utf8(text.as_slice()) {
         Ok(text) => cells.push(fields, text),
         Err(_) => Err(AllocError),
@@ -306,30 +305,20 @@ pub(crate) fn source_header(alloc: Global) -> Result<Vec<u8>, AllocError>
 }
 
 pub(crate) fn csv_source(
-    alloc: Global,
-    spreadsheet: bool,
-    report: u64,
+    cells: Cells,
     file: Option<&str>,
-    own: &str,
     fact: &str,
+    mention: &IndexedMention,
 ) -> Result<Vec<u8>, AllocError>
-    ensures { IfOk result (λ text. text.items ≡ csv_source spreadsheet report (option_copied file.entry) own.now fact.now) }
+    ensures { IfOk result (λ text. text.items
+        ≡ csv_source cells.spreadsheet mention.now.report (option_copied file.entry) mention.now.identifier fact.now) }
 {
-    let report = format!(in alloc; "{report}")?;
-    let mut record = StringRecord::new(alloc);
+    let report = mention.report;
+    let report = format!(in cells.alloc; "{report}")?;
+    let mut record = StringRecord::new(cells.alloc);
     record.push_field(report.as_str())?;
-    let cells = Cells { alloc, spreadsheet };
-    push_file(cells, &mut record, file)?;
-    cells.push(&mut record, own)?;
+    cells.push(&mut record, file.unwrap_or(""))?;
+    cells.push(&mut record, mention.identifier.as_str())?;
     record.push_field(fact)?;
-    text_of_record(alloc, &record)
-}
-
-fn push_file(cells: Cells, fields: &mut StringRecord, file: Option<&str>) -> Result<(), AllocError>
-    ensures { OnOk result (fields_of fields.new ≡ fields_of fields.old ++ cell cells.spreadsheet (or_empty (option_copied file.entry)) ∷ []) }
-{
-    match file {
-        Some(file) => cells.push(fields, file),
-        None => cells.push(fields, ""),
-    }
+    text_of_record(cells.alloc, &record)
 }

@@ -7,8 +7,8 @@ use oim_merge::{JudgedRow, VerdictFormat};
 use oim_write::Scratch;
 use std::alloc::{AllocError, Global};
 
-/// A format of verdicts and sources for other programs (own). In each format, a row has a number
-/// (from 1), a verdict, dimensions, facts and, if it has several facts, evidence.
+/// A format of verdicts and sources for other programs (own). In each format of verdicts, a row has a
+/// number (from 1), a verdict, dimensions, facts and, if it has several facts, evidence.
 #[derive(Clone, Copy, Debug, PartialEq, Eq)]
 pub enum RowFormat {
     /// One JSON object per line.

@@ -12,7 +12,7 @@ ghost use Rattle.row_formats.specs.SourceRows.{file_data, json_source, source_da
 use fact_base::Evidence;
 use json::Writer;
 use oim_dims::Spelling;
-use oim_merge::{Identifiers, JudgedRow};
+use oim_merge::{Identifiers, IndexedMention, JudgedRow};
 use oim_names::Name;
 use oim_value::{Interval, Value, write_units};
 use oim_write::{Scratch, write_decimals, write_dimensions, write_value};
@@ -93,7 +93,8 @@ fn write_facts(
 {
     json.begin_array()?;
     for (index, value) in values.iter().enumerate() {
-        write_fact(json, scratch, identifiers, index, value)?;
+        let identifier = identifiers.at(index)?;
+        write_fact(json, scratch, identifier.as_str(), value)?;
     }
     json.end_array()
 }
@@ -101,18 +102,14 @@ fn write_facts(
 fn write_fact(
     json: &mut Writer,
     scratch: &mut Scratch,
-    identifiers: &Identifiers,
-    index: usize,
+    identifier: &str,
     value: &Value,
 ) -> Result<(), AllocError>
-    requires { identifiers.now.before + index < identifiers.now.count }
-    ensures { OnOk result (AddsValue json.old json.new
-        (fact_data (named identifiers.now.before identifiers.now.count index) value.now)) }
+    ensures { OnOk result (AddsValue json.old json.new (fact_data identifier.now value.now)) }
 {
     json.begin_object()?;
     json.key("fact")?;
-    let identifier = identifiers.at(index)?;
-    json.string(identifier.as_str())?;
+    json.string(identifier)?;
     json.key("value")?;
     write_value(json, &Braced, scratch, value)?;
     write_decimals(json, value)?;
@@ -180,15 +177,15 @@ fn write_pair(
 
 pub(crate) fn json_source(
     alloc: Global,
-    report: u64,
     file: Option<&str>,
-    own: &str,
     fact: &str,
+    mention: &IndexedMention,
 ) -> Result<Vec<u8>, AllocError>
-    ensures { IfOk result (λ line. line.items ≡ json_source report (option_copied file.entry) own.now fact.now) }
+    ensures { IfOk result (λ line. line.items
+        ≡ json_source mention.now.report (option_copied file.entry) mention.now.identifier fact.now) }
 {
     let mut json = Writer::new(Vec::new(alloc));
-    write_source(&mut json, report, file, own, fact)?;
+    write_source(&mut json, file, fact, mention)?;
     let mut line = json.into_inner();
     line.push(b'\n')?;
     Ok(line)
@@ -196,21 +193,20 @@ pub(crate) fn json_source(
 
 fn write_source(
     json: &mut Writer,
-    report: u64,
     file: Option<&str>,
-    own: &str,
     fact: &str,
+    mention: &IndexedMention,
 ) -> Result<(), AllocError>
     ensures { OnOk result (AddsValue json.old json.new
-        (source_data report (option_copied file.entry) own.now fact.now)) }
+        (source_data mention.now.report (option_copied file.entry) mention.now.identifier fact.now)) }
 {
     json.begin_object()?;
     json.key("report")?;
-    json.u64(report)?;
+    json.u64(mention.report)?;
     json.key("file")?;
     write_file(json, file)?;
     json.key("identifier")?;
-    json.string(own)?;
+    json.string(mention.identifier.as_str())?;
     json.key("fact")?;
     json.string(fact)?;
     json.end_object()

@@ -11,7 +11,7 @@ use oim_names::Name;
 use oim_value::Value;
 
 /// Returns true if the URIs in one row have more bytes than the bound. Then the text of all rows
-/// has, too. A row is made in memory, so the test comes first.
+/// has, too. A row is made in memory, so it is tested first.
 pub fn has_long_row(format: RowFormat, base: &Base<'_>, bound: u64) -> bool
     ensures { result ≡ true → AreBeyond format base.now.body bound }
 {

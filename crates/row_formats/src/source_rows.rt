@@ -2,14 +2,16 @@ ghost use Rattle.std.specs.Prelude.{◌≡◌, map};
 ghost use Rattle.std.specs.Option.{option_copied};
 ghost use Rattle.row_formats.specs.SourceRows.{file_of};
 
+use crate::cells::Cells;
 use crate::row_csv::{csv_source, source_header};
 use crate::row_format::{RowFormat, with_mark};
 use crate::row_json::json_source;
 use oim_merge::{IndexedMention, SourceFormat};
 use std::alloc::{AllocError, Global};
 
-/// Sources for other programs (own). A row has the number of a report (from 1), its file, the
-/// identifier of a fact in the report, and the fact's identifier in the canonical text.
+/// Sources for other programs (own). Each JSON object or CSV record has the number of a report (from
+/// 1), its file, the identifier of a fact in the report, and the fact's identifier in the canonical
+/// text.
 #[derive(Clone, Copy, Debug)]
 pub struct SourceRows<'n> {
     pub format: RowFormat,
@@ -22,10 +24,7 @@ impl<'n> SourceRows<'n> {
     fn file_of(&self, report: u64) -> Option<&'n str>
         ensures { option_copied result ≡ file_of (map (λ f. f.now) self.now.files.now) report }
     {
-        match self.files.get(report.saturating_sub(1) as usize) {
-            Some(file) => Some(file),
-            None => None,
-        }
+        self.files.get(report.saturating_sub(1) as usize).copied()
     }
 }
 
@@ -51,13 +50,12 @@ impl SourceFormat for SourceRows<'_> {
         fact: &str,
         mention: &IndexedMention,
     ) -> Result<Vec<u8>, AllocError> {
-        let report = mention.report;
-        let file = self.file_of(report);
-        let own = mention.identifier.as_str();
-        match self.format {
-            RowFormat::Json => json_source(alloc, report, file, own, fact),
-            RowFormat::Csv => csv_source(alloc, false, report, file, own, fact),
-            RowFormat::SpreadsheetCsv => csv_source(alloc, true, report, file, own, fact),
-        }
+        let file = self.file_of(mention.report);
+        let spreadsheet = match self.format {
+            RowFormat::Json => return json_source(alloc, file, fact, mention),
+            RowFormat::Csv => false,
+            RowFormat::SpreadsheetCsv => true,
+        };
+        csv_source(Cells { alloc, spreadsheet }, file, fact, mention)
     }
 }

@@ -14,7 +14,8 @@ loop-index-preserved c =
     let d = c.args.judged.now.row.dimensions.now in
     let e = c.args.judged.now.evidence in
     let more = take_more vs l.index v (omega arith) ∙ ap (λ x. take l.index vs ++ x ∷ []) (sym c.value-item.is) in
-    c.in_ok-push_record.ensures
+    c.in_ok-extend_from_slice.ensures.items
+    ∙ ap (λ t. l.text.items ++ t) (c.as_slice.ensures.value ∙ c.in_ok-record.ensures)
     ∙ ap (λ t. t ++ record_text (fact_fields c.args.spreadsheet c.args.judged.now.number d e (evidence_fields name e) (name l.index) v)) l.invariant
     ∙ sym (next_record c.args.spreadsheet name c.args.judged.now.number d e 0 (take l.index vs) v l.index (omega (arith, length-take-le l.index vs (omega arith))))
     ∙ ap (csv_facts c.args.spreadsheet name c.args.judged.now.number d e 0) (sym more)

@@ -1,21 +1,18 @@
-use Rattle.std.proofs.Common.{[], ◌∷◌, codes, ap, ◌∙◌}
-use Rattle.json.specs.Token.{Token}
+use Rattle.std.proofs.Common.{codes}
 use Rattle.serde_json.specs.Data.{member, no_members, string}
 use Rattle.fact_base.specs.Passed.{value_data}
 use Rattle.oim_write.specs.Ordered.{decimals_member}
-use Rattle.oim_write.proofs.Tokens.{Adds-is, Adds-one, closed_object, then_member}
-use Rattle.oim_merge.specs.Identifiers.{named}
+use Rattle.oim_write.proofs.Tokens.{Adds-one, closed_object, then_member}
 use Rattle.row_formats.specs.Spelled.{braced}
 use Rattle.row_formats.proofs.row_json.write_fact.Goals as goal
 
 pub returns : goal.returns
 returns c =
-    let name = named c.args.identifiers.now.before c.args.identifiers.now.count c.args.index in
+    let name = c.args.identifier.now in
     let v = c.args.value.now in
-    let identifier = Adds-is (ap (λ t. Token.string t ∷ []) (c.as_str.ensures.bytes ∙ c.in_ok-identifier.ensures)) (Adds-one c.in_ok-string.ensures) in
     let rest = member (codes "value") (value_data braced v) (decimals_member v no_members) in
     closed_object c.end_object.result (member (codes "fact") (string name) rest) (Adds-one c.in_ok-begin_object.ensures)
-    (then_member (codes "fact") (string name) rest (Adds-one c.in_ok-key.ensures) identifier
+    (then_member (codes "fact") (string name) rest (Adds-one c.in_ok-key.ensures) (Adds-one c.in_ok-string.ensures)
     (then_member (codes "value") (value_data braced v) (decimals_member v no_members) (Adds-one c.in_ok-key-2.ensures) c.in_ok-write_value.ensures
     c.in_ok-write_decimals.ensures))
     c.end_object.ensures

@@ -1,8 +1,9 @@
-use Rattle.std.proofs.Common.{[], ◌∷◌, ◌++◌, take, sym, ap, ◌∙◌, arith}
+use Rattle.std.proofs.Common.{[], ◌∷◌, ◌++◌, take, sym, subst, ap, ◌∙◌, arith}
 use Rattle.std.proofs.lemmas.List.{length-take-le, take_all, take_more}
+use Rattle.oim_write.specs.Tokens.{AddsValue}
 use Rattle.oim_write.proofs.Tokens.{Adds-is, Adds-one, Adds-trans}
 use Rattle.oim_merge.specs.Identifiers.{named}
-use Rattle.row_formats.specs.JsonRows.{fact_items}
+use Rattle.row_formats.specs.JsonRows.{fact_data, fact_items}
 use Rattle.row_formats.specs.code.Items.{item_tokens}
 use Rattle.row_formats.proofs.Items.{closed_array, next_fact}
 use Rattle.row_formats.proofs.row_json.write_facts.Goals as goal
@@ -14,8 +15,9 @@ loop-index-preserved c =
     let vs = c.args.values.now in
     let v = c.index-values-index.result in
     let more = take_more vs l.index v (omega arith) ∙ ap (λ x. take l.index vs ++ x ∷ []) (sym c.index-values-index.is) in
+    let written = subst (λ n. AddsValue l.json c.write_fact.new.json (fact_data n v)) (c.as_str.ensures.bytes ∙ c.in_ok-identifier.ensures) c.in_ok-write_fact.ensures in
     Adds-is (sym (next_fact name 0 (take l.index vs) v l.index (omega (arith, length-take-le l.index vs (omega arith)))) ∙ ap (λ xs. item_tokens (fact_items name 0 xs)) (sym more))
-    (Adds-trans l.invariant c.in_ok-write_fact.ensures)
+    (Adds-trans l.invariant written)
 
 pub returns : goal.returns
 returns c =
