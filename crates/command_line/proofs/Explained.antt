@@ -1,5 +1,5 @@
 -- What `explain` prints, report by report, and the end of its run.
-use Rattle.std.proofs.Common.{◌≡◌, ◌⊎◌, ℕ, ◌+◌, ◌<◌, List, [], ◌∷◌, ◌++◌, Option, None, Some, Result, Ok, Err, Bor, take, drop, get_or, length, map, refl, sym, ap, subst, inl, inr, ◌∙◌, arith, rules, append_assoc, append-nil, take-append-drop, string_bytes}
+use Rattle.std.proofs.Common.{◌≡◌, ◌⊎◌, ℕ, ◌+◌, ◌<◌, List, [], ◌∷◌, ◌++◌, Option, None, Some, Result, Ok, Err, Bor, take, drop, get_or, length, refl, sym, ap, subst, inl, inr, ◌∙◌, arith, append_assoc, append-nil, take-append-drop, string_bytes}
 use Rattle.std.specs.Prelude.{nat_lt, if◌then◌else◌}
 use Rattle.std.specs.Io.KnownBytes.{Appends}
 use Rattle.std.proofs.KnownBytes.{Appends-nil, Appends-trans}

@@ -59,8 +59,8 @@ ascii_end false = lit< tt
 
 -- all pieces of the file were read
 pub names_read : (args : Args) (file : Bor Text) (all pieces : List Text) (text bytes : List ℕ) → args.list ≡ Some file → text ≡ bytes → pieces ≡ slice_split (λ b. b == name_end args.is_null) text
-    → all ≡ name_texts args.words.items ++ filter has_text (map (without_return args.is_null) pieces) → all ≡ report_names args bytes
+    → all ≡ name_texts args.reports.items ++ filter has_text (map (without_return args.is_null) pieces) → all ≡ report_names args bytes
 names_read args file all pieces text bytes listed same split whole =
-    let words = name_texts args.words.items in
+    let words = name_texts args.reports.items in
     whole ∙ ap (λ ps. words ++ filter has_text (map (without_return args.is_null) ps)) split ∙ ap (λ bs. words ++ names_in_file args.is_null bs) same
     ∙ ap (λ list. words ++ option_map_or (λ (f : Bor Text). names_in_file args.is_null bytes) list []) (sym listed)

@@ -30,7 +30,7 @@ name_texts names = map (λ (name : Bor Text). name.now) names
 
 -- `bytes` are those of the file of names, if there is one
 abbrev pub report_names : Args → List ℕ → List Text
-report_names args bytes = name_texts args.words.items ++ option_map_or (λ file. names_in_file args.is_null bytes) args.list []
+report_names args bytes = name_texts args.reports.items ++ option_map_or (λ file. names_in_file args.is_null bytes) args.list []
 
 -- the file of names is UTF-8, and there is a name
 abbrev pub AreReportNames : Args → List ℕ → List (Bor Text) → Type 0

@@ -67,7 +67,7 @@ abbrev pub with_options_of : Args → Text × Work → Asked
 with_options_of args p = record {
   sheet = p.0;
   work = p.1;
-  names = map (λ name. name.now) args.words.items;
+  names = map (λ name. name.now) args.reports.items;
   list = option_map (λ name. name.now) args.list;
   is_null = args.is_null;
   output = option_map (λ name. name.now) args.output;
@@ -185,7 +185,7 @@ AskFor words args = (t : Tables) × AreTables t × (a : Asked) × (asked_of args
 
 -- the request without options; `is_null` has no effect, because no file lists names
 abbrev pub IsAlone : Request → Args → Type 0
-IsAlone r args = (args.request ≡ r) × (args.words.items ≡ []) × (args.list ≡ None) × (args.output ≡ None) × (args.most ≡ None)
+IsAlone r args = (args.request ≡ r) × (args.reports.items ≡ []) × (args.list ≡ None) × (args.output ≡ None) × (args.most ≡ None)
     × (args.is_quiet ≡ false) × (args.is_verbose ≡ false)
 
 -- no words ask for the merge of the bundle

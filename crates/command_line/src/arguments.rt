@@ -1,5 +1,5 @@
-ghost use Rattle.std.specs.Prelude.{◌≡◌, IfOk, codes, false};
-ghost use Rattle.clap.specs.Words.{App, Rule, new_app, rule_of, with_rule};
+ghost use Rattle.std.specs.Prelude.{◌≡◌, IfOk, false};
+ghost use Rattle.clap.specs.Words.{App, Rule, rule_of, with_rule};
 ghost use Rattle.command_line.specs.Arguments.{IsApp, beside, command_app, flag_rule, one_of_names, option_rule, parsed_by, report_rule, reports_rule, with_output_of, with_reports_of};
 
 use clap::builder::ValueParser;

@@ -38,13 +38,13 @@ fn why_missing<F: Files>(files: &F, name: &str) -> &'static str {
 }
 
 /// Returns why the output does not replace what has its name.
-pub(crate) fn why_kept(found: &Metadata) -> Option<&'static str> {
+pub(crate) fn why_kept(found: &Metadata) -> &'static str {
     if found.is_symlink() {
-        Some("It is a link; only a regular file is replaced.")
+        "It is a link; only a regular file is replaced."
     } else if found.is_dir() {
-        Some("It is a folder.")
+        "It is a folder."
     } else {
-        Some("It is a device, pipe or socket; only a regular file is replaced.")
+        "It is a device, pipe or socket; only a regular file is replaced."
     }
 }
 

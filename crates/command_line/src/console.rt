@@ -123,8 +123,9 @@ fn status(done: &Result<Success, Error<'_>>) -> u8
     }
 }
 
-// The functions below that return `bool` return true if each write succeeded, except of the line with
-// the file of a refused report. File names are escaped, because a line end in a name could fake a line.
+// The functions below that return `bool` return true if every write succeeded, not counting the line
+// with the file of a refused report. File names are escaped, because a line end in a name could fake
+// a line.
 
 fn print_done<E: Write>(
     err: &mut E,

@@ -148,7 +148,7 @@ fn old_mode<'w, F: Files>(files: &F, name: &'w str) -> Result<Option<Permissions
             Ok(Some(Permissions::from_mode(mode)))
         }
         Err(fault) if fault.kind() == ErrorKind::NotFound && !name.is_empty() => Ok(None),
-        Ok(found) => Err(Error::Unwritten(name, why_kept(&found))),
+        Ok(found) => Err(Error::Unwritten(name, Some(why_kept(&found)))),
         Err(_) => Err(Error::Unwritten(name, None)),
     }
 }

@@ -1,4 +1,4 @@
-ghost use Rattle.std.specs.Prelude.{◌≡◌, false, Ok, Err, IfOk, IfErr, ℕ, List};
+ghost use Rattle.std.specs.Prelude.{◌≡◌, false, Ok, IfOk, IfErr, ℕ, List};
 ghost use Rattle.oim_report.specs.Sheet.{sheet_outcome};
 ghost use Rattle.oim_merge.specs.Added.{added};
 ghost use Rattle.oim_merge.specs.Traced.{traced};
@@ -30,7 +30,7 @@ pub(crate) struct Inputs<'n, F, E> {
     /// The bytes of output that the bytes read since the last call of `take_allowance` allow.
     pub allowance: u64,
     /// The number of reports that were read so far.
-    pub read: usize,
+    pub reports_read: usize,
     /// The number of bytes of these reports.
     pub bytes: u64,
     pub console: Console<E>,
@@ -84,12 +84,12 @@ impl<'n, F: Folder, E: Write> Inputs<'n, F, E> {
         ensures console { self.old.console.is_terminal ≡ false → self.new.console ≡ self.old.console }
     {
         self.console.show(Progress {
-            read: self.read,
+            read: self.reports_read,
             all: self.names.len(),
             bytes: self.bytes,
         });
         let report = self.read(name)?;
-        self.read = self.read.saturating_add(1);
+        self.reports_read = self.reports_read.saturating_add(1);
         self.bytes = self.bytes.saturating_add(report.as_bytes().len() as u64);
         Ok(report)
     }

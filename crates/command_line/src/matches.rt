@@ -29,10 +29,10 @@ pub(crate) fn args_in<'w>(
     let Some(request) = request_in(name, matches) else {
         return Ok(None);
     };
-    let words = names_in(alloc, matches)?;
+    let reports = names_in(alloc, matches)?;
     Ok(Some(Args {
         request,
-        words,
+        reports,
         list: text_in(matches, "reports-from"),
         is_null: flag_in(matches, "null"),
         output: output_in(matches),
@@ -55,19 +55,16 @@ fn request_in<'w>(name: &str, matches: &ArgMatches<'w>) -> Option<Request<'w>>
 fn subcommand_in<'w>(name: &str, matches: &ArgMatches<'w>) -> Option<Subcommand<'w>>
     ensures { option_map work_of result ≡ subcommand_asked name.now (rows_of (found_of matches.now)) }
 {
-    if name == "merge" {
-        Some(Subcommand::Merge(level_in(matches)?))
-    } else if name == "verdicts" {
-        Some(Subcommand::Verdicts(format_in(matches)?))
-    } else if name == "sources" {
-        Some(Subcommand::Sources(format_in(matches)?))
-    } else if name == "check" {
-        Some(Subcommand::Check(text_in(matches, "REPORT")?))
-    } else if name == "replay" {
-        let replicas = count_in(matches, "replicas")?;
-        Some(Subcommand::Replay(replicas, text_in(matches, "events")?))
-    } else {
-        None
+    match name {
+        "merge" => Some(Subcommand::Merge(level_in(matches)?)),
+        "verdicts" => Some(Subcommand::Verdicts(format_in(matches)?)),
+        "sources" => Some(Subcommand::Sources(format_in(matches)?)),
+        "check" => Some(Subcommand::Check(text_in(matches, "REPORT")?)),
+        "replay" => {
+            let replicas = count_in(matches, "replicas")?;
+            Some(Subcommand::Replay(replicas, text_in(matches, "events")?))
+        }
+        _ => None,
     }
 }
 
@@ -87,16 +84,12 @@ fn format_in(matches: &ArgMatches<'_>) -> Option<PrintFormat>
 fn read_format(text: &str, for_spreadsheet: bool) -> Option<PrintFormat>
     ensures { result ≡ format_named for_spreadsheet text.now }
 {
-    if text == "lines" {
-        Some(PrintFormat::Lines)
-    } else if text == "json" {
-        Some(PrintFormat::Rows(RowFormat::Json))
-    } else if text == "csv" && for_spreadsheet {
-        Some(PrintFormat::Rows(RowFormat::SpreadsheetCsv))
-    } else if text == "csv" {
-        Some(PrintFormat::Rows(RowFormat::Csv))
-    } else {
-        None
+    match text {
+        "lines" => Some(PrintFormat::Lines),
+        "json" => Some(PrintFormat::Rows(RowFormat::Json)),
+        "csv" if for_spreadsheet => Some(PrintFormat::Rows(RowFormat::SpreadsheetCsv)),
+        "csv" => Some(PrintFormat::Rows(RowFormat::Csv)),
+        _ => None,
     }
 }
 
@@ -128,10 +121,7 @@ fn lacks(matches: &ArgMatches<'_>, flag: &str, option: &str) -> bool
 fn is_from_words(matches: &ArgMatches<'_>, id: &str) -> bool
     ensures { result ≡ is_from_words (source_of id.now (rows_of (found_of matches.now))) }
 {
-    match source_in(matches, id) {
-        Some(ValueSource::CommandLine) => true,
-        _ => false,
-    }
+    matches!(source_in(matches, id), Some(ValueSource::CommandLine))
 }
 
 fn source_in(matches: &ArgMatches<'_>, id: &str) -> Option<ValueSource>
@@ -152,19 +142,13 @@ fn flag_in(matches: &ArgMatches<'_>, id: &str) -> bool
 fn number_in(matches: &ArgMatches<'_>, id: &str) -> Option<u64>
     ensures { result ≡ number_at id.now (rows_of (found_of matches.now)) }
 {
-    match text_in(matches, id) {
-        Some(text) => text.parse::<u64>().ok(),
-        None => None,
-    }
+    text_in(matches, id)?.parse::<u64>().ok()
 }
 
 fn count_in(matches: &ArgMatches<'_>, id: &str) -> Option<usize>
     ensures { result ≡ number_at id.now (rows_of (found_of matches.now)) }
 {
-    match text_in(matches, id) {
-        Some(text) => text.parse::<usize>().ok(),
-        None => None,
-    }
+    text_in(matches, id)?.parse::<usize>().ok()
 }
 
 fn text_in<'w>(matches: &ArgMatches<'w>, id: &str) -> Option<&'w str>

@@ -149,7 +149,7 @@ fn run_named<'n, F: Folder, D: Disk, O: Write + Drop, E: Write + Drop>(
                 names: names.as_slice(),
                 output_per_byte,
                 allowance: (bytes.len() as u64).saturating_mul(output_per_byte),
-                read: 0,
+                reports_read: 0,
                 bytes: 0,
                 console,
             };

@@ -16,8 +16,8 @@ use std::io::Read;
 #[derive(Drop)]
 pub(crate) struct Args<'w> {
     pub request: Request<'w>,
-    /// The report names among the arguments, not all arguments. They precede the names in the file.
-    pub words: Vec<&'w str>,
+    /// The report names among the arguments. They precede the names in the file.
+    pub reports: Vec<&'w str>,
     /// The file that lists more report names; it may be standard input.
     pub list: Option<&'w str>,
     /// True if NUL ends each name in the file, not a line end, which may be CR LF. The last name
@@ -95,7 +95,7 @@ impl<'w> Args<'w> {
         ensures ok { IfOk result (λ names. AreReportNames self.now bytes.now names.items) }
         ensures err { IfErr result (IsNameError self.now bytes.now) }
     {
-        let mut all = Vec::from_slice(alloc, self.words.as_slice())?;
+        let mut all = Vec::from_slice(alloc, self.reports.as_slice())?;
         let Some(list) = self.list else {
             return Ok(all);
         };

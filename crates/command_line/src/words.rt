@@ -101,7 +101,7 @@ fn alone(alloc: Global, request: Request<'_>) -> Args<'_>
 {
     Args {
         request,
-        words: Vec::new(alloc),
+        reports: Vec::new(alloc),
         list: None,
         is_null: false,
         output: None,

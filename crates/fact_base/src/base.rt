@@ -41,7 +41,6 @@ impl Drop for Base<'_> {
 }
 
 impl<'s> Model for Base<'s> {
-    ghost use Rattle.std.specs.Prelude.{◌≡◌};
     ghost use Rattle.std.specs.Coded.{codes};
     ghost use Rattle.oim_report.specs.code.SheetCode.{sheet_code};
     ghost use Rattle.fact_base.specs.Contents.{Contents};

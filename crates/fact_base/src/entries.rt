@@ -25,8 +25,9 @@ type Entry = (Dimensions, (SortedSet<Value>, Summary));
 // The number of facts whose memory is given back at once.
 const FREED_AT_ONCE: usize = 4096;
 
-/// Returns the entries of the facts, which must be in order. Frees the list of facts piece by piece
-/// while it is emptied, so that its memory and the memory of all entries are not needed together.
+/// Returns the entries of the facts, which must be in order. The list of facts is freed piece by
+/// piece while the reserved list of entries is filled, so that the two are never in memory as a whole
+/// together.
 pub(crate) fn entries_in_order(alloc: Global, facts: Vec<Fact>) -> Result<Entries, AllocError>
     requires { IsSorted fact_cmp facts.items }
     ensures { IfOk result (AreEntriesOf facts.items) }

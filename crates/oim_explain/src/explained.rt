@@ -178,10 +178,8 @@ impl<'t, 's> FaultContext<'t, 's> {
     fn identifier(&self, number: u64) -> &'t str
         ensures { result.now ≡ get_or (texts_of self.now.identifiers.items) (number - 1) [] }
     {
-        match self.identifiers.get(number.saturating_sub(1) as usize) {
-            Some(identifier) => *identifier,
-            None => "",
-        }
+        let index = number.saturating_sub(1) as usize;
+        self.identifiers.get(index).copied().unwrap_or_default()
     }
 
     /// If the sheet lacks a name but has a similar one, returns the namespaces of both.

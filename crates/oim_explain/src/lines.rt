@@ -5,7 +5,7 @@ ghost use Rattle.oim_explain.specs.code.Added.{AddsLines, AddsTokens, AddsSomeTo
 
 use super::escaped::Escaped;
 use super::finding::Finding;
-use super::quoted::{push_text, text_of};
+use super::quoted::{push_text, written_text};
 use json::{Error, Scratch, Writer};
 use oim_report::{Part, Place, Refusal};
 use serde_json::Value;
@@ -166,7 +166,7 @@ impl PrintedFault<'_, '_> {
         put_part(alloc, &mut writer, self.part)?;
         put_text(&mut writer, "sentence", Some(self.sentence))?;
         writer.end_object()?;
-        Ok(text_of(writer))
+        Ok(written_text(writer))
     }
 
     /// Writes the members before `part`.

@@ -26,11 +26,11 @@ fn json_string(alloc: Global, text: &str) -> Result<String, AllocError>
 {
     let mut writer = Writer::new(Vec::new(alloc));
     writer.string(text)?;
-    Ok(text_of(writer))
+    Ok(written_text(writer))
 }
 
 /// Returns the text of all tokens.
-pub(crate) fn text_of(writer: Writer) -> String
+pub(crate) fn written_text(writer: Writer) -> String
     requires { writer.before ≡ [] }
     ensures { string_bytes result ≡ print writer.tokens }
 {

@@ -48,7 +48,7 @@ fn add_row<'b>(facts: &mut Vec<LentFact<'b>>, row: Row<'b>) -> Result<(), AllocE
 /// Returns the number of facts that are less than this one. If the fact at the index `guess` equals
 /// it, this is the number.
 ///
-/// A URI may be long, and most facts of a report have one. So the fact is first looked for by an
+/// A URI may be long, and most facts of a report share it. So the fact is first looked for by an
 /// order that reads no long URI. If the fact at the index that is found equals it, this is the
 /// number, and each URI was read once.
 pub(crate) fn index_of(facts: &[LentFact<'_>], guess: usize, fact: &Fact) -> usize

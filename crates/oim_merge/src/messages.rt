@@ -31,8 +31,8 @@ pub(crate) struct Messages<'s> {
     pub kept_bytes: usize,
 }
 
-// The length of the texts whose readings are cached together, in bytes. A base takes a few times as
-// much memory as its text.
+// The greatest length of several texts whose readings are cached together, in bytes. A longer text
+// is cached alone. A base takes a few times as much memory as its text.
 const MOST_KEPT_BYTES: usize = 8_000_000;
 
 impl<'s> Messages<'s> {
@@ -134,7 +134,7 @@ impl<'s> Messages<'s> {
 
     // Counts the text at `index` among those with cached readings. If these texts are too long
     // together, all cached readings are dropped.
-    fn make_room(&mut self, alloc: Global, index: usize) -> Result<(), AllocError>
+    fn count_reading(&mut self, alloc: Global, index: usize) -> Result<(), AllocError>
         requires { index < length self.old.texts.items }
         ensures texts { self.new.texts ≡ self.old.texts }
         ensures sent { self.new.sent ≡ self.old.sent }
@@ -161,29 +161,29 @@ impl<'s> Messages<'s> {
         Ok(())
     }
 
-    /// Adds the facts and references of a sent text to a base. `number` counts sent texts from 0.
-    /// The result of reading a text is cached as long as there is room. If the text is refused, the
-    /// base does not change.
+    /// Adds the facts and references of the text at `sent_index` in `sent` to a base. The result of
+    /// reading a text is cached as long as there is room. If the text is refused, the base does not
+    /// change.
     ///
     /// Errors: out of memory.
     pub(crate) fn give(
         &mut self,
         alloc: Global,
         sheet: &'s Sheet,
-        number: usize,
+        sent_index: usize,
         base: &mut Base<'s>,
     ) -> Result<(), AllocError>
-        requires number { number < length self.old.sent.items }
+        requires index { sent_index < length self.old.sent.items }
         requires held { AreHeld sheet.now self.old }
         requires sheet { base.old.sheet ≡ sheet.now }
         ensures texts { self.new.texts ≡ self.old.texts }
         ensures sent { sent_texts self.new ≡ sent_texts self.old }
         ensures held { OnOk result (AreHeld sheet.now self.new) }
         ensures base { OnOk result (base.new
-            ≡ with_outcome (outcome sheet.now (slice_index_or (sent_texts self.old) number [])) base.old) }
+            ≡ with_outcome (outcome sheet.now (slice_index_or (sent_texts self.old) sent_index [])) base.old) }
     {
-        let index = self.sent[number];
-        self.make_room(alloc, index)?;
+        let index = self.sent[sent_index];
+        self.count_reading(alloc, index)?;
         take_at(
             alloc,
             sheet,
@@ -195,14 +195,14 @@ impl<'s> Messages<'s> {
         Ok(())
     }
 
-    /// Returns the index of a sent text if it is the text of this base, as far as its cached reading
-    /// shows. `number` counts sent texts from 0.
-    pub(crate) fn index_if_of(&self, number: usize, base: &Base<'_>) -> Option<usize>
-        requires number { number < length self.now.sent.items }
+    /// Returns the index of the text at `sent_index` in `sent` if it is the text of this base, as far
+    /// as its cached reading shows.
+    pub(crate) fn index_if_of(&self, sent_index: usize, base: &Base<'_>) -> Option<usize>
+        requires index { sent_index < length self.now.sent.items }
         requires held { AreHeld base.now.sheet self.now }
         ensures { IsCurrent self.now.texts.items base.now result }
     {
-        let index = self.sent[number];
+        let index = self.sent[sent_index];
         match self.kept.get(index) {
             Some(Some(Ok(read))) if base.same_as(read) => Some(index),
             _ => None,

@@ -15,8 +15,9 @@ use std::marker::Model;
 /// Runs a schedule on `n` replicas that begin empty. Replicas, reports and sent texts have numbers
 /// from 1. The line of an event is its number among the events, from 1. Each taken report is read
 /// under the sheet once, and each received text at least once. A refused report or text does not
-/// change the replica. So each replica has the facts and references of the accepted reports that reached it
-/// since its last restart, directly or through other replicas. The result lists refused takes.
+/// change the replica. So each replica has the facts and references of the accepted reports that
+/// reached it since its last restart, directly or through other replicas. The result lists refused
+/// takes.
 ///
 /// A received text is parsed although its sender's facts are in memory: real replicas have only the
 /// text.
@@ -67,7 +68,6 @@ pub struct Replayed<'s> {
 }
 
 impl<'s> Model for Replayed<'s> {
-    ghost use Rattle.std.specs.Prelude.{◌≡◌};
     ghost use Rattle.std.specs.Coded.{codes};
     ghost use Rattle.oim_report.specs.code.SheetCode.{sheet_code};
     ghost use Rattle.oim_merge.specs.code.Held.{AreWithin};

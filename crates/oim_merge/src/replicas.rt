@@ -20,8 +20,8 @@ use std::alloc::{AllocError, Global};
 #[derive(Drop)]
 pub(crate) struct Replicas<'s> {
     pub bases: Vec<Base<'s>>,
-    /// For each replica, the index of its text in `messages.texts`. The index is None if the
-    /// replica sent no text, or if a later event may have changed its base.
+    /// For each replica, the index in `messages.texts` of its base's text, or None if the index is
+    /// not known.
     pub current: Vec<Option<usize>>,
     pub messages: Messages<'s>,
     pub refused: Refusals,
@@ -63,9 +63,8 @@ impl<'s> Replicas<'s> {
         match event {
             Event::Take(i, r) => is_there(i, replicas) && is_there(r, reports),
             Event::Join(i, j) => is_there(i, replicas) && is_there(j, replicas),
-            Event::Send(i) => is_there(i, replicas),
+            Event::Send(i) | Event::Restart(i) => is_there(i, replicas),
             Event::Receive(i, k) => is_there(i, replicas) && is_there(k, sent),
-            Event::Restart(i) => is_there(i, replicas),
         }
     }
 

@@ -1,10 +1,10 @@
 use std::alloc::{AllocError, Global};
 
-/// Guesses the next index of a sequence: the one that came after the last index before. Providers
+/// Guesses the next index of a sequence: the one that last followed the current index. Providers
 /// often list the same facts in the same order, so most guesses are right from the second report on.
 #[derive(Drop)]
 pub(crate) struct Successors {
-    /// For each index, the one that came after it last; 0 if none did.
+    /// For each index, the one that last followed it; 0 if none did.
     after: Vec<usize>,
     last: usize,
 }
@@ -20,10 +20,7 @@ impl Successors {
     }
 
     pub(crate) fn guess(&self) -> usize {
-        match self.after.get(self.last) {
-            Some(index) => *index,
-            None => 0,
-        }
+        self.after.get(self.last).copied().unwrap_or_default()
     }
 
     pub(crate) fn push(&mut self, index: usize) {

@@ -22,7 +22,7 @@ use std::marker::Model;
 /// of the report (from 1), and the object's own identifier as a JSON string. Lines are sorted by
 /// fact, report and object identifier. Returns the refusals with the numbers of their reports.
 ///
-/// Memory holds a copy of each object's fact until the lines are sorted, even if another object
+/// Memory holds a copy of each object's fact until all reports are merged, even if another object
 /// reports the same fact, and each object's identifier until all lines are written.
 ///
 /// Errors: `Device` if the sink failed; `OutOfMemory`.

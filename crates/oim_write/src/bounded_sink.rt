@@ -19,8 +19,8 @@ pub fn default_bound(read: u64) -> u64
     LEAST_BOUND.saturating_add(read.saturating_mul(BOUND_PER_BYTE))
 }
 
-/// Passes at most a given number of bytes to another sink. Bytes above the bound fail as for a full
-/// device: the sink takes those that fit, and counts an overrun when it is given more.
+/// Passes at most a given number of bytes to another sink. The sink takes the bytes that fit. If
+/// there is room for none, it fails like a full device and counts an overrun.
 #[derive(Drop)]
 pub struct BoundedSink<S: Sink> {
     sink: S,
@@ -59,8 +59,8 @@ impl<S: Sink> BoundedSink<S> {
         self.left
     }
 
-    /// How often the sink was given bytes that did not fit. The number saturates at the greatest
-    /// `u64`.
+    /// How often the sink was given bytes when the bound left room for none. The number saturates at
+    /// the greatest `u64`.
     pub fn overruns(&self) -> u64
         ensures { result ≡ self.now.overruns }
     {

@@ -19,7 +19,7 @@ use std::alloc::Global;
 
 // In C, each slice is two parameters, a pointer and a length, and `alloc` is not a parameter.
 
-pub(crate) fn level_numbered(number: u32) -> Option<Level>
+fn level_numbered(number: u32) -> Option<Level>
     ensures { result ≡ slice_get levels number }
 {
     match number {

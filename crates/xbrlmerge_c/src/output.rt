@@ -53,7 +53,7 @@ impl RefusedReport {
     }
 }
 
-pub(crate) fn put_refusals(found: &[(u64, Refusal)], refusals: &mut [RefusedReport])
+fn put_refusals(found: &[(u64, Refusal)], refusals: &mut [RefusedReport])
     requires { length found.now ≤ length refusals.old }
     ensures { refusals.new ≡ refused_reports found.now ++ drop (length found.now) refusals.old }
 {
@@ -71,7 +71,7 @@ pub(crate) struct Made {
 // In these functions, `out`, `needed`, `refusals` and `refused` are the caller's memory, which C
 // passes separately.
 
-pub(crate) fn hand_over(
+fn hand_over(
     text: &[u8],
     found: &[(u64, Refusal)],
     out: &mut [u8],
@@ -124,7 +124,6 @@ pub(crate) fn answer(
             *refused = 0;
             SHEET_REFUSED
         }
-        Err(Fault::OutOfMemory(_)) => NO_MEMORY,
-        Err(Fault::Device(_)) => NO_MEMORY,
+        Err(Fault::OutOfMemory(_) | Fault::Device(_)) => NO_MEMORY,
     }
 }

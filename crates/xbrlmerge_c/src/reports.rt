@@ -1,4 +1,4 @@
-ghost use Rattle.std.specs.Prelude.{◌↔◌, IsTrue, length, ◌≡◌, IfOk, Ok, IfErr};
+ghost use Rattle.std.specs.Prelude.{◌↔◌, IsTrue, ◌≡◌, IfOk, Ok, IfErr};
 ghost use Rattle.oim_merge.specs.Added.{added};
 ghost use Rattle.oim_merge.specs.Reports.{merged, refused};
 ghost use Rattle.oim_merge.specs.Traced.{traced};

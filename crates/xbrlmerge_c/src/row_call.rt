@@ -1,5 +1,5 @@
 ghost use Rattle.std.specs.Prelude.{◌≡◌, ◌-◌, ◌^◌, ◌<◌, None, IfErr, IfOk, IfSome, true, false};
-ghost use Rattle.xbrlmerge_c.specs.Answers.{NoReason, NoRow, StopsBy};
+ghost use Rattle.xbrlmerge_c.specs.Answers.{NoRow, StopsBy};
 ghost use Rattle.xbrlmerge_c.specs.Calls.{AnswersRowCall, IsBeyond, IsSheetRefused, IsTooMuch, IsWithin, Lists, bound_of};
 ghost use Rattle.xbrlmerge_c.specs.CallerMemory.{memory};
 ghost use Rattle.xbrlmerge_c.specs.code.Reports.{HasValidEnds, texts_of};

@@ -18,7 +18,7 @@ returns c =
     let rows = rows_of (found_of c.args.matches.now) in
     let args : Args = record {
       request = c.in-Some.request;
-      words = c.in_ok-words.words;
+      reports = c.in_ok-reports.reports;
       list = c.text_in.result;
       is_null = c.flag_in.result;
       output = c.output_in.result;
@@ -30,7 +30,7 @@ returns c =
     same_asked args rows (λ p i. record {
       sheet = p.0;
       work = p.1;
-      names = c.in_ok-words.ensures i;
+      names = c.in_ok-reports.ensures i;
       list = c.text_in.ensures i;
       is_null = c.flag_in.ensures i;
       output = c.output_in.ensures i;

@@ -4,5 +4,6 @@ use Rattle.command_line.specs.Words.{number_of}
 use Rattle.command_line.proofs.RowReads.{parsed_number}
 use Rattle.command_line.proofs.matches.number_in.Goals as goal
 
-pub returns-in-Some : goal.returns-in-Some
-returns-in-Some c = c.ok.ensures.value ∙ parsed_number c.in-Some.text.now c.parse.result (search rules) ∙ ap (option_and_then number_of) c.in-Some.ensures
+pub returns : goal.returns
+returns c =
+    c.ok.ensures.value ∙ parsed_number c.in_ok-text_in.field-0.now c.parse.result (search rules) ∙ ap (option_and_then number_of) c.in_ok-text_in.ensures

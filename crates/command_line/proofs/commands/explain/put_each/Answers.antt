@@ -1,6 +1,5 @@
-use Rattle.std.proofs.Common.{◌≡◌, ◌+◌, Err, Some, get_or, take, string_bytes, subst, sym, ap, refl, ◌∙◌, arith}
+use Rattle.std.proofs.Common.{◌≡◌, ◌+◌, Err, get_or, take, string_bytes, subst, sym, ap, refl, ◌∙◌, arith}
 use Rattle.oim_write.specs.BoundedSink.{bounded_failures}
-use Rattle.oim_explain.specs.Explained.{Explains, printed_faults}
 use Rattle.std.specs.Io.KnownBytes.{Appends}
 use Rattle.command_line.specs.Endings.{Puts}
 use Rattle.command_line.specs.Explaining.{ListsReports, ReportsEnd}

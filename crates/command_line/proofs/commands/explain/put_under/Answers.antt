@@ -1,4 +1,4 @@
-use Rattle.std.proofs.Common.{Err, Ok, string_bytes, subst, sym}
+use Rattle.std.proofs.Common.{Err, string_bytes, subst}
 use Rattle.std.specs.Io.KnownBytes.{Appends}
 use Rattle.command_line.specs.Endings.{Puts}
 use Rattle.command_line.specs.Explaining.{ReportsEnd, UnderEnds}

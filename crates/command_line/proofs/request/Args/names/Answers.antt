@@ -1,4 +1,4 @@
-use Rattle.std.proofs.Common.{◌≡◌, ◌≢◌, ◌++◌, ◌∷◌, ◌∙◌, [], List, refl, length, ap, map, subst, sym, true}
+use Rattle.std.proofs.Common.{◌≡◌, ◌≢◌, ◌++◌, ◌∷◌, ◌∙◌, [], refl, length, ap, map, subst, sym, true}
 use Rattle.std.specs.Prelude.{IfSome, IsSome}
 use Rattle.std.specs.Borrow.{Bor}
 use Rattle.std.specs.List.{filter}
@@ -15,7 +15,7 @@ use Rattle.command_line.proofs.request.Args.names.Goals as goal
 pub loop-name-preserved : goal.loop-name-preserved
 loop-name-preserved c =
     let is_null = c.args.self.now.is_null in
-    let words = name_texts c.args.self.now.words.items in
+    let words = name_texts c.args.self.now.reports.items in
     let name = c.without_return-name.result in
     let piece = c.in-Some-name.name in
     let is : has_text name.now ≡ true = named name.now (sym c.is_empty.ensures ∙ c.if-is_empty.false) in

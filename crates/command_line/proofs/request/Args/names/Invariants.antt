@@ -6,4 +6,4 @@ use Rattle.command_line.proofs.request.Args.names.Given as goal
 -- the names of the words, and those among the pieces so far
 abbrev pub invariant-loop-name : goal.invariant-loop-name
 invariant-loop-name l =
-    name_texts l.all.items ≡ name_texts l.self.words.items ++ filter has_text (map (without_return l.self.is_null) (name_texts l.yielded))
+    name_texts l.all.items ≡ name_texts l.self.reports.items ++ filter has_text (map (without_return l.self.is_null) (name_texts l.yielded))

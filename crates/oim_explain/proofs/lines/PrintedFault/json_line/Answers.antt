@@ -6,8 +6,8 @@ use Rattle.oim_explain.specs.code.Added.{of_fault}
 use Rattle.oim_explain.proofs.Appended.{tokens_one, tokens_then}
 use Rattle.oim_explain.proofs.lines.PrintedFault.json_line.Goals as goal
 
-pub text_of-requires : goal.text_of-requires
-text_of-requires c =
+pub written_text-requires : goal.written_text-requires
+written_text-requires c =
     c.in_ok-end_object.ensures.room.0 ∙ c.in_ok-put_text.ensures.before ∙ c.in_ok-put_part.ensures.1.before ∙ c.in_ok-key.ensures.room.0
     ∙ c.in_ok-put_front.ensures.before ∙ c.new-writer.ensures.before ∙ c.new.ensures.items
 
@@ -18,4 +18,4 @@ returns c =
     let front = object_front c.args.input.now (of_fault c.args.self.now) in
     let all = tokens_then c.in_ok-put_front.ensures
     (tokens_then (tokens_one c.in_ok-key.ensures) (tokens_then part.1 (tokens_then c.in_ok-put_text.ensures (tokens_one c.in_ok-end_object.ensures)))) in
-    (rest, c.text_of.ensures ∙ ap print (all.tokens ∙ ap (λ ts. ts ++ (front ++ rest)) c.new-writer.ensures.tokens))
+    (rest, c.written_text.ensures ∙ ap print (all.tokens ∙ ap (λ ts. ts ++ (front ++ rest)) c.new-writer.ensures.tokens))

@@ -12,7 +12,7 @@ returns-in-Some-Some-Ok c =
     let index = c.index-index.result.now in
     let kept = c.deref.result.now in
     let w = c.in-Some-Some-Ok in
-    let within : index < length texts = subst (λ i. i < length texts) (sym c.index-index.ensures) (held.indices c.args.number index c.requires.number) in
+    let within : index < length texts = subst (λ i. i < length texts) (sym c.index-index.ensures) (held.indices c.args.sent_index index c.requires.index) in
     let each = subst (AreReadings base.sheet texts) (sym c.deref.ensures.value) held.kept in
     let found : get_or kept index w.field-0.now ≡ Some (Ok w.read) = sym w.ensures.lookup.1 ∙ w.field-0-is ∙ ap Some w.field-0-0-is in
     is_its_text base.sheet texts index w.read base within held.written
