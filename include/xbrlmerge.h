@@ -100,7 +100,7 @@ uint32_t xbrlmerge_sources(const uint8_t *sheet, size_t sheet_length, const uint
 /* Two calls that do the same as xbrlmerge_verdicts and xbrlmerge_sources, but `out` gets the output of `--format json`: one
    JSON object per line. The reports have no names here, so `file` is null in each source. The text repeats URIs, so it has a
    bound, as with `--most-output`: if it has more than `most` bytes, the call stops early and returns XBRLMERGE_TOO_MUCH. If
-   `most` is 0, the bound is 1 MiB and 16 bytes for each byte of the sheet and of `reports_length`. */
+   `most` is 0, the bound is 1 MiB and 16 bytes for each byte of `sheet` and `reports`. */
 uint32_t xbrlmerge_verdicts_json(const uint8_t *sheet, size_t sheet_length, const uint8_t *reports, size_t reports_length,
                                  const size_t *ends, size_t ends_length, size_t most, uint8_t *out, size_t out_length,
                                  size_t *needed, xbrlmerge_refusal *refusals, size_t refusals_length, size_t *refused);

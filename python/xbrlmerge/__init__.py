@@ -144,7 +144,7 @@ class Columns(Dict[str, List[Any]]):
 
     def __init__(self, names: Iterable[str], rows: Iterable[Tuple[Any, ...]], text: bytes, refusals: List[Refusal]) -> None:
         found = [*rows]
-        super().__init__((name, [row[place] for row in found]) for place, name in enumerate(names))
+        super().__init__((name, [row[index] for row in found]) for index, name in enumerate(names))
         self.text, self.refusals = text, refusals
 
 
@@ -221,11 +221,11 @@ def check(sheet: Given, report: Given) -> Union[Checked, Refusal]:
     """Returns a Checked if the report is accepted, otherwise its Refusal. Raises SheetRefused, MemoryError, OSError and
     TypeError.
     """
-    status, checked, row = _library.check(_bytes(sheet), _bytes(report))
+    status, checked, record = _library.check(_bytes(sheet), _bytes(report))
     if status == _library.SHEET_REFUSED:
-        raise SheetRefused(row[2])
+        raise SheetRefused(record[2])
     if status == _library.REFUSED:
-        return _refusal(row)
+        return _refusal(record)
     facts, level, canonical = checked
     return Checked(facts, LEVELS[level], canonical == 1)
 
@@ -257,13 +257,13 @@ def _file(given: Given) -> Optional[str]:
     return None if isinstance(given, (bytes, bytearray, memoryview)) else os.fspath(given)
 
 
-def _refusal(row: _library.Row) -> Refusal:
-    report, fact, number = row
+def _refusal(record: _library.Record) -> Refusal:
+    report, fact, number = record
     return Refusal(report, number, _library.refusal_name(number), fact or None)
 
 
 def _refusals(answer: _library.Answer) -> List[Refusal]:
-    return [_refusal(row) for row in answer.rows]
+    return [_refusal(record) for record in answer.records]
 
 
 def _most(given: Optional[int]) -> int:

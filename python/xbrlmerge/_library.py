@@ -12,7 +12,7 @@ NAME = "libxbrlmerge.so"
 # the name by which the system finds an installed library
 SONAME = "libxbrlmerge.so.0"
 # the records for a refusal and for an accepted report in include/xbrlmerge.h
-ROW, CHECKED = struct.Struct("=QQI4x"), struct.Struct("=QII")
+REFUSAL, CHECKED = struct.Struct("=QQI4x"), struct.Struct("=QII")
 # the first buffer is this many bytes longer than the reports: a text made from short reports can be longer than the reports
 MORE = 4096
 LONGEST_NAME = 64
@@ -24,11 +24,11 @@ def _load() -> ctypes.CDLL:
     the one that is installed.
 
     Raises ImportError if none exists, or if Python is not 64-bit or the processor is not little-endian. Raises OSError if
-    the library cannot be loaded.
+    a file that exists cannot be loaded. An installed library that cannot be loaded counts as missing.
     """
     here = os.path.dirname(os.path.abspath(__file__))
-    places = (os.environ.get("XBRLMERGE_LIBRARY", ""), os.path.join(here, NAME), os.path.join(here, "..", "..", "lib", NAME))
-    found = next((place for place in places if place and os.path.exists(place)), None)
+    paths = (os.environ.get("XBRLMERGE_LIBRARY", ""), os.path.join(here, NAME), os.path.join(here, "..", "..", "lib", NAME))
+    found = next((path for path in paths if path and os.path.exists(path)), None)
     if struct.calcsize("P") != 8 or sys.byteorder != "little":
         raise ImportError("xbrlmerge: it needs a 64-bit Python on a little-endian processor")
     # a CDLL lets other Python threads run during a call
@@ -36,8 +36,8 @@ def _load() -> ctypes.CDLL:
         return ctypes.CDLL(os.path.abspath(found))
     try:
         return ctypes.CDLL(SONAME)
-    except OSError:
-        raise ImportError(f"xbrlmerge: there is no {NAME}: `./build --library` makes it, and XBRLMERGE_LIBRARY may name it") from None
+    except OSError as fault:
+        raise ImportError(f"xbrlmerge: there is no {NAME}: `./build --library` makes it, and XBRLMERGE_LIBRARY may name it") from fault
 
 
 _LIBRARY = _load()
@@ -62,7 +62,7 @@ _sources_json = _call("xbrlmerge_sources_json", _NUMBER, [*_GIVEN, _SIZE, *_TAKE
 _check = _call("xbrlmerge_check", _NUMBER, [_POINTER, _SIZE, _POINTER, _SIZE, _POINTER, _POINTER])
 _refusal_name = _call("xbrlmerge_refusal_name", _SIZE, [_NUMBER, _POINTER, _SIZE])
 
-Row = Tuple[int, int, int]
+Record = Tuple[int, int, int]
 
 
 class Answer(NamedTuple):
@@ -71,10 +71,10 @@ class Answer(NamedTuple):
     status: int
     text: bytes
     number: int
-    rows: List[Row]
+    records: List[Record]
 
 
-def _row(fields: Tuple[Any, ...]) -> Row:
+def _record(fields: Tuple[Any, ...]) -> Record:
     report, fact, number = fields
     return report, fact, number
 
@@ -95,15 +95,15 @@ def _answered(call: Callable[..., int], sheet: bytes, reports: Sequence[bytes], 
     # one end more, because an empty array has no address; `ends` lives until the last call has returned
     ends = array.array("Q", (*itertools.accumulate(map(len, reports)), 0))
     given = (sheet, len(sheet), together, len(together), ends.buffer_info()[0], count, *more)
-    room, rows_room = len(together) + MORE, count
+    room, records_room = len(together) + MORE, count
     needed, refused = _SIZE(), _SIZE()
     while True:
         out, first = _room(room)
-        rows, first_row = _room(rows_room * ROW.size)
-        status = call(*given, ctypes.addressof(first), room, needed, ctypes.addressof(first_row), rows_room, refused)
+        records, first_record = _room(records_room * REFUSAL.size)
+        status = call(*given, ctypes.addressof(first), room, needed, ctypes.addressof(first_record), records_room, refused)
         if status != TOO_SHORT:
             break
-        room, rows_room = max(room, needed.value), max(rows_room, refused.value)
+        room, records_room = max(room, needed.value), max(records_room, refused.value)
     if status == NO_MEMORY:
         raise MemoryError
     if status in (BAD_ENDS, BAD_LEVEL):
@@ -111,8 +111,8 @@ def _answered(call: Callable[..., int], sheet: bytes, reports: Sequence[bytes], 
     text = bytes(memoryview(out)[: needed.value]) if status <= REFUSED else b""
     if status == TOO_MUCH:
         return Answer(status, b"", 0, [])
-    told = [_row(fields) for fields in ROW.iter_unpack(memoryview(rows)[: refused.value * ROW.size])]
-    return Answer(status, text, needed.value, told)
+    found = [_record(fields) for fields in REFUSAL.iter_unpack(memoryview(records)[: refused.value * REFUSAL.size])]
+    return Answer(status, text, needed.value, found)
 
 
 def merge(sheet: bytes, reports: Sequence[bytes], level: int) -> Answer:
@@ -135,17 +135,17 @@ def sources_json(sheet: bytes, reports: Sequence[bytes], most: int) -> Answer:
     return _answered(_sources_json, sheet, reports, most)
 
 
-def check(sheet: bytes, report: bytes) -> Tuple[int, Tuple[int, int, int], Row]:
+def check(sheet: bytes, report: bytes) -> Tuple[int, Tuple[int, int, int], Record]:
     """Returns the status, the record for an accepted report, and the record for the refusal. A record that the call does not
     set is all zeros. Raises MemoryError."""
     checked, first = _room(CHECKED.size)
-    row, first_of_row = _room(ROW.size)
-    places = ctypes.addressof(first), ctypes.addressof(first_of_row)
-    status = _check(sheet, len(sheet), report, len(report), *places)
+    record, first_of_record = _room(REFUSAL.size)
+    addresses = ctypes.addressof(first), ctypes.addressof(first_of_record)
+    status = _check(sheet, len(sheet), report, len(report), *addresses)
     if status == NO_MEMORY:
         raise MemoryError
     facts, level, canonical = CHECKED.unpack_from(checked)
-    return status, (facts, level, canonical), _row(ROW.unpack_from(row))
+    return status, (facts, level, canonical), _record(REFUSAL.unpack_from(record))
 
 
 def refusal_name(number: int) -> str:

@@ -60,10 +60,9 @@ class Harmless(unittest.TestCase):
     def test_a_request_that_a_test_passes_over_is_a_fault(self):
         self.assertEqual(self.ending("value_tests tests::names::texts_are_copied"), refused_memory.PASSED)
 
-    def test_requests_of_three_kinds_are_named(self):
+    def test_requests_of_two_kinds_are_named(self):
         self.assertEqual(self.ending("value_tests tests::names::texts_are_copied", smaller=True), refused_memory.SMALLER)
         self.assertEqual(self.ending("command_tests tests::words::usage_tells_what_is_wrong"), refused_memory.CLAP)
-        self.assertEqual(self.ending("report_tests tests::explained::faults_of_facts_are_said"), refused_memory.JSON)
 
 
 if __name__ == "__main__":
