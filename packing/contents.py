@@ -52,9 +52,9 @@ def command_of(tool: str) -> str:
     return f"{PROGRAM}-{tool.replace('_', '-')}"
 
 
-def tool_package(top: str, place: str) -> list[File]:
-    """Returns the files of the Python package with the tools, below a place."""
-    folder = os.path.join(place, TOOL_PACKAGE)
+def tool_package(top: str, target: str) -> list[File]:
+    """Returns the files of the Python package with the tools, below a folder."""
+    folder = os.path.join(target, TOOL_PACKAGE)
     own = read(os.path.join(top, "python", TOOL_PACKAGE, "__init__.py"), os.path.join(folder, "__init__.py"))
     return [own, *read_below(os.path.join(top, "tools"), folder, (".py", ".css", ".js"))]
 
@@ -68,13 +68,13 @@ def tools(top: str) -> list[File]:
 
 def plain(file: File) -> File:
     """Returns a file that is not executable: the commands run it."""
-    return File(file.place, file.content, PLAIN)
+    return File(file.target, file.content, PLAIN)
 
 
 def program(top: str, built: str) -> list[File]:
     """Returns the built program, the tools, the man pages and the completions."""
     pages = read_below(os.path.join(top, "docs"), "share/man/man1", (".1",))
-    pages = [File(f"share/man/man1/{os.path.basename(it.place)}", it.content) for it in pages]
+    pages = [File(f"share/man/man1/{os.path.basename(it.target)}", it.content) for it in pages]
     completions = [it for folder in COMPLETIONS for it in read_below(os.path.join(top, folder), folder, ("",))]
     return [read(built, f"bin/{PROGRAM}", RUNS), *tools(top), *pages, *completions]
 
@@ -96,8 +96,8 @@ def for_developers(top: str, folder: str, version: str) -> list[File]:
             File("lib/pkgconfig/xbrlmerge.pc", pkg_config(version))]
 
 
-def python_module(top: str, place: str) -> list[File]:
-    return read_below(os.path.join(top, "python", "xbrlmerge"), os.path.join(place, "xbrlmerge"), (".py", "py.typed"))
+def python_module(top: str, target: str) -> list[File]:
+    return read_below(os.path.join(top, "python", "xbrlmerge"), os.path.join(target, "xbrlmerge"), (".py", "py.typed"))
 
 
 def documents(top: str) -> list[File]:

@@ -43,12 +43,12 @@ def version_of(version: str) -> str:
 
 
 def moved(files: Iterable[File]) -> list[File]:
-    """Returns the files at their places for Debian. Man pages are compressed."""
-    return [compressed(next(it for it in (file.moved(*move) for move in MOVES) if it.place != file.place)) for file in files]
+    """Returns the files at their paths for Debian. Man pages are compressed."""
+    return [compressed(next(it for it in (file.moved(*move) for move in MOVES) if it.target != file.target)) for file in files]
 
 
 def compressed(file: File) -> File:
-    return File(f"{file.place}.gz", zipped(file.content)) if file.place.startswith("usr/share/man/") else file
+    return File(f"{file.target}.gz", zipped(file.content)) if file.target.startswith("usr/share/man/") else file
 
 
 def zipped(content: bytes) -> bytes:
@@ -61,8 +61,8 @@ def zipped(content: bytes) -> bytes:
 def packages(source: Source) -> list[Package]:
     version, top = version_of(source.version), source.top
     program = contents.program(top, source.program)
-    library = [File(f"{LIBRARIES}/{os.path.basename(it.place)}", it.content) for it in contents.shared_library(source.library)]
-    own = [file for file in moved(contents.for_developers(top, source.library, source.version)) if not file.place.endswith(".pc")]
+    library = [File(f"{LIBRARIES}/{os.path.basename(it.target)}", it.content) for it in contents.shared_library(source.library)]
+    own = [file for file in moved(contents.for_developers(top, source.library, source.version)) if not file.target.endswith(".pc")]
     own.append(File(f"{LIBRARIES}/pkgconfig/xbrlmerge.pc", contents.pkg_config(source.version, UP)))
     name = "python3-xbrlmerge"
     return [
@@ -110,7 +110,7 @@ def make(source: Source, folder: str, scratch: str) -> None:
     maintainer = git(source.top, "log", "-1", "--format=%an <%ae>")
     for package in packages(source):
         files = [*package.files, *documents(package, source, maintainer)]
-        sums = "".join(f"{hashlib.md5(it.content, usedforsecurity=False).hexdigest()}  {it.place}\n" for it in files if not it.is_link)
+        sums = "".join(f"{hashlib.md5(it.content, usedforsecurity=False).hexdigest()}  {it.target}\n" for it in files if not it.is_link)
         told = {"control": control(package, source, maintainer, files), "md5sums": sums, **package.control}
         files += [File(f"DEBIAN/{name}", text.encode(), RUNS if text.startswith("#!") else PLAIN) for name, text in told.items()]
         tree = os.path.join(scratch, package.name)
@@ -123,8 +123,8 @@ def lay_out(files: Sequence[File], tree: str, seconds: int) -> None:
     """Puts the files into a folder, with permissions that do not depend on the umask, and one time for all."""
     for file in files:
         put(file, tree)
-    for place in [*(it.place for it in files), *reversed(folders_of(files)), ""]:
-        path = os.path.join(tree, place)
+    for target in [*(it.target for it in files), *reversed(folders_of(files)), ""]:
+        path = os.path.join(tree, target)
         if not os.path.islink(path) and os.path.isdir(path):
             os.chmod(path, RUNS)
         os.utime(path, (seconds, seconds), follow_symlinks=False)

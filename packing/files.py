@@ -12,24 +12,24 @@ MADE = ("__pycache__", "out")
 
 @dataclass(frozen=True)
 class File:
-    """A file at a place below a folder, or a link whose content is the name of the file beside it that it leads to."""
+    """A file at a path below a folder, or a link whose content is the name of the file beside it that it leads to."""
 
-    place: str
+    target: str
     content: bytes
     mode: int = PLAIN
     is_link: bool = False
 
     def moved(self, old: str, new: str) -> File:
-        """Returns the file with another start of its place, if its place has the old start."""
-        return replace(self, place=new + self.place[len(old):]) if self.place.startswith(old) else self
+        """Returns the file with another start of its path, if its path has the old start."""
+        return replace(self, target=new + self.target[len(old):]) if self.target.startswith(old) else self
 
 
-def read(path: str, place: str, mode: int = PLAIN) -> File:
+def read(path: str, target: str, mode: int = PLAIN) -> File:
     with open(path, "rb") as file:
-        return File(place, file.read(), mode)
+        return File(target, file.read(), mode)
 
 
-def read_below(folder: str, place: str, endings: tuple[str, ...]) -> list[File]:
+def read_below(folder: str, target: str, endings: tuple[str, ...]) -> list[File]:
     """Returns the files in a folder and the folders below it whose names end as named, in the order of their names."""
     found = []
     for at, folders, names in os.walk(folder):
@@ -38,13 +38,13 @@ def read_below(folder: str, place: str, endings: tuple[str, ...]) -> list[File]:
             path = os.path.join(at, name)
             if name.endswith(endings):
                 mode = RUNS if os.access(path, os.X_OK) else PLAIN
-                found.append(read(path, os.path.join(place, os.path.relpath(path, folder)), mode))
+                found.append(read(path, os.path.join(target, os.path.relpath(path, folder)), mode))
     return found
 
 
 def put(file: File, folder: str) -> str:
     """Puts a file below a folder in one step, and returns its new path."""
-    path = os.path.join(folder, file.place)
+    path = os.path.join(folder, file.target)
     os.makedirs(os.path.dirname(path), exist_ok=True)
     new = f"{path}.new"
     if file.is_link:
@@ -63,7 +63,7 @@ def folders_of(files: Iterable[File]) -> list[str]:
     """Returns the folders that contain the files, each after the folder that contains it."""
     found = set()
     for file in files:
-        folder = os.path.dirname(file.place)
+        folder = os.path.dirname(file.target)
         while folder:
             found.add(folder)
             folder = os.path.dirname(folder)

@@ -12,7 +12,7 @@ LIST = f"{SHARE}/installed.txt"
 
 
 def listed(prefix: str) -> list[str]:
-    """Returns the lines of the list: places of files, and of folders that were created, each with a / at its end. Returns no
+    """Returns the lines of the list: paths of files, and of folders that were created, each with a / at its end. Returns no
     line if there is no list."""
     try:
         with open(os.path.join(prefix, LIST), encoding="utf-8") as file:
@@ -24,15 +24,15 @@ def listed(prefix: str) -> list[str]:
 def install(files: Iterable[File], prefix: str) -> list[str]:
     """Installs files, removes those that an earlier version installed besides, and returns the paths. Errors: OSError."""
     files, before = list(files), listed(prefix)
-    places = [file.place for file in files]
+    targets = [file.target for file in files]
     folders = [f"{it}/" for it in folders_of([*files, File(LIST, b"")])]
     lines = [it for it in folders if it in before or not os.path.isdir(os.path.join(prefix, it))]
     # the list is written first, so that what a failed run has installed can be removed, too
-    put(File(LIST, "".join(f"{it}\n" for it in sorted({*before, *places, *lines})).encode()), prefix)
+    put(File(LIST, "".join(f"{it}\n" for it in sorted({*before, *targets, *lines})).encode()), prefix)
     paths = [put(file, prefix) for file in files]
-    old = [it for it in before if it not in places and it not in folders]
+    old = [it for it in before if it not in targets and it not in folders]
     remove(old, prefix)
-    put(File(LIST, "".join(f"{it}\n" for it in [*places, *lines]).encode()), prefix)
+    put(File(LIST, "".join(f"{it}\n" for it in [*targets, *lines]).encode()), prefix)
     return paths
 
 
@@ -47,12 +47,12 @@ def uninstall(prefix: str) -> list[str]:
     return removed + remove([it for it in lines if it.endswith("/")], prefix)
 
 
-def remove(places: Iterable[str], prefix: str) -> list[str]:
+def remove(targets: Iterable[str], prefix: str) -> list[str]:
     """Removes files, and then folders that are empty, each before the folder that contains it. Returns the removed paths."""
     removed = []
-    for place in sorted(places, key=lambda it: (it.endswith("/"), -it.count("/"), it)):
-        path = os.path.join(prefix, place)
-        if not place.endswith("/"):
+    for target in sorted(targets, key=lambda it: (it.endswith("/"), -it.count("/"), it)):
+        path = os.path.join(prefix, target)
+        if not target.endswith("/"):
             with contextlib.suppress(FileNotFoundError):
                 os.unlink(path)
                 removed.append(path)

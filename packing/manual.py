@@ -40,7 +40,7 @@ def page(tool: str, text: str, version: str) -> str:
     """Returns the man page of a tool with a help text."""
     text = re.sub(r"\btools/(\w+)", lambda found: command_of(found[1]) if found[1] in TOOLS else found[0], text)
     _, about, synopsis, *paragraphs = text.rstrip("\n").split("\n\n")
-    first = next(place for place, it in enumerate(paragraphs) if re.match(r"\w[^\n]*:\n  \S", it))
+    first = next(index for index, it in enumerate(paragraphs) if re.match(r"\w[^\n]*:\n  \S", it))
     told = paragraphs[:first]
     statuses = [it for it in told if it.startswith("Status 0")]
     command, own = command_of(tool), about[:1].lower() + about[1:].rstrip(".")

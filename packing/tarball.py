@@ -14,12 +14,12 @@ def tarball(files: Iterable[File], folder: str, seconds: int) -> bytes:
     files = [*files]
     packed = io.BytesIO()
     with tarfile.open(fileobj=packed, mode="w", format=tarfile.GNU_FORMAT) as archive:
-        for place in ["", *folders_of(files)]:
-            entry = header(f"{folder}/{place}".rstrip("/"), RUNS, seconds)
+        for target in ["", *folders_of(files)]:
+            entry = header(f"{folder}/{target}".rstrip("/"), RUNS, seconds)
             entry.type = tarfile.DIRTYPE
             archive.addfile(entry)
-        for file in sorted(files, key=lambda it: it.place):
-            entry = header(f"{folder}/{file.place}", file.mode, seconds)
+        for file in sorted(files, key=lambda it: it.target):
+            entry = header(f"{folder}/{file.target}", file.mode, seconds)
             if file.is_link:
                 entry.type, entry.linkname, entry.mode = tarfile.SYMTYPE, file.content.decode(), 0o777
                 archive.addfile(entry)

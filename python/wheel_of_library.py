@@ -46,7 +46,7 @@ def _platform(binaries: List[bytes]) -> str:
 
 
 def _module(library: str) -> Dict[str, bytes]:
-    """Returns the module with the library beside it, by place."""
+    """Returns the module with the library beside it, by path."""
     name = _project("name")
     files = {f"{name}/libxbrlmerge.so": _read(library)}
     for path in sorted([*glob.glob(f"{HERE}/{name}/*.py"), f"{HERE}/{name}/py.typed"]):
@@ -55,7 +55,7 @@ def _module(library: str) -> Dict[str, bytes]:
 
 
 def _commands(program: str, info: str) -> Dict[str, bytes]:
-    """Returns the program and the tools, by place, and the names of the tools' commands."""
+    """Returns the program and the tools, by path, and the names of the tools' commands."""
     tools = os.path.join(HERE, "..", "tools")
     paths = sorted(it for it in glob.glob(f"{tools}/**", recursive=True) if it.endswith((".py", ".css", ".js")))
     files = {f"{TOOLS}/{os.path.relpath(it, tools)}": _read(it) for it in paths}

@@ -37,9 +37,9 @@ def built_program(named=None):
     If there is no such executable file, the function prints a line and ends the process with status 2.
     """
     given = named or os.environ.get("XBRLMERGE")
-    places = [given] if given else [os.path.join(TOP, place) for place in BUILT]
-    for place in places:
-        if os.path.isfile(place) and os.access(place, os.X_OK):
-            return os.path.abspath(place)
+    paths = [given] if given else [os.path.join(TOP, path) for path in BUILT]
+    for path in paths:
+        if os.path.isfile(path) and os.access(path, os.X_OK):
+            return os.path.abspath(path)
     print(f"{os.path.relpath(sys.argv[0], TOP)}: there is no program; ./build makes it", file=sys.stderr)
     sys.exit(2)

@@ -31,8 +31,8 @@ def program_at(given: Optional[str]) -> str:
     """
     folders = [os.path.dirname(HERE), HERE, *[os.path.dirname(os.path.realpath(sys.argv[0]))] * (os.sep in sys.argv[0])]
     beside = [os.path.join(folder, NAME) for folder in folders]
-    places = [place for place in beside if os.path.isfile(place) and os.access(place, os.X_OK)]
-    found = given or next(iter(places), None) or shutil.which(NAME)
+    usable = [path for path in beside if os.path.isfile(path) and os.access(path, os.X_OK)]
+    found = given or next(iter(usable), None) or shutil.which(NAME)
     if not found:
         raise NotDone(f"{NAME} is neither beside this tool nor on the PATH: build it with ./build, or name it with --program")
     return os.path.abspath(found) if os.sep in found else shutil.which(found) or found
@@ -44,12 +44,12 @@ class Program:
     def __init__(self, path: str, sheet: str, folder: str) -> None:
         self.path, self.sheet, self.folder = path, os.path.abspath(sheet), folder
 
-    def place(self, name: str) -> str:
+    def path_of(self, name: str) -> str:
         return os.path.join(self.folder, name)
 
     def run(self, command: str, words: Sequence[str]) -> tuple[int, list[str]]:
-        """Runs a command, and writes its output to `place(command)`. Returns the status and the lines on standard error."""
-        with open(self.place(command), "wb") as out:
+        """Runs a command, and writes its output to `path_of(command)`. Returns the status and the lines on standard error."""
+        with open(self.path_of(command), "wb") as out:
             run = [self.path, command, "--sheet", self.sheet, *words]
             done = subprocess.run(run, stdin=subprocess.DEVNULL, stdout=out, stderr=subprocess.PIPE, cwd=self.folder)  # nosec B603
         return done.returncode, done.stderr.decode(errors="replace").splitlines()
@@ -72,7 +72,7 @@ class Program:
         return refusals
 
     def write_names(self, paths: Iterable[str]) -> None:
-        with open(self.place("reports"), "wb") as file:
+        with open(self.path_of("reports"), "wb") as file:
             file.writelines(os.fsencode(os.path.abspath(path)) + b"\0" for path in paths)
 
     def reasons(self, command: str, status: int, lines: list[str]) -> list[str]:
@@ -89,7 +89,7 @@ class Program:
         yield from self.explained(["--", path])
 
     def faults_by_report(self, paths: Iterable[str]) -> Iterator[tuple[int, dict[str, Any]]]:
-        """Yields the faults of several reports, each with the place of its report, from 0. Errors: NotDone, OSError."""
+        """Yields the faults of several reports, each with the index of its report, from 0. Errors: NotDone, OSError."""
         self.write_names(paths)
         for fault in self.explained(["--reports-from", "reports", "--null"]):
             yield int(fault["report"]) - 1, fault
@@ -100,6 +100,6 @@ class Program:
         status, lines = self.run("explain", ["--format", "json", "--most-output", str(MOST_EXPLAINED), *words])
         if status not in (0, 1) or lines:
             raise NotDone(*self.reasons("explain", status, lines))
-        with open(self.place("explain"), encoding="utf-8") as file:
+        with open(self.path_of("explain"), encoding="utf-8") as file:
             for line in file:
                 yield json.loads(line, parse_int=Number, parse_float=Number)

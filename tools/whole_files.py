@@ -15,9 +15,9 @@ PERMISSIONS = 0o777  # without setuid, setgid and the sticky bit
 
 @dataclass(frozen=True)
 class Output:
-    """A file to write at `place`, and a temporary folder beside it."""
+    """A file to write at `path`, and a temporary folder beside it."""
 
-    place: str
+    path: str
     folder: str
 
     @property
@@ -30,23 +30,23 @@ class Output:
 
     def keep_old(self) -> None:
         """Keeps the file that will be replaced: as a link, or as a copy if linking fails."""
-        if os.path.exists(self.place):
+        if os.path.exists(self.path):
             try:
-                os.link(self.place, self.old)
+                os.link(self.path, self.old)
             except OSError:
-                shutil.copy2(self.place, self.old)
+                shutil.copy2(self.path, self.old)
 
     def restore_old(self) -> None:
         if os.path.exists(self.old):
-            os.replace(self.old, self.place)
+            os.replace(self.old, self.path)
         else:
-            os.unlink(self.place)
+            os.unlink(self.path)
 
 
 def write_files(texts: Iterable[tuple[str, Iterable[str]]]) -> None:
     """Writes all files or none. `texts` contains the path and the pieces of each file.
 
-    Each file is written in a new folder beside its place, then moved to its place. A new file gets the owner, the group and
+    Each file is written in a new folder beside its path, then moved to its path. A new file gets the owner, the group and
     the permissions of the file that it replaces, where the system permits this. The setuid, setgid and sticky bits are not
     copied. A signal that `process.run` handles stops the writing, and the new files are removed; the moves are not interrupted.
     Errors: OSError, and exceptions of the pieces. After an error, no file has changed, unless a move cannot be undone.
@@ -57,7 +57,7 @@ def write_files(texts: Iterable[tuple[str, Iterable[str]]]) -> None:
 
 @contextlib.contextmanager
 def files_written(texts: Iterable[tuple[str, Iterable[str]]]) -> Iterator[None]:
-    """Writes files as `write_files` does, and moves them to their places when the block ends, unless the block raises."""
+    """Writes files as `write_files` does, and moves them to their paths when the block ends, unless the block raises."""
     with contextlib.ExitStack() as folders:
         outputs = [write_beside(path, pieces, folders) for path, pieces in texts]
         yield
@@ -66,26 +66,26 @@ def files_written(texts: Iterable[tuple[str, Iterable[str]]]) -> Iterator[None]:
 
 
 def write_beside(path: str, pieces: Iterable[str], folders: contextlib.ExitStack) -> Output:
-    """Writes a file in a folder beside its place. The folder is removed when `folders` is closed."""
-    place = os.path.realpath(path)
-    if os.path.exists(place) and not os.path.isfile(place):
+    """Writes a file in a folder beside its path. The folder is removed when `folders` is closed."""
+    target = os.path.realpath(path)
+    if os.path.exists(target) and not os.path.isfile(target):
         raise OSError(f"{path} exists and is not a file that can be replaced")
     try:
         with signals_held():  # a signal must not arrive between making the folder and recording it
-            folder = folders.enter_context(tempfile.TemporaryDirectory(prefix=".new-", dir=os.path.dirname(place)))
-        output = Output(place, folder)
+            folder = folders.enter_context(tempfile.TemporaryDirectory(prefix=".new-", dir=os.path.dirname(target)))
+        output = Output(target, folder)
         with open(output.new, "x", encoding="utf-8", newline="") as file:
             file.writelines(pieces)
-            copy_permissions(place, file.fileno())
+            copy_permissions(target, file.fileno())
     except OSError as fault:  # the exception names the temporary folder, or no file
         raise OSError(f"{path}: {fault.strerror or fault}") from None
     return output
 
 
-def copy_permissions(place: str, file: int) -> None:
-    """Copies the owner, group and permissions of the file at `place`, if it exists, to an open file, where permitted."""
-    if os.path.exists(place):
-        old = os.stat(place)
+def copy_permissions(path: str, file: int) -> None:
+    """Copies the owner, group and permissions of the file at `path`, if it exists, to an open file, where permitted."""
+    if os.path.exists(path):
+        old = os.stat(path)
         for owner, group in ((old.st_uid, -1), (-1, old.st_gid)):
             with contextlib.suppress(OSError):
                 os.fchown(file, owner, group)
@@ -94,16 +94,16 @@ def copy_permissions(place: str, file: int) -> None:
 
 
 def put_in_place(outputs: list[Output]) -> None:
-    """Moves all outputs to their places. If a move fails, undoes the earlier moves, and raises OSError. Also raises OSError if
-    two outputs have one place."""
-    if len({output.place for output in outputs}) < len(outputs):
+    """Moves all outputs to their paths. If a move fails, undoes the earlier moves, and raises OSError. Also raises OSError if
+    two outputs have one path."""
+    if len({output.path for output in outputs}) < len(outputs):
         raise OSError("two outputs are one file")
     for output in outputs[:-1]:  # the last move is never undone, because none follows it
         output.keep_old()
     moved: list[Output] = []
     try:
         for output in outputs:
-            os.replace(output.new, output.place)
+            os.replace(output.new, output.path)
             moved.append(output)
     except OSError:
         for output in reversed(moved):

@@ -79,7 +79,7 @@ def _record(fields: Tuple[Any, ...]) -> Record:
     return report, fact, number
 
 
-def _room(size: int) -> Tuple[bytearray, ctypes.c_char]:
+def _buffer(size: int) -> Tuple[bytearray, ctypes.c_char]:
     """Returns a buffer and its first byte. While the byte is referenced, the buffer does not move. The buffer has at least one
     byte, because no pointer may be null."""
     held = bytearray(max(size, 1))
@@ -95,15 +95,15 @@ def _answered(call: Callable[..., int], sheet: bytes, reports: Sequence[bytes], 
     # one end more, because an empty array has no address; `ends` lives until the last call has returned
     ends = array.array("Q", (*itertools.accumulate(map(len, reports)), 0))
     given = (sheet, len(sheet), together, len(together), ends.buffer_info()[0], count, *more)
-    room, records_room = len(together) + MORE, count
+    out_length, refusals_length = len(together) + MORE, count
     needed, refused = _SIZE(), _SIZE()
     while True:
-        out, first = _room(room)
-        records, first_record = _room(records_room * REFUSAL.size)
-        status = call(*given, ctypes.addressof(first), room, needed, ctypes.addressof(first_record), records_room, refused)
+        out, first = _buffer(out_length)
+        records, first_record = _buffer(refusals_length * REFUSAL.size)
+        status = call(*given, ctypes.addressof(first), out_length, needed, ctypes.addressof(first_record), refusals_length, refused)
         if status != TOO_SHORT:
             break
-        room, records_room = max(room, needed.value), max(records_room, refused.value)
+        out_length, refusals_length = max(out_length, needed.value), max(refusals_length, refused.value)
     if status == NO_MEMORY:
         raise MemoryError
     if status in (BAD_ENDS, BAD_LEVEL):
@@ -138,8 +138,8 @@ def sources_json(sheet: bytes, reports: Sequence[bytes], most: int) -> Answer:
 def check(sheet: bytes, report: bytes) -> Tuple[int, Tuple[int, int, int], Record]:
     """Returns the status, the record for an accepted report, and the record for the refusal. A record that the call does not
     set is all zeros. Raises MemoryError."""
-    checked, first = _room(CHECKED.size)
-    record, first_of_record = _room(REFUSAL.size)
+    checked, first = _buffer(CHECKED.size)
+    record, first_of_record = _buffer(REFUSAL.size)
     addresses = ctypes.addressof(first), ctypes.addressof(first_of_record)
     status = _check(sheet, len(sheet), report, len(report), *addresses)
     if status == NO_MEMORY:
@@ -150,6 +150,6 @@ def check(sheet: bytes, report: bytes) -> Tuple[int, Tuple[int, int, int], Recor
 
 def refusal_name(number: int) -> str:
     """Returns the name of a refusal, or an empty text if no refusal has the number."""
-    name, first = _room(LONGEST_NAME)
+    name, first = _buffer(LONGEST_NAME)
     length = _refusal_name(number, ctypes.addressof(first), LONGEST_NAME)
     return name[:length].decode("ascii")

@@ -107,13 +107,13 @@ def of_code(path, name):
     it."""
     lines = content(path).split("\n")
     head = re.compile(rf"\s*pub fn {name.split('::')[-1]}\b|(?:pub )?(?:struct|enum|const) {name}\b")
-    place = next((n for n, it in enumerate(lines) if head.match(it)), None)
-    if place is None:
+    index = next((n for n, it in enumerate(lines) if head.match(it)), None)
+    if index is None:
         return None
-    first = last = place
+    first = last = index
     while first > 0 and re.match(r"\s*(///|#\[)", lines[first - 1]):
         first -= 1
-    is_function = " fn " in lines[place]
+    is_function = " fn " in lines[index]
     while not re.match(r"\s*\{\}?$" if is_function else r"\}|.*;$|.*\{\}$", lines[last]):
         last += 1
     model = re.search(rf"^impl(?:<.*?>)? Model for {name}\b.*?^\}}", content(path), re.MULTILINE | re.DOTALL)

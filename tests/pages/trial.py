@@ -18,7 +18,7 @@ LINKBASE = """<link:linkbase xmlns:link="http://www.xbrl.org/2003/linkbase" xmln
     <link:labelLink>%s</link:labelLink></link:linkbase>"""
 LABEL = """<link:loc xlink:href="t.xsd#t_{0}" xlink:label="{0}"/><link:labelArc xlink:from="{0}" xlink:to="{0}_label"/>
     <link:label xlink:label="{0}_label" xml:lang="en">{0} of the group</link:label>"""
-USUAL = {**{name: f"{4_321 + place}000" for place, name in enumerate(SCALED)}, "Equity": "700000", "Inventories": "90000", "Staff": "100"}
+USUAL = {**{name: f"{4_321 + index}000" for index, name in enumerate(SCALED)}, "Equity": "700000", "Inventories": "90000", "Staff": "100"}
 # for each file: its provider and its values. Alpha restates its profit. Beta reports items 1,000 times smaller, a nil and another
 # staff, and no profit. Gamma lacks the equity.
 FILES = {
@@ -29,8 +29,8 @@ FILES = {
 }
 
 
-def write_package(place):
-    with zipfile.ZipFile(place, "w") as package:
+def write_package(path):
+    with zipfile.ZipFile(path, "w") as package:
         package.writestr("t/t.xsd", SCHEMA % "".join(map(ELEMENT.format, NUMBERS)))
         package.writestr("t/labels.xml", LINKBASE % "".join(map(LABEL.format, NUMBERS)))
         package.writestr("META-INF/taxonomyPackage.xml", "<a/>")
@@ -38,7 +38,7 @@ def write_package(place):
 
 def report(values):
     dimensions = {"entity": "t:group", "period": "2024-01-01T00:00:00", "unit": "t:EUR"}
-    facts = {f"i{place}": {"value": value, "dimensions": {"concept": f"t:{name}", **dimensions}} for place, (name, value) in enumerate(values.items())}
+    facts = {f"i{index}": {"value": value, "dimensions": {"concept": f"t:{name}", **dimensions}} for index, (name, value) in enumerate(values.items())}
     return json.dumps({"documentInfo": {"documentType": "https://xbrl.org/2021/xbrl-json", "namespaces": {"t": NAMESPACE}}, "facts": facts})
 
 

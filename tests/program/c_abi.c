@@ -79,8 +79,8 @@ static void free_buffers(struct buffers *to) {
 }
 
 static int is_marked(const void *bytes, size_t from, size_t to) {
-    for (size_t place = from; place < to; place++)
-        if (((const uint8_t *)bytes)[place] != MARK) return 0;
+    for (size_t index = from; index < to; index++)
+        if (((const uint8_t *)bytes)[index] != MARK) return 0;
     return 1;
 }
 
@@ -246,9 +246,9 @@ static int check(const struct asked *asked) {
 static void ends_in(struct asked asked, uint32_t wanted, size_t count, size_t first, size_t second) {
     static const char *const commands[] = {"merge", "verdicts", "verdicts-json", "sources", "sources-json"};
     asked.count = count, asked.ends[0] = first, asked.ends[1] = second;
-    for (int place = 0; place < 5; place++) {
+    for (int index = 0; index < 5; index++) {
         struct buffers to = make_buffers(40, 2);
-        asked.command = commands[place];
+        asked.command = commands[index];
         made = 0;
         EXPECT(call(&asked, &to) == wanted && to.needed == 77 && to.refused == 78 && is_kept(&to, 0, 0));
         EXPECT(made == 0);

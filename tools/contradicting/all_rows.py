@@ -50,8 +50,8 @@ class AllRows:
         self.providers = self.everybody if len(counts) <= MOST_PROVIDERS else []
         self.several = {name for name in self.providers if counts[name] > 1}  # reports
         self.labels, self.length = labels, 0
-        self.places = [os.path.join(folder, f"all_rows.{ending}") for ending in ("csv", "html")]
-        self.table, self.page = (open(place, "w", encoding="utf-8", newline="") for place in self.places)
+        self.paths = [os.path.join(folder, f"all_rows.{ending}") for ending in ("csv", "html")]
+        self.table, self.page = (open(path, "w", encoding="utf-8", newline="") for path in self.paths)
         self.chunk: list[str] = []  # the waiting rows of the page; `ends` has the number and the concept of the first and the last
         self.ends: list[tuple[int, str]] = []
         self.columns = self.providers or [ALL]
@@ -139,10 +139,10 @@ class AllRows:
 
     def table_pieces(self) -> Iterator[str]:
         yield "\ufeff"
-        yield from pieces_of_file(self.places[0])
+        yield from pieces_of_file(self.paths[0])
 
     def page_pieces(self) -> Iterator[str]:
-        yield from pieces_of_file(self.places[1])
+        yield from pieces_of_file(self.paths[1])
 
 
 def written(fact: Fact) -> str:

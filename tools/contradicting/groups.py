@@ -25,7 +25,7 @@ def groups_of(facts: Mapping[str, Fact], weights: Weights) -> tuple[Group, ...]:
     number fits. Any other value is a group of its own, since different texts, names and nil never agree.
     """
     numbers = {name: fact.interval() for name, fact in facts.items() if isinstance(fact.value, Decimal)}
-    places = {name: place for place, name in enumerate(facts)}
+    indices = {name: index for index, name in enumerate(facts)}
     found: list[Group] = [(name,) for name in facts if name not in numbers]
     while numbers and len(found) < MOST_GROUPS:
         point = heaviest(numbers, weights)
@@ -34,7 +34,7 @@ def groups_of(facts: Mapping[str, Fact], weights: Weights) -> tuple[Group, ...]:
         for name in group:
             del numbers[name]
     found += [(name,) for name in numbers]
-    return tuple(sorted(found, key=lambda group: (-weight(group, weights), places[group[0]])))
+    return tuple(sorted(found, key=lambda group: (-weight(group, weights), indices[group[0]])))
 
 
 def heaviest(intervals: Mapping[str, tuple[Decimal, Decimal]], weights: Weights) -> Decimal:

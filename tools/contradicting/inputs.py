@@ -69,7 +69,7 @@ class Run:
         found = [self.read(command, paths) for command in ("merge", "verdicts", "sources")]
         if found[1:] != found[:-1]:
             raise NotDone("a report or the sheet changed while it was read")
-        merged, verdicts, sources = map(self.program.place, ("merge", "verdicts", "sources"))
+        merged, verdicts, sources = map(self.program.path_of, ("merge", "verdicts", "sources"))
         check, refused = self.check(paths), (f"report {number}: {refusal}\n" for number, refusal in sorted(found[0].items()))
         lines = zip((f"{name}.txt" for name in LINES), (pieces_of_file(verdicts), pieces_of_file(sources), refused))
         files = [("merged.json", pieces_of_file(merged)), *self.files, *lines]
@@ -107,26 +107,26 @@ class Run:
     def check(self, paths: list[str]) -> str:
         """Returns the command that checks the run. Each normalised report is also written beside the page."""
         reports = [report.path for report in self.reports]
-        for place, path in enumerate(paths):
-            if path != reports[place]:
-                self.files.append((report_file(place + 1), pieces_of_file(path)))
-                reports[place] = os.path.join(self.options.output, report_file(place + 1))
+        for index, path in enumerate(paths):
+            if path != reports[index]:
+                self.files.append((report_file(index + 1), pieces_of_file(path)))
+                reports[index] = os.path.join(self.options.output, report_file(index + 1))
         sheet = os.path.join(self.options.output, "sheet.json") if self.options.taxonomy else self.options.sheet
         return command(self.options.output, sheet, reports)
 
     def note_repeated(self, found: dict[int, str], paths: list[str]) -> None:
         """Adds notes about the accepted reports in which an object repeats a member: only the last one is read."""
-        accepted = [place for place in range(len(paths)) if place + 1 not in found]
+        accepted = [index for index in range(len(paths)) if index + 1 not in found]
         if not accepted:
             return
         self.progress.show("looking for repeated members")
         repeated: dict[int, FaultGroup] = {}
         try:
-            for place, fault in self.program.faults_by_report([paths[place] for place in accepted]):
-                repeated.setdefault(accepted[place], FaultGroup(None, fault, line_of(fault))).add(fault)
+            for index, fault in self.program.faults_by_report([paths[index] for index in accepted]):
+                repeated.setdefault(accepted[index], FaultGroup(None, fault, line_of(fault))).add(fault)
         except NotDone as fault:
             self.notes += [f"repeated members are not listed: {line}" for line in fault.args]
-        self.notes += [f"{self.reports[place].path}: {group.told(self.options)[0]}" for place, group in repeated.items()]
+        self.notes += [f"{self.reports[index].path}: {group.told(self.options)[0]}" for index, group in repeated.items()]
         self.losses += [f"{counted(len(repeated), 'report')} with repeated members"] * bool(repeated)
 
     def read(self, command: str, paths: list[str]) -> dict[int, str]:

@@ -33,19 +33,19 @@ class Labelled(Taxonomy):
         self.identified: dict[tuple[str, str], Name] = {}
         self.labels: dict[Name, Label] = {}
         super().__init__(files)
-        for place in files.linkbases():
-            with reading(place):
-                read_xml(files.pieces(place), Linkbase(self, place))
+        for path in files.linkbases():
+            with reading(path):
+                read_xml(files.pieces(path), Linkbase(self, path))
 
-    def declare(self, part: Part, place: str) -> None:
-        super().declare(part, place)
+    def declare(self, part: Part, path: str) -> None:
+        super().declare(part, path)
         if part.identifier is not None:
-            self.identified[place, part.identifier] = part.name
+            self.identified[path, part.identifier] = part.name
 
     def name_at(self, href: str, base: str) -> Optional[Name]:
         """Returns the name of the element or type that `href` refers to, or None. `base` is the document that contains `href`."""
         location, _, identifier = href.partition("#")
-        return self.identified.get((self.rewrites.place_of(location, base)[0], identifier))
+        return self.identified.get((self.rewrites.path_of(location, base)[0], identifier))
 
     def keep(self, name: Name, label: Label) -> None:
         if label.counts_before(self.labels.get(name)):
@@ -61,9 +61,9 @@ class Link:
         self.labels: dict[str, Label] = {}
         self.arcs: list[tuple[str, str]] = []
 
-    def keep(self, place: str, label: Label) -> None:
-        if label.counts_before(self.labels.get(place)):
-            self.labels[place] = label
+    def keep(self, key: str, label: Label) -> None:
+        if label.counts_before(self.labels.get(key)):
+            self.labels[key] = label
 
 
 class Linkbase(Visitor):
@@ -71,8 +71,8 @@ class Linkbase(Visitor):
 
     takes_text = True
 
-    def __init__(self, taxonomy: Labelled, place: str) -> None:
-        self.taxonomy, self.place = taxonomy, place
+    def __init__(self, taxonomy: Labelled, path: str) -> None:
+        self.taxonomy, self.path = taxonomy, path
         self.link: Optional[Link] = None
         self.opened: Optional[tuple[str, bool]] = None  # the label being read: its xlink:label, and whether it is in a dialect
         self.pieces: list[str] = []
@@ -85,7 +85,7 @@ class Linkbase(Visitor):
 
     def open_part(self, element: Element, link: Link) -> None:
         if element.name.local == "loc":
-            name = self.taxonomy.name_at(element.get_in(XLINK, "href") or "", self.place)
+            name = self.taxonomy.name_at(element.get_in(XLINK, "href") or "", self.path)
             link.names[element.get_in(XLINK, "label") or ""] = name
         elif element.name.local == "labelArc" and element.get("use") != "prohibited":
             link.arcs.append((element.get_in(XLINK, "from") or "", element.get_in(XLINK, "to") or ""))
@@ -100,8 +100,8 @@ class Linkbase(Visitor):
 
     def end(self, level: int) -> None:
         if self.link and self.opened and level == self.link.level + 1:
-            place, is_of_dialect = self.opened
-            self.link.keep(place, Label(is_of_dialect, " ".join("".join(self.pieces).split())))
+            key, is_of_dialect = self.opened
+            self.link.keep(key, Label(is_of_dialect, " ".join("".join(self.pieces).split())))
             self.opened, self.pieces = None, []
         elif self.link and level == self.link.level:
             self.close(self.link)

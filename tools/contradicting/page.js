@@ -27,7 +27,7 @@ function unfold() {
 function name(part) {
   for (const table of part.querySelectorAll(".all table")) {
     const names = [...table.querySelectorAll("th")].map(each => each.textContent.trim());
-    for (const row of [...table.rows].slice(1)) [...row.cells].forEach((cell, place) => cell.dataset.name = names[place]);
+    for (const row of [...table.rows].slice(1)) [...row.cells].forEach((cell, index) => cell.dataset.name = names[index]);
   }
 }
 
@@ -47,7 +47,7 @@ function bare(html) {
 }
 
 function read() {
-  const parts = (isOfAll, start) => groups.flatMap((group, place) => every.contains(group) === isOfAll ? texts[place].textContent.split(start) : []);
+  const parts = (isOfAll, start) => groups.flatMap((group, index) => every.contains(group) === isOfAll ? texts[index].textContent.split(start) : []);
   const open = [...list.querySelectorAll("section.row")].filter(row => !row.closest("details.group")).map(row => row.outerHTML);
   const waited = parts(false, /(?=<section )/).filter(part => part.startsWith("<section"));
   const [first, ...others] = parts(true, /(?=<tr[ >])|(?=<\/table)/).filter(part => part.startsWith("<tr"));

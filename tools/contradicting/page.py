@@ -109,14 +109,14 @@ def contradictions(found: Found) -> Iterator[str]:
     if len(rows) < len(found.rows):
         yield f"<p>Not shown: {len(found.rows) - len(rows)} with smaller differences; contradictions.csv has them.</p>\n"
     hinted = by_hint(rows)
-    places = {row.number: rank for rank, each in enumerate(hinted.values(), 1) for row in each}
+    ranks = {row.number: rank for rank, each in enumerate(hinted.values(), 1) for row in each}
     yield from hint_groups(hinted, found)
-    largest = [row for row in rows if row.number not in places]
+    largest = [row for row in rows if row.number not in ranks]
     if len(largest) > FIRST:
         yield f"<h2>The {FIRST} largest differences</h2>\n<p>Rows with a text, a name or a nil value come first.</p>"
     for row in largest[:FIRST]:
         yield from section(row, found.reader, found.labels)
-    yield from by_concept(rows, {row.number for row in largest[:FIRST]}, places, found)
+    yield from by_concept(rows, {row.number for row in largest[:FIRST]}, ranks, found)
 
 
 def order(row: Row) -> tuple[int, Decimal, int]:

@@ -30,10 +30,10 @@ def section(row: Row, reader: Reader, labels: Labels) -> Iterator[str]:
     yield "".join(f"<dt>{term}<dd>{text}" for term, text in terms(row, shown_unit, reader, labels))
     yield "</dl>" + HEAD
     start = start_of_cut(fact.value for fact in row.facts.values())
-    for place, group in enumerate(row.groups):
+    for index, group in enumerate(row.groups):
         for name in group:
             fact = row.facts[name]
-            cells = letter(place), shown(name), told(row.holders[name]), shown(fact.value, start), *map(shown, fact.precision())
+            cells = letter(index), shown(name), told(row.holders[name]), shown(fact.value, start), *map(shown, fact.precision())
             yield f'<tr{" class=odd" * (name in row.odd)}>' + "".join(f"<td>{each}" for each in cells)
             yield drawn(fact, line) if line else ""
     if line:
@@ -41,9 +41,9 @@ def section(row: Row, reader: Reader, labels: Labels) -> Iterator[str]:
     yield "</table></section>\n"
 
 
-def letter(place: int) -> str:
+def letter(index: int) -> str:
     """Returns the letters of a group: A to Z, then numbers."""
-    return string.ascii_uppercase[place] if place < 26 else str(place + 1)
+    return string.ascii_uppercase[index] if index < 26 else str(index + 1)
 
 
 def terms(row: Row, shown_unit: str, reader: Reader, labels: Labels) -> Iterator[tuple[str, str]]:
@@ -76,7 +76,7 @@ class NumberLine(NamedTuple):
     high: Decimal
     gap: Optional[Interval]
 
-    def place(self, number: Decimal) -> str:
+    def position(self, number: Decimal) -> str:
         """Returns the position of a number on the line, as a percentage."""
         return f"{(number - self.low) * 100 / (self.high - self.low):.2f}%" if self.low < self.high else "50%"
 
@@ -105,7 +105,7 @@ def drawn(fact: Fact, line: NumberLine) -> str:
     if not isinstance(fact.value, Decimal):
         return '<td class="line nil"><i>not reported as a number</i>'
     low, high = fact.interval()
-    x1, x2, middle = map(line.place, (low, high, (low + high) / 2))
-    gap = ' style="--a:{};--b:{}"'.format(*map(line.place, line.gap)) if line.gap else ""
+    x1, x2, middle = map(line.position, (low, high, (low + high) / 2))
+    gap = ' style="--a:{};--b:{}"'.format(*map(line.position, line.gap)) if line.gap else ""
     return f"""<td class="line"{gap}><svg height="26">
 <line x1="{x1}" x2="{x2}" y1="13" y2="13"/><circle cx="{middle}" cy="13" r="5"/></svg>"""

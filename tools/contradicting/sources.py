@@ -48,7 +48,7 @@ class Sources:
     def __init__(self, path: str, reports: list[Report], refused: Container[int] = ()) -> None:
         self.path, self.reports, self.files = path, reports, files_of(reports)
         self.names = [report.provider for number, report in enumerate(reports, 1) if number not in refused]
-        self.head: Optional[tuple[str, int, str]] = None  # the fact, the place of a report, and the identifier in that report
+        self.head: Optional[tuple[str, int, str]] = None  # the fact, the index of a report, and the identifier in that report
         with using(path):
             self.file = open(path, encoding="utf-8", newline="\n")
             self.advance()
@@ -71,9 +71,9 @@ class Sources:
         found: dict[str, list[Identifier]] = {}
         with using(self.path):
             while self.head and self.head[0] == name:
-                _, place, identifier = self.head
-                report = self.reports[place]
-                found.setdefault(report.provider, []).append(Identifier(identifier, report.path, self.files[place]))
+                _, index, identifier = self.head
+                report = self.reports[index]
+                found.setdefault(report.provider, []).append(Identifier(identifier, report.path, self.files[index]))
                 self.advance()
             if not found:
                 raise ValueError(f"the source of {name} is missing, or is in the wrong place")

@@ -120,7 +120,7 @@ def table(rows: Sequence[Row], labels: Mapping[Name, str], reader: Reader) -> It
     yield COLUMNS
     for row in rows:
         dimensions, label = dimension_cells(row.dimensions), labels.get(row.dimensions.concept, "")
-        groups = {name: place for place, group in enumerate(row.groups, 1) for name in group}
+        groups = {name: number for number, group in enumerate(row.groups, 1) for name in group}
         hints = {name: hint.phrase for hint in row.hints for name in hint.group}
         for name, fact in row.facts.items():
             who = row.holders[name]

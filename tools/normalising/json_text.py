@@ -53,13 +53,13 @@ def read_json_of_length(path: str, is_sheet: bool = False) -> tuple[Tree, int]:
     except UnicodeEncodeError:
         why = "a text has half a surrogate pair"
     except json.JSONDecodeError as fault:
-        why, start = f"invalid JSON at {place_of(fault)}", fault.doc[:PIECE].encode(errors="surrogatepass")
+        why, start = f"invalid JSON at {position_of(fault)}", fault.doc[:PIECE].encode(errors="surrogatepass")
     except ValueError as fault:
         raise NotDone(f"{shown}: {shortened(str(fault))}") from None
     raise NotDone(f"{shown}: the file cannot be read as JSON: {why}{looks_like(kind_of_bytes(start, is_sheet))}")
 
 
-def place_of(fault: json.JSONDecodeError) -> str:
+def position_of(fault: json.JSONDecodeError) -> str:
     """Returns the line and the column of a fault, both from 1. Columns count bytes, as in `xbrlmerge explain`."""
     line = fault.doc[fault.doc.rfind("\n", 0, fault.pos) + 1 : fault.pos]
     return f"line {fault.lineno} column {len(line.encode(errors='surrogatepass')) + 1}"

@@ -21,7 +21,7 @@ def each_moment(period: str, rewritten: Rewriting) -> str:
     if len(texts) > 2:
         return period
     matches = [MOMENT.fullmatch(text) for text in texts]
-    made = (rewritten(match, place + 1 < len(texts)) if match else None for place, match in enumerate(matches))
+    made = (rewritten(match, index + 1 < len(texts)) if match else None for index, match in enumerate(matches))
     return "/".join(text if new is None else new for text, new in zip(texts, made))
 
 

@@ -16,7 +16,7 @@ class Refused(NamedTuple):
 
 def refused_in(tree: Tree, program: Program) -> Refused:
     """Asks the program why it refuses a report. Errors: NotDone, OSError."""
-    with open(program.place("normalised"), "w", encoding="utf-8", newline="") as file:
+    with open(program.path_of("normalised"), "w", encoding="utf-8", newline="") as file:
         file.writelines(pieces_of(tree))
     refused = Refused({}, [])
     for fault in program.faults("normalised"):

@@ -63,7 +63,7 @@ class Rewrites(Visitor):
 
     def open(self, catalog: str) -> Rewrites:
         """Returns itself, and adds the rules that it then visits to those of this catalog. Open all catalogs before the first
-        call of `place_of`."""
+        call of `path_of`."""
         self.catalog = catalog
         self.own[os.path.dirname(os.path.dirname(catalog))] = Rules()
         return self
@@ -82,7 +82,7 @@ class Rewrites(Visitor):
             folder = os.path.dirname(folder)
         return self.own.get(folder) or Rules()
 
-    def place_of(self, location: str, base: str) -> tuple[str, str]:
+    def path_of(self, location: str, base: str) -> tuple[str, str]:
         """Returns the path that `location` names in the document at `base`. Also returns the document or catalog against which
         the location was resolved."""
         if ABSOLUTE.match(location):

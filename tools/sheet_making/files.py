@@ -14,7 +14,7 @@ CATALOG = os.path.join(os.sep, "META-INF", "catalog.xml")
 
 
 class Files:
-    """Files on disk and in packages. A place is a path; for a file in a package, it begins with the path of the package."""
+    """Files on disk and in packages. The path of a file in a package begins with the path of the package."""
 
     def __init__(self, words: Iterable[str], limits: Limits) -> None:
         self.limits = limits
@@ -24,10 +24,10 @@ class Files:
         self.folders: set[str] = set()  # files on disk are read only in these folders, except with --outside
         for word in dict.fromkeys([os.path.abspath(word) for word in words]):
             with reading(word):
-                self.listed += sorted(self.places_of(word))
+                self.listed += sorted(self.paths_of(word))
 
-    def places_of(self, word: str) -> Iterable[str]:
-        """Returns the places of the files in a folder or a package, or of a single file."""
+    def paths_of(self, word: str) -> Iterable[str]:
+        """Returns the paths of the files in a folder or a package, or of a single file."""
         if os.path.isdir(word):
             self.folders.add(os.path.realpath(word))
             return [os.path.join(at, name) for at, _, names in os.walk(word, onerror=fail) for name in names]
@@ -43,45 +43,45 @@ class Files:
 
     def schemas(self) -> list[str]:
         """Returns the files that are named themselves, and the .xsd files of the named folders and packages."""
-        return [place for place in self.listed if place in self.named or place.lower().endswith(".xsd")]
+        return [path for path in self.listed if path in self.named or path.lower().endswith(".xsd")]
 
     def catalogs(self) -> list[str]:
-        return [place for place in self.listed if place.endswith(CATALOG)]
+        return [path for path in self.listed if path.endswith(CATALOG)]
 
     def linkbases(self) -> list[str]:
         """Returns the .xml files that are named themselves or are in the named folders and packages."""
-        return sorted(place for place in self.listed if place.lower().endswith(".xml"))
+        return sorted(path for path in self.listed if path.lower().endswith(".xml"))
 
-    def found(self, place: str, origin: str) -> Optional[str]:
-        """Returns `place` if it is a file to which the document at `origin` may refer, otherwise None.
+    def found(self, path: str, origin: str) -> Optional[str]:
+        """Returns `path` if it is a file to which the document at `origin` may refer, otherwise None.
 
         Packages cannot refer to files on disk.
         """
-        if place in self.packed:
-            return place
-        return place if origin not in self.packed and os.path.isfile(place) else None
+        if path in self.packed:
+            return path
+        return path if origin not in self.packed and os.path.isfile(path) else None
 
-    def pieces(self, place: str) -> Iterable[bytes]:
+    def pieces(self, path: str) -> Iterable[bytes]:
         """Returns the bytes of a file in pieces.
 
         Errors, some of them raised by the iterator: OSError; those of `Package.pieces`; ValueError if the file is not regular, is
         too long or grew while it was read, or if it is outside the named folders and --outside is not given.
         """
-        if place in self.packed:
-            return self.packed[place].pieces(place)
-        really = os.path.realpath(place)
+        if path in self.packed:
+            return self.packed[path].pieces(path)
+        really = os.path.realpath(path)
         if not self.limits.outside and self.folders.isdisjoint(map(str, pathlib.PurePath(really).parents)):
             raise ValueError("it is outside the named folders (make_sheet --outside)")
         data = read_regular(really, self.limits)
         return (data[start : start + PIECE] for start in range(0, len(data), PIECE))
 
 
-def read_regular(place: str, limits: Limits) -> bytes:
+def read_regular(path: str, limits: Limits) -> bytes:
     """Returns the bytes of a regular file. A FIFO does not block the call.
 
     Errors: ValueError if the file is not regular, is too long or grew while it was read; OSError.
     """
-    with open(place, "rb", opener=lambda path, flags: os.open(path, flags | os.O_NONBLOCK)) as file:
+    with open(path, "rb", opener=lambda name, flags: os.open(name, flags | os.O_NONBLOCK)) as file:
         status = os.fstat(file.fileno())
         if not stat.S_ISREG(status.st_mode):
             raise ValueError("it is not a regular file")

@@ -15,4 +15,4 @@ def kinds_in(inputs: Iterable[str], limits: Limits) -> tuple[Kinds, list[str]]:
     """Returns the kinds of the concepts and dimensions in taxonomies, and a line for each part that is left out."""
     taxonomy = Taxonomy(Files(inputs, limits))
     kinds, left_out = kinds_of(taxonomy.elements, taxonomy.types)
-    return kinds, [f"{place} is left out: {NO_NAMESPACE}" for place in taxonomy.without_namespace()] + left_out
+    return kinds, [f"{path} is left out: {NO_NAMESPACE}" for path in taxonomy.without_namespace()] + left_out

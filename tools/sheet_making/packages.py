@@ -31,24 +31,24 @@ class Package:
             raise ValueError(f"it has more than {MOST_ENTRIES} files")
 
     def add(self, entry: zipfile.ZipInfo) -> None:
-        """Records a file under its place. Errors: ValueError if the path is repeated, too long or outside the package."""
+        """Records a file under its path. Errors: ValueError if the path is repeated, too long or outside the package."""
         folder = os.path.join(self.path, "")
-        place = os.path.normpath(folder + entry.filename)
-        is_within = os.path.join(place, "").startswith(folder) and not entry.filename.startswith("/")
-        if not is_within or place in self.entries:
+        path = os.path.normpath(folder + entry.filename)
+        is_within = os.path.join(path, "").startswith(folder) and not entry.filename.startswith("/")
+        if not is_within or path in self.entries:
             raise ValueError(f"it has a path outside itself, or a repeated path: {shortened(entry.filename)}")
         if len(entry.filename) > LONGEST_PATH:
             raise ValueError(f"it has a path of more than {LONGEST_PATH} characters: {shortened(entry.filename)}")
         if not entry.is_dir():
-            self.entries[place] = entry
+            self.entries[path] = entry
 
-    def pieces(self, place: str) -> Iterator[bytes]:
+    def pieces(self, path: str) -> Iterator[bytes]:
         """Yields the bytes of a file. Errors: ValueError if the file is too long or compressed by another method than deflate, or
         if with it the package is unpacked to too many bytes, or has too many tags and attributes; exceptions of zipfile and zlib.
 
         The signs < and = are counted, because they are found far faster than the tags and the attributes.
         """
-        entry, length = self.entries[place], 0
+        entry, length = self.entries[path], 0
         if entry.compress_type not in METHODS:
             raise ValueError("it is compressed by a method other than deflate")
         with self.file.open(entry) as file:

@@ -23,50 +23,50 @@ class Taxonomy:
         self.files, self.rewrites = files, Rewrites()
         self.elements: dict[Name, Declaration] = {}
         self.types: dict[Name, Optional[Name]] = {}
-        self.read: dict[str, set[Optional[str]]] = {}  # places, with the namespaces for which they were read
-        self.targets: dict[str, Optional[str]] = {}  # places, with the namespaces that the schemas name
+        self.read: dict[str, set[Optional[str]]] = {}  # paths, with the namespaces for which they were read
+        self.targets: dict[str, Optional[str]] = {}  # paths, with the namespaces that the schemas name
         self.read_again = 0  # bytes of schemas without a namespace, counted for each further namespace
         self.missing: list[str] = []
         for catalog in files.catalogs():
             with reading(catalog):
                 read_xml(files.pieces(catalog), self.rewrites.open(catalog))
-        self.waiting: list[tuple[str, Optional[str]]] = [(place, None) for place in files.schemas()]
-        for place, wanted in self.waiting:
-            with reading(place):
-                self.read_schema(place, wanted)
+        self.waiting: list[tuple[str, Optional[str]]] = [(path, None) for path in files.schemas()]
+        for path, wanted in self.waiting:
+            with reading(path):
+                self.read_schema(path, wanted)
         if self.missing or not self.read:
             raise NotDone(*shown_lines(self.missing or ["none of the named files is a schema"]))
 
-    def read_schema(self, place: str, wanted: Optional[str]) -> None:
+    def read_schema(self, path: str, wanted: Optional[str]) -> None:
         """Keeps the declarations of a schema, unless it was read before. A schema that names no namespace gets the namespace
         `wanted`, unless this is None, and is read again for each further namespace."""
-        namespaces = self.read.setdefault(place, set())
-        target = self.targets.get(place)
+        namespaces = self.read.setdefault(path, set())
+        target = self.targets.get(path)
         if target is not None and wanted not in (None, target):
             raise ValueError(f"it is not a schema of the namespace {shortened(wanted or '')}")
         if target is not None or wanted in namespaces or wanted is None and namespaces:
             return
-        visitor = Declaring(self, place, wanted)
-        length = read_xml(self.files.pieces(place), visitor)
+        visitor = Declaring(self, path, wanted)
+        length = read_xml(self.files.pieces(path), visitor)
         self.read_again += length if namespaces else 0
         if self.read_again > self.files.limits.again:
             raise ValueError(f"more than {self.files.limits.again} bytes of schemas without a namespace are read again for"
                              f" further namespaces (make_sheet --megabytes)")
-        self.targets[place] = visitor.target
+        self.targets[path] = visitor.target
         namespaces.add(visitor.namespace)
 
     def refer(self, location: str, base: str, wanted: str) -> None:
         """Schedules the schema at `location`, to which the document at `base` refers. A missing schema is recorded, unless it
         is wanted for the namespace of a specification."""
-        place, origin = self.rewrites.place_of(location, base)
-        found = self.files.found(place, origin)
+        path, origin = self.rewrites.path_of(location, base)
+        found = self.files.found(path, origin)
         if found:
             self.waiting.append((found, wanted))
         elif not is_specification(wanted):
             self.missing.append(f"{base}: {shortened(location)} is not in the named files")
 
-    def declare(self, part: Part, place: str) -> None:
-        """Keeps an element or a type of the schema at `place`. Errors: ValueError if an earlier declaration differs."""
+    def declare(self, part: Part, path: str) -> None:
+        """Keeps an element or a type of the schema at `path`. Errors: ValueError if an earlier declaration differs."""
         if part.is_type:
             is_same = self.types.setdefault(part.name, part.type) == part.type
         else:
@@ -77,21 +77,21 @@ class Taxonomy:
 
     def without_namespace(self) -> list[str]:
         """Returns the schemas that have no target namespace, and to which no schema with a namespace refers, even indirectly."""
-        return sorted(place for place, namespaces in self.read.items() if namespaces == {None})
+        return sorted(path for path, namespaces in self.read.items() if namespaces == {None})
 
 
 class Declaring(SchemaVisitor):
     """Passes the declarations and references of a schema to a taxonomy."""
 
-    def __init__(self, taxonomy: Taxonomy, place: str, wanted: Optional[str]) -> None:
+    def __init__(self, taxonomy: Taxonomy, path: str, wanted: Optional[str]) -> None:
         super().__init__(wanted)
-        self.taxonomy, self.place = taxonomy, place
+        self.taxonomy, self.path = taxonomy, path
 
     def declare(self, part: Part) -> None:
-        self.taxonomy.declare(part, self.place)
+        self.taxonomy.declare(part, self.path)
 
     def refer(self, location: str, wanted: str) -> None:
-        self.taxonomy.refer(location, self.place, wanted)
+        self.taxonomy.refer(location, self.path, wanted)
 
 
 def shown_lines(lines: list[str]) -> list[str]:

@@ -26,14 +26,14 @@ class RoomTest(unittest.TestCase):
         self.addCleanup(scratch.cleanup)
         self.scratch = scratch.name
 
-    def place(self, name):
+    def path_of(self, name):
         return os.path.join(self.scratch, name)
 
     def write(self, name, text):
         """Writes a text, or bytes, and returns the path of the file."""
-        with open(self.place(name), "wb") as file:
+        with open(self.path_of(name), "wb") as file:
             file.write(text if isinstance(text, bytes) else text.encode())
-        return self.place(name)
+        return self.path_of(name)
 
 
 def heeding(number):

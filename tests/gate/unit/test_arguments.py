@@ -31,7 +31,7 @@ class OddNames(Stubbed):
 
     def put(self, *names):
         for name in names:
-            shutil.copy(REPORTS[0], self.place(name))
+            shutil.copy(REPORTS[0], self.path_of(name))
 
     def test_each_argument_after_two_dashes_is_a_report(self):
         names = ["--sheet=z.json", "--output=x.json", "--near=n.json", "-o", "-", "--", "A=B.json"]
@@ -41,7 +41,7 @@ class OddNames(Stubbed):
         self.assertEqual(in_process.run(contradictions, *words), (1, ""))
         self.assertEqual(self.log()[0][1], [os.path.realpath(name) for name in names])
         self.assertEqual({*os.listdir(".")} - before, {"out"})
-        self.assertEqual(content(self.place("bin/sheet")), content(SHEET))
+        self.assertEqual(content(self.path_of("bin/sheet")), content(SHEET))
 
     def test_the_other_tools_read_such_files_too(self):
         self.put("--drop-notes")
@@ -73,12 +73,12 @@ class StandardStreams(Stubbed):
     def test_normalise_reads_and_writes_standard_streams(self):
         self.write("report.json", self.REPORT)
         self.assertEqual(self.run_piped("normalise", "-", "-", "changes", given=self.REPORT), (0, b"", self.NORMAL))
-        self.assertEqual(content(self.place("changes")).encode(), self.CHANGE)
+        self.assertEqual(content(self.path_of("changes")).encode(), self.CHANGE)
         self.assertEqual(self.run_piped("normalise", "report.json", "out", "-"), (0, b"", self.CHANGE))
-        self.assertEqual(content(self.place("out")).encode(), self.NORMAL)
+        self.assertEqual(content(self.path_of("out")).encode(), self.NORMAL)
         line = b"normalise: standard input: the file cannot be read as JSON: it is not UTF-8; the file looks like a gzip file: unpack it first\n"
         self.assertEqual(self.run_piped("normalise", "-", "-", "changes", given=b"\x1f\x8b"), (3, line, b""))
-        self.assertFalse(os.path.exists(self.place("-")))
+        self.assertFalse(os.path.exists(self.path_of("-")))
 
     def test_a_full_device_changes_no_file(self):
         self.write("report.json", self.REPORT)
@@ -87,7 +87,7 @@ class StandardStreams(Stubbed):
                 words = [sys.executable, os.path.join(in_process.TOOLS, "normalise.py"), "report.json", out, changes]
                 done = subprocess.run(words, stdout=full, stderr=subprocess.PIPE, cwd=self.scratch)
             self.assertEqual((done.returncode, done.stderr), (3, b"normalise: No space left on device\n"))
-            self.assertFalse(os.path.exists(self.place("made")))
+            self.assertFalse(os.path.exists(self.path_of("made")))
 
     def test_make_sheet_reads_standard_input(self):
         schema = (SCHEMA % ITEM % ("A", "string")).encode()
@@ -110,7 +110,7 @@ class StandardStreams(Stubbed):
 class Messages(Stubbed):
     def test_no_message_has_a_name_with_control_characters(self):
         odd = [self.write(name + ESCAPE + ".json", "{}") for name in ("a", "a")]
-        os.mkdir(self.place("other"))
+        os.mkdir(self.path_of("other"))
         odd[1] = self.write("other/a" + ESCAPE + ".json", "{}")
         sheet = ["--sheet", SHEET, "-o", self.output]
         for tool, words in (

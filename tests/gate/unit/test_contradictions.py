@@ -42,7 +42,7 @@ class Seen(html.parser.HTMLParser):
 class ToolTest(in_process.RoomTest):
     def setUp(self):
         super().setUp()
-        self.set_output(self.place("out"))
+        self.set_output(self.path_of("out"))
 
     def set_output(self, folder):
         self.output = folder
@@ -247,10 +247,10 @@ class BadInputs(Texts):
         self.assertEqual((content(self.page), content(self.table)), ("of a run before",) * 2)
 
     def test_inputs_that_are_missing(self):
-        nowhere = self.place("nowhere")
-        for place, word in enumerate((nowhere, nowhere, nowhere, f"A={nowhere}")):
+        nowhere = self.path_of("nowhere")
+        for index, word in enumerate((nowhere, nowhere, nowhere, f"A={nowhere}")):
             inputs = [MERGED, SHEET, VERDICTS]
-            inputs[place : place + 1] = [word]
+            inputs[index : index + 1] = [word]
             self.check_refused("nowhere", *inputs)
 
     def test_lines_of_another_run(self):

@@ -102,12 +102,12 @@ class Reported(ToolTest):
         """Runs the tool on rows. Each row is a list of pairs: a value with its decimals, and the numbers of its reports."""
         facts, sources = {}, []
         count = sum(map(len, rows))
-        for place, row in enumerate(rows):
+        for index, row in enumerate(rows):
             for fact, reports in row:
                 name = f"f{len(facts) + 1:0{len(str(count))}}"
                 concept = "T" if isinstance(fact, str) else "A"
                 members = {"value": fact} if concept == "T" else {"value": fact[0], **({} if fact[1] is None else {"decimals": fact[1]})}
-                facts[name] = {**members, "dimensions": {"concept": f"n1:{concept}", "n1:Reg": f"{place:03}"}}
+                facts[name] = {**members, "dimensions": {"concept": f"n1:{concept}", "n1:Reg": f"{index:03}"}}
                 sources += [f'{name} {report} "i{report}{name}"\n' for report in reports]
         merged = self.write("merged.json", json.dumps({"documentInfo": {"namespaces": URIS}, "facts": facts}))
         lines = self.write("lines", lines_of_verdicts.lines(content(merged)))

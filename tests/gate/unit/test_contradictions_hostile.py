@@ -54,7 +54,7 @@ LONG = {
 class Hostile(ToolTest):
     def setUp(self):
         super().setUp()
-        self.sheet, self.near = self.write("sheet.json", json.dumps(SHEET)), self.place("near.csv")
+        self.sheet, self.near = self.write("sheet.json", json.dumps(SHEET)), self.path_of("near.csv")
 
     def words(self, facts, is_near=False, providers="ab"):
         """Writes a merged text of the facts, its verdicts and its sources. The providers report the rows in turn. Returns the
@@ -89,10 +89,10 @@ class Hostile(ToolTest):
     def kept_words(self, facts, is_near):
         """Returns the arguments of a run on copies of the inputs. Calls with inputs of other sizes do not overwrite them."""
         words = self.words(facts, is_near)
-        size = len(content(self.place("merged.json")))
+        size = len(content(self.path_of("merged.json")))
         for name in ("merged.json", "lines", "sources"):
-            kept = self.write(f"{len(facts)}.{size}.{name}", content(self.place(name)))
-            words = [kept if word == self.place(name) else word for word in words]
+            kept = self.write(f"{len(facts)}.{size}.{name}", content(self.path_of(name)))
+            words = [kept if word == self.path_of(name) else word for word in words]
         return words
 
     def test_memory_is_in_proportion_to_what_is_read_and_written(self):
@@ -178,7 +178,7 @@ class Hostile(ToolTest):
 
     def test_an_output_that_is_an_input_is_refused(self):
         words = self.words([number(1), number(2)])
-        before = {name: content(self.place(name)) for name in os.listdir(self.scratch)}
+        before = {name: content(self.path_of(name)) for name in os.listdir(self.scratch)}
         os.mkdir(self.output)
         os.symlink(self.sheet, self.listed)
         inside = [*words[:-1], self.write(os.path.join("out", "contradictions.csv"), "")]
@@ -186,7 +186,7 @@ class Hostile(ToolTest):
             status, errors = in_process.run(contradictions, *changed)
             self.assertEqual(status, 2, errors)
             self.assertIn("an output is an input, or two outputs are one file", errors)
-        self.assertEqual({name: content(self.place(name)) for name in before}, before)
+        self.assertEqual({name: content(self.path_of(name)) for name in before}, before)
 
     def test_what_no_merged_text_has_is_a_sentence(self):
         odd = {"period": ["2020", "a/b/c", "/".join(["2020-01-01T00:00:00"] * 30), "2020-13-01T00:00:00", 5], "unit": [5, [], {}],
@@ -212,7 +212,7 @@ class Hostile(ToolTest):
 
     def test_statuses_are_those_of_the_process(self):
         apart, one = self.kept_words([number(1), number(2)], False), self.kept_words([number(1)], False)
-        nowhere = self.place("nowhere")
+        nowhere = self.path_of("nowhere")
         for status, words in ((0, one), (1, apart), (0, [*apart, "--exit-zero"]), (2, one[:-1]), (3, [*one[:-1], nowhere]),
                               (3, [*apart[:-1], one[-1]]), (3, [*apart[:-1], one[-1], "--exit-zero"])):
             done = subprocess.run([sys.executable, TOOL, *words], capture_output=True)

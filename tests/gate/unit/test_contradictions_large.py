@@ -31,7 +31,7 @@ CATALOG = """<catalog xmlns="urn:oasis:names:tc:entity:xmlns:xml:catalog">
 
 class Labels(test_contradictions.ToolTest):
     def package(self):
-        path = self.place("taxonomy.zip")
+        path = self.path_of("taxonomy.zip")
         labels = LABEL.format(href="core.xsd", name="Revenue", text="Revenue from\n <contracts>".replace("<", "&lt;"), use="")
         labels += LABEL.format(href="http://norlake.example/xbrl/t/core.xsd", name="Dividend", text="Dividend a share", use="")
         labels += LABEL.format(href="core.xsd", name="Goodwill", text="No label", use=' use="prohibited"')
@@ -97,12 +97,12 @@ class Nearby(test_contradictions.ToolTest):
         merged = self.text("merged.json", [fact for fact, _ in facts])
         own = [f"{who}=" + self.text(f"{who}.json", [fact for fact, has in facts if who in has]) for who in "AB"]
         lines = self.write("lines", "".join(f"{n} f{n} f{n} complete\n" for n in range(1, len(facts) + 1)))
-        place = self.place("near.csv")
+        path = self.path_of("near.csv")
         sheet = self.write("sheet.json", json.dumps(self.SHEET))
-        words = ["--near", place, "--from", merged, sheet, lines, "-o", self.output, *own]
+        words = ["--near", path, "--from", merged, sheet, lines, "-o", self.output, *own]
         done = subprocess.run([sys.executable, test_contradictions.TOOL, *words], capture_output=True)
         self.assertEqual((done.returncode, done.stderr), (0, b""))
-        with open(place, encoding="utf-8-sig", newline="") as file:
+        with open(path, encoding="utf-8-sig", newline="") as file:
             return list(csv.DictReader(file))
 
     @staticmethod
@@ -151,7 +151,7 @@ class Large(test_contradictions.ToolTest):
 
     def test_a_large_text(self):
         workload.make(self.scratch, self.COUNT)
-        inputs = [self.place(name) for name in ("merged.json", "sheet.json", "verdicts.txt")]
+        inputs = [self.path_of(name) for name in ("merged.json", "sheet.json", "verdicts.txt")]
         own = [f"{name}=" + os.path.join(self.scratch, f"{name}.json") for name in workload.PROVIDERS]
         page, cells = self.written(*inputs, *own)
         self.assertEqual(len({cell["row"] for cell in cells}), self.COUNT)

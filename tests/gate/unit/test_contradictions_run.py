@@ -39,7 +39,7 @@ class Stubbed(ToolTest):
 
     def setUp(self):
         super().setUp()
-        self.bin = self.place("bin")
+        self.bin = self.path_of("bin")
         os.mkdir(self.bin)
         self.program = in_process.stub_program(self.bin)
         for command, name in (("merge", "merged.json"), ("verdicts", "verdicts.txt"), ("sources", "sources.txt")):
@@ -119,7 +119,7 @@ class Files(Stubbed):
         self.assertEqual(self.run_on(os.path.join(self.output, "merged.json")).returncode, 2)
 
     def test_a_folder_of_any_name(self):
-        self.set_output(self.place("a\udcff\n"))
+        self.set_output(self.path_of("a\udcff\n"))
         done = self.run_on(*REPORTS)
         self.assertEqual((done.returncode, done.stderr), (1, ""))
         self.assertTrue(done.stdout.endswith("a\\udcff\\n/page.html\n"), done.stdout)
@@ -160,7 +160,7 @@ class Files(Stubbed):
         for path, status in ((self.scratch, 3), (self.bin, 1)):
             done = subprocess.run(words, capture_output=True, text=True, env={**os.environ, "PATH": path})
             self.assertEqual(done.returncode, status, done.stderr)
-        shutil.copytree(self.bin, self.place("checkout"), dirs_exist_ok=True)
+        shutil.copytree(self.bin, self.path_of("checkout"), dirs_exist_ok=True)
         done = subprocess.run(words, capture_output=True, text=True, env={**os.environ, "PATH": self.scratch})
         self.assertEqual(done.returncode, 1, done.stderr)
 
@@ -210,8 +210,8 @@ class Refused(Stubbed):
                  (25, "ValueForm", 1.5, "values that are JSON numbers", "", ""),
                  (28, "DecimalsForm", "INF", "texts as decimals", ' as in "INF": ', ""),
                  (9, "Links", {}, "facts with links", "", " --drop-links"))
-        faults = [("a sentence", {"number": number, "name": name, "part": part, "identifier": f"{place}"})
-                  for place in range(12) for number, name, part, *_ in kinds]
+        faults = [("a sentence", {"number": number, "name": name, "part": part, "identifier": f"{index}"})
+                  for index in range(12) for number, name, part, *_ in kinds]
         self.refuses("report 1: 19 PeriodForm at fact 1\n", *faults)
         lines = self.run_on(*REPORTS).stderr.splitlines()
         wanted = [f"contradictions: {REPORTS[0]}: 12 {phrase}{',' * bool(example)}{example or ': '}--normalise{option}"
@@ -258,9 +258,9 @@ class Refused(Stubbed):
 
 class Prepared(Stubbed):
     def package(self, more=""):
-        os.makedirs(self.place("package"), exist_ok=True)
+        os.makedirs(self.path_of("package"), exist_ok=True)
         self.write(os.path.join("package", "t.xsd"), SCHEMA % more)
-        return ["--taxonomy", self.place("package")]
+        return ["--taxonomy", self.path_of("package")]
 
     def test_a_taxonomy_in_place_of_a_sheet(self):
         self.prints_nothing()
@@ -295,7 +295,7 @@ class Prepared(Stubbed):
             self.assertIn('<a href="#row1" aria-label="1 of Sales &amp; label">', page)
             self.assertEqual(self.cells("table.csv")[0]["label"], "Sales & label")
         self.write("package/labels.xml", "no XML")
-        done = self.run_on(*REPORTS, sheet=["--taxonomy", self.place("package")])
+        done = self.run_on(*REPORTS, sheet=["--taxonomy", self.path_of("package")])
         self.assertEqual((done.returncode, done.stderr.count("\n")), (1, 1))
         self.assertIn("the page has no labels: ", done.stderr)
 
@@ -337,7 +337,7 @@ class Prepared(Stubbed):
 
 class BadInputs(Stubbed):
     def test_names_with_two_meanings(self):
-        os.mkdir(self.place("other"))
+        os.mkdir(self.path_of("other"))
         other = self.write(os.path.join("other", "issuer.json"), "{}")
         for words, wanted in (
             ([REPORTS[0], other], "both get the name issuer: write NAME=FILE for both"),
@@ -356,9 +356,9 @@ class BadInputs(Stubbed):
         self.assertEqual(self.run_on(*REPORTS, sheet=()).returncode, 2)
 
     def test_inputs_that_are_missing_or_no_files(self):
-        os.mkfifo(self.place("fifo"))
+        os.mkfifo(self.path_of("fifo"))
         self.refused_run("nowhere.json: No such file or directory", REPORTS[0], "nowhere.json")
-        self.refused_run("fifo is not a regular file", self.place("fifo"))
+        self.refused_run("fifo is not a regular file", self.path_of("fifo"))
         self.refused_run("is not a regular file", "B=" + self.bin)
         self.refused_run("No such file or directory", *REPORTS, sheet=("--sheet", "nowhere"))
         self.refused_run("there is no such file", *REPORTS, sheet=("--taxonomy", "nowhere"))
@@ -378,7 +378,7 @@ class BadInputs(Stubbed):
         self.prints("merge", "", "sheet: 32 SheetKind\n", 3)
         self.prints("explain", "", 'sheet.json: the entry "x:A": "numberic" has an unknown kind\nsheet: 32 SheetKind\n', 3)
         self.refused_run("has an unknown kind", *REPORTS)
-        self.refused_run("No such file or directory", *REPORTS, "--program", self.place("nowhere"))
+        self.refused_run("No such file or directory", *REPORTS, "--program", self.path_of("nowhere"))
 
     def test_reports_that_change_meanwhile(self):
         self.prints("verdicts", err="report 1: 1 NotJson at document\n", status=1)

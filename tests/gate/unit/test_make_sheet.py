@@ -48,8 +48,8 @@ def pack(package, folder):
     with zipfile.ZipFile(package, "w", zipfile.ZIP_DEFLATED) as made:
         for at, _, names in os.walk(folder):
             for name in names:
-                place = os.path.join(at, name)
-                made.write(place, os.path.join("toy", os.path.relpath(place, folder)))
+                path = os.path.join(at, name)
+                made.write(path, os.path.join("toy", os.path.relpath(path, folder)))
 
 
 class ToolTest(in_process.RoomTest):
@@ -73,7 +73,7 @@ class Taxonomies(ToolTest):
         self.check_sheet(TOY_SHEET, os.path.join(TOY, "toy", "core.xsd"))
 
     def test_file_folder_and_package_give_the_same_bytes(self):
-        package = self.place("toy.zip")
+        package = self.path_of("toy.zip")
         pack(package, TOY)
         text = self.check_sheet(TOY_SHEET, package)
         self.assertEqual(run(TOY).stdout, text)
@@ -82,7 +82,7 @@ class Taxonomies(ToolTest):
         self.assertEqual((text.count(b"\n"), text[-1:]), (1, b"\n"))
 
     def test_what_is_imported_by_url_comes_from_a_named_package(self):
-        package = self.place("toy.zip")
+        package = self.path_of("toy.zip")
         pack(package, TOY)
         sheet = json.loads(run(EXTENSION, package).stdout)
         self.assertEqual(sheet["concepts"]["n1:OnlineRevenue"], "numeric")
@@ -121,7 +121,7 @@ class BadInputs(ToolTest):
         self.check_refused(3, "not well-formed", self.write("a.xsd", "{}"))
         self.check_refused(3, "unclosed token", self.write("b.xsd", SCHEMA[:30]))
         self.check_refused(3, "not a schema: name the package", self.write("c.xsd", "<a/>"))
-        self.check_refused(3, "nowhere.xsd", self.place("nowhere.xsd"))
+        self.check_refused(3, "nowhere.xsd", self.path_of("nowhere.xsd"))
         self.check_refused(3, "no element found", TOY, self.write("d.xsd", ""))
         lines = self.check_refused(3, "xsd", TOY, self.write("e.xsd", "no XML"), self.write("f.xsd", "nor this"))
         self.assertEqual(len(lines), 1)
@@ -132,18 +132,18 @@ class BadInputs(ToolTest):
         secret = self.write("secret", "monetary")
         for encoding in ("utf-8", "utf-16"):
             text = f'<?xml version="1.0" encoding="{encoding}"?><!DOCTYPE a [<!ENTITY e SYSTEM "{secret}">]>' + SCHEMA
-            place = self.write("a.xsd", (text % "<xs:annotation>&e;</xs:annotation>").encode(encoding))
-            self.assertEqual(len(self.check_refused(3, "document type", place)), 1)
+            path = self.write("a.xsd", (text % "<xs:annotation>&e;</xs:annotation>").encode(encoding))
+            self.assertEqual(len(self.check_refused(3, "document type", path)), 1)
         imported = self.write("b.xsd", SCHEMA % '<xs:include schemaLocation="a.xsd"/>')
         self.check_refused(3, "a.xsd: it has a document type", imported)
-        package = self.place("a.zip")
+        package = self.path_of("a.zip")
         with zipfile.ZipFile(package, "w") as made:
-            made.write(place, "a.xsd")
+            made.write(path, "a.xsd")
         self.check_refused(3, "document type", package)
 
     def test_a_package_keeps_to_itself(self):
         outside = self.write("outside.xsd", SCHEMA % ITEM % ("A", "string"))
-        package = self.place("a.zip")
+        package = self.path_of("a.zip")
         for name in ("../b.xsd", "a/../../b.xsd", outside):
             with zipfile.ZipFile(package, "w") as made:
                 made.writestr(name, SCHEMA % "")
@@ -154,7 +154,7 @@ class BadInputs(ToolTest):
         self.check_refused(3, "../outside.xsd is not in the named files", package)
 
     def test_a_broken_package(self):
-        package = self.place("a.zip")
+        package = self.path_of("a.zip")
         pack(package, TOY)
         with open(package, "rb") as file:
             data = file.read()
@@ -163,8 +163,8 @@ class BadInputs(ToolTest):
         self.check_refused(3, "turned.zip", self.write("turned.zip", data[:at] + b"turned" + data[at + 6 :]))
 
     def test_two_declarations_of_one_name(self):
-        place = self.write("a.xsd", SCHEMA % (ITEM % ("A", "string") + ITEM % ("A", "monetary")))
-        self.check_refused(3, "declared in two ways", place)
+        path = self.write("a.xsd", SCHEMA % (ITEM % ("A", "string") + ITEM % ("A", "monetary")))
+        self.check_refused(3, "declared in two ways", path)
 
     def test_names_cannot_break_a_line(self):
         text = SCHEMA.replace("http://made", "http://made&#10;&#27;[31m") % ITEM % ("A", "fraction")

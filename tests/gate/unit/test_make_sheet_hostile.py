@@ -95,11 +95,11 @@ LONG = {
 
 class HostileTest(ToolTest):
     def pack(self, texts, name="a.zip", method=zipfile.ZIP_DEFLATED):
-        place = self.place(name)
-        with zipfile.ZipFile(place, "w", method) as made:
+        package = self.path_of(name)
+        with zipfile.ZipFile(package, "w", method) as made:
             for path, text in texts.items():
                 made.writestr(path, text)
-        return place
+        return package
 
     def refused(self, wanted, *words):
         """Runs the tool in this process. It must end with status 3 and print one line with the reason."""
@@ -247,11 +247,11 @@ class Packages(HostileTest):
             self.assertEqual(json.loads(done.stdout)["concepts"], {"n1:A": "numeric", "n2:B": "text"})
 
     @staticmethod
-    def typed(name, location, place, base):
-        """Returns two schemas: one with a concept, and at `place` one with its type. The first refers to the second by
+    def typed(name, location, path, base):
+        """Returns two schemas: one with a concept, and at `path` one with its type. The first refers to the second by
         `location`. The second has no namespace, and no ending of a schema, so that only references lead to it."""
         concept = (SCHEMA % (INCLUDE.format(location) + TYPED.format(name, "this:t"))).replace("http://made", f"http://{name}")
-        return {f"{name}.xsd": concept, place: WITHOUT_NAMESPACE % TYPE.format("t", f"xbrli:{base}ItemType")}
+        return {f"{name}.xsd": concept, path: WITHOUT_NAMESPACE % TYPE.format("t", f"xbrli:{base}ItemType")}
 
     def test_methods_that_unpack_without_a_limit(self):
         for method in (zipfile.ZIP_BZIP2, zipfile.ZIP_LZMA):
@@ -279,7 +279,7 @@ class Packages(HostileTest):
 class Folders(HostileTest):
     def folder(self, **texts):
         """Writes files to the folder `folder`, and returns its path. Each `_` in the name of an argument means a dot."""
-        folder = self.place("folder")
+        folder = self.path_of("folder")
         os.makedirs(folder, exist_ok=True)
         for name, text in texts.items():
             self.write(os.path.join("folder", name.replace("_", ".")), text)
@@ -323,9 +323,9 @@ class Folders(HostileTest):
 
     def test_a_file_in_a_named_folder_may_be_referred_to_from_another(self):
         self.folder(a_xsd=SCHEMA % INCLUDE.format("../other/b.xsd"))
-        os.mkdir(self.place("other"))
+        os.mkdir(self.path_of("other"))
         self.write("other/b.xsd", SCHEMA % ITEM % ("B", "string"))
-        done = run(os.path.join(self.scratch, "folder", "a.xsd"), self.place("other"))
+        done = run(os.path.join(self.scratch, "folder", "a.xsd"), self.path_of("other"))
         self.assertEqual((done.returncode, list(json.loads(done.stdout)["concepts"])), (0, ["n1:B"]))
 
     def test_a_long_file(self):
@@ -359,14 +359,14 @@ class Statuses(HostileTest):
             self.assertEqual((done.returncode, done.stdout, done.stderr), (3, b"", b""))
         good = self.write("a.xsd", SCHEMA % ITEM % ("A", "string"))
         self.assertEqual(json.loads(self.shell("2>&-", good).stdout)["concepts"], {"n1:A": "text"})
-        self.assertEqual(self.shell("2>&-", self.place("nowhere")).returncode, 3)
+        self.assertEqual(self.shell("2>&-", self.path_of("nowhere")).returncode, 3)
 
     def test_what_input_can_raise(self):
         self.refused("a.json: nested too deeply", "--union", self.write("a.json", '{"x:x":' * 100_000))
-        place = self.write("a.xsd", SCHEMA % "")
+        path = self.write("a.xsd", SCHEMA % "")
         with mock.patch.object(files, "read_regular", side_effect=MemoryError):
-            self.refused("a.xsd: out of memory", place)
-        self.refused("there is no such file", self.place("no\0where"))
+            self.refused("a.xsd: out of memory", path)
+        self.refused("there is no such file", self.path_of("no\0where"))
 
     def test_usage(self):
         for words in ((), ("--megabytes", "0", "a"), ("--megabytes", "x", "a"), ("--unknown",)):

@@ -16,10 +16,10 @@ class Kept(RoomTest):
 
     def setUp(self):
         super().setUp()
-        self.other = self.place("other")
+        self.other = self.path_of("other")
         os.mkdir(self.other)
         self.victim = self.write("other/victim", "whole")
-        self.temporary = self.place("tmp")
+        self.temporary = self.path_of("tmp")
         os.mkdir(self.temporary)
         for name in ("malformed-1-7", "tools-malformed-1-7"):
             os.symlink(self.victim if name[0] == "m" else self.other, os.path.join(self.temporary, name))
@@ -28,17 +28,17 @@ class Kept(RoomTest):
             patched.start()
             self.addCleanup(patched.stop)
 
-    def check(self, place):
-        self.assertTrue(place.startswith(self.temporary))
-        self.assertFalse(os.path.islink(place))
+    def check(self, path):
+        self.assertTrue(path.startswith(self.temporary))
+        self.assertFalse(os.path.islink(path))
         self.assertEqual(os.listdir(self.other), ["victim"])
         with open(self.victim) as file:
             self.assertEqual(file.read(), "whole")
 
     def test_broken_bytes_go_to_a_new_file(self):
-        place = malformed.keep(7, b"broken")
-        self.check(place)
-        with open(place, "rb") as file:
+        path = malformed.keep(7, b"broken")
+        self.check(path)
+        with open(path, "rb") as file:
             self.assertEqual(file.read(), b"broken")
 
     def test_files_of_a_case_go_to_a_new_folder(self):
@@ -50,9 +50,9 @@ class Kept(RoomTest):
         self.addCleanup(os.chdir, before)
         with mock.patch.object(tools_malformed, "KINDS", {faulty: 1}):
             _, (fault,) = tools_malformed.play(7)
-        place = fault.rpartition(" ")[2]
-        self.check(place)
-        self.assertEqual(os.listdir(place), ["kept"])
+        path = fault.rpartition(" ")[2]
+        self.check(path)
+        self.assertEqual(os.listdir(path), ["kept"])
 
 
 if __name__ == "__main__":

@@ -40,7 +40,7 @@ def undo(tree, changes):
 class ToolTest(in_process.RoomTest):
     def setUp(self):
         super().setUp()
-        self.out, self.changes = self.place("out.json"), self.place("changes.jsonl")
+        self.out, self.changes = self.path_of("out.json"), self.path_of("changes.jsonl")
 
     def run_tool(self, *words):
         """Runs the tool in this process, and returns its status and its standard error."""
@@ -49,11 +49,11 @@ class ToolTest(in_process.RoomTest):
     def refusing(self, faults, **also):
         """Makes a stub program that refuses facts and, if `also` is given, the document. Returns the options that use the
         program."""
-        os.makedirs(self.place("bin"), exist_ok=True)
+        os.makedirs(self.path_of("bin"), exist_ok=True)
         explained = [{"place": "fact 1", "identifier": fact, **dict(zip(("number", "name"), why.split()))} for fact, why in faults.items()]
         self.write("bin/explain.out", "".join(json.dumps(fault) + "\n" for fault in [*explained, *[also] * bool(also)]))
         self.write("bin/explain.status", "1")
-        return ["--drop-unreadable", "--program", in_process.stub_program(self.place("bin"))]
+        return ["--drop-unreadable", "--program", in_process.stub_program(self.path_of("bin"))]
 
     def normalised(self, report, *options):
         """Runs the tool. Its status must be 1 if a change loses something, and 0 otherwise. Undoing the changes must give the
@@ -67,8 +67,8 @@ class ToolTest(in_process.RoomTest):
         self.assertIn(status, (0, 1), errors)
         out, changes = content(self.out), self.changes_listed()
         self.assertEqual(status, int(any(change["loss"] for change in changes)))
-        again = self.run_tool(self.write("again.json", out), self.place("out2"), self.place("changes2"), *options)
-        self.assertEqual((again, content(self.place("out2")), content(self.place("changes2"))), ((0, errors), out, ""))
+        again = self.run_tool(self.write("again.json", out), self.path_of("out2"), self.path_of("changes2"), *options)
+        self.assertEqual((again, content(self.path_of("out2")), content(self.path_of("changes2"))), ((0, errors), out, ""))
         return status, errors, out, changes
 
     def changes_listed(self):
@@ -299,7 +299,7 @@ class Unreadable(ToolTest):
             status, errors = self.run_tool(self.report, self.out, self.changes, "--sheet", self.sheet, *options)
             self.assertEqual((status, os.path.exists(self.out)), (3, False) if why else (0, True), errors)
             self.assertIn(why or "", errors)
-        self.assertEqual(self.run_tool(self.report, self.out, self.changes, "--sheet", self.sheet, *options[:-1], self.place("no"))[0], 3)
+        self.assertEqual(self.run_tool(self.report, self.out, self.changes, "--sheet", self.sheet, *options[:-1], self.path_of("no"))[0], 3)
 
 
 class BadInputs(ToolTest):
@@ -327,8 +327,8 @@ class BadInputs(ToolTest):
 
     def test_files_that_are_missing_or_that_cannot_be_written(self):
         report = self.write("good.json", "{}")
-        self.check_refused("nowhere", self.place("nowhere"), self.out, self.changes)
-        self.check_refused("nowhere", report, self.out, self.changes, "--sheet", self.place("nowhere"))
+        self.check_refused("nowhere", self.path_of("nowhere"), self.out, self.changes)
+        self.check_refused("nowhere", report, self.out, self.changes, "--sheet", self.path_of("nowhere"))
         self.check_refused("/no", report, self.out, os.path.join(self.scratch, "no", "x"))
         self.check_refused("not a file", report, self.out, self.scratch)
 

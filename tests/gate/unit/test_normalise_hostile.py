@@ -232,9 +232,9 @@ class NoReports(ToolTest):
             self.check_last_line(wanted, good, self.out, self.changes, "--sheet", self.write("sheet.json", data))
 
     def folder(self, name):
-        os.unlink(self.place(name))
-        os.mkdir(self.place(name))
-        return self.place(name)
+        os.unlink(self.path_of(name))
+        os.mkdir(self.path_of(name))
+        return self.path_of(name)
 
 
 class Numbers(unittest.TestCase):

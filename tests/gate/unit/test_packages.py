@@ -34,27 +34,27 @@ class Packages(RoomTest):
             os.chmod(self.write(name, text), 0o755)
 
     def source(self):
-        kit_folder = self.place("kit")
+        kit_folder = self.path_of("kit")
         for name, uses in {"json": "std", "url": "json", "std": "", "os": "std", "libc": ""}.items():
             for folder in (f"rattle/{name}", f"rlibs/{name}.rlib"):
                 os.makedirs(os.path.join(kit_folder, folder), exist_ok=True)
             self.write(f"kit/rlibs/{name}.rlib/format", f"crate {name}\n" + (f"dep {uses}\n" if uses else ""))
         self.write("kit/rattle/url/README.md", URL)
         self.write("kit/rattle/url/LICENSE-MIT", "")
-        return Source(TOP, self.place("program"), self.scratch, VERSION, "c0ffee", SECONDS, kit_folder, "kit-1 logic 2\n", CRATES)
+        return Source(TOP, self.path_of("program"), self.scratch, VERSION, "c0ffee", SECONDS, kit_folder, "kit-1 logic 2\n", CRATES)
 
     def program(self):
-        return contents.program(TOP, self.place("program"))
+        return contents.program(TOP, self.path_of("program"))
 
 
 class Contents(Packages):
     def test_the_tools_are_whole(self):
-        places = {it.place for it in contents.tools(TOP)}
+        targets = {it.target for it in contents.tools(TOP)}
         names = subprocess.run(["git", "-C", TOP, "ls-files", "tools"], capture_output=True, text=True).stdout.split()
         for name in names or ["tools/process.py"]:
             folder, rest = os.path.split(name[len("tools/"):])
             wanted = f"share/xbrlmerge/xbrlmerge_tools/{os.path.join(folder, rest)}" if "." in rest else f"bin/{contents.command_of(rest)}"
-            self.assertIn(wanted, places)
+            self.assertIn(wanted, targets)
 
     def test_a_page_is_the_same_for_each_python(self):
         old = "usage: x\n\nDoes it.\n\n    tools/normalise A\n\nText.\n\noptional arguments:\n  -h, --help  show\n  -o DIR, --output DIR  the\n      rest\n"
@@ -75,7 +75,7 @@ class Installation(Packages):
         return subprocess.run([command, *words], capture_output=True, text=True, env=around, cwd=self.scratch)
 
     def test_the_tools_have_the_names_of_their_commands(self):
-        prefix = self.place("a prefix")
+        prefix = self.path_of("a prefix")
         installation.install(self.program(), prefix)
         for tool in contents.TOOLS:
             done = self.run_installed(prefix, tool, "--help")
@@ -87,9 +87,9 @@ class Installation(Packages):
         self.assertFalse([it for at, folders, _ in os.walk(prefix) for it in folders if it == "__pycache__"])
 
     def test_a_tool_finds_the_program_beside_its_command(self):
-        prefix = self.place("prefix")
+        prefix = self.path_of("prefix")
         installation.install(self.program(), prefix)
-        link = self.place("link")
+        link = self.path_of("link")
         os.symlink(os.path.join(prefix, "bin", "xbrlmerge-contradictions"), link)
         sheet = self.write("sheet.json", "{}")
         done = subprocess.run([link, "--sheet", sheet, "-o", "out", sheet], capture_output=True, text=True, cwd=self.scratch,
@@ -97,7 +97,7 @@ class Installation(Packages):
         self.assertIn("xbrlmerge merge: a stand-in\n", done.stderr)
 
     def test_without_python_a_tool_says_so(self):
-        prefix, empty = self.place("prefix"), self.place("empty")
+        prefix, empty = self.path_of("prefix"), self.path_of("empty")
         installation.install(self.program(), prefix)
         os.mkdir(empty)
         for name in ("sh", "dirname", "readlink"):
@@ -106,7 +106,7 @@ class Installation(Packages):
         self.assertEqual((done.returncode, done.stderr), (3, "xbrlmerge-recheck: Python 3.9 or later is not installed\n"))
 
     def test_what_was_installed_is_removed(self):
-        prefix, own = self.place("prefix"), self.place("prefix/share/man/own")
+        prefix, own = self.path_of("prefix"), self.path_of("prefix/share/man/own")
         os.makedirs(os.path.dirname(own))
         self.write("prefix/share/man/own", "own")
         installation.install([*self.program(), File("share/xbrlmerge/old/file", b"")], prefix)
@@ -129,37 +129,37 @@ class Archives(Packages):
                               ("top/b/c", RUNS, SECONDS, "")])
 
     def test_a_wheel_has_the_module_the_program_and_the_tools(self):
-        name = wheel_of_library.make_wheel(self.scratch, self.place(contents.SHARED), self.place("program"))
-        with zipfile.ZipFile(self.place(name)) as wheel:
+        name = wheel_of_library.make_wheel(self.scratch, self.path_of(contents.SHARED), self.path_of("program"))
+        with zipfile.ZipFile(self.path_of(name)) as wheel:
             files = {it: wheel.read(it) for it in wheel.namelist()}
             (program,) = [it for it in files if it.endswith(".data/scripts/xbrlmerge")]
             self.assertEqual(wheel.getinfo(program).external_attr >> 16, 0o100755)
         self.assertTrue(name.endswith("-py3-none-manylinux_2_34_x86_64.whl"), name)
         self.assertEqual({it.partition("/")[0] for it in files if ".d" not in it.partition("/")[0]}, {"xbrlmerge", "xbrlmerge_tools"})
-        packed = {it.place: it.content for it in contents.tool_package(TOP, "")}
+        packed = {it.target: it.content for it in contents.tool_package(TOP, "")}
         self.assertEqual({it: files.get(it) for it in packed}, packed)
         (points,) = [files[it].decode() for it in files if it.endswith("entry_points.txt")]
         for tool in contents.TOOLS:
             self.assertIn(f"\n{contents.command_of(tool)} = xbrlmerge_tools:{tool}\n", points)
 
     def test_the_module_alone_needs_no_program(self):
-        name = wheel_of_library.make_wheel(self.scratch, self.place(contents.SHARED))
-        with zipfile.ZipFile(self.place(name)) as wheel:
+        name = wheel_of_library.make_wheel(self.scratch, self.path_of(contents.SHARED))
+        with zipfile.ZipFile(self.path_of(name)) as wheel:
             self.assertFalse([it for it in wheel.namelist() if "tools" in it or "scripts" in it])
 
     def test_debian_compares_versions_as_meant(self):
         self.assertEqual(debian.version_of("0.3.0-dev"), "0.3.0~dev")
-        places = {it.place for it in debian.moved(self.program())}
+        targets = {it.target for it in debian.moved(self.program())}
         self.assertLessEqual({"usr/bin/xbrlmerge", "usr/share/man/man1/xbrlmerge-recheck.1.gz",
-                              "usr/share/zsh/vendor-completions/_xbrlmerge"}, places)
+                              "usr/share/zsh/vendor-completions/_xbrlmerge"}, targets)
 
     def test_no_file_is_in_two_packages(self):
-        places = [it.place for package in debian.packages(self.source()) for it in package.files]
-        self.assertEqual(len(places), len(set(places)))
-        self.assertTrue(all(it.startswith("usr/") for it in places))
+        targets = [it.target for package in debian.packages(self.source()) for it in package.files]
+        self.assertEqual(len(targets), len(set(targets)))
+        self.assertTrue(all(it.startswith("usr/") for it in targets))
 
     def test_all_packages_appear_or_none(self):
-        folder = self.place("out")
+        folder = self.path_of("out")
         os.mkdir(folder)
         with mock.patch.object(release, "run_tool", lambda *words: shutil.copy(words[3], words[2])):
             with mock.patch.object(debian, "make", side_effect=OSError("dpkg-deb failed")):
@@ -213,7 +213,7 @@ class Sources(Packages):
         self.addCleanup(own.stop)
 
     def test_a_checkout_must_be_clean(self):
-        top, out = self.place("top"), self.place("top/out")
+        top, out = self.path_of("top"), self.path_of("top/out")
         os.mkdir(top)
         with mock.patch("shutil.which", lambda name: None if name == "dpkg-deb" else name):
             self.assertEqual(wrong_source(top, out), "dpkg-deb is not on the PATH: ./build --packages needs it")
@@ -232,12 +232,12 @@ class Files(Packages):
         self.assertEqual(folders_of([File("a/b/c", b""), File("a/d", b"")]), ["a", "a/b"])
 
     def test_permissions_are_read(self):
-        self.assertEqual([(it.place, it.mode) for it in read_below(self.scratch, "x", ("am",))], [("x/program", RUNS)])
+        self.assertEqual([(it.target, it.mode) for it in read_below(self.scratch, "x", ("am",))], [("x/program", RUNS)])
 
     def test_files_that_python_made_are_left_out(self):
-        os.mkdir(self.place("__pycache__"))
+        os.mkdir(self.path_of("__pycache__"))
         self.write("__pycache__/program", "")
-        self.assertEqual([it.place for it in read_below(self.scratch, "x", ("program",))], ["x/program"])
+        self.assertEqual([it.target for it in read_below(self.scratch, "x", ("program",))], ["x/program"])
 
 
 if __name__ == "__main__":

@@ -21,8 +21,8 @@ def main():
 class ProcessTest(RoomTest):
     def shell(self, body, redirected="", **options):
         """Runs a tool whose `main` has this body, from a shell with the redirections `redirected`."""
-        place = self.write("tool", HEAD + textwrap.indent(body, "    ") + "\nrun(main)\n")
-        command = f"exec {sys.executable} {place} {redirected}"
+        path = self.write("tool", HEAD + textwrap.indent(body, "    ") + "\nrun(main)\n")
+        command = f"exec {sys.executable} {path} {redirected}"
         return subprocess.run(["bash", "-c", command], capture_output=True, **options)
 
     def check(self, status, errors, body, redirected=""):
@@ -71,10 +71,10 @@ class Devices(ProcessTest):
             self.check(0, "", "return Status.DONE", redirected)
 
     def test_a_line_does_not_land_in_a_file_that_is_opened(self):
-        place = self.place("opened")
-        body = f"file = open({place!r}, 'w'); print_lines(['left out']); return Status.DONE"
+        path = self.path_of("opened")
+        body = f"file = open({path!r}, 'w'); print_lines(['left out']); return Status.DONE"
         self.assertEqual(self.check(3, "", body, "2>&-"), b"")
-        with open(place) as file:
+        with open(path) as file:
             self.assertEqual(file.read(), "")
 
     def test_standard_output_full_or_closed(self):
@@ -86,22 +86,22 @@ class Devices(ProcessTest):
     def test_a_device_that_takes_a_part_is_full(self):
         limit = lambda: resource.setrlimit(resource.RLIMIT_FSIZE, (65_536, 65_536))  # noqa: E731
         for unbuffered in ("", "1"):
-            place = self.place("part")
-            done = self.shell("sys.stdout.buffer.write(b'x' * 100_000); return Status.DONE", f">{place}",
+            path = self.path_of("part")
+            done = self.shell("sys.stdout.buffer.write(b'x' * 100_000); return Status.DONE", f">{path}",
                               env={**os.environ, "PYTHONUNBUFFERED": unbuffered}, preexec_fn=limit)
             self.assertEqual((done.returncode, done.stderr), (3, b"tool: File too large\n"))
-            self.assertEqual(os.path.getsize(place), 65_536)
+            self.assertEqual(os.path.getsize(path), 65_536)
 
 
 class Signals(ProcessTest):
     def test_a_signal_cleans_up_and_ends_the_tool(self):
-        place = self.place("tool")
-        with open(place, "w") as file:
+        path = self.path_of("tool")
+        with open(path, "w") as file:
             file.write(HEAD + "    try:\n        print('ready', flush=True)\n"
                        "        while True:\n            time.sleep(0.01)\n"
                        "    finally:\n        print('clean', flush=True)\nrun(main)\n")
         for number in (signal.SIGHUP, signal.SIGINT, signal.SIGTERM):
-            with subprocess.Popen([sys.executable, place], stdout=subprocess.PIPE, stderr=subprocess.PIPE,
+            with subprocess.Popen([sys.executable, path], stdout=subprocess.PIPE, stderr=subprocess.PIPE,
                                   preexec_fn=heeding(number)) as tool:
                 self.assertEqual(tool.stdout.readline(), b"ready\n")
                 tool.send_signal(number)

@@ -303,7 +303,7 @@ class Others(Examples):
         self.assertEqual(ran()[0], 2)
         self.assertEqual(ran("--explain=65", *words), (2, "recheck: there is no row 65\n"))
         self.assertEqual(ran("--\x1b", *words), (2, "recheck: unrecognized arguments: --\\u001b\n"))
-        self.assertEqual(ran(*words, self.place("no\x1b"))[0], 3)
+        self.assertEqual(ran(*words, self.path_of("no\x1b"))[0], 3)
         self.assertEqual(ran(*words, self.scratch)[0], 3)
         self.assertEqual(ran(*words, preexec_fn=lambda: os.close(1))[0], 3)
         for stream in ("stdout", "stderr"):

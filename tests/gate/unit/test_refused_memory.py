@@ -12,12 +12,12 @@ refused_memory = script("tests/program/refused_memory")
 
 class FirstRuns(unittest.TestCase):
     def setUp(self):
-        self.room = tempfile.TemporaryDirectory()
-        self.addCleanup(self.room.cleanup)
+        self.scratch = tempfile.TemporaryDirectory()
+        self.addCleanup(self.scratch.cleanup)
 
     def counted(self, lines, is_program=False):
         """Counts the requests of a stand-in that runs these lines of sh. It tells that it made three requests."""
-        stand_in = f"{self.room.name}/stand_in"
+        stand_in = f"{self.scratch.name}/stand_in"
         with open(stand_in, "w", encoding="utf-8") as file:
             file.write(f'#!/bin/sh\n{lines}\nstatus=$?\necho 3 >>"$REFUSE_LOG"\nexit $status\n')
         os.chmod(stand_in, stat.S_IRWXU)

@@ -18,11 +18,11 @@ MEMORY = f'import sys; taken = bytearray(b"1" * {2 * megabyte.MOST_KILOBYTES * 1
 
 class Megabytes(unittest.TestCase):
     def costly(self, shapes, script):
-        with tempfile.TemporaryDirectory() as room, contextlib.redirect_stdout(io.StringIO()) as printed:
-            program = pathlib.Path(room, "program")
+        with tempfile.TemporaryDirectory() as scratch, contextlib.redirect_stdout(io.StringIO()) as printed:
+            program = pathlib.Path(scratch, "program")
             program.write_text(f"#!{sys.executable}\n{script}\n", encoding="utf-8")
             program.chmod(0o755)
-            costly = megabyte.too_costly(shapes, str(program), os.path.join(room, "inputs"))
+            costly = megabyte.too_costly(shapes, str(program), os.path.join(scratch, "inputs"))
         return costly, printed.getvalue().splitlines()[-1].split(" | ")[-1]
 
     def test_the_files_have_about_a_megabyte(self):

@@ -28,13 +28,13 @@ run(lambda: write_files([(sys.argv[1], ["x"]), (sys.argv[2], pieces())]) or Stat
 class WholeFiles(RoomTest):
     def setUp(self):
         super().setUp()
-        self.first, self.second = map(self.place, ("first", "second"))
+        self.first, self.second = map(self.path_of, ("first", "second"))
 
     def texts(self):
         """Returns the text of each file in the folder."""
         texts = {}
         for name in os.listdir(self.scratch):
-            with open(self.place(name)) as file:
+            with open(self.path_of(name)) as file:
                 texts[name] = file.read()
         return texts
 
@@ -62,7 +62,7 @@ class WholeFiles(RoomTest):
         def pieces():
             yield "new"
             (folder,) = (name for name in os.listdir(self.scratch) if name.startswith(".new-"))
-            seen.append(stat.S_IMODE(os.stat(self.place(folder)).st_mode))
+            seen.append(stat.S_IMODE(os.stat(self.path_of(folder)).st_mode))
 
         seen = []
         self.put(self.first, mode=0o600)
@@ -78,7 +78,7 @@ class WholeFiles(RoomTest):
         self.assertEqual((file.st_uid, file.st_gid, stat.S_IMODE(file.st_mode)), (65534, 65533, 0o755))
 
     def test_none_is_replaced_where_one_cannot_be(self):
-        really, third = os.replace, self.place("third")
+        really, third = os.replace, self.path_of("third")
 
         def replace(old, new):
             if new == third and old.endswith("new"):
@@ -109,7 +109,7 @@ class WholeFiles(RoomTest):
         self.assertEqual(self.texts(), {"first": "old"})
 
     def test_files_of_other_runs_stay(self):
-        others = [self.first + f".{os.getpid()}.new", self.place(".new-other")]
+        others = [self.first + f".{os.getpid()}.new", self.path_of(".new-other")]
         for other in others:
             self.put(other)
         whole_files.write_files([(self.first, ["new"])])
