@@ -34,10 +34,10 @@ def relation(one: str, kind: str, other: str) -> dict[str, str]:
 
 
 def of_kit(crate: KitCrate, version: str) -> dict[str, Any]:
-    told = {"versionInfo": crate.ported.partition(" ")[2] or version}
+    details = {"versionInfo": crate.ported.partition(" ")[2] or version}
     if crate.ported:
-        told["comment"] = f"ported from the Rust crate {crate.ported}"
-    return part(identifier(KIT, crate.name), crate.name, crate.licence, **told)
+        details["comment"] = f"ported from the Rust crate {crate.ported}"
+    return part(identifier(KIT, crate.name), crate.name, crate.licence, **details)
 
 
 def parts(source: Source, packed: Mapping[str, bytes], of_the_kit: Sequence[KitCrate]) -> list[dict[str, Any]]:
@@ -50,8 +50,8 @@ def parts(source: Source, packed: Mapping[str, bytes], of_the_kit: Sequence[KitC
         found.append(part(identifier("package", name), name, "NONE", versionInfo=source.version, packageFileName=name,
                           checksums=[digest], licenseComments=NO_LICENCE))
     for name, crate in source.crates.items():
-        told = f"SHA-256 of all that the proof read, and of the kit's version: {crate.proof}"
-        found.append(part(identifier("crate", name), name, "NONE", versionInfo=source.version, comment=told))
+        comment = f"SHA-256 of all that the proof read, and of the kit's version: {crate.proof}"
+        found.append(part(identifier("crate", name), name, "NONE", versionInfo=source.version, comment=comment))
     return [*found, *(of_kit(it, kit_version) for it in of_the_kit)]
 
 

@@ -95,11 +95,11 @@ def documents(package: Package, source: Source, maintainer: str) -> list[File]:
 def control(package: Package, source: Source, maintainer: str, files: Sequence[File]) -> str:
     """Returns the control file. Each file and each folder takes at least a kilobyte."""
     kilobytes = sum(-(-len(it.content) // 1024) for it in files if not it.is_link) + len(folders_of(files))
-    told = {"Package": package.name, "Source": "xbrlmerge", "Version": version_of(source.version), "Maintainer": maintainer,
+    fields = {"Package": package.name, "Source": "xbrlmerge", "Version": version_of(source.version), "Maintainer": maintainer,
             "Installed-Size": str(kilobytes), "Priority": "optional", **package.fields}
-    if package.name == told["Source"]:
-        del told["Source"]
-    lines = [f"{key}: {value}" for key, value in told.items()]
+    if package.name == fields["Source"]:
+        del fields["Source"]
+    lines = [f"{key}: {value}" for key, value in fields.items()]
     return "\n".join([*lines, f"Description: {package.about}",
                       " The merged report has the same bytes whatever the order, grouping or",
                       " repetition of the input. That, and every verdict, is proved.", ""])
@@ -111,8 +111,8 @@ def make(source: Source, folder: str, scratch: str) -> None:
     for package in packages(source):
         files = [*package.files, *documents(package, source, maintainer)]
         sums = "".join(f"{hashlib.md5(it.content, usedforsecurity=False).hexdigest()}  {it.target}\n" for it in files if not it.is_link)
-        told = {"control": control(package, source, maintainer, files), "md5sums": sums, **package.control}
-        files += [File(f"DEBIAN/{name}", text.encode(), RUNS if text.startswith("#!") else PLAIN) for name, text in told.items()]
+        texts = {"control": control(package, source, maintainer, files), "md5sums": sums, **package.control}
+        files += [File(f"DEBIAN/{name}", text.encode(), RUNS if text.startswith("#!") else PLAIN) for name, text in texts.items()]
         tree = os.path.join(scratch, package.name)
         lay_out(files, tree, source.seconds)
         name = f"{package.name}_{version_of(source.version)}_{package.fields['Architecture']}.deb"

@@ -41,12 +41,12 @@ def page(tool: str, text: str, version: str) -> str:
     text = re.sub(r"\btools/(\w+)", lambda found: command_of(found[1]) if found[1] in TOOLS else found[0], text)
     _, about, synopsis, *paragraphs = text.rstrip("\n").split("\n\n")
     first = next(index for index, it in enumerate(paragraphs) if re.match(r"\w[^\n]*:\n  \S", it))
-    told = paragraphs[:first]
-    statuses = [it for it in told if it.startswith("Status 0")]
+    description = paragraphs[:first]
+    statuses = [it for it in description if it.startswith("Status 0")]
     command, own = command_of(tool), about[:1].lower() + about[1:].rstrip(".")
     pieces = [HEAD.format(tool=tool, title=command.upper(), version=version, command=escaped(command), about=escaped(own),
                           synopsis=escaped("\n".join(line.strip() for line in synopsis.splitlines())))]
-    pieces.append(".PP\n".join(paragraph(it) for it in told if it not in statuses))
+    pieces.append(".PP\n".join(paragraph(it) for it in description if it not in statuses))
     pieces += [section(it) for it in paragraphs[first:]]
     pieces += [f".SH EXIT STATUS\n{paragraph(it)}" for it in statuses]
     return "".join([*pieces, TAIL])
@@ -80,8 +80,8 @@ def section(text: str) -> str:
             entries[-1] = entries[-1][0], f"{entries[-1][1]} {line.strip()}".strip()
         else:
             entries.append((found[1], found[2] or ""))
-    told = [f".TP\n.B {escaped(head(names))}\n{escaped(meaning) or '.br'}\n" for names, meaning in entries if names != HELP]
-    return f".SH {title.upper()}\n{''.join(told)}"
+    listed = [f".TP\n.B {escaped(head(names))}\n{escaped(meaning) or '.br'}\n" for names, meaning in entries if names != HELP]
+    return f".SH {title.upper()}\n{''.join(listed)}"
 
 
 def head(names: str) -> str:

@@ -68,10 +68,10 @@ def _commands(program: str, info: str) -> Dict[str, bytes]:
 
 
 def _information(tag: str, info: str) -> Dict[str, bytes]:
-    told = {"Metadata-Version": "2.1", "Name": _project("name"), "Version": _project("version"), "Summary": _project("description"),
+    fields = {"Metadata-Version": "2.1", "Name": _project("name"), "Version": _project("version"), "Summary": _project("description"),
             "Requires-Python": _project("requires-python")}
     wheel = f"Wheel-Version: 1.0\nGenerator: {_project('name')}\nRoot-Is-Purelib: false\nTag: {tag}\n"
-    return {f"{info}/METADATA": "".join(f"{key}: {value}\n" for key, value in told.items()).encode(), f"{info}/WHEEL": wheel.encode()}
+    return {f"{info}/METADATA": "".join(f"{key}: {value}\n" for key, value in fields.items()).encode(), f"{info}/WHEEL": wheel.encode()}
 
 
 def _record(files: Dict[str, bytes], info: str) -> str:
@@ -95,9 +95,9 @@ def make_wheel(folder: str, library: str = LIBRARY, program: Optional[str] = Non
     name = f"{stem}-{tag}.whl"
     with zipfile.ZipFile(os.path.join(folder, name), "w", zipfile.ZIP_DEFLATED) as wheel:
         for path, content in files.items():
-            told = zipfile.ZipInfo(path, TIME)
-            told.external_attr = (RUNS if path.endswith(".so") or "/scripts/" in path else PLAIN) << 16
-            wheel.writestr(told, content, zipfile.ZIP_DEFLATED)
+            entry = zipfile.ZipInfo(path, TIME)
+            entry.external_attr = (RUNS if path.endswith(".so") or "/scripts/" in path else PLAIN) << 16
+            wheel.writestr(entry, content, zipfile.ZIP_DEFLATED)
     return name
 
 

@@ -39,11 +39,11 @@ OWN_NAME = os.path.basename(COMMAND)
 class Refused(Exception):
     """The number and the name of a refusal, and its place."""
 
-def read_report(content: bytes, sheet: Sheet, told: int = 0) -> tuple[dict[str, Fact], set[str], list[str]]:
-    """Returns the facts of a report by identifier, its references, and its URLs that are not plain. `told` is its number in --refusals,
+def read_report(content: bytes, sheet: Sheet, number: int = 0) -> tuple[dict[str, Fact], set[str], list[str]]:
+    """Returns the facts of a report by identifier, its references, and its URLs that are not plain. `number` is its number in --refusals,
     or 0. Errors: Refused, for NotJson, the lowest condition of the document, that of the first faulty fact, or DisallowedDuplicates."""
     tree = read_json(content, " at document")
-    refuse_lowest(document_conditions(tree, told), " at document")
+    refuse_lowest(document_conditions(tree, number), " at document")
     info, objects = tree["documentInfo"], sorted(at(tree, "facts", {}).items())  # texts sort as their UTF-8 bytes do
     uris, urls = at(info, "namespaces", {}), at(info, "taxonomy", [])
     facts = {own: read_fact(fact, uris, sheet, f" at fact {place}") for place, (own, fact) in enumerate(objects, 1)}
@@ -67,7 +67,7 @@ DOCUMENT_KEYS, FACT_KEYS = ("documentInfo", "facts"), ("value", "decimals", "dim
 INFORMATION_KEYS = ("documentType", "namespaces", "taxonomy", "baseURL", "features", "linkTypes", "linkGroups")
 CORE_TEXTS, MISFIT = ("concept", "entity", "period", "unit", "language"), (3, "")
 
-def document_conditions(tree: Tree, told: int) -> list[tuple[int, bool]]:
+def document_conditions(tree: Tree, number: int) -> list[tuple[int, bool]]:
     info = at(tree, "documentInfo")
     namespaces, features, urls = at(info, "namespaces", {}), at(info, "features", {}), at(info, "taxonomy", [])
     levels, base = declared_levels(info), at(info, "baseURL", XBRL)  # an absent base URL counts as a plain one
@@ -76,8 +76,8 @@ def document_conditions(tree: Tree, told: int) -> list[tuple[int, bool]]:
         (3, has_unknown(tree, DOCUMENT_KEYS) or has_unknown(info, INFORMATION_KEYS)),
         (4, at(info, "documentType") != DOCUMENT_TYPE),
         (5, binds_nothing(namespaces)),
-        (6, is_url_refused(base, told == 6) or not WEB.match(base)),
-        (7, isinstance(urls, list) and any(is_url_refused(url, told == 7) for url in urls)),
+        (6, is_url_refused(base, number == 6) or not WEB.match(base)),
+        (7, isinstance(urls, list) and any(is_url_refused(url, number == 7) for url in urls)),
         (8, len(levels) > 1 or any(level not in RANKS for level in levels)),
     ]
 
@@ -352,7 +352,7 @@ def evidence(row: Sequence[tuple[str, Value]]) -> str:
 
 class Run:
     """What the sheet and the reports of a run give: facts with their identifiers, rows, and the lines that are printed."""
-    def __init__(self, sheet: bytes, reports: Sequence[str], told: Mapping[str, str]) -> None:
+    def __init__(self, sheet: bytes, reports: Sequence[str], numbers: Mapping[str, str]) -> None:
         self.sheet: Sheet = {}
         refused, accepted = [], []
         try:
@@ -361,7 +361,7 @@ class Run:
             refused.append(f"sheet: {fault}\n")
         for number, path in enumerate(reports if self.sheet else [], 1):
             try:
-                accepted.append((number, *read_report(Path(path).read_bytes(), self.sheet, int(told.get(str(number), 0)))))
+                accepted.append((number, *read_report(Path(path).read_bytes(), self.sheet, int(numbers.get(str(number), 0)))))
             except Refused as fault:
                 refused.append(f"report {number}: {fault}\n")
         self.objects = [(fact, number, own) for number, facts, _, _ in accepted for own, fact in facts.items()]
@@ -424,8 +424,8 @@ def main() -> int:
     options = parser.parse_intermixed_args(sys.argv[1:end])
     options.reports += sys.argv[end + 1:]
     given = {name: Path(getattr(options, name)).read_bytes() for name in texts if getattr(options, name)}
-    told = dict(re.findall(r"^report (\d+): (\d+) ", given.get("refusals", b"").decode(errors="replace"), re.MULTILINE | re.ASCII))
-    run = Run(Path(options.sheet).read_bytes(), options.reports, told)
+    numbers = dict(re.findall(r"^report (\d+): (\d+) ", given.get("refusals", b"").decode(errors="replace"), re.MULTILINE | re.ASCII))
+    run = Run(Path(options.sheet).read_bytes(), options.reports, numbers)
     if options.explain is not None and not 1 <= options.explain <= len(run.rows):
         parser.error(f"there is no row {options.explain}")
     lines = [*explanation(options.explain, run.rows[options.explain - 1])] if options.explain else []

@@ -126,7 +126,7 @@ class Run:
                 repeated.setdefault(accepted[index], FaultGroup(None, fault, line_of(fault))).add(fault)
         except NotDone as fault:
             self.notes += [f"repeated members are not listed: {line}" for line in fault.args]
-        self.notes += [f"{self.reports[index].path}: {group.told(self.options)[0]}" for index, group in repeated.items()]
+        self.notes += [f"{self.reports[index].path}: {group.line_for(self.options)[0]}" for index, group in repeated.items()]
         self.losses += [f"{counted(len(repeated), 'report')} with repeated members"] * bool(repeated)
 
     def read(self, command: str, paths: list[str]) -> dict[int, str]:

@@ -1,5 +1,5 @@
 // Opens groups and filters rows. Without scripts there is no filter, and `noscript` names the tables with the rows.
-const box = document.querySelector(".filter"), [field, told] = [box.querySelector("input"), box.querySelector("output")];
+const box = document.querySelector(".filter"), [field, result] = [box.querySelector("input"), box.querySelector("output")];
 const list = document.querySelector(".list"), every = document.querySelector(".every"), found = document.querySelector(".found"), MOST = 100, MOST_PRINTED = 2_000_000;
 const groups = [...document.querySelectorAll("details.group")], texts = groups.map(group => group.querySelector("script"));
 const SIGNS = {"&amp;": "&", "&lt;": "<", "&gt;": ">", "&quot;": '"', "&#x27;": "'"};
@@ -66,7 +66,7 @@ function filter() {
   name(found);
   list.hidden = words.length > 0;
   const count = `${kept.length} of ${rows.length} contradictions, ${others.length} of ${lines.length} rows`;
-  told.value = !words.length ? "" : count + (Math.max(kept.length, others.length) > MOST ? `; the first ${MOST} of each are shown` : "");
+  result.value = !words.length ? "" : count + (Math.max(kept.length, others.length) > MOST ? `; the first ${MOST} of each are shown` : "");
 }
 
 document.addEventListener("toggle", event => event.target.matches("details.group") && load(event.target), true);

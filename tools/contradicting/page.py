@@ -97,8 +97,8 @@ def refused(refusals: Refusals) -> Iterator[str]:
         yield '<section class="refused"><h2>Refused reports</h2><p>The page has no figures from these reports.</p>'
         yield "".join(f"<p>{html.escape(printable(line))}</p>" for line in refusals.lacking_lines())
         for report in refusals.reports:
-            told = [*(f"{line} mends this" for line in report.remedies), *report.shown()]
-            lines = "".join(f"<li><bdi>{html.escape(printable(line))}</bdi>" for line in told)
+            shown_lines = [*(f"{line} mends this" for line in report.remedies), *report.shown()]
+            lines = "".join(f"<li><bdi>{html.escape(printable(line))}</bdi>" for line in shown_lines)
             yield f"<h3><bdi>{html.escape(printable(report.path))}</bdi></h3><ul>{lines}</ul>\n"
         yield "</section>\n"
 
@@ -174,9 +174,9 @@ def groups(title: str, rows: list[Row], anchor: str, found: Found) -> Iterator[s
     first group has the anchor."""
     for start in range(0, len(rows), CHUNK):
         last = min(start + CHUNK, len(rows))
-        told = f"{start + 1} to {last} of {len(rows)} rows" if len(rows) > CHUNK else f"{last} row{'s' * (last > 1)}"
+        extent = f"{start + 1} to {last} of {len(rows)} rows" if len(rows) > CHUNK else f"{last} row{'s' * (last > 1)}"
         identifier = f' id="{anchor}"' * (start == 0)
-        yield f'<details class="group"{identifier}><summary>{title} {told}</summary><script type="text/html">'
+        yield f'<details class="group"{identifier}><summary>{title} {extent}</summary><script type="text/html">'
         for row in rows[start:last]:
             yield from section(row, found.reader, found.labels)
         yield "</script></details>\n"

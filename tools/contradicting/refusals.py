@@ -51,9 +51,9 @@ class Refusals:
             names = self.lacking.get(LACKING.get(fault["name"], ""))
             if names is not None and len(names) < MOST_NAMES:
                 names[shortened(fault["part"])] = None
-        told = [group.told(self.options) for group in groups.values()] if self.options else []
-        lines = tuple(line for line, _ in told) or (refusal,)
-        remedies = tuple(line for line, has_option in told if has_option)
+        lines_found = [group.line_for(self.options) for group in groups.values()] if self.options else []
+        lines = tuple(line for line, _ in lines_found) or (refusal,)
+        remedies = tuple(line for line, has_option in lines_found if has_option)
         self.reports.append(Refused(provider, path, tuple(first or [refusal]), count or 1, lines, remedies))
 
     def lacking_lines(self, most: int = MOST_NAMES) -> Iterator[str]:

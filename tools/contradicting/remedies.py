@@ -43,7 +43,7 @@ class FaultGroup:
         self.count += not (is_other_name and fault["identifier"] is not None and fault["identifier"] == self.last["identifier"])
         self.last = fault
 
-    def told(self, options: argparse.Namespace) -> tuple[str, bool]:
+    def line_for(self, options: argparse.Namespace) -> tuple[str, bool]:
         """Returns a line about the group, and whether it names an option. A group without an option shows its first fault."""
         missing = self.remedy.missing(options) if self.remedy else ""
         if not self.remedy or not missing:

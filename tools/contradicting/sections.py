@@ -8,7 +8,7 @@ from typing import Iterator, NamedTuple, Optional
 from contradicting.facts import Fact, Interval
 from contradicting.rows import Reader, Row
 from contradicting.labels import Labels
-from contradicting.shown import escaped, in_language, other_dimensions, period, shown, start_of_cut, told, unit
+from contradicting.shown import escaped, in_language, of_holders, other_dimensions, period, shown, start_of_cut, unit
 from contradicting.sources import names_of
 from names import Name
 
@@ -33,7 +33,7 @@ def section(row: Row, reader: Reader, labels: Labels) -> Iterator[str]:
     for index, group in enumerate(row.groups):
         for name in group:
             fact = row.facts[name]
-            cells = letter(index), shown(name), told(row.holders[name]), shown(fact.value, start), *map(shown, fact.precision())
+            cells = letter(index), shown(name), of_holders(row.holders[name]), shown(fact.value, start), *map(shown, fact.precision())
             yield f'<tr{" class=odd" * (name in row.odd)}>' + "".join(f"<td>{each}" for each in cells)
             yield drawn(fact, line) if line else ""
     if line:

@@ -80,10 +80,10 @@ def other_dimensions(row: Row, labels: Labels) -> Iterator[tuple[str, str]]:
         yield shown_label(axis, labels), shown_label(member, labels) if isinstance(member, Name) else shown(member)
 
 
-def told(holders: Holders) -> str:
+def of_holders(holders: Holders) -> str:
     """Returns the HTML for the providers of a fact, with the fact's known identifiers. The title of an identifier is its file; if
     a provider has several reports, the name of the file is shown, too."""
-    return "; ".join(map(told_by, holders))
+    return "; ".join(map(of_holder, holders))
 
 
 def titled(identifier: Identifier) -> str:
@@ -91,7 +91,7 @@ def titled(identifier: Identifier) -> str:
     return f'<span title="{escaped(printable(identifier.path))}">{text}</span>' if identifier.path else text
 
 
-def told_by(holder: Holder) -> str:
+def of_holder(holder: Holder) -> str:
     files = []
     for file, identifiers in holder.by_file():
         names = ", ".join(titled(each) for each in identifiers)

@@ -125,8 +125,8 @@ def table(rows: Sequence[Row], labels: Mapping[Name, str], reader: Reader) -> It
         for name, fact in row.facts.items():
             who = row.holders[name]
             value: list[Cell] = [*value_cells(fact), *fact.precision(), groups[name], "pair" * (name in row.pair), hints.get(name, "")]
-            told = providers(who), identifiers(who), reader.reported_by(len(who)), label
-            yield [cell(row.number), cell(name), *dimensions, *map(cell, [*value, *told])]
+            reported = providers(who), identifiers(who), reader.reported_by(len(who)), label
+            yield [cell(row.number), cell(name), *dimensions, *map(cell, [*value, *reported])]
 
 
 def value_cells(fact: Fact) -> tuple[Cell, Cell]:

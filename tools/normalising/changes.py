@@ -31,22 +31,22 @@ class Log:
 
     def tell(self, path: Path, rule: str, loss: bool, **values: Tree) -> None:
         """Adds the line for a change at a path, with the old value, and with the new value unless a member was removed."""
-        told = {key: brief_of(value) for key, value in values.items()}
-        self.add(path, told, rule, loss, is_long(path) or told != values)
+        details = {key: brief_of(value) for key, value in values.items()}
+        self.add(path, details, rule, loss, is_long(path) or details != values)
 
     def tell_moved(self, path: Path, name: str, rule: str, was: Tree) -> None:
-        told = {"was": brief_of(was), "moved": pointer_of((*path[:-1], name))}
-        self.add(path, told, rule, False, is_long(path) or told["was"] != was)
+        details = {"was": brief_of(was), "moved": pointer_of((*path[:-1], name))}
+        self.add(path, details, rule, False, is_long(path) or details["was"] != was)
 
     def tell_dropped(self, path: Path, reason: Reason, was: Tree) -> None:
         """Adds the line for a dropped fact, and removes the fact's other lines."""
         self.lines, self.left, self.is_lossy = [], [], False
-        told = {"was": brief_of(was), "why": reason.why.format(*map(shortened, reason.names))}
-        self.add(path, told, reason.rule, True, is_long((*path, *reason.names)) or told["was"] != was)
+        details = {"was": brief_of(was), "why": reason.why.format(*map(shortened, reason.names))}
+        self.add(path, details, reason.rule, True, is_long((*path, *reason.names)) or details["was"] != was)
 
-    def add(self, path: Path, told: dict[str, Tree], rule: str, loss: bool, is_shortened: bool) -> None:
+    def add(self, path: Path, details: dict[str, Tree], rule: str, loss: bool, is_shortened: bool) -> None:
         line: dict[str, Tree] = {"fact": None if self.fact is None else shortened(self.fact), "pointer": pointer_of(path)}
-        line |= {**told, "rule": rule, "loss": loss}
+        line |= {**details, "rule": rule, "loss": loss}
         if is_shortened:
             line["shortened"] = True
         if self.fact is not None and is_long((self.fact,)):

@@ -15,8 +15,8 @@ LOSSES = {
 def add_losses(parser: argparse.ArgumentParser, title: str) -> argparse._ArgumentGroup:
     """Adds the lossy options to a parser as a group, and returns the group."""
     lossy = parser.add_argument_group(title)
-    for word, told in LOSSES.items():
-        lossy.add_argument(f"--{word}", action="store_true", help=told)
+    for word, meaning in LOSSES.items():
+        lossy.add_argument(f"--{word}", action="store_true", help=meaning)
     lossy.add_argument("--dates", choices=["xbrl21"], help="read a date without a time as XBRL 2.1 does: a start is"
                        " the beginning of its day, and an instant or an end is the end of its day")
     lossy.add_argument("--zones", choices=["utc"], help="convert moments with a time zone to UTC, and remove the zone")
