@@ -45,7 +45,8 @@ class Labelled(Taxonomy):
     def name_at(self, href: str, base: str) -> Optional[Name]:
         """Returns the name of the element or type that `href` refers to, or None. `base` is the document that contains `href`."""
         location, _, identifier = href.partition("#")
-        return self.identified.get((self.rewrites.path_of(location, base)[0], identifier))
+        path = next((path for path, _ in self.rewrites.paths_of(location, base) if path in self.read), "")
+        return self.identified.get((path, identifier))
 
     def keep(self, name: Name, label: Label) -> None:
         if label.counts_before(self.labels.get(name)):

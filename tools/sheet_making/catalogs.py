@@ -6,7 +6,7 @@ import functools
 import os
 import re
 from dataclasses import dataclass
-from typing import Optional
+from typing import Iterator
 from urllib.parse import unquote
 
 from names import Name
@@ -15,6 +15,7 @@ from sheet_making.xml_reading import Element, Visitor
 REWRITE = Name("urn:oasis:names:tc:entity:xmlns:xml:catalog", "rewriteURI")
 ABSOLUTE = re.compile(r"[A-Za-z][A-Za-z0-9+.-]*:")  # the scheme of an absolute URI (RFC 3986, section 3.1)
 MOST_LENGTHS = 1_000  # different lengths of uriStartString; a lookup may try each
+MOST_RULES = 100  # rules with one uriStartString; a lookup may try each
 
 
 @dataclass(frozen=True)
@@ -27,32 +28,36 @@ class Rewrite:
 
 
 class Rules:
-    """Rules by their `start`. If several rules have one start, the first counts."""
+    """Rules by their `start`."""
 
     def __init__(self) -> None:
-        self.rules: dict[str, Rewrite] = {}
+        self.rules: dict[str, list[Rewrite]] = {}
         self.lengths: list[int] = []  # the different lengths, the shortest first
 
     def add(self, rule: Rewrite) -> None:
-        self.rules.setdefault(rule.start, rule)
+        rules = self.rules.setdefault(rule.start, [])
+        rules.append(rule)
+        if len(rules) > MOST_RULES:
+            raise ValueError(f"more than {MOST_RULES} rules have one uriStartString")
         at = bisect.bisect_left(self.lengths, len(rule.start))
         if self.lengths[at : at + 1] != [len(rule.start)]:
             self.lengths.insert(at, len(rule.start))
         if len(self.lengths) > MOST_LENGTHS:
             raise ValueError(f"the uriStartStrings have more than {MOST_LENGTHS} different lengths")
 
-    def rule_of(self, location: str) -> Optional[Rewrite]:
-        """Returns the rule with the longest matching start, or None."""
+    def rules_of(self, location: str) -> Iterator[Rewrite]:
+        """Returns the rules whose start matches: those with longer starts first, and those with one start in their order."""
         lengths = self.lengths[: bisect.bisect_right(self.lengths, len(location))]
-        starts = (location[:length] for length in reversed(lengths))
-        return next((self.rules[start] for start in starts if start in self.rules), None)
+        for length in reversed(lengths):
+            yield from self.rules.get(location[:length], ())
 
 
 class Rewrites(Visitor):
     """The rules of all catalogs.
 
     Only absolute URIs are rewritten. The package of a document is the nearest folder around it with a META-INF/catalog.xml; a rule
-    of this catalog precedes the rules of all others, so that no package replaces what another one maps to its own files.
+    of this catalog precedes the rules of all others, so that no package replaces what another one maps to its own files. Packages
+    of one publisher may have rules with the same start, so several rules are tried.
     """
 
     def __init__(self) -> None:
@@ -63,7 +68,7 @@ class Rewrites(Visitor):
 
     def open(self, catalog: str) -> Rewrites:
         """Returns itself, and adds the rules that it then visits to those of this catalog. Open all catalogs before the first
-        call of `path_of`."""
+        call of `paths_of`."""
         self.catalog = catalog
         self.own[os.path.dirname(os.path.dirname(catalog))] = Rules()
         return self
@@ -82,11 +87,16 @@ class Rewrites(Visitor):
             folder = os.path.dirname(folder)
         return self.own.get(folder) or Rules()
 
-    def path_of(self, location: str, base: str) -> tuple[str, str]:
-        """Returns the path that `location` names in the document at `base`. Also returns the document or catalog against which
-        the location was resolved."""
+    def paths_of(self, location: str, base: str) -> Iterator[tuple[str, str]]:
+        """Returns the paths that `location` may name in the document at `base`, the one that counts first. With each path, returns
+        the document or catalog against which the location was resolved."""
         if ABSOLUTE.match(location):
-            rule = self.rules_around(os.path.dirname(base)).rule_of(location) or self.all.rule_of(location)
-            if rule:
-                location, base = rule.prefix + location[len(rule.start) :], rule.catalog
-        return os.path.normpath(os.path.join(os.path.dirname(base), unquote(location))), base
+            for rules in (self.rules_around(os.path.dirname(base)), self.all):
+                for rule in rules.rules_of(location):
+                    yield resolved(rule.prefix + location[len(rule.start) :], rule.catalog), rule.catalog
+        yield resolved(location, base), base
+
+
+def resolved(location: str, base: str) -> str:
+    """Returns the path that a relative location names in the document at `base`."""
+    return os.path.normpath(os.path.join(os.path.dirname(base), unquote(location)))

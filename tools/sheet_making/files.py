@@ -5,7 +5,7 @@ import os
 import pathlib
 import stat
 import zipfile
-from typing import Iterable, Optional
+from typing import Iterable
 
 from sheet_making.limits import PIECE, Limits, reading, too_long
 from sheet_making.packages import Package
@@ -22,7 +22,7 @@ class Files:
         self.listed: list[str] = []  # files that are named, or are in a named folder or package
         self.named: set[str] = set()
         self.folders: set[str] = set()  # files on disk are read only in these folders, except with --outside
-        for word in dict.fromkeys([os.path.abspath(word) for word in words]):
+        for word in dict.fromkeys([word and os.path.abspath(word) for word in words]):
             with reading(word):
                 self.listed += sorted(self.paths_of(word))
 
@@ -52,14 +52,12 @@ class Files:
         """Returns the .xml files that are named themselves or are in the named folders and packages."""
         return sorted(path for path in self.listed if path.lower().endswith(".xml"))
 
-    def found(self, path: str, origin: str) -> Optional[str]:
-        """Returns `path` if it is a file to which the document at `origin` may refer, otherwise None.
+    def is_found(self, path: str, origin: str) -> bool:
+        """Returns whether the document at `origin` may refer to the path, and a file is there.
 
         Packages cannot refer to files on disk.
         """
-        if path in self.packed:
-            return path
-        return path if origin not in self.packed and os.path.isfile(path) else None
+        return path in self.packed or origin not in self.packed and os.path.isfile(path)
 
     def pieces(self, path: str) -> Iterable[bytes]:
         """Returns the bytes of a file in pieces.

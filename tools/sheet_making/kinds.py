@@ -13,11 +13,15 @@ Kinds = dict[str, dict[Name, str]]  # the kinds in each table of a sheet; a "set
 
 XBRLI = "http://www.xbrl.org/2003/instance"
 ENUMERATIONS_1, ENUMERATIONS_2 = "http://xbrl.org/2014/extensible-enumerations", "http://xbrl.org/2020/extensible-enumerations-2.0"
-REGISTRY = "registry"  # replaces each namespace of the data type registry
+REGISTRY = "http://www.xbrl.org/dtr/type"  # replaces each namespace of the data type registry
 HEADS = {Name(XBRLI, "item"): "concepts", Name(XBRLDT, "dimensionItem"): "dimensions"}
 # Of the elements in the specifications, only those in HEADS can be heads of concepts or dimensions. Namespaces at xbrl.org that
 # do not match SPECIFICATION belong to taxonomies.
 SPECIFICATION = re.compile(r"https?://(www\.w3\.org/|(www\.)?xbrl\.org/(\d{4}|dtr|lrr)/)")
+# The elements of these specifications that can be heads are known: those in HEADS, and OTHER_HEADS.
+OF_HEADS = re.compile(r"https?://(www\.)?xbrl\.org/\d{4}/(instance|xbrldt)")
+OTHER_HEADS = (Name(XBRLI, "tuple"), Name(XBRLDT, "hypercubeItem"))
+EXTENSIBLE = re.compile(r"https?://(www\.)?xbrl\.org/(.*/)?extensible-enumerations")
 REGISTERED = re.compile(r"http://www\.xbrl\.org/dtr/type/(numeric|non-numeric|\d{4}-\d\d-\d\d)")
 # The item types of XBRL 2.1 (section 5.1.1.3) except fractions, of extensible enumerations 1.0 and 2.0, and some of the data type
 # registry (http://www.xbrl.org/dtr/dtr.xml). They were written down from memory, not read from schemas. Other types of the
@@ -48,7 +52,7 @@ def is_specification(uri: str) -> bool:
 
 @functools.lru_cache(maxsize=None)
 def is_of_enumerations(uri: str) -> bool:
-    return "/extensible-enumerations" in uri
+    return bool(EXTENSIBLE.match(uri))
 
 
 def listed(name: Name) -> Name:
@@ -58,7 +62,7 @@ def listed(name: Name) -> Name:
 
 def kinds_of(elements: Mapping[Name, Declaration], types: Mapping[Name, Optional[Name]]) -> tuple[Kinds, list[str]]:
     """Returns the kinds of concepts and dimensions, and a line for each omitted element that reports might use."""
-    judge = Judge({name: each for name, each in elements.items() if not is_specification(name.uri)}, types)
+    judge = Judge({name: each for name, each in elements.items() if name.uri not in (XBRLI, XBRLDT)}, types)
     kinds: Kinds = {table: {} for table in TABLES}
     lines = []
     for name in sorted(judge.elements):
@@ -84,7 +88,7 @@ class Judge:
         """Returns the table and the kind of an element, and the reason to leave it out if it has no kind. All three are None if
         reports cannot use the element."""
         head, element = self.heads[name], self.elements[name]
-        if head and not is_specification(head.uri):
+        if head and is_unknown(head):
             return None, None, f"its head {head.shown()} is unknown, or leads to itself"
         table = HEADS.get(head) if head else None
         if table and name.uri in ("", XBRL):
@@ -101,6 +105,13 @@ class Judge:
         having = self.elements.get(self.typed.get(name, name) or name)
         first = having.type if having and having.type else ANY_TYPE
         return self.bases.get(first, first) or ANY_TYPE
+
+
+def is_unknown(head: Name) -> bool:
+    """Returns whether the head at the end of a chain may be the head of a concept or dimension, but is not known."""
+    if OF_HEADS.fullmatch(head.uri):
+        return head not in HEADS and head not in OTHER_HEADS
+    return not is_specification(head.uri)
 
 
 def is_followed(name: Name) -> bool:

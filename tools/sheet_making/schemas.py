@@ -77,7 +77,7 @@ class SchemaVisitor(Visitor):
 
     def open_schema(self, element: Element) -> None:
         target = element.get("targetNamespace")
-        self.target = None if target is None else sys.intern(target)
+        self.target = None if target is None else sys.intern(target.strip(SPACE))
         self.namespace = self.wanted if self.target is None else self.target
         if element.name != (XS, "schema"):
             raise ValueError("it is not a schema: name the package, the folder or a schema of the taxonomy")
@@ -87,7 +87,7 @@ class SchemaVisitor(Visitor):
     def open_part(self, element: Element, namespace: str) -> None:
         if element.name in REFERENCES:
             location = element.get("schemaLocation")
-            imported = sys.intern(element.get("namespace") or "") if element.name == IMPORT else namespace
+            imported = sys.intern((element.get("namespace") or "").strip(SPACE)) if element.name == IMPORT else namespace
             if location is not None:
                 self.refer(location.strip(SPACE), imported)
         elif element.name == ELEMENT or element.name in TYPES:

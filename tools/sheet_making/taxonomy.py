@@ -48,7 +48,7 @@ class Taxonomy:
             return
         visitor = Declaring(self, path, wanted)
         length = read_xml(self.files.pieces(path), visitor)
-        self.read_again += length if namespaces else 0
+        self.read_again += length if namespaces - {None} else 0
         if self.read_again > self.files.limits.again:
             raise ValueError(f"more than {self.files.limits.again} bytes of schemas without a namespace are read again for"
                              f" further namespaces (make_sheet --megabytes)")
@@ -58,8 +58,8 @@ class Taxonomy:
     def refer(self, location: str, base: str, wanted: str) -> None:
         """Schedules the schema at `location`, to which the document at `base` refers. A missing schema is recorded, unless it
         is wanted for the namespace of a specification."""
-        path, origin = self.rewrites.path_of(location, base)
-        found = self.files.found(path, origin)
+        paths = self.rewrites.paths_of(location, base)
+        found = next((path for path, origin in paths if self.files.is_found(path, origin)), None)
         if found:
             self.waiting.append((found, wanted))
         elif not is_specification(wanted):

@@ -116,12 +116,48 @@ class Taxonomies(ToolTest):
         self.assertEqual(sheet["concepts"], {"n1:NewInRegistry": "numeric", "n1:Set": "text", "n1:Sure": "numeric"})
 
 
+class Namespaces(ToolTest):
+    def kinds(self, text, status=0):
+        """Returns the concepts in the sheet of a schema, and the lines on standard error."""
+        done = run(self.write("a.xsd", text))
+        self.assertEqual(done.returncode, status, done.stderr)
+        return json.loads(done.stdout)["concepts"], done.stderr.decode().splitlines()
+
+    def test_a_namespace_at_xbrl_org_may_have_items(self):
+        for uri in ("https://www.xbrl.org/2024/sample", "https://xbrl.org/2021/"):
+            text = SCHEMA.replace("http://made.example", uri) % ITEM % ("A", "string")
+            self.assertEqual(self.kinds(text), ({"n1:A": "text"}, []))
+
+    def test_a_head_that_the_specifications_lack(self):
+        text = SCHEMA % ITEM % ("A", "string")
+        for wrong in (text.replace("xbrli:item", "xbrli:Item"), text.replace("2003/instance", "2001/instance")):
+            concepts, lines = self.kinds(wrong, status=1)
+            self.assertEqual((concepts, len(lines)), ({}, 1))
+            self.assertIn("its head", lines[0])
+        self.assertEqual(self.kinds(text.replace("xbrli:item", "xbrli:tuple")), ({}, []))
+
+    def test_white_space_around_namespaces(self):
+        derived = '<xs:complexType name="t"><xs:simpleContent><xs:restriction base="xbrli:stringItemType"/></xs:simpleContent></xs:complexType>'
+        text = SCHEMA % (ITEM % ("A", "string") + derived + (ITEM % ("B", "")).replace("xbrli:ItemType", "this:t"))
+        self.assertEqual(self.kinds(text.replace('targetNamespace="', 'targetNamespace=" \n'))[0], {"n1:A": "text", "n1:B": "text"})
+        self.write("b.xsd", SCHEMA % ITEM % ("A", "string"))
+        imports = '<xs:import namespace=" http://made.example " schemaLocation="b.xsd"/>'
+        self.assertEqual(self.kinds((SCHEMA % imports).replace('example">', 'example/a">'))[0], {"n1:A": "text"})
+
+    def test_namespaces_that_look_like_those_of_specifications(self):
+        derived = '<xs:complexType name="%s"><xs:simpleContent><xs:restriction base="xbrli:stringItemType"/></xs:simpleContent></xs:complexType>'
+        for uri in ("registry", "http://made.example/extensible-enumerations"):
+            text = SCHEMA % (derived % "percentItemType" + (ITEM % ("A", "percent")).replace("xbrli:percent", "this:percent"))
+            self.assertEqual(self.kinds(text.replace("http://made.example", uri)), ({"n1:A": "text"}, []))
+
+
 class BadInputs(ToolTest):
     def test_no_xml_and_no_schema(self):
         self.check_refused(3, "not well-formed", self.write("a.xsd", "{}"))
         self.check_refused(3, "unclosed token", self.write("b.xsd", SCHEMA[:30]))
         self.check_refused(3, "not a schema: name the package", self.write("c.xsd", "<a/>"))
         self.check_refused(3, "nowhere.xsd", self.path_of("nowhere.xsd"))
+        self.check_refused(3, "there is no such file", "")
         self.check_refused(3, "no element found", TOY, self.write("d.xsd", ""))
         lines = self.check_refused(3, "xsd", TOY, self.write("e.xsd", "no XML"), self.write("f.xsd", "nor this"))
         self.assertEqual(len(lines), 1)

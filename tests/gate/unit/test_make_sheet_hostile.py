@@ -208,6 +208,8 @@ class Long(HostileTest):
     def test_lengths_of_rewrites(self):
         rules = "".join(REWRITE.format("b" * length, "../") for length in range(1, 1_002))
         self.refused("more than 1000 different lengths", self.pack({"META-INF/catalog.xml": CATALOG % rules}))
+        rules = REWRITE.format("b:", "../") * 101
+        self.refused("more than 100 rules have one uriStartString", self.pack({"META-INF/catalog.xml": CATALOG % rules}))
 
 
 class Packages(HostileTest):
@@ -239,6 +241,15 @@ class Packages(HostileTest):
         package = self.pack({"META-INF/catalog.xml": own, **self.typed("A", url, "types", "decimal")})
         evil = CATALOG % (REWRITE.format(url, "../types") + REWRITE.format("http://types.example/type", "../type"))
         self.check_kinds(package, self.pack({"META-INF/catalog.xml": evil, **self.typed("B", url, "types", "string")}, "b.zip"))
+
+    def test_a_rule_that_leads_to_no_file_hides_no_other(self):
+        own, other = "http://types.example/", "http://types.example/base/"
+        imports = IMPORT.format("http://made.example", f"{other}types.xsd")
+        concept = (SCHEMA % (imports + ITEM % ("A", "decimal"))).replace("http://made.example\">", "http://a.example\">")
+        types = {"META-INF/catalog.xml": CATALOG % REWRITE.format(other, "../files/"), "files/types.xsd": SCHEMA % ITEM % ("B", "string")}
+        for start in (own, other):
+            package = self.pack({"META-INF/catalog.xml": CATALOG % REWRITE.format(start, "../"), "a.xsd": concept})
+            self.check_kinds(package, self.pack(types, "b.zip"))
 
     def check_kinds(self, *packages):
         for words in (packages, reversed(packages)):
