@@ -16,8 +16,9 @@ and why. For example, a time zone stays without --zones. docs/GUIDE.md describes
                 objects with a new name for each old one, spelled {URI}local
     units       an object with an object for each old measure, such as {"unit":"{URI}EUR","scale":3}: a value in the old measure
                 is multiplied by 10^3, exactly, and 3 is subtracted from its decimals
-The other tables precede namespaces. A report in which two names would become equal is refused, unless one is a scaled unit, and so
-is a value that would have more than 18 digits. Each change is listed as a loss, because it is an assumption.
+A name that its table does not list gets a new namespace, and is then looked up again. --map needs --sheet. A report in which two
+names would become equal is refused, unless one is a scaled unit, and so is a value that would have more than 18 digits. A missing
+unit is the name `pure`. Each change is listed as a loss, because it is an assumption.
 
 --drop-unreadable runs the program `xbrlmerge` and drops the facts that the program refuses. If the document itself is
 refused, no fact is dropped, and standard error shows why. The program should have the same version as this tool.
@@ -59,9 +60,9 @@ def read_options() -> argparse.Namespace:
     if len(names) != 3:
         parser.error("name REPORT, OUT and CHANGES")
     options.REPORT, options.OUT, options.CHANGES = names
-    if (options.drop_unknown or options.drop_unreadable) and not options.sheet:
-        parser.error("--drop-unknown and --drop-unreadable need --sheet")
-    if options.sheet == STANDARD and options.drop_unreadable:
+    if (options.drop_unknown or options.drop_unreadable or options.map) and not options.sheet:
+        parser.error("--drop-unknown, --drop-unreadable and --map need --sheet")
+    if options.drop_unreadable and (options.sheet == STANDARD or is_stream(options.sheet)):
         parser.error("--drop-unreadable needs a sheet in a file")
     inputs = [options.REPORT, *(path for path in (options.sheet, options.map) if path)]
     outputs = [options.OUT, options.CHANGES]
@@ -69,6 +70,11 @@ def read_options() -> argparse.Namespace:
     if len({*files}) < len(files) or inputs.count(STANDARD) > 1 or outputs.count(STANDARD) > 1:
         parser.error("REPORT, OUT, CHANGES, SHEET and MAP must be different files")
     return options
+
+
+def is_stream(path: str) -> bool:
+    """Returns whether something that is not a regular file has this name. A second reader might wait for it forever."""
+    return os.path.exists(path) and not os.path.isfile(path)
 
 
 @contextlib.contextmanager

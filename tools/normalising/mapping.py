@@ -24,7 +24,8 @@ class Measure(NamedTuple):
 
 
 class NameMap:
-    """The tables of a map. A name that no table lists is replaced by the table of namespaces. Errors: ValueError."""
+    """The tables of a map. A name that its table does not list gets a new namespace, and is then looked up again. Errors:
+    ValueError."""
 
     def __init__(self, tree: Tree) -> None:
         if not isinstance(tree, dict) or not all(key in PARTS and isinstance(part, dict) for key, part in tree.items()):
@@ -38,6 +39,19 @@ class NameMap:
         check_ends(self.namespaces, {})
         for table in (*self.tables.values(), units):
             check_ends(table, self.namespaces)
+        for old, measure in self.units.items():
+            if measure.scale and measure.name == old:
+                raise ValueError(f"{old.shown()} is scaled, and replaced by itself")
+
+    def in_namespace(self, name: Name) -> Name:
+        return Name(self.namespaces.get(name.uri, name.uri), name.local)
+
+    def listed(self, kind: str, old: Name) -> Optional[Name]:
+        table = self.tables.get(kind, {})
+        return table.get(old) or table.get(self.in_namespace(old))
+
+    def measure(self, old: Name) -> Optional[Measure]:
+        return self.units.get(old) or self.units.get(self.in_namespace(old))
 
 
 def check_ends(table: Mapping[Any, Any], namespaces: Mapping[str, str]) -> None:
@@ -93,9 +107,10 @@ class ReportMap:
         old = self.entity(spelled) if kind == "entities" else expanded(spelled, self.before)
         if not old:
             return spelled
-        new = self.given.tables.get(kind, {}).get(old)
-        self.note(kind, old, new or self.in_namespace(old))
-        return spelled if new is None or new == old else self.spelled(new)
+        usual = self.given.in_namespace(old)  # what the spelling means in the changed report
+        new = self.given.listed(kind, old) or usual
+        self.note(kind, old, new)
+        return spelled if new == usual else self.spelled(new)
 
     def entity(self, spelled: str) -> Optional[Name]:
         prefix, sign, identifier = spelled.partition(":")
@@ -105,10 +120,13 @@ class ReportMap:
     def measure(self, spelled: str) -> tuple[str, int]:
         """Returns the new spelling of a measure, and its scale."""
         old = expanded(spelled, self.before)
-        found = self.given.units.get(old) if old else None
-        if old and (not found or not found.scale):
-            self.note("units", old, found.name if found else self.in_namespace(old))
-        return (self.spelled(found.name), found.scale) if found and found.name != old else (spelled, 0)
+        if not old:
+            return spelled, 0
+        usual = self.given.in_namespace(old)
+        found = self.given.measure(old) or Measure(usual, 0)
+        if not found.scale:
+            self.note("units", old, found.name)
+        return spelled if found.name == usual else self.spelled(found.name), found.scale
 
     def unit(self, text: str) -> tuple[str, int]:
         """Returns a unit with the new spellings of its measures, and its scale."""
@@ -120,8 +138,9 @@ class ReportMap:
             total += sign * scale
         return "".join(made), total
 
-    def in_namespace(self, name: Name) -> Name:
-        return Name(self.given.namespaces.get(name.uri, name.uri), name.local)
+    def note_kept(self, kind: str, name: Name) -> None:
+        """Notes a name of which only the namespace may be replaced."""
+        self.note(kind, name, self.given.in_namespace(name))
 
     def note(self, kind: str, old: Name, new: Name) -> None:
         before = self.seen.setdefault((kind, new), old)

@@ -3,7 +3,7 @@ from __future__ import annotations
 
 import datetime
 import re
-from typing import Callable, Iterator, Optional
+from typing import Callable, Container, Iterator, Optional
 
 MOMENT = re.compile(r"(?P<day>\d{4}-\d\d-\d\d)(?P<time>T\d\d:\d\d:\d\d)?(?P<part>\.\d+)?(?P<zone>Z|[+-]\d\d:\d\d)?", re.ASCII)
 UTC = ("Z", "+00:00", "-00:00")
@@ -71,12 +71,31 @@ def is_date(day: str) -> bool:
         return False
 
 
-def doubts(period: str) -> Iterator[str]:
-    """Yields a message for each fraction, time zone and missing time in a period. `xbrlmerge` refuses all three."""
+def can_be_mended(period: str) -> bool:
+    """Returns whether the functions above make valid moments of all parts of a period."""
+    for rewritten in (without_zero_fraction, with_time, in_utc):
+        period = each_moment(period, rewritten)
+    return all(is_valid(text) for text in period.split("/"))
+
+
+def is_valid(text: str) -> bool:
+    """Returns whether a text is a moment with a time, without a fraction and a zone."""
+    moment = MOMENT.fullmatch(text)
+    if not moment or not moment["time"] or moment["part"] or moment["zone"]:
+        return False
+    try:
+        return bool(datetime.datetime.fromisoformat(text.replace("T24:00:00", "T00:00:00")))
+    except ValueError:
+        return False
+
+
+def doubts(period: str, applied: Container[str]) -> Iterator[str]:
+    """Yields a message for each fraction, time zone and missing time in a period. `xbrlmerge` refuses all three. A message names
+    the option that may help, unless its rule is among those applied."""
     for moment in map(MOMENT.fullmatch, period.split("/")):
         if moment and moment["part"]:
             yield "it has a fraction of a second"
         if moment and moment["zone"]:
-            yield "it has a time zone (--zones=utc)"
+            yield "it has a time zone" + " (--zones=utc)" * ("zones" not in applied)
         if moment and not moment["time"]:
-            yield "it has a date without a time (--dates=xbrl21)"
+            yield "it has a date without a time" + " (--dates=xbrl21)" * ("dates" not in applied)

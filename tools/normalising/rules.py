@@ -2,6 +2,7 @@
 from __future__ import annotations
 
 import argparse
+import functools
 import re
 from decimal import Decimal, InvalidOperation
 from typing import Optional
@@ -22,6 +23,7 @@ KNOWN = {
     "documentInfo": {"documentType", "namespaces", "taxonomy", "baseURL", "features", "linkTypes", "linkGroups"},
     "fact": {"value", "decimals", "dimensions", "links"},
 }
+PURE = Name("http://www.xbrl.org/2003/instance", "pure")
 CORE = ("concept", "entity", "period", "unit", "language", "noteId")
 SCIENTIFIC = re.compile(r"[+-]?(?P<mantissa>\d+(\.\d*)?|\.\d+)[eE][+-]?\d+", re.ASCII)
 WHOLE = re.compile(r"[+-]?\d{1,18}", re.ASCII)
@@ -107,6 +109,8 @@ class FactReader:
         if isinstance(members.get("dimensions"), dict):
             members["dimensions"] = {**members["dimensions"]}
             scale = self.change_dimensions(Part(members["dimensions"], (*fact.path, "dimensions"), log))
+        if self.reason_to_drop(members):
+            return
         self.change_decimals(fact)
         self.change_value(fact)
         if scale:
@@ -126,6 +130,9 @@ class FactReader:
         if is_text(part.get("period")):
             self.change_period(part)
         scale = self.map_dimensions(part, self.mapped) if self.mapped else 0
+        concept = expanded(part.get("concept"), self.uris)
+        if self.mapped and "unit" not in part.members and kind_of(concept, self.sheet.concepts) == "numeric":
+            self.mapped.note_kept("units", PURE)  # a missing unit means the same
         for key in [key for key in part.members if ":" in key]:
             self.change_member(part, key, kind_of(expanded(key, self.uris), self.sheet.dimensions))
         return scale
@@ -148,7 +155,7 @@ class FactReader:
         steps += [("zones", moments.in_utc, True)] * bool(self.options.zones)
         for rule, rewritten, loss in steps:
             part.change("period", moments.each_moment(part.get("period"), rewritten), rule, loss)
-        for why in dict.fromkeys(moments.doubts(part.get("period"))):
+        for why in dict.fromkeys(moments.doubts(part.get("period"), {rule for rule, _, _ in steps})):
             part.leave("period", why)
 
     def change_member(self, part: Part, key: str, kind: Optional[str]) -> None:
@@ -196,7 +203,11 @@ class FactReader:
 
     def change_set(self, fact: Part) -> None:
         given = fact.get("value")
-        spelled = [full_name(item, self.uris) for item in re.findall(rf"[^{SPACE}]+", given)]
+        items = re.findall(rf"[^{SPACE}]+", given)
+        for old in (full_name(item, self.mapped.before) for item in items) if self.mapped else ():
+            if old and self.mapped:
+                self.mapped.note_kept("items", Name(*old))
+        spelled = [full_name(item, self.uris) for item in items]
         found = [name and self.in_namespace(name) for name in spelled]  # an item may spell its namespace
         names = {name for name in found if name}
         if len(names) < len(found):
@@ -278,8 +289,10 @@ def whole_number(text: str) -> Optional[str]:
     without its exponent.
     """
     if isinstance(text, Number):
-        number = Decimal(text) if len(text) <= 18 and abs(Decimal(text).adjusted()) < 18 else None
-        return str(int(number)) if number is not None and number == number.to_integral_value() else None
+        number = Decimal(text) if len(text) <= 18 else None
+        if not number:
+            return None if number is None else "0"
+        return str(int(number)) if abs(number.adjusted()) < 18 and number == number.to_integral_value() else None
     return str(int(text)) if WHOLE.fullmatch(text := text.strip(SPACE)) else None
 
 
@@ -305,4 +318,10 @@ def full_name(item: str, uris: Uris) -> Optional[tuple[str, str]]:
         uri, _, local = item.rpartition("#")
         return (uri, local) if uri and local else None
     name = expanded(item, uris)
-    return name if name and not any(sign in name.uri for sign in SPACE) else None
+    return name if name and not has_space(name.uri) else None
+
+
+@functools.lru_cache(maxsize=None)
+def has_space(uri: str) -> bool:
+    """Returns whether a URI has white space. Each URI is searched once, since it may be long and have many names."""
+    return any(sign in uri for sign in SPACE)

@@ -34,6 +34,12 @@ def twins(size):
     return '{"facts":{%s,"k":1,"k":2}}' % ",".join(f'"f{number}":1' for number in range(size))
 
 
+def set_beside_a_long_uri(size):
+    tree = json.loads(report({"f": fact("l:a " * (5 * size), "eg:S")}))
+    tree["documentInfo"]["namespaces"]["l"] = "u" * (20 * size)
+    return json.dumps(tree)
+
+
 # for each case: a report of a given size, and the options of the run
 LONG = {
     "zeros before digits": (lambda size: report({"f": fact("0" * size + "x")}), ALL),
@@ -48,6 +54,7 @@ LONG = {
     "members that are unknown": (lambda size: report({"f": {f"m{number}": 1 for number in range(size)}}), []),
     "dimensions": (lambda size: report({"f": fact(**{f"eg:d{number}": "" for number in range(size)})}), ALL),
     "names of a set": (lambda size: report({"f": fact(" ".join(f"eg:n{number}" for number in range(size)), "eg:S")}), []),
+    "names of a set in a long namespace": (set_beside_a_long_uri, []),
     "depth": (lambda size: '{"a:a":' * (size // 10) + "1" + "}" * (size // 10), []),
 }
 

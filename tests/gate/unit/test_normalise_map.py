@@ -59,6 +59,11 @@ class Maps(ToolTest):
         facts, _ = self.mapped({"f": fact(), "g": fact(concept="o:A2")}, names)
         self.assertEqual([each["dimensions"]["concept"] for each in facts.values()], ["n:B", "o:A2"])
 
+    def test_a_name_is_looked_up_again_in_its_new_namespace(self):
+        names = {**YEAR, "concepts": {f"{{{NEW}}}A": f"{{{NEW}}}B"}, "units": {f"{{{NEW}}}kEUR": {"unit": f"{{{NEW}}}EUR", "scale": 3}}}
+        facts, _ = self.mapped({"f": fact("5", unit="o:kEUR")}, names)
+        self.assertEqual(facts["f"], {"value": "5000", "dimensions": {"concept": "n:B", "unit": "n:EUR"}})
+
     def test_a_unit_is_scaled_exactly(self):
         for value, decimals, unit, scaled, places, now in (
             ("4321", 0, "u:kEUR", "4321000", -3, "u:EUR"), ("4321.5", 1, "u:kEUR", "4321500", -2, "u:EUR"),
@@ -80,6 +85,10 @@ class Maps(ToolTest):
         self.check_refused("equal", {"f": fact("o:X", "n:Q"), "g": fact("n:X", "n:Q")}, YEAR)
         self.check_refused("equal", {"f": fact(unit="o:x"), "g": fact(concept="n:B", unit="n:x")}, YEAR)
         self.check_refused("equal", {"f": fact(entity="l:1"), "g": fact(entity="l:2")}, {"entities": {f"{{{LEI}}}1": f"{{{LEI}}}2"}})
+        self.check_refused("equal", {"f": fact("o:a", "n:S"), "g": fact("n:a", "n:S")}, YEAR)
+        self.check_refused("equal", {"f": fact("o:a n:a", "n:S")}, YEAR)
+        ratio = {"units": {f"{{{UNITS}}}ratio": {"unit": "{http://www.xbrl.org/2003/instance}pure"}}}
+        self.check_refused("equal", {"f": fact(concept="n:A", unit="u:ratio"), "g": fact(concept="n:A")}, ratio)
         self.mapped({"f": fact(unit="u:kEUR"), "g": fact(unit="u:EUR")}, SCALED)  # a scaled unit may meet another one
 
     def test_a_set_that_spells_its_namespace(self):
@@ -93,7 +102,7 @@ class Maps(ToolTest):
                       {"members": {name: f"{{{NEW}}}a:b"}}, {"units": {f"{{{OLD}}}a b": {"unit": other}}},
                       {"concepts": {name: "o:A"}}, {"entities": {name: 1}}, {"units": {name: other}}, {"units": {name: {"unit": other, "scale": 19}}},
                       {"units": {name: {"unit": other, "scale": 1.5}}}, {"units": {name: {"unit": other, "x": 1}}}, {"units": {name: {"scale": 1}}},
-                      {"namespaces": {"a": "b", "b": "c"}}, {"concepts": {name: other, other: f"{{{NEW}}}B"}}, {**YEAR, "members": {other: name}}):
+                      {"units": {name: {"unit": name, "scale": 3}}}, {"namespaces": {"a": "b", "b": "c"}}, {"concepts": {name: other, other: f"{{{NEW}}}B"}}, {**YEAR, "members": {other: name}}):
             self.check_refused("map.json: ", {"f": fact()}, names)
         self.mapped({"f": fact()}, {**YEAR, "units": {}, "concepts": {other: other}})
         facts, _ = self.mapped({"f": fact(entity="l:a b: ")}, {"entities": {f"{{{LEI}}}a b: ": f"{{{LEI}}}c d:"}})
@@ -107,7 +116,8 @@ class Long(ToolTest):
             names = {"concepts": {f"{{{old}}}A{each}": f"{{{new}}}B{each}" for each in range(20)}, "namespaces": {old: f"{old}/n"}}
             facts = {f"f{each}": fact(concept=f"o:A{each % 40}") for each in range(size)}
             report = self.write("report.json", json.dumps({"documentInfo": {"namespaces": {"o": old}}, "facts": facts}))
-            status, errors = self.run_tool(report, self.out, self.changes, "--map", self.write("map.json", json.dumps(names)))
+            words = ("--sheet", self.write("sheet.json", "{}"), "--map", self.write("map.json", json.dumps(names)))
+            status, errors = self.run_tool(report, self.out, self.changes, *words)
             self.assertEqual((status, errors), (1, ""))
 
         self.assertLess(in_process.growth(run_at, 1_000), 9)
