@@ -17,9 +17,10 @@ The first two forms also write verdicts.txt, sources.txt, refusals.txt and, with
 reports/NUMBER.json. The foot of the page has a command that checks the run with these files and tools/recheck.
 
 The facts of a contradiction form groups: again and again, the largest set of facts that a common number fits. A fact counts
-once for each provider that reports it. The largest group comes first; the page shows the facts outside it in red. A hint names
-what may explain a difference: a factor of 100, 1,000, 1,000,000 or 1,000,000,000 at which the rounding intervals meet, opposite
-signs, nil, or a difference below 1 in the last place. --at-least 0.1% hides smaller differences between numbers from the page.
+once for each provider that reports it. The largest group comes first; the page shows the facts outside it in red, or all facts
+if no group is the largest. A hint names what may explain a difference: a factor of 100, 1,000, 1,000,000 or 1,000,000,000 at
+which the rounding intervals meet, opposite signs, nil, or a difference below 1 in the last place. --at-least 0.1% hides smaller
+differences between numbers from the page.
 
 In table.csv, provider: NAME and decimals: NAME contain the values of a provider and their decimals, joined by "; ", and files:
 NAME its files if it has several. If no provider is known, or more than 100, the columns values and decimals have all values.
@@ -41,7 +42,7 @@ options of tools/normalise that lose something, such as --drop-notes. A report t
 identifier in another namespace or scheme, other letter case or white space, dates at most a day apart, another unit or
 language, or a dimension that one row lacks. Pairs are left out if one provider reports both rows. Rows that are similar in one
 dimension and equal in all others form a group. In each group, at most 1,000 pairs are compared, fewer if the pairs found have
-more than 10,000 facts.
+more than 10,000 facts. With --from, --near needs the providers.
 
 --from uses the earlier output of `xbrlmerge merge` and `xbrlmerge verdicts`. --sources uses the output of `xbrlmerge sources`,
 and --names lists the providers in the order of the reports. Instead of --sources and --names, PROVIDER=MERGED names a
@@ -133,6 +134,8 @@ def check(parser: Parser, options: argparse.Namespace) -> None:
             parser.error("use --sources and --names together, and without PROVIDER=MERGED")
         if options.names and not all(options.names.split(",")):
             parser.error("a name in --names is empty")
+        if options.near and not (options.sources or options.words or options.files):
+            parser.error("--near needs the providers: --sources and --names, or PROVIDER=MERGED")
     elif not (options.words or options.files) or options.sources or options.names:
         parser.error("name the reports; --sources and --names need --from")
     if STANDARD in (options.output, options.near):

@@ -16,6 +16,7 @@ from process import NotDone
 NAME = "xbrlmerge"
 HERE = os.path.dirname(os.path.abspath(__file__))
 MOST_EXPLAINED = 1 << 30  # bytes
+NOT_UTF8 = re.compile(r"[\udc80-\udcff]")  # how Python writes a byte of a path that is not UTF-8
 REFUSAL = re.compile(r"report ([1-9]\d{0,17}): (\d+ \w+ at .*)")
 
 
@@ -72,8 +73,13 @@ class Program:
         return refusals
 
     def write_names(self, paths: Iterable[str]) -> None:
+        """Writes the list of reports for the program. Errors: NotDone if a path is not UTF-8, as the list must be; OSError."""
         with open(self.path_of("reports"), "wb") as file:
-            file.writelines(os.fsencode(os.path.abspath(path)) + b"\0" for path in paths)
+            for path in paths:
+                whole = os.path.abspath(path)
+                if NOT_UTF8.search(whole):
+                    raise NotDone(f"{whole}: the name of the file or of a folder is not UTF-8")
+                file.write(os.fsencode(whole) + b"\0")
 
     def reasons(self, command: str, status: int, lines: list[str]) -> list[str]:
         """Returns lines that show why a command failed. If the sheet is refused, the lines come from `explain`."""

@@ -12,7 +12,7 @@ from contradicting.facts import Fact
 from contradicting.labels import Labels
 from contradicting.rows import Row
 from contradicting.sections import hints
-from contradicting.shown import escaped, other_dimensions, period, shown, shown_label, unit
+from contradicting.shown import escaped, other_dimensions, period, shown, shown_label, start_of_cut, unit
 from contradicting.sources import Holder
 from contradicting.tables import DIMENSIONS, LONGEST_ROW, LONGEST_TABLE, cell, dimension_cells, length_of, line_of
 from names import Name
@@ -113,7 +113,8 @@ class AllRows:
     def write_page(self, row: Row, columns: Own) -> None:
         others = "; ".join(f"{axis}: {member}" for axis, member in other_dimensions(row, self.labels))
         cells = [str(row.number), shown_label(row.dimensions.concept, self.labels), period(row), unit(row), others, WORDS[row.verdict]]
-        cells += ["; ".join(shown_given(row, each) for each in columns.get(name, ())) for name in self.columns]
+        start = start_of_cut(fact.value for fact in row.facts.values())
+        cells += ["; ".join(shown_given(row, each, start) for each in columns.get(name, ())) for name in self.columns]
         kind = " class=apart" * (row.verdict == "inconsistent")
         self.chunk.append(f"<tr{kind}>" + "".join(f"<td>{each}" for each in cells) + "\n")
         self.ends = [*self.ends[:1], (row.number, cells[1])]
@@ -150,10 +151,10 @@ def written(fact: Fact) -> str:
     return fact.value if isinstance(fact.value, str) else cell(fact.value)
 
 
-def shown_given(row: Row, given: Given) -> str:
-    """Returns the HTML for a value of a provider, with its decimals in brackets."""
+def shown_given(row: Row, given: Given, start: int) -> str:
+    """Returns the HTML for a value of a provider, with its decimals in brackets. A long text is shown from `start` on."""
     decimals = given.fact.precision()[0]
-    text = shown(given.fact.value) + (f"&nbsp;<small>({shown(decimals)})</small>" if decimals != "" else "")
+    text = shown(given.fact.value, start) + (f"&nbsp;<small>({shown(decimals)})</small>" if decimals != "" else "")
     return f"<span class=odd>{text}</span>" if given.name in row.odd else text
 
 

@@ -23,13 +23,15 @@ class Hint(NamedTuple):
 
 def hints_of(facts: Facts, groups: tuple[Group, ...], weights: Weights) -> Iterator[Hint]:
     """Yields a hint for each of the first groups that a known mistake may separate from the very first one."""
+    found: dict[Hint, None] = {}
     for group in groups[1:MOST_GROUPS]:
         one, other = groups[0], group
         if weight(one, weights) == weight(other, weights) and is_smaller(facts, one, other):
             one, other = other, one  # so that a mistake of one provider has the same hint in each row
         phrase = phrase_for(facts, one, other)
         if phrase:
-            yield Hint(other, phrase)
+            found.setdefault(Hint(other, phrase))
+    yield from found
 
 
 def phrase_for(facts: Facts, one: Group, other: Group) -> Optional[str]:

@@ -27,6 +27,7 @@ from process import MOST_CHARACTERS, printable
 FIRST = 100  # rows before the index; the browser paints these rows at once, and loads the others on request
 CHUNK = 100  # the most rows of one concept that are loaded together
 HERE = os.path.dirname(os.path.abspath(__file__))
+NO_SCRIPT = "<noscript><p>These rows need JavaScript. contradictions.csv has them too.</p></noscript>"
 WORDS = {"inconsistent": "contradictions", "consistent": "consistent within rounding", "complete": "with one fact"}
 
 
@@ -144,6 +145,7 @@ def by_hint(rows: list[Row]) -> dict[tuple[str, str], list[Row]]:
 def hint_groups(hinted: dict[tuple[str, str], list[Row]], found: Found) -> Iterator[str]:
     if hinted:
         yield "<h2>Rows with the same hint</h2>\n<p>A hint may explain a difference. It is not a verdict.</p>\n"
+        yield NO_SCRIPT
     for rank, ((name, phrase), rows) in enumerate(hinted.items(), 1):
         title = f"<b><bdi>{escaped(name)}</bdi></b>: {phrase} in"
         yield from groups(title, rows, f"h{rank}", found)
@@ -164,7 +166,7 @@ def by_concept(rows: Iterable[Row], shown: set[int], hinted: dict[int, int], fou
         yield f'<li><a href="#{anchor}" aria-label="{count} of {name}"><b>{count}</b></a>{heading(concept, found.labels, "span")}'
     yield "</ul>\n"
     if any(rest.values()):
-        yield "<h2>The other rows</h2>\n<noscript><p>These rows need JavaScript. contradictions.csv has them too.</p></noscript>"
+        yield "<h2>The other rows</h2>\n" + NO_SCRIPT
     for rank, concept in enumerate(ranked, 1):
         yield from groups(f"<b>{shown_label(concept, found.labels)}</b>", rest[concept], f"c{rank}", found)
 

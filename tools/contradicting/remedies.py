@@ -6,7 +6,7 @@ import json
 import re
 from typing import Any, Callable, Mapping, NamedTuple, Optional
 
-from names import SPACE
+from names import NAME, SPACE
 from normalising import moments
 from normalising.json_text import Number
 from normalising.rules import CORE, SCIENTIFIC, plain_number, whole_number
@@ -14,6 +14,7 @@ from process import shortened
 
 Fault = Mapping[str, Any]  # as `explain --format json` prints it
 CORE_NAME = re.compile(f"[^:]+:(?:{'|'.join(CORE)})")
+PLAIN = re.compile(r"[+-]?(\d+(\.\d*)?|\.\d+)", re.ASCII)
 
 
 class Remedy(NamedTuple):
@@ -39,8 +40,8 @@ class FaultGroup:
 
     def add(self, fault: Fault) -> None:
         """Counts a fault, unless it is the last one under another name: a footnote has two."""
-        is_other_name = fault["name"] != self.last["name"]
-        self.count += not (is_other_name and fault["identifier"] is not None and fault["identifier"] == self.last["identifier"])
+        is_second = self.remedy is NOTE and fault["name"] != self.last["name"]
+        self.count += not (is_second and fault["identifier"] is not None and fault["identifier"] == self.last["identifier"])
         self.last = fault
 
     def line_for(self, options: argparse.Namespace) -> tuple[str, bool]:
@@ -72,20 +73,27 @@ DIMENSION = Remedy("fact with a dimension that the sheet lacks", "facts with a d
 
 
 def remedy_for(fault: Fault) -> Optional[Remedy]:
-    """Returns the remedy for a fault, or None if no option is known to mend it."""
-    found = FOR_NAMES.get(fault["name"])
-    return found(fault["part"]) if found else None
+    """Returns the remedy for a fault, or None if no option is known to mend it. `explain` prints null in place of a number that
+    it might spell differently from the file; only its sentence then tells such a number from a null."""
+    name, part, sentence = fault["name"], fault["part"], fault["sentence"]
+    if name == "DecimalsForm" and part is None and " null " not in sentence:
+        return None
+    if name == "ValueForm" and part is None:
+        return NUMBER
+    if name == "UnknownMember" and sentence.endswith(' in "dimensions"'):
+        return None
+    found = FOR_NAMES.get(name)
+    return found(part) if found else None
 
 
 def for_period(part: Any) -> Optional[Remedy]:
     """Returns the remedy for a period, if its moments are valid apart from the fault."""
-    found = [moments.MOMENT.fullmatch(text.strip(SPACE)) for text in part.split("/")] if isinstance(part, str) else []
-    if not found or len(found) > 2 or not all(found):
+    texts = [text.strip(SPACE) for text in part.split("/")] if isinstance(part, str) else []
+    if not texts or len(texts) > 2 or not moments.can_be_mended("/".join(texts)):
         return None
+    found = [moments.MOMENT.fullmatch(text) for text in texts]
     if any(moment and not moment["time"] for moment in found):
         return DATE
-    if any(moment and moment["part"] and moment["part"].strip(".0") for moment in found):
-        return None
     if any(moment and moment["zone"] for moment in found):
         return ZONE
     return FRACTION if any(moment and moment["part"] for moment in found) else WHITE
@@ -114,11 +122,16 @@ def for_number(part: Any) -> Optional[Remedy]:
     scientific = SCIENTIFIC.fullmatch(part.strip(SPACE))
     if scientific:
         return EXPONENT if plain_number(scientific) is not None else None
-    return for_white(part)
+    return for_white(part, PLAIN)
 
 
-def for_white(part: Any) -> Optional[Remedy]:
-    return WHITE if isinstance(part, str) and part != part.strip(SPACE) and part.strip(SPACE) else None
+def for_name(part: Any) -> Optional[Remedy]:
+    return for_white(part, NAME)
+
+
+def for_white(part: Any, form: re.Pattern[str]) -> Optional[Remedy]:
+    """Returns the remedy for a text that has the form without the white space around it."""
+    return WHITE if isinstance(part, str) and part != part.strip(SPACE) and form.fullmatch(part.strip(SPACE)) else None
 
 
 def for_reserved(part: Any) -> Optional[Remedy]:
@@ -133,6 +146,6 @@ def is_number(part: Any) -> bool:
 
 FOR_NAMES: Mapping[str, Callable[[Any], Optional[Remedy]]] = {
     "PeriodForm": for_period, "ValueForm": for_value, "DimensionValue": for_member, "DecimalsForm": for_decimals,
-    "NumberForm": for_number, "NameForm": for_white, "ReservedNamespace": for_reserved, "Links": lambda _: LINKS, "Notes": lambda _: NOTE,
+    "NumberForm": for_number, "NameForm": for_name, "ReservedNamespace": for_reserved, "Links": lambda _: LINKS, "Notes": lambda _: NOTE,
     "UnknownMember": lambda _: UNKNOWN, "UnknownConcept": lambda _: CONCEPT, "UnknownDimension": lambda _: DIMENSION,
 }

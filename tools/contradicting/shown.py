@@ -12,6 +12,7 @@ from contradicting.facts import Value, day, plain
 from contradicting.labels import Labels
 from contradicting.rows import Row
 from contradicting.sources import Holder, Holders, Identifier
+from contradicting.tables import unit_text
 from names import Name
 from process import MOST_CHARACTERS, printable, shortened
 
@@ -64,7 +65,8 @@ def period(row: Row) -> str:
 
 def unit(row: Row) -> str:
     """Returns the HTML for the unit of a row. A number without a unit is pure. Returns an empty text if there is neither."""
-    shown_unit = " / ".join("\u00b7".join(map(shown, side)) for side in row.dimensions.unit)
+    sides = ["\u00b7".join(map(shown, side)) for side in row.dimensions.unit]
+    shown_unit = unit_text(sides, row.dimensions.unit, " / ")
     is_number = any(isinstance(fact.value, Decimal) for fact in row.facts.values())
     return shown_unit or "a pure number" * is_number
 

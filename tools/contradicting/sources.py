@@ -103,7 +103,8 @@ class OwnTexts:
         self.providers, self.names = providers, [provider.name for provider in providers]
 
     def holders(self, _: str, tree: Tree) -> Holders:
-        return tuple(Holder(provider.name, ()) for provider in self.providers if provider.said(tree))
+        names = dict.fromkeys([provider.name for provider in self.providers if provider.said(tree)])
+        return tuple(Holder(name, ()) for name in names)
 
     def finish(self) -> None:
         for provider in self.providers:

@@ -109,9 +109,15 @@ def length_of(dimensions: Dimensions) -> int:
 
 def dimension_cells(of: Dimensions) -> list[str]:
     """Returns the cells of dimensions. An axis whose member is nil has no `=`."""
-    unit = "/".join("*".join(map(cell, side)) for side in of.unit)
+    unit = unit_text(["*".join(map(cell, side)) for side in of.unit], of.unit, "/")
     members = "; ".join(cell(axis) + (f"={cell(member)}" if member is not None else "") for axis, member in of.members)
     return [*map(cell, (of.concept, of.entity or "", of.period, unit, of.language, members))]
+
+
+def unit_text(sides: Sequence[str], unit: Sequence[Sequence[Name]], sign: str) -> str:
+    """Returns the text of a unit, of which `sides` are the texts. Beside another side, one with several names is in parentheses."""
+    texts = [f"({text})" if len(sides) > 1 < len(names) else text for text, names in zip(sides, unit)]
+    return sign.join(texts)
 
 
 def table(rows: Sequence[Row], labels: Mapping[Name, str], reader: Reader) -> Iterator[Sequence[str]]:
@@ -121,7 +127,9 @@ def table(rows: Sequence[Row], labels: Mapping[Name, str], reader: Reader) -> It
     for row in rows:
         dimensions, label = dimension_cells(row.dimensions), labels.get(row.dimensions.concept, "")
         groups = {name: number for number, group in enumerate(row.groups, 1) for name in group}
-        hints = {name: hint.phrase for hint in row.hints for name in hint.group}
+        hints: dict[str, str] = {}
+        for hint in row.hints:
+            hints.update((name, "; ".join(filter(None, (hints.get(name), hint.phrase)))) for name in hint.group)
         for name, fact in row.facts.items():
             who = row.holders[name]
             value: list[Cell] = [*value_cells(fact), *fact.precision(), groups[name], "pair" * (name in row.pair), hints.get(name, "")]

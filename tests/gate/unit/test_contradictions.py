@@ -12,7 +12,11 @@ import unittest
 
 import in_process
 import lines_of_verdicts
+from names import Name
 from support import content
+
+from contradicting import tables
+from contradicting.facts import Dimensions
 
 TOOL = os.path.join(in_process.TOOLS, "contradictions.py")
 NORLAKE = os.path.join(in_process.HERE, "norlake")
@@ -153,6 +157,15 @@ class Providers(ToolTest):
         self.assertEqual((said["f05"], said["f06"], said["f09"]), ("'+SUM(A1)", "A & <B>, +SUM(A1)", "A & <B>, +SUM(A1)"))
         self.assertIn("A &amp; &lt;B&gt;", page)
 
+    def test_a_provider_with_several_texts_counts_once(self):
+        _, cells = self.written(MERGED, SHEET, VERDICTS, f"A={MERGED}", f"A={MERGED}")
+        self.assertEqual({cell["providers"] for cell in cells}, {"A"})
+
+    def test_a_side_of_a_unit_with_several_names_is_in_parentheses(self):
+        a, b, c = (Name("u", name) for name in "abc")
+        units = [tables.dimension_cells(Dimensions(a, None, "", unit, "", ()))[3] for unit in (((a,), (b, c)), ((a, b), (c,)), ((a, b),), ((a,),))]
+        self.assertEqual(units, ["{u}a/({u}b*{u}c)", "({u}a*{u}b)/{u}c", "{u}a*{u}b", "{u}a"])
+
     def test_a_providers_fact_that_was_not_merged(self):
         tree = json.loads(content(MERGED))
         tree["facts"] = {"f1": {**tree["facts"]["f06"], "value": "4.811"}}
@@ -291,6 +304,8 @@ class BadInputs(Texts):
 
     def test_usage(self):
         self.assertEqual(subprocess.run([sys.executable, TOOL], capture_output=True).returncode, 2)
+        near = self.run_tool(MERGED, SHEET, VERDICTS, "--near", self.path_of("near.csv"))
+        self.assertEqual((near.returncode, b"--near needs the providers" in near.stderr), (2, True))
         self.assertEqual(subprocess.run([sys.executable, TOOL, "--help"], capture_output=True).returncode, 0)
 
 

@@ -83,6 +83,9 @@ class Hints(unittest.TestCase):
         self.assertIsNone(hinted(number(57, 0), number("58.1", 1)))
         self.assertIsNone(hinted(number(57), number("57.6")))
         self.assertIsNone(hinted(Fact("a", None), Fact("b", None)))
+        facts = {"a": number(None), "b": number(0, 0), "c": number(5, 0)}
+        found = hints.hints_of(facts, (("a",), ("b",), ("c",)), dict.fromkeys("abc", 1))
+        self.assertEqual([hint.phrase for hint in found], ["nil"])  # once for both other groups
 
     def test_every_fact_of_a_group_must_meet(self):
         facts = {"a": number(1000, 0), "b": number("1.0", 1), "c": number("1.2", 1), "d": number(1000, 0)}
@@ -128,6 +131,16 @@ class Reported(ToolTest):
         section = page.split('id="row1"')[1].split("</section>")[0]
         self.assertEqual(re.findall(r"<tr( class=odd)?><td>(\w)<td><bdi>(f\d)</bdi>", section), [("", "A", "f2"), (" class=odd", "B", "f1")])
         self.assertIn("<dt>Hint<dd><bdi>Beta: 1,000 times smaller</bdi>", section)
+
+    def test_each_hint_of_a_fact_is_in_the_table(self):
+        _, cells, _ = self.run_on([[(("1", 0), (1,)), (("1000", 0), (2,)), (("1000000", 0), (4,))]])
+        self.assertEqual(cells[0]["hint"], "1,000 times smaller; 1,000,000 times smaller")
+
+    def test_long_texts_are_cut_near_their_difference(self):
+        texts = ["The group recognises revenue when control of the goods passes to the customer, on delivery in " + place for place in ("Oslo", "Rome")]
+        page, *_ = self.run_on([[(text, (number,)) for number, text in enumerate(texts, 1)]])
+        listed = page.split("<h2>All rows</h2>")[1]
+        self.assertEqual(re.findall(r"in (Oslo|Rome)</bdi>", listed), ["Oslo", "Rome"])
 
     def test_rows_with_the_same_hint_are_one_part(self):
         scaled = [[((f"{4321 + row}", 0), (2,)), ((f"{4321 + row}000", -3), (1, 4))] for row in range(20)]

@@ -4,7 +4,7 @@ import json
 import unittest
 
 import in_process
-from contradicting.remedies import FOR_NAMES
+from contradicting.remedies import FOR_NAMES, NUMBER, remedy_for
 from normalising.json_text import Number
 from normalising.options import LOSSES
 from normalising.rules import Normaliser
@@ -33,6 +33,8 @@ CASES = (
 )
 WITHOUT = (("PeriodForm", "2023"), ("PeriodForm", "2023-12-31T00:00:00.5"), ("PeriodForm", "a/b/c"), ("PeriodForm", None), ("ValueForm", []),
            ("ValueForm", True), ("DimensionValue", {"eg:Sku": []}), ("DimensionValue", "x"), ("DecimalsForm", "two"), ("DecimalsForm", "9" * 19),
+           ("PeriodForm", "2023-02-30"), ("PeriodForm", "2023-02-30T00:00:00Z"), ("PeriodForm", "2023-12-31T00:00:00+15:00"),
+           ("PeriodForm", "2023-12-31T25:00:00.0"), ("NumberForm", " 1,000 "), ("NumberForm", " INF"), ("NameForm", "Sales "),
            ("NumberForm", "1,5"), ("NumberForm", "1e30"), ("NumberForm", None), ("NameForm", "a"), ("NameForm", " "), ("ReservedNamespace", "xbrl:x"))
 
 
@@ -58,6 +60,16 @@ class Remedies(in_process.RoomTest):
     def test_other_faults_have_no_option(self):
         for name, part in WITHOUT:
             self.assertIsNone(FOR_NAMES[name](part), (name, part))
+
+
+    def test_what_only_the_sentence_tells(self):
+        for name, sentence, wanted in (
+            ("DecimalsForm", '"decimals" must be an integer from -18 to 18', None), ("ValueForm", "numbers need quotes", NUMBER),
+            ("DecimalsForm", "the decimals value null is not an integer without quotes", FOR_NAMES["DecimalsForm"](None)),
+            ("UnknownMember", 'the format has no member "id" in "dimensions"', None),
+            ("UnknownMember", 'the format has no member "id"', FOR_NAMES["UnknownMember"]("id")),
+        ):
+            self.assertEqual(remedy_for({"name": name, "part": None, "sentence": sentence}), wanted, sentence)
 
 
 if __name__ == "__main__":

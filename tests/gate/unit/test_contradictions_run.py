@@ -363,6 +363,11 @@ class BadInputs(Stubbed):
         self.refused_run("No such file or directory", *REPORTS, sheet=("--sheet", "nowhere"))
         self.refused_run("there is no such file", *REPORTS, sheet=("--taxonomy", "nowhere"))
 
+    def test_a_name_that_is_not_utf_8(self):
+        path = os.fsdecode(b"odd\xff.json")
+        shutil.copy(REPORTS[0], self.path_of(path))
+        self.refused_run("the name of the file or of a folder is not UTF-8", "B=" + self.path_of(path))
+
     def test_an_output_folder_that_is_a_file(self):
         self.write("out", "a file")
         self.refused_run("out is not a folder; -o needs one", *REPORTS)
