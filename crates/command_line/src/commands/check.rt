@@ -41,8 +41,8 @@ Example:
 Status:
   0  the report is accepted
   1  it is refused, and standard error shows why and where; `explain` describes its faults
-  3  not checked: invalid arguments, a refused sheet, a file or device that failed, or out of
-     memory";
+  3  not checked: invalid arguments, a refused sheet, a file or device that failed, output
+     above a limit, or out of memory";
 
 /// Reads the report with this name and writes a line to `out` if the report is accepted. A refusal
 /// is returned with the report number 1.

@@ -61,7 +61,7 @@ Status:
   0  there is no fault
   1  a report has a fault, or the sheet has a repeated member
   3  not every report was read: invalid arguments, a refused sheet, a file or device that failed,
-     or out of memory";
+     output above a limit, or out of memory";
 
 /// Reads the sheet and the reports, one after another, and writes a line for each fault to `out`.
 /// Repeated members count as faults. In the format `Text`, a line with the counts follows. Returns

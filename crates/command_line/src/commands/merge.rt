@@ -21,4 +21,4 @@ Status:
   2  a row exceeds LEVEL: nothing was written, and standard error has the number of the first
      such row, as `verdicts` counts rows
   3  not done, or not completed: invalid arguments, a refused sheet, a file or device that
-     failed, or out of memory";
+     failed, output above a limit, or out of memory";

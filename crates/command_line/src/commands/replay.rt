@@ -45,8 +45,8 @@ Status:
   1  every event was run, but a `take` named a refused report and changed nothing; standard error
      shows why, in one line for each such `take`
   3  not done, or not completed: invalid arguments, a refused sheet, a line of EVENTS that is not
-     an event or names something that does not exist, a file or device that failed, or out of
-     memory";
+     an event or names something that does not exist, a file or device that failed, output
+     above a limit, or out of memory";
 
 /// Reads the schedule and the reports, runs the schedule on the replicas and writes the text of
 /// each replica to `out`. Returns the refused takes with the numbers of their reports, from 1.

@@ -49,7 +49,7 @@ Status:
   0  every report was judged, whatever the verdicts are
   1  a report was refused, and standard error has its line, as for `merge`; the others were judged
   3  not done, or not completed: invalid arguments, a refused sheet, a file or device that
-     failed, or out of memory";
+     failed, output above a limit, or out of memory";
 
 pub(crate) const SOURCES_ABOUT: &str =
     "Lists the reports that contain each fact, and its identifiers there";
@@ -83,7 +83,7 @@ Status:
   0  every report was read
   1  a report was refused, and standard error has its line, as for `merge`; the others were read
   3  not done, or not completed: invalid arguments, a refused sheet, a file or device that
-     failed, or out of memory";
+     failed, output above a limit, or out of memory";
 
 /// Writes the verdicts to `out`, and returns the refusals.
 pub(crate) fn put_verdicts<'n, S: Sink>(
