@@ -47,12 +47,12 @@ def put(file: File, folder: str) -> str:
     path = os.path.join(folder, file.target)
     os.makedirs(os.path.dirname(path), exist_ok=True)
     new = f"{path}.new"
+    if os.path.lexists(new):
+        os.unlink(new)
     if file.is_link:
-        if os.path.lexists(new):
-            os.unlink(new)
         os.symlink(file.content.decode(), new)
     else:
-        with open(new, "wb") as opened:
+        with open(new, "xb") as opened:
             opened.write(file.content)
         os.chmod(new, file.mode)
     os.replace(new, path)

@@ -6,7 +6,7 @@ import os
 from typing import Iterable
 
 from packing.contents import SHARE
-from packing.files import File, folders_of, put
+from packing.files import RUNS, File, folders_of, put
 
 LIST = f"{SHARE}/installed.txt"
 
@@ -26,10 +26,13 @@ def install(files: Iterable[File], prefix: str) -> list[str]:
     files, before = list(files), listed(prefix)
     targets = [file.target for file in files]
     folders = [f"{it}/" for it in folders_of([*files, File(LIST, b"")])]
-    lines = [it for it in folders if it in before or not os.path.isdir(os.path.join(prefix, it))]
+    created = [it for it in folders if not os.path.isdir(os.path.join(prefix, it))]
+    lines = [it for it in folders if it in before or it in created]
     # the list is written first, so that what a failed run has installed can be removed, too
     put(File(LIST, "".join(f"{it}\n" for it in sorted({*before, *targets, *lines})).encode()), prefix)
     paths = [put(file, prefix) for file in files]
+    for it in created:
+        os.chmod(os.path.join(prefix, it), RUNS)  # whatever the umask is, as for the files
     old = [it for it in before if it not in targets and it not in folders]
     remove(old, prefix)
     put(File(LIST, "".join(f"{it}\n" for it in [*targets, *lines]).encode()), prefix)

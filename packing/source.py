@@ -8,10 +8,13 @@ import time
 from dataclasses import dataclass
 from typing import Mapping, Sequence
 
+from packing.files import MADE
 from packing.running import run_tool
 
 # what makes the packages, besides the kit
 NEEDED = ("git", "dpkg-deb", "gcc", "strip")
+# the folders of the checkout whose files are packed
+PACKED = ("docs", "examples", "include", "python", "share", "tools")
 
 
 @dataclass(frozen=True)
@@ -63,9 +66,17 @@ def wrong_source(top: str, folder: str) -> str:
     if not os.access(folder, os.W_OK | os.X_OK):
         return f"{folder} cannot be written to"
     inside = os.path.relpath(os.path.realpath(folder), os.path.realpath(top))
-    besides = [] if inside.startswith("..") else [f":(exclude){inside}"]
-    changed = git(top, "status", "--porcelain", "--", ".", *besides).splitlines()
-    return f"the checkout has changes that are not committed, such as {changed[0].split(maxsplit=1)[1]}" if changed else ""
+    is_inside = not inside.startswith("..")
+    if is_inside and git(top, "ls-files", "--", f":(literal){inside}"):
+        return f"{folder} contains files of the checkout"
+    besides = [f":(exclude,literal){inside}"] if is_inside else []
+    changed = git(top, "status", "--porcelain", "--untracked-files=all", "--", ".", *besides).splitlines()
+    if changed:
+        return f"the checkout has changes that are not committed, such as {changed[0].split(maxsplit=1)[1]}"
+    # ignored files, too
+    others = git(top, "ls-files", "--others", "--", *PACKED, *besides).splitlines()
+    found = [it for it in others if {*it.split("/")}.isdisjoint(MADE)]
+    return f"{found[0]} is not in the commit, and would be packed" if found else ""
 
 
 def newest_libc(content: bytes) -> str:

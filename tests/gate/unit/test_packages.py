@@ -4,6 +4,7 @@ import io
 import json
 import os
 import shutil
+import stat
 import subprocess
 import sys
 import tarfile
@@ -16,6 +17,7 @@ from packing import bill, contents, debian, installation, kit, manual, release
 from packing.files import RUNS, File, folders_of, read_below
 from packing.source import Crate, Source, newest_libc, wrong_source
 from packing.tarball import tarball
+from support import content
 
 sys.path.append(os.path.join(TOP, "python"))
 import wheel_of_library
@@ -116,6 +118,16 @@ class Installation(Packages):
         self.assertEqual([os.path.join(at, it) for at, _, names in os.walk(prefix) for it in names], [own])
         self.assertEqual(sorted(os.listdir(prefix)), ["share"])
         self.assertRaisesRegex(OSError, "nothing is installed there", installation.uninstall, prefix)
+
+
+    def test_other_users_can_read_what_was_installed(self):
+        prefix, victim = self.path_of("prefix"), self.write("victim", "own")
+        os.makedirs(os.path.join(prefix, "bin"))
+        os.symlink(victim, os.path.join(prefix, "bin", "xbrlmerge-recheck.new"))
+        self.addCleanup(os.umask, os.umask(0o077))
+        installation.install(self.program(), prefix)
+        modes = {stat.S_IMODE(os.stat(os.path.join(prefix, it)).st_mode) for it in ("share", "share/xbrlmerge", "bin/xbrlmerge-recheck")}
+        self.assertEqual((modes, content(victim)), ({0o755}, "own"))
 
 
 class Archives(Packages):
@@ -225,6 +237,15 @@ class Sources(Packages):
             self.assertEqual(wrong_source(top, out), "")
             self.write("top/new", "")
             self.assertEqual(wrong_source(top, out), "the checkout has changes that are not committed, such as new")
+            self.write("top/.git/info/exclude", "*~\nnew\n")
+            self.assertEqual(wrong_source(top, out), "")
+            os.mkdir(self.path_of("top/docs"))
+            self.write("top/docs/page.md~", "")
+            self.assertEqual(wrong_source(top, out), "docs/page.md~ is not in the commit, and would be packed")
+            self.write("top/docs/page.md", "")
+            subprocess.run(["git", "-C", top, "add", "docs/page.md"], check=True)
+            for folder in (top, self.path_of("top/docs")):
+                self.assertEqual(wrong_source(top, folder), f"{folder} contains files of the checkout")
 
 
 class Files(Packages):
