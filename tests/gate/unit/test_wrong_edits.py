@@ -50,6 +50,17 @@ class WrongEdits(unittest.TestCase):
         middle = "middle: 2 of 2 refused, 0 by names alone"
         self.assertEqual(self.tried("--changed", "HEAD"), (0, [high, low, middle]))
 
+    def test_a_moved_file_counts_in_both_crates(self):
+        self.tree.put("crates/low/src/lib.rt", "")
+        os.rename(os.path.join(self.tree.folder, "crates/low/src/lib.rt"), os.path.join(self.tree.folder, "crates/middle/src/moved.rt"))
+        self.git("add", "--all")
+        lines = [f"{crate}: 1 of 1 refused, 0 by names alone" for crate in ("low", "middle")]
+        self.assertEqual(self.tried("--changed", "HEAD"), (0, lines))
+
+    def test_a_crate_that_lost_its_edits(self):
+        shutil.rmtree(os.path.join(self.tree.folder, "wrong_edits/low"))
+        self.assertEqual(self.tried("--changed", "HEAD"), (1, ["low: its edits are gone"]))
+
     def test_a_revision_that_does_not_exist(self):
         self.assertEqual(self.tried("--changed", "none"), (1, ["no revision none"]))
         self.assertEqual(self.tried("--changed"), (1, ["no revision "]))

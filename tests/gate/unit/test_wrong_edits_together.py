@@ -52,6 +52,13 @@ class WrongEditsTogether(unittest.TestCase):
         self.edit("first_is_wronger", "first", "wronger")
         self.assertEqual(self.tried("low"), (0, ["low: 2 of 2 refused"], 2))
 
+    def test_functions_of_one_name_are_edited_in_turn(self):
+        self.tree.put("crates/low/src/other.rt", "fn one() {\n    third\n}\n")
+        self.tree.put("wrong_edits/low/third_is_wrong.edit", "file: src/other.rt\nold: third\nnew: wrong\n")
+        self.edit("first_is_wrong", "first", "wrong")
+        lines = ["low/third_is_wrong: `one` does not lose its own proof", "low: 1 of 2 refused"]
+        self.assertEqual(self.tried(), (1, lines, 2))
+
     def test_an_edit_that_is_not_refused(self):
         self.edit("first_is_wrong", "first", "wrong")
         self.edit("second_is_other", "second", "other")
