@@ -63,7 +63,6 @@ import contextlib
 import os
 import re
 import sys
-import tempfile
 from decimal import Decimal
 
 sys.dont_write_bytecode = True
@@ -84,7 +83,7 @@ from normalising.options import add_losses, loses  # noqa: E402
 from process import NotDone, Status, print_lines, printable, run  # noqa: E402
 from program import add_program, program_at  # noqa: E402
 from text_files import STANDARD  # noqa: E402
-from whole_files import files_written  # noqa: E402
+from whole_files import files_written, new_folder  # noqa: E402
 
 SHARE = re.compile(r"(\d{1,9}(?:\.\d{1,9})?)(%?)", re.ASCII)
 
@@ -174,7 +173,7 @@ def main() -> Status:
     options = read_options()
     with output_folder(options.output), Progress() as progress:
         normalised = output_folder(os.path.join(options.output, FOLDER)) if options.normalise else contextlib.nullcontext()
-        with normalised, tempfile.TemporaryDirectory(prefix=".new-", dir=os.path.abspath(options.output)) as folder:
+        with normalised, new_folder(os.path.abspath(options.output)) as folder:
             return write(inputs_for(options, folder, progress), options, folder, progress)
 
 

@@ -35,7 +35,6 @@ import contextlib
 import functools
 import os
 import sys
-import tempfile
 from typing import Iterator
 
 sys.dont_write_bytecode = True
@@ -45,6 +44,7 @@ from sheet_making.limits import Limits, reading  # noqa: E402
 from sheet_making.making import kinds_in  # noqa: E402
 from sheet_making.sheet_text import sheet_text, union  # noqa: E402
 from text_files import LONGEST, PIECE, STANDARD, opened  # noqa: E402
+from whole_files import new_folder  # noqa: E402
 
 
 def read_options() -> argparse.Namespace:
@@ -74,7 +74,7 @@ def standard_input_kept(inputs: list[str]) -> Iterator[list[str]]:
     if STANDARD not in inputs:
         yield inputs
         return
-    with tempfile.TemporaryDirectory() as folder:
+    with new_folder() as folder:
         kept = os.path.join(folder, "standard input")
         with reading("standard input"), opened(STANDARD) as source, open(kept, "wb") as copy:
             for piece in iter(functools.partial(source.read, PIECE), b""):

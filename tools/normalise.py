@@ -32,7 +32,6 @@ import argparse
 import contextlib
 import os
 import sys
-import tempfile
 from typing import Iterator, Optional
 
 sys.dont_write_bytecode = True
@@ -45,7 +44,7 @@ from normalising.sheet_file import sheet_at  # noqa: E402
 from process import NotDone, Status, print_lines, run  # noqa: E402
 from program import Program, add_program, program_at  # noqa: E402
 from text_files import STANDARD, shown_path  # noqa: E402
-from whole_files import files_written  # noqa: E402
+from whole_files import files_written, new_folder  # noqa: E402
 
 
 def read_options() -> argparse.Namespace:
@@ -84,7 +83,7 @@ def program_asked(options: argparse.Namespace) -> Iterator[Optional[Program]]:
         yield None
         return
     beside = None if options.OUT == STANDARD else os.path.dirname(os.path.abspath(options.OUT))
-    with tempfile.TemporaryDirectory(prefix=".new-", dir=beside) as folder:
+    with new_folder(beside) as folder:
         yield Program(program_at(options.program), options.sheet, folder)
 
 

@@ -6,11 +6,25 @@ import os
 import shutil
 import tempfile
 from dataclasses import dataclass
-from typing import Iterable, Iterator
+from typing import Iterable, Iterator, Optional
 
-from process import signals_held
+from process import Stopped, signals_held
 
 PERMISSIONS = 0o777  # without setuid, setgid and the sticky bit
+
+
+@contextlib.contextmanager
+def new_folder(beside: Optional[str] = None) -> Iterator[str]:
+    """Makes a folder for temporary files, and removes it at the end, even if a signal arrives meanwhile."""
+    folder = tempfile.mkdtemp(prefix=".new-", dir=beside)
+    try:
+        yield folder
+    finally:
+        try:
+            shutil.rmtree(folder)
+        except Stopped:
+            shutil.rmtree(folder, ignore_errors=True)  # no further signal interrupts this
+            raise
 
 
 @dataclass(frozen=True)
@@ -72,7 +86,7 @@ def write_beside(path: str, pieces: Iterable[str], folders: contextlib.ExitStack
         raise OSError(f"{path} exists and is not a file that can be replaced")
     try:
         with signals_held():  # a signal must not arrive between making the folder and recording it
-            folder = folders.enter_context(tempfile.TemporaryDirectory(prefix=".new-", dir=os.path.dirname(target)))
+            folder = folders.enter_context(new_folder(os.path.dirname(target)))
         output = Output(target, folder)
         with open(output.new, "x", encoding="utf-8", newline="") as file:
             file.writelines(pieces)

@@ -16,6 +16,7 @@ null character, or if `allow` is not "none", "complete", "consistent" or "all".
 import dataclasses
 import decimal
 import json
+import operator
 import os
 from typing import Any, Dict, Iterable, List, Optional, Tuple, Union
 
@@ -270,9 +271,10 @@ def _most(given: Optional[int]) -> int:
     """Returns the bound for the library, for which 0 stands for the default and the greatest size for no bound."""
     if given is None:
         return 0
-    if given < 1:
+    most = operator.index(given)
+    if most < 1:
         raise ValueError("most_output must be at least 1")
-    return min(given, _library.LARGEST)
+    return min(most, _library.LARGEST)
 
 
 def _text(answer: _library.Answer) -> bytes:

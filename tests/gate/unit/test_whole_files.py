@@ -1,5 +1,6 @@
 """Tests of tools/whole_files: outputs are written completely or not at all."""
 import os
+import shutil
 import signal
 import stat
 import subprocess
@@ -8,6 +9,7 @@ import unittest
 from unittest import mock
 
 from in_process import TOOLS, RoomTest, heeding
+import process
 import whole_files
 
 WAITS = f"""
@@ -137,6 +139,19 @@ class WholeFiles(RoomTest):
                 self.assertEqual(tool.communicate(), (b"", b""))
             self.assertEqual(tool.returncode, -number)
             self.assertEqual(self.texts(), {"first": "old"})
+
+
+    def test_a_signal_while_a_folder_is_removed(self):
+        removed = shutil.rmtree
+
+        def stopped_at_first(path, **options):
+            if not options:
+                raise process.Stopped(signal.SIGTERM)
+            removed(path, **options)
+
+        with mock.patch("shutil.rmtree", stopped_at_first), self.assertRaises(process.Stopped):
+            whole_files.write_files([(self.first, ["new"])])
+        self.assertEqual(self.texts(), {"first": "new"})
 
 
 if __name__ == "__main__":
