@@ -3,6 +3,7 @@
 use crate::error::STANDARD_INPUT;
 use std::fs::{self, File, Metadata};
 use std::io::{Error, ErrorKind};
+use std::os::unix::fs::FileTypeExt;
 use std::rt::Files;
 
 /// Returns why the file with this name cannot be read, if the cause is known.
@@ -10,8 +11,9 @@ pub(crate) fn why_unread<F: Files>(files: &F, name: &str) -> Option<&'static str
     match fs::metadata(files, name) {
         Err(fault) if fault.kind() == ErrorKind::NotFound => Some(why_missing(files, name)),
         Ok(found) if found.is_dir() => Some("It is a folder."),
+        Ok(found) if found.file_type().is_socket() => Some("It is a socket."),
         // a pipe is not opened again: that would wait for its writer
-        Ok(found) if !found.is_file() => Some("It is a device, pipe or socket."),
+        Ok(found) if !found.is_file() => None,
         _ => why_unopened(files, name),
     }
 }

@@ -84,6 +84,17 @@ fn is_shown(character: char) -> bool
         )
 }
 
+/// Returns the end of a text: at most `MOST_CHARACTERS` bytes, from the start of a character.
+pub(crate) fn end_of(text: &str) -> &str {
+    let from = text.len().saturating_sub(MOST_CHARACTERS);
+    for at in from..from.saturating_add(4) {
+        if let Some(end) = text.get(at..) {
+            return end;
+        }
+    }
+    text
+}
+
 /// Returns the first characters of a text, at most `MOST_CHARACTERS`.
 pub(crate) fn front_of(alloc: Global, text: &str) -> Result<String, AllocError>
     ensures { IfOk result (λ front. string_bytes front ≡ front_of text.now) }

@@ -17,11 +17,18 @@ pub fn kind_of_taxonomy(bytes: &[u8]) -> Option<&'static str> {
             "a ZIP file, as a taxonomy package is: run `tools/make_sheet FILE >sheet.json`",
         );
     }
-    let text = text_of(bytes);
-    if text.starts_with('<') && text.contains("http://www.w3.org/2001/XMLSchema") {
+    if is_schema(text_of(bytes)) {
         return Some("a schema of a taxonomy: run `tools/make_sheet FILE >sheet.json`");
     }
     None
+}
+
+// The quote belongs to the text that is searched, because the namespace that XBRL instances declare
+// begins alike.
+fn is_schema(text: &str) -> bool {
+    text.starts_with('<')
+        && (text.contains("http://www.w3.org/2001/XMLSchema\"")
+            || text.contains("http://www.w3.org/2001/XMLSchema'"))
 }
 
 fn kind_of_bytes(bytes: &[u8]) -> Option<&'static str> {

@@ -1,6 +1,6 @@
 ghost use Rattle.std.specs.Prelude.{◌≡◌};
 
-use super::escaped::{Escaped, front_of};
+use super::escaped::{Escaped, end_of, front_of};
 use super::format_keys::object_with;
 use super::quoted::push_text;
 use super::sentence::{around, push_alone, push_limit};
@@ -112,26 +112,41 @@ impl<'a> Finding<'a> {
 }
 
 impl Meaning<'_> {
+    /// Appends both names as `{URI}local`. If the URIs begin alike, their ends are shown.
     fn push(&self, alloc: Global, line: &mut String) -> Result<(), AllocError> {
-        let (uri, listed_uri, local) = (self.uri, self.listed_uri, self.local);
+        let begin_alike = begin_alike(alloc, self.uri, self.listed_uri)?;
         line.push_str("; in the report it is ")?;
-        push_expanded(alloc, line, uri, local)?;
+        push_uri(alloc, line, self.uri, begin_alike)?;
+        push_front(alloc, line, self.local)?;
         line.push_str(", the sheet has ")?;
-        push_expanded(alloc, line, listed_uri, local)
+        push_uri(alloc, line, self.listed_uri, begin_alike)?;
+        push_front(alloc, line, self.local)
     }
 }
 
-/// Appends a name as `{URI}local`. A long URI or local part is cut, and two dots follow.
-fn push_expanded(
+/// Returns whether the fronts that a sentence would show of two texts are equal.
+fn begin_alike(alloc: Global, one: &str, other: &str) -> Result<bool, AllocError> {
+    let (one, other) = (front_of(alloc, one)?, front_of(alloc, other)?);
+    Ok(one.as_str() == other.as_str())
+}
+
+/// Appends a URI in braces. A long one is cut, and two dots stand for the rest: the front is shown, or
+/// the end if `shows_end`.
+fn push_uri(
     alloc: Global,
     line: &mut String,
     uri: &str,
-    local: &str,
+    shows_end: bool,
 ) -> Result<(), AllocError> {
     line.push_str("{")?;
-    push_front(alloc, line, uri)?;
-    line.push_str("}")?;
-    push_front(alloc, line, local)
+    if shows_end {
+        let end = end_of(uri);
+        let start = if end.len() == uri.len() { "" } else { ".." };
+        write!(line, "{start}{}", Escaped(end))?;
+    } else {
+        push_front(alloc, line, uri)?;
+    }
+    line.push_str("}")
 }
 
 fn push_front(alloc: Global, line: &mut String, text: &str) -> Result<(), AllocError> {

@@ -47,7 +47,8 @@ printed. The members of an object:
   name        its name
   identifier  the whole identifier of the fact; null for the document
   part        the whole part at fault: a text, another value, an object of one member, or an array
-              of two texts; null if the sentence shows none
+              of two texts; null if the sentence shows none. Numbers in it may be spelled
+              differently from the file
   sentence    what is wrong, as in the text
 For a repeated member, place, number, name and identifier are null.
 
@@ -60,8 +61,8 @@ Example:
 Status:
   0  there is no fault
   1  a report has a fault, or the sheet has a repeated member
-  3  not every report was read: invalid arguments, a refused sheet, a file or device that failed,
-     output above a limit, or out of memory";
+  3  not completed: invalid arguments, a refused sheet, a file or device that failed, output above
+     a limit, or out of memory";
 
 /// Reads the sheet and the reports, one after another, and writes a line for each fault to `out`.
 /// Repeated members count as faults. In the format `Text`, a line with the counts follows. Returns

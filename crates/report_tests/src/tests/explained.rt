@@ -13,6 +13,16 @@ const SHEET: &str =
 const START: &str =
     r#"{"documentInfo":{"documentType":"https://xbrl.org/2021/xbrl-json","namespaces":{"eg":"http://example.org/t","x":"http://example.org/u","zz":"http://example.org/t","xbrl":"https://xbrl.org/2021"},"features":{"xbrl:allowedDuplicates":"consistent"}},"facts":{"#;
 
+// A sheet and a report whose namespaces differ only after 80 characters.
+const LONG_SHEET: &str =
+    r#"{"namespaces":{"eg":"http://filer.example/0123456789012345678901234567890123456789012345678901234567890123456789/2023"},"concepts":{"eg:A":"numeric"}}"#;
+
+const LONG_REPORT: &[u8] =
+    br#"{"documentInfo":{"documentType":"https://xbrl.org/2021/xbrl-json","namespaces":{"eg":"http://filer.example/0123456789012345678901234567890123456789012345678901234567890123456789/2024"}},"facts":{"a":{"value":"1","dimensions":{"concept":"eg:A"}}}}"#;
+
+const LONG_TOLD: &str =
+    "r: fact \"a\": 16 UnknownConcept: the concept \"eg:A\" is not in the sheet; in the report it is {..mple/0123456789012345678901234567890123456789012345678901234567890123456789/2024}A, the sheet has {..mple/0123456789012345678901234567890123456789012345678901234567890123456789/2023}A\n";
+
 struct Table<'t> {
     start: &'t str,
     rows: &'t [(&'t str, &'t str)],
@@ -265,7 +275,7 @@ const BYTES: [(&[u8], &str); 5] = [
     ),
 ];
 
-const SHEETS: [(&str, &str); 8] = [
+const SHEETS: [(&str, &str); 9] = [
     (
         "<s xmlns='http://www.w3.org/2001/XMLSchema'/>",
         "s: the file cannot be read as JSON: invalid JSON at line 1 column 1; the file looks like a schema of a taxonomy: run `tools/make_sheet FILE >sheet.json`\n",
@@ -273,6 +283,10 @@ const SHEETS: [(&str, &str); 8] = [
     (
         r#"{"documentInfo":{}}"#,
         "s: the format has no member \"documentInfo\" in a sheet; the file looks like a report, not a sheet\n",
+    ),
+    (
+        "<xbrl xmlns:xsi='http://www.w3.org/2001/XMLSchema-instance'/>",
+        "s: the file cannot be read as JSON: invalid JSON at line 1 column 1; the file looks like XML: convert it to xBRL-JSON with another program\n",
     ),
     (
         "<xml>",
@@ -297,9 +311,13 @@ const SHEETS: [(&str, &str); 8] = [
     ),
 ];
 
-fn read_names<'s>(rt: &HostRuntime, sheet: &'s Sheet) -> Result<SheetNames<'s>, AllocError> {
-    match SheetNames::read(rt.alloc(), sheet, SHEET.as_bytes()) {
-        Err(_) if may_repeat(rt) => SheetNames::read(rt.alloc(), sheet, SHEET.as_bytes()),
+fn read_names<'s>(
+    rt: &HostRuntime,
+    sheet: &'s Sheet,
+    text: &str,
+) -> Result<SheetNames<'s>, AllocError> {
+    match SheetNames::read(rt.alloc(), sheet, text.as_bytes()) {
+        Err(_) if may_repeat(rt) => SheetNames::read(rt.alloc(), sheet, text.as_bytes()),
         read => read,
     }
 }
@@ -381,7 +399,7 @@ fn is_said_of_sheet(rt: &HostRuntime, text: &str, line: &str) -> Result<bool, Al
 #[test]
 fn faults_of_documents_are_said(rt: HostRuntime) -> Result<(), Fail> {
     let sheet = read_sheet(&rt, SHEET)?;
-    let names = read_names(&rt, &sheet)?;
+    let names = read_names(&rt, &sheet, SHEET)?;
     for table in &TABLES[..2] {
         assert!(rt; is_table_said(&rt, &names, table)?);
     }
@@ -391,7 +409,7 @@ fn faults_of_documents_are_said(rt: HostRuntime) -> Result<(), Fail> {
 #[test]
 fn faults_of_facts_are_said(rt: HostRuntime) -> Result<(), Fail> {
     let sheet = read_sheet(&rt, SHEET)?;
-    let names = read_names(&rt, &sheet)?;
+    let names = read_names(&rt, &sheet, SHEET)?;
     assert!(rt; is_table_said(&rt, &names, &TABLES[2])?);
     Ok(())
 }
@@ -399,10 +417,18 @@ fn faults_of_facts_are_said(rt: HostRuntime) -> Result<(), Fail> {
 #[test]
 fn faults_of_reports_in_other_formats_are_said(rt: HostRuntime) -> Result<(), Fail> {
     let sheet = read_sheet(&rt, SHEET)?;
-    let names = read_names(&rt, &sheet)?;
+    let names = read_names(&rt, &sheet, SHEET)?;
     for (bytes, line) in &BYTES {
         assert!(rt; is_said(&rt, &names, bytes, line)?);
     }
+    Ok(())
+}
+
+#[test]
+fn long_namespaces_are_shown_where_they_differ(rt: HostRuntime) -> Result<(), Fail> {
+    let sheet = read_sheet(&rt, LONG_SHEET)?;
+    let names = read_names(&rt, &sheet, LONG_SHEET)?;
+    assert!(rt; is_said(&rt, &names, LONG_REPORT, LONG_TOLD)?);
     Ok(())
 }
 
