@@ -24,7 +24,7 @@ differences between numbers from the page.
 
 In table.csv, provider: NAME and decimals: NAME contain the values of a provider and their decimals, joined by "; ", and files:
 NAME its files if it has several. If no provider is known, or more than 100, the columns values and decimals have all values.
-nil_by lists who reports nil.
+nil_by lists who reports nil, or the nil facts if no provider is known.
 
 Providers are named after their files: the provider of issuer.json is "issuer". NAME=REPORT sets another name. If a provider
 made several reports, repeat its NAME. After --, each argument is the whole name of a file. Write -- before a glob, as in

@@ -39,7 +39,7 @@ from typing import Iterator
 
 sys.dont_write_bytecode = True
 from arguments import Parser  # noqa: E402
-from process import Status, print_lines, run  # noqa: E402
+from process import NotDone, Status, print_lines, run  # noqa: E402
 from sheet_making.limits import Limits, reading  # noqa: E402
 from sheet_making.making import kinds_in  # noqa: E402
 from sheet_making.sheet_text import sheet_text, union  # noqa: E402
@@ -81,7 +81,10 @@ def standard_input_kept(inputs: list[str]) -> Iterator[list[str]]:
                 if copy.tell() + len(piece) > LONGEST:
                     raise ValueError(f"it is longer than {LONGEST} bytes")
                 copy.write(piece)
-        yield [kept if path == STANDARD else path for path in inputs]
+        try:
+            yield [kept if path == STANDARD else path for path in inputs]
+        except NotDone as fault:
+            raise NotDone(*(str(line).replace(f"{folder}{os.sep}", "") for line in fault.args)) from None
 
 
 def main() -> Status:

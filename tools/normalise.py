@@ -83,7 +83,11 @@ def program_asked(options: argparse.Namespace) -> Iterator[Optional[Program]]:
         yield None
         return
     beside = None if options.OUT == STANDARD else os.path.dirname(os.path.abspath(options.OUT))
-    with new_folder(beside) as folder:
+    with contextlib.ExitStack() as stack:
+        try:
+            folder = stack.enter_context(new_folder(beside))
+        except OSError as fault:  # it names the temporary folder
+            raise OSError(f"{shown_path(options.OUT)}: {fault.strerror or fault}") from None
         yield Program(program_at(options.program), options.sheet, folder)
 
 

@@ -91,6 +91,8 @@ class AllRows:
         yield from (concept, cell(self.labels.get(row.dimensions.concept, "")), *others, row.verdict, cell(hints(row)) if row.hints else "")
         lacking = [name for name in self.providers if name not in own] if len(own) < len(self.everybody) else ()
         nil = [name for name, given in own.items() if any(each.fact.value is None for each in given)]
+        if not own:
+            nil = [name for name, fact in row.facts.items() if fact.value is None]
         yield f"{len(own)} of {len(self.everybody)}" if self.everybody else ""
         yield cell(", ".join(lacking)) if lacking else ""
         yield cell(", ".join(nil)) if nil else ""

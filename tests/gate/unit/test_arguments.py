@@ -98,6 +98,8 @@ class StandardStreams(Stubbed):
         for words, given, concept in ((["-"], schema, "n1:A"), (["-"], packed.getvalue(), "n1:A"), (["--union", "-"], sheet, "n1:B")):
             status, errors, out = self.run_piped("make_sheet", *words, given=given)
             self.assertEqual((status, errors, [*json.loads(out)["concepts"]]), (0, b"", [concept]))
+        line = b"make_sheet: standard input: it is not a schema: name the package, the folder or a schema of the taxonomy\n"
+        self.assertEqual(self.run_piped("make_sheet", "-", given=b"<a/>"), (3, line, b""))
 
     def test_streams_that_are_none(self):
         sheet = ["--sheet", SHEET, "-o"]

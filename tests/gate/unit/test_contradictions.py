@@ -213,6 +213,11 @@ class Texts(ToolTest):
         self.assertEqual([(cell["value"], cell["nil"]) for cell in cells], [("7", "false"), ("", "true")])
         self.assertIn("A nil value contradicts every number.", page)
 
+    def test_nil_facts_are_listed_without_providers(self):
+        self.table_of(self.number("7", 0), self.number(None))
+        with open(self.listed, encoding="utf-8-sig", newline="") as file:
+            self.assertEqual([(row["values"], row["nil_by"]) for row in csv.DictReader(file)], [("7", "f2")])
+
     def test_numbers_of_eighteen_digits_are_exact(self):
         cells = self.table_of(self.number("0.000000000000000001", 18), self.number("999999999999999999", -18))[1]
         self.assertEqual(cells[0]["low"], "0.0000000000000000005")

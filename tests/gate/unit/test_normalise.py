@@ -290,6 +290,17 @@ class Unreadable(ToolTest):
         self.assertEqual((status, errors), (0, 'normalise: the document is refused: 2 MemberForm: "documentInfo" is missing\n'))
         self.assertEqual(out, '{"facts":{"f":{"value":"5"},"g":{"value":"6"}}}\n')
 
+    def test_a_folder_that_is_missing(self):
+        out = self.path_of("nowhere/out.json")
+        status, errors = self.run_tool(self.report, out, self.changes, "--sheet", self.sheet, *self.refusing({}))
+        self.assertEqual((status, errors), (3, f"normalise: {out}: No such file or directory\n"))
+
+    def test_a_sheet_that_cannot_be_read_twice(self):
+        os.mkfifo(self.path_of("fifo"))
+        status, errors = self.run_tool(self.report, self.out, self.changes, "--sheet", self.path_of("fifo"), *self.refusing({}))
+        self.assertEqual(status, 2, errors)
+        self.assertIn("--drop-unreadable needs a sheet in a file", errors)
+
     def test_a_program_that_fails_is_reported(self):
         options = self.refusing({})
         for name, text, why in (("explain.err", "error: unexpected argument '--format' found\n", "xbrlmerge explain: error: unexpected"),
@@ -347,7 +358,7 @@ class BadInputs(ToolTest):
         report = self.write("good.json", "{}")
         for words in ([], [report, self.out], [report, self.out, self.out], [report, self.out, report]):
             self.assertEqual(self.run_tool(*words)[0], 2)
-        for option in ("--drop-unknown", "--drop-unreadable", "--dates=iso", "--zones=cet"):
+        for option in ("--drop-unknown", "--drop-unreadable", f"--map={report}", "--dates=iso", "--zones=cet"):
             self.assertEqual(self.run_tool(report, self.out, self.changes, option)[0], 2)
 
     def test_the_command(self):
