@@ -74,7 +74,7 @@ DIMENSION = Remedy("fact with a dimension that the sheet lacks", "facts with a d
 
 def remedy_for(fault: Fault) -> Optional[Remedy]:
     """Returns the remedy for a fault, or None if no option is known to mend it. `explain` prints null in place of a number that
-    it might spell differently from the file; only its sentence then tells such a number from a null."""
+    it might spell differently from the file. In that case, only the sentence distinguishes the number from a null."""
     name, part, sentence = fault["name"], fault["part"], fault["sentence"]
     if name == "DecimalsForm" and part is None and " null " not in sentence:
         return None

@@ -115,7 +115,7 @@ def dimension_cells(of: Dimensions) -> list[str]:
 
 
 def unit_text(sides: Sequence[str], unit: Sequence[Sequence[Name]], sign: str) -> str:
-    """Returns the text of a unit, of which `sides` are the texts. Beside another side, one with several names is in parentheses."""
+    """Joins the texts of a unit's sides. If there are two sides, a side with several names is put in parentheses."""
     texts = [f"({text})" if len(sides) > 1 < len(names) else text for text, names in zip(sides, unit)]
     return sign.join(texts)
 

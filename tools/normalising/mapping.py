@@ -41,7 +41,7 @@ class NameMap:
             check_ends(table, self.namespaces)
         for old, measure in self.units.items():
             if measure.scale and measure.name == old:
-                raise ValueError(f"{old.shown()} is scaled, and replaced by itself")
+                raise ValueError(f"{old.shown()} has a scale, but is replaced by itself")
 
     def in_namespace(self, name: Name) -> Name:
         return Name(self.namespaces.get(name.uri, name.uri), name.local)
@@ -139,7 +139,7 @@ class ReportMap:
         return "".join(made), total
 
     def note_kept(self, kind: str, name: Name) -> None:
-        """Notes a name of which only the namespace may be replaced."""
+        """Notes a name that the map can change only by its namespace."""
         self.note(kind, name, self.given.in_namespace(name))
 
     def note(self, kind: str, old: Name, new: Name) -> None:

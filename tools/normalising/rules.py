@@ -204,9 +204,9 @@ class FactReader:
     def change_set(self, fact: Part) -> None:
         given = fact.get("value")
         items = re.findall(rf"[^{SPACE}]+", given)
-        for old in (full_name(item, self.mapped.before) for item in items) if self.mapped else ():
-            if old and self.mapped:
-                self.mapped.note_kept("items", Name(*old))
+        if self.mapped:
+            for name in filter(None, (full_name(item, self.mapped.before) for item in items)):
+                self.mapped.note_kept("items", Name(*name))
         spelled = [full_name(item, self.uris) for item in items]
         found = [name and self.in_namespace(name) for name in spelled]  # an item may spell its namespace
         names = {name for name in found if name}
