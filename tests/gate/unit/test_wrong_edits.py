@@ -1,31 +1,61 @@
-"""Tests which edits tests/prover/wrong_edits tries, in a small repository, with a prover that refuses each edit."""
+"""Tests which edits tests/prover/wrong_edits tries, and which it reports, in small repositories with provers of few lines. Tests
+also that each edit of this repository can be made."""
 import os
 import shutil
 import subprocess
 import unittest
 
 from small_tree import SmallTree
+from support import TOP, content, script
 
-PROVER = """\
+SCRIPT = "tests/prover/wrong_edits"
+# refuses each edit
+REFUSER = """\
 #!/bin/sh
 for edit in crates/"$2"/must-fail/*.edit; do echo "must-fail $edit: refused, as it must be"; done
 """
+# refuses functions that contain `wrong`
+CHECKER = """\
+#!/bin/sh
+echo run >>"$RUNS"
+if grep -q unknown src/lib.rt; then
+    echo "src/lib.rt:2:5: error[unknown-name]: there is no such name"
+    exit 1
+fi
+for name in one two; do
+    if grep -A1 "fn $name" src/lib.rt | grep -q wrong; then echo "fn low::$name: not proved"; fi
+done
+if grep -q calls src/lib.rt; then
+    if grep -q wrong src/lib.rt; then said="no proof: it calls \\`low::one\\`"; else said="not proved"; fi
+    echo "fn low::two: $said"
+fi
+"""
+CODE = "fn one() {\n    first\n}\n\npub fn two() {\n    second\n}\n"
+
+
+def edit(name, old, new, file="src/lib.rt"):
+    return f"name: {name}\nfile: {file}\nold: {old}\nnew: {new}\n"
+
+
+def tree_of(test, crates, prover):
+    """Returns a tree with the script and the crates, and the variables with which the script finds the prover."""
+    tree = SmallTree(test, SCRIPT)
+    tree.put("crates.txt", crates)
+    tree.put("HANDLES", "")
+    path = tree.put("prover/rt", prover)
+    os.chmod(path, 0o755)
+    return tree, {**os.environ, "PATH": os.pathsep.join([os.path.dirname(path), os.environ["PATH"]])}
 
 
 @unittest.skipIf(shutil.which("git") is None, "needs git")
-class WrongEdits(unittest.TestCase):
+class Alone(unittest.TestCase):
     def setUp(self):
-        self.tree = SmallTree(self, "tests/prover/wrong_edits")
-        for crate in ("low", "middle", "high"):
+        self.tree, self.env = tree_of(self, "low:\nmiddle: low\nhigh: low middle\nbare:\n", REFUSER)
+        for crate in ("low", "middle", "high", "bare"):
             self.tree.put(f"crates/{crate}/src/lib.rt", "")
-            self.tree.put(f"wrong_edits/{crate}/one.edit", "file: src/lib.rt\nold: a\nnew: b\n")
-        self.tree.put("crates/bare/src/lib.rt", "")
-        self.tree.put("crates.txt", "low:\nmiddle: low\nhigh: low middle\nbare:\n")
-        self.tree.put("HANDLES", "")
+        for crate in ("low", "middle", "high"):
+            self.tree.put(f"wrong_edits/{crate}.edits", edit("one", "a", "b"))
         self.tree.put(".gitignore", "out/\n")
-        prover = self.tree.put("prover/rt", PROVER)
-        os.chmod(prover, 0o755)
-        self.path = os.pathsep.join([os.path.dirname(prover), os.environ["PATH"]])
         self.git("init", "--quiet")
         self.git("add", "--all")
         self.git("-c", "user.name=a", "-c", "user.email=a@b", "-c", "commit.gpgsign=false", "commit", "--quiet", "--message", "first")
@@ -34,9 +64,9 @@ class WrongEdits(unittest.TestCase):
         subprocess.run(["git", "-C", self.tree.folder, *words], check=True)
 
     def tried(self, *words):
-        """Runs tests/prover/wrong_edits. Returns its status, and its lines except those of the prover."""
-        status, lines, _ = self.tree.run(*words, env={**os.environ, "PATH": self.path})
-        return status, [it for it in lines if not it.startswith("must-fail ")]
+        """Runs the script. Returns its status, and its lines except those of the prover."""
+        status, lines, errors = self.tree.run(*words, env=self.env)
+        return status, [it for it in lines if not it.startswith("must-fail ")] + errors
 
     def test_the_crates_whose_files_or_edits_differ(self):
         self.assertEqual(self.tried("--changed", "HEAD"), (0, ["no crate with edits differs from HEAD"]))
@@ -46,24 +76,82 @@ class WrongEdits(unittest.TestCase):
         self.tree.put("crates/bare/src/lib.rt", "// it has no edits\n")
         high, low = "high: 1 of 1 refused, 0 by names alone", "low: 1 of 1 refused, 0 by names alone"
         self.assertEqual(self.tried("--changed", "HEAD"), (0, [high, low]))
-        self.tree.put("wrong_edits/middle/two.edit", "file: src/lib.rt\nold: a\nnew: c\n")
+        self.tree.put("wrong_edits/middle.edits", edit("one", "a", "b") + "\n" + edit("two", "a", "c"))
         middle = "middle: 2 of 2 refused, 0 by names alone"
         self.assertEqual(self.tried("--changed", "HEAD"), (0, [high, low, middle]))
 
     def test_a_moved_file_counts_in_both_crates(self):
-        self.tree.put("crates/low/src/lib.rt", "")
         os.rename(os.path.join(self.tree.folder, "crates/low/src/lib.rt"), os.path.join(self.tree.folder, "crates/middle/src/moved.rt"))
         self.git("add", "--all")
         lines = [f"{crate}: 1 of 1 refused, 0 by names alone" for crate in ("low", "middle")]
         self.assertEqual(self.tried("--changed", "HEAD"), (0, lines))
 
     def test_a_crate_that_lost_its_edits(self):
-        shutil.rmtree(os.path.join(self.tree.folder, "wrong_edits/low"))
-        self.assertEqual(self.tried("--changed", "HEAD"), (1, ["low: its edits are gone"]))
+        os.remove(os.path.join(self.tree.folder, "wrong_edits/low.edits"))
+        self.assertEqual(self.tried("--changed", "HEAD"), (1, ["low: no such crate, or no edits in wrong_edits/low.edits"]))
 
     def test_a_revision_that_does_not_exist(self):
         self.assertEqual(self.tried("--changed", "none"), (1, ["no revision none"]))
         self.assertEqual(self.tried("--changed"), (1, ["no revision "]))
+
+
+class Together(unittest.TestCase):
+    def setUp(self):
+        self.tree, env = tree_of(self, "low:\n", CHECKER)
+        self.tree.put("crates/low/src/lib.rt", CODE)
+        self.env = {**env, "RUNS": os.path.join(self.tree.folder, "runs")}
+
+    def tried(self, *edits):
+        """Tries the edits together. Returns the script's status, its lines, and how often it ran the prover."""
+        self.tree.put("wrong_edits/low.edits", "\n".join(edits))
+        status, lines, _ = self.tree.run("--together", env=self.env)
+        return status, lines, content(self.env["RUNS"]).count("\n")
+
+    def test_edits_of_different_functions_are_made_together(self):
+        first, second = edit("first_is_wrong", "first", "wrong"), edit("second_is_wrong", "second", "wrong")
+        self.assertEqual(self.tried(first, second), (0, ["low: 2 of 2 refused"], 1))
+
+    def test_edits_of_one_function_are_made_in_turn(self):
+        first, again = edit("first_is_wrong", "first", "wrong"), edit("first_is_wronger", "first", "wronger")
+        self.assertEqual(self.tried(first, again), (0, ["low: 2 of 2 refused"], 2))
+
+    def test_functions_of_one_name_are_edited_in_turn(self):
+        self.tree.put("crates/low/src/other.rt", "fn one() {\n    third\n}\n")
+        edits = edit("first_is_wrong", "first", "wrong"), edit("third_is_wrong", "third", "wrong", "src/other.rt")
+        lines = ["low/third_is_wrong: `one` does not lose its own proof", "low: 1 of 2 refused"]
+        self.assertEqual(self.tried(*edits), (1, lines, 2))
+
+    def test_an_edit_that_is_not_refused(self):
+        edits = edit("first_is_wrong", "first", "wrong"), edit("second_is_other", "second", "other")
+        lines = ["low/second_is_other: `two` does not lose its own proof", "low: 1 of 2 refused"]
+        self.assertEqual(self.tried(*edits), (1, lines, 1))
+
+    def test_an_edit_of_a_function_that_calls_another_edited_one(self):
+        edits = edit("first_is_wrong", "first", "wrong"), edit("second_calls_the_first", "second", "calls")
+        self.assertEqual(self.tried(*edits), (0, ["low: 2 of 2 refused"], 2))
+
+    def test_edits_that_cannot_be_made_or_do_not_compile(self):
+        edits = [edit("first_is_wrong", "first", "wrong"), edit("second_is_unknown", "second", "unknown"), edit("third_is_wrong", "third", "wrong")]
+        lines = ["low/second_is_unknown: does not compile", "low/third_is_wrong: cannot be made", "low: 1 of 3 refused"]
+        self.assertEqual(self.tried(*edits), (1, lines, 3))
+
+    def test_a_crate_without_edits(self):
+        self.assertEqual(self.tree.run("low", env=self.env)[:2], (1, ["low: no such crate, or no edits in wrong_edits/low.edits"]))
+
+
+class Edits(unittest.TestCase):
+    def test_each_edit_can_be_made(self):
+        tried = script(SCRIPT)
+        crates = [it.removesuffix(".edits") for it in os.listdir(os.path.join(TOP, "wrong_edits"))]
+        wrong = []
+        for crate in crates:
+            folder, edits = os.path.join(TOP, "crates", crate), tried.edits_of(crate)
+            names = [it.name for it in edits]
+            wrong += [f"{crate}: {it} twice" for it in set(names) if names.count(it) > 1]
+            for it in edits:
+                texts = {file: tried.read(folder, file) for file, _, _ in it.steps}
+                wrong += [] if it.steps and tried.made(texts, [it]) not in (None, texts) else [f"{crate}: {it.name} cannot be made"]
+        self.assertEqual(wrong, [])
 
 
 if __name__ == "__main__":
