@@ -1,4 +1,4 @@
--- The dimensions of a fact (OIM Common 1.0, dimensions; xBRL-JSON 1.0, the core dimensions).
+-- The dimensions of a fact (OIM 1.0, dimensions; xBRL-JSON 1.0, the core dimensions).
 use Rattle.std.specs.Prelude.{◌≡◌, ◌⊎◌, ◌↔◌, ℕ, Bool, true, false, ◌&&◌, ◌||◌, if◌then◌else◌, List, [], ◌∷◌, Option, Contains, IsTrue, IfSome}
 use Rattle.std.specs.List.{list_any}
 use Rattle.std.specs.Ordering.{is_lt, is_eq}

@@ -1,4 +1,4 @@
--- Languages (XML Schema Part 2, section 3.3.3, the pattern of `language`; OIM Common 1.0, the core dimension language).
+-- Languages (XML Schema Part 2, section 3.3.3, the pattern of `language`; OIM 1.0, the core dimension language, in lower case).
 use Rattle.std.specs.Prelude.{◌≡◌, ℕ, Bool, ◌&&◌, ◌==◌, List, length, IsTrue}
 use Rattle.std.specs.Int.{is_in_range}
 use Rattle.std.specs.List.{list_all, slice_split, before_first}

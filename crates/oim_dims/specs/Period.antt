@@ -1,4 +1,4 @@
--- Periods (OIM Common 1.0, the core dimension period; xBRL-JSON 1.0, periods as one date-time or two).
+-- Periods (OIM 1.0, the core dimension period; OIM Common 1.0, periods as one date-time or two).
 use Rattle.std.specs.Prelude.{◌≡◌, ℕ, ℤ, int_lt, if◌then◌else◌, List, ◌∷◌, ◌++◌, Option, Some, None, Result, Ok, Err, ⊤, ◌<ℤ◌, IfSome}
 use Rattle.std.specs.Ordering.{int_eq}
 use Rattle.std.specs.List.{list_any, before_first, after_first}

@@ -1,4 +1,4 @@
--- Units (OIM Common 1.0, the core dimension unit; xBRL-JSON 1.0, units as texts).
+-- Units (OIM 1.0, the core dimension unit; OIM Common 1.0, units as texts).
 use Rattle.std.specs.Prelude.{◌≡◌, ◌≢◌, ℕ, ◌-◌, Bool, false, not, ◌&&◌, ◌||◌, ◌==◌, if◌then◌else◌, List, [], ◌∷◌, ◌++◌, length, slice_index, slice_range, map, Option, Some, None, All, IfSome, IsTrue, codes}
 use Rattle.std.specs.List.{AllZip, list_all, list_any, slice_split, before_first, after_first, join_with_byte}
 use Rattle.std.specs.List.Sorted.{IsPermutation, IsSorted}
@@ -67,7 +67,7 @@ pure_name = record { uri = codes "http://www.xbrl.org/2003/instance"; local_part
 abbrev pub pure_alone : Measures
 pure_alone = record { numerators = pure_name ∷ []; denominators = [] }
 
--- the unit that a text denotes under these bindings; `pure` alone denotes none (own)
+-- the unit that a text denotes under these bindings; `pure` alone denotes none (OIM 1.0 forbids to write it; reading it is own)
 abbrev pub UnitOf : List Binding → List ℕ → Option Measures → Type 0
 UnitOf bs t None = HasMeasures bs t pure_alone
 UnitOf bs t (Some m) = HasMeasures bs t m × (m ≢ pure_alone)

@@ -14,7 +14,7 @@ use std::alloc::{AllocError, Global};
 use std::cmp::Ordering;
 use std::marker::Model;
 
-/// A dimension set (OIM Common 1.0): the core dimensions, and the taxonomy-defined dimensions in
+/// A dimension set (OIM 1.0): the core dimensions, and the taxonomy-defined dimensions in
 /// the order of names, each name once. Sets are compared by concept, entity, period, unit,
 /// language, then members. An absent part is less than a present one.
 #[derive(Debug, PartialEq, Eq, PartialOrd, Ord)]

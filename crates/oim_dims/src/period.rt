@@ -7,7 +7,7 @@ use oim_names::{Copied, Key, Reason, Text};
 use std::alloc::{AllocError, Global};
 use std::cmp::Ordering;
 
-/// The time for which a fact holds (OIM Common 1.0, the core dimension period). Periods are ordered
+/// The time for which a fact holds (OIM 1.0, the core dimension period). Periods are ordered
 /// by kind, in the order of the variants, and then by their moments. A duration that was read ends
 /// after its start.
 #[derive(Clone, Copy, Debug, PartialEq, Eq, PartialOrd, Ord)]

@@ -10,7 +10,7 @@ use std::cmp::Ordering;
 use std::marker::Model;
 use std::rc::Rc;
 
-/// The unit of a number (OIM Common 1.0, the core dimension unit): numerators, which are
+/// The unit of a number (OIM 1.0, the core dimension unit): numerators, which are
 /// multiplied, and denominators, which divide the product. Both lists are in the order of names and
 /// may contain repeats. There is at least one numerator, no local part contains `*`, `/`, `(` or
 /// `)`, and `pure` alone is not a unit. Copies of a unit share its memory.

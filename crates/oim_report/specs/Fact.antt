@@ -1,4 +1,4 @@
--- Which fact an object denotes, member by member (OIM Common 1.0; xBRL-JSON 1.0, section 3.1; own where marked).
+-- Which fact an object denotes, member by member (OIM 1.0; xBRL-JSON 1.0, section 3.1; own where marked).
 use Rattle.std.specs.Prelude.{◌≡◌, ℕ, ℤ, List, Contains, All, Any, Option, Some, None, Ok, IsTrue}
 use Rattle.std.specs.Str.{str_to_ascii_lowercase}
 use Rattle.std.specs.FinMap as map
@@ -52,7 +52,7 @@ SaysPeriod g said = GivesTextOr (said ≡ Forever) g (λ t. period_of t ≡ Ok s
 abbrev pub SaysUnit : List Binding → Given → Option Measures → Type 0
 SaysUnit bs g said = GivesTextOr (said ≡ None) g (λ t. UnitOf bs t said)
 
--- a language is converted to lower case (own)
+-- a language is in lower case (OIM 1.0); upper case is converted (own)
 abbrev pub SaysLanguage : Given → Option (List ℕ) → Type 0
 SaysLanguage g said = GivesTextOr (said ≡ None) g (λ t. IsTrue (is_language t) × (said ≡ Some (str_to_ascii_lowercase t)))
 

@@ -1,5 +1,5 @@
--- The conditions of a document and of a fact object, one clause per condition (OIM Common 1.0; xBRL-JSON 1.0; own where marked).
--- If a part is missing, only a condition that requires the part applies.
+-- The conditions of a document and of a fact object, one clause per condition (OIM 1.0; OIM Common 1.0; xBRL-JSON 1.0; own where
+-- marked). If a part is missing, only a condition that requires the part applies.
 use Rattle.std.specs.Prelude.{ℕ, ℤ, List, [], ◌∷◌, ◌++◌, map, length, Bool, true, false, not, ◌||◌, ◌&&◌, nat_lt, int_lt, if◌then◌else◌, bytes_eq, codes, Option, Some, None, is_none, is_some, option_and_then}
 use Rattle.std.specs.Option.{option_map_or, option_to_list}
 use Rattle.std.specs.List.{filter, filter_map, flat_map, list_any}
@@ -70,7 +70,7 @@ pieces t = if is_unit_text t then numerator_pieces t ++ denominator_pieces t els
 
 -- ---- facts
 
--- a dimension of this kind cannot have this member (own: a typed member is a text or null)
+-- a dimension of this kind cannot have this member (xBRL-JSON 1.0: a typed member is a text or null)
 abbrev pub misfits : DimensionKind → Data → Bool
 misfits Explicit v = no_text v
 misfits Typed v = no_text_or_null v

@@ -1,4 +1,4 @@
--- Rounding intervals (own), in units of 10^-UNIT_PLACES.
+-- Rounding intervals with both ends (XBRL 2.1, 4.6; XBRL working group note on duplicate facts), in units of 10^-UNIT_PLACES.
 use Rattle.std.specs.Prelude.{◌≡◌, ◌↔◌, ℕ, ◌-◌, ◌*◌, ◌^◌, ◌<◌, ◌≤◌, ℤ, pos, neg_ℤ, ◌+ℤ◌, ◌-ℤ◌, ◌≤ℤ◌, int_le, unsigned_abs, Bool, ◌&&◌, IsTrue, Option, Some, None}
 use Rattle.std.specs.Int.{int_max, int_min}
 use Rattle.oim_value.specs.declared.interval.Interval.{Interval}

@@ -49,7 +49,7 @@ pub(crate) struct DimensionMembers<'a> {
 }
 
 impl<'a> DimensionMembers<'a> {
-    // Separates the core dimensions (OIM Common 1.0) from the other members.
+    // Separates the core dimensions (OIM 1.0) from the other members.
     fn of(alloc: Global, object: &'a Value) -> Result<Option<DimensionMembers<'a>>, AllocError>
         ensures { IfOk result
             (λ parts. option_map seen_dimensions parts ≡ option_map dimension_parts (as_object (view object.now))) }
