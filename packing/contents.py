@@ -3,17 +3,19 @@ from __future__ import annotations
 
 import os
 
+from packing.completions import completions
 from packing.files import PLAIN, RUNS, File, read, read_below
+from packing.manual import pages
+from packing.program_help import commands_of
+from packing.running import run_tool
+from packing.tools import PROGRAM, TOOLS, command_of
 
-PROGRAM = "xbrlmerge"
-TOOLS = ("contradictions", "make_sheet", "normalise", "recheck")
 # the version of the library's calls, which changes if a program that was linked before can no longer use the library
 INTERFACE = "0"
 SHARED = f"libxbrlmerge.so.{INTERFACE}"
 # a Python package, so its modules take no names from others
 TOOL_PACKAGE = "xbrlmerge_tools"
 SHARE, DOCUMENTS = "share/xbrlmerge", "share/doc/xbrlmerge"
-COMPLETIONS = ("share/bash-completion/completions", "share/zsh/site-functions", "share/fish/vendor_completions.d")
 LAUNCHER = """\
 #!/bin/sh
 # Runs a tool of xbrlmerge, which needs Python 3.9 or later.
@@ -48,10 +50,6 @@ Libs: -L${{libdir}} -lxbrlmerge
 """
 
 
-def command_of(tool: str) -> str:
-    return f"{PROGRAM}-{tool.replace('_', '-')}"
-
-
 def tool_package(top: str, target: str) -> list[File]:
     """Returns the files of the Python package with the tools, below a folder."""
     folder = os.path.join(target, TOOL_PACKAGE)
@@ -72,11 +70,9 @@ def plain(file: File) -> File:
 
 
 def program(top: str, built: str) -> list[File]:
-    """Returns the built program, the tools, the man pages and the completions."""
-    pages = read_below(os.path.join(top, "docs"), "share/man/man1", (".1",))
-    pages = [File(f"share/man/man1/{os.path.basename(it.target)}", it.content) for it in pages]
-    completions = [it for folder in COMPLETIONS for it in read_below(os.path.join(top, folder), folder, ("",))]
-    return [read(built, f"bin/{PROGRAM}", RUNS), *tools(top), *pages, *completions]
+    """Returns the built program, the tools, and the man pages and completions, which are made from the help."""
+    commands, version = commands_of(built), run_tool(built, "--version").split()[-1]
+    return [read(built, f"bin/{PROGRAM}", RUNS), *tools(top), *pages(top, commands, version), *completions(commands)]
 
 
 def pkg_config(version: str, up: str = "../..") -> bytes:

@@ -1,15 +1,16 @@
-"""Makes the man pages of the tools from what they print for --help."""
+"""Makes the man pages of the program, its commands and the tools from what they print for --help."""
 from __future__ import annotations
 
 import os
 import re
 import sys
 
-from packing.contents import TOOLS, command_of
+from packing.files import File
+from packing.program_help import Command
 from packing.running import run_tool
+from packing.tools import TOOLS, command_of
 
 HEAD = """\
-.\\" Made from `tools/{tool} --help` by `tests/pages/manual --write`.
 .TH {title} 1 "" "xbrlmerge {version}" "User commands"
 .SH NAME
 {command} \\- {about}
@@ -21,8 +22,12 @@ HEAD = """\
 """
 TAIL = """\
 .SH SEE ALSO
-.BR xbrlmerge (1)
+{others}
 """
+# a block of entries in a help text, by its title
+ENTRIES = re.compile(r"(?:Commands|Arguments|Options):\n")
+# the sections for other blocks, by their first word
+SECTIONS = {"Status": "EXIT STATUS", "Example": "EXAMPLES"}
 # wide enough that argparse breaks no line
 WIDE = "4000"
 # a line of options: the names and arguments, and after two spaces the meaning
@@ -44,12 +49,39 @@ def page(tool: str, text: str, version: str) -> str:
     description = paragraphs[:first]
     statuses = [it for it in description if it.startswith("Status 0")]
     command, own = command_of(tool), about[:1].lower() + about[1:].rstrip(".")
-    pieces = [HEAD.format(tool=tool, title=command.upper(), version=version, command=escaped(command), about=escaped(own),
-                          synopsis=escaped("\n".join(line.strip() for line in synopsis.splitlines())))]
+    pieces = [begin(command, own, synopsis, version)]
     pieces.append(".PP\n".join(paragraph(it) for it in description if it not in statuses))
     pieces += [section(it) for it in paragraphs[first:]]
     pieces += [f".SH EXIT STATUS\n{paragraph(it)}" for it in statuses]
-    return "".join([*pieces, TAIL])
+    return "".join([*pieces, TAIL.format(others=".BR xbrlmerge (1)")])
+
+
+def command_page(command: Command, version: str, others: list[str]) -> str:
+    """Returns the man page of a command of the program, or of the program. `others` are the names of the pages to see also."""
+    about, synopsis, *blocks = command.text.rstrip("\n").split("\n\n")
+    listed = [re.sub(r"^ {6}(?=-)", "  ", it, flags=re.MULTILINE) for it in blocks if ENTRIES.match(it)]
+    own = [it for it in blocks if it.startswith(tuple(SECTIONS))]
+    name = f"xbrlmerge-{command.name}" if command.name else "xbrlmerge"
+    pieces = [begin(name, about[:1].lower() + about[1:], synopsis.replace("Usage: ", ""), version)]
+    pieces.append(".PP\n".join(paragraph(it) for it in blocks if not ENTRIES.match(it) and it not in own))
+    pieces += [section(it) for it in listed]
+    for start, title in SECTIONS.items():
+        pieces += [f".SH {title}\n" + paragraph(it.replace(f"{start}:\n", "", 1)) for it in own if it.startswith(start)]
+    return "".join([*pieces, TAIL.format(others=",\n".join(f".BR {escaped(it)} (1)" for it in others if it != name))])
+
+
+def pages(top: str, commands: list[Command], version: str) -> list[File]:
+    """Returns the man pages of the program, its commands and the tools."""
+    of_tools = {command_of(tool): page(tool, help_of(top, tool), version) for tool in TOOLS}
+    own = [it for it in commands if it.options]
+    names = [f"xbrlmerge-{it.name}" if it.name else "xbrlmerge" for it in own]
+    made = {name: command_page(it, version, [*names, *of_tools] if not it.name else ["xbrlmerge"]) for name, it in zip(names, own)}
+    return [File(f"share/man/man1/{name}.1", text.encode()) for name, text in (made | of_tools).items()]
+
+
+def begin(command: str, about: str, synopsis: str, version: str) -> str:
+    lines = "\n".join(line.strip() for line in synopsis.splitlines())
+    return HEAD.format(title=command.upper(), version=version, command=escaped(command), about=escaped(about), synopsis=escaped(lines))
 
 
 def escaped(text: str) -> str:
@@ -61,11 +93,12 @@ def escaped(text: str) -> str:
 def paragraph(text: str) -> str:
     """Returns a paragraph. Indented lines keep their breaks."""
     lines, is_kept = [], False
+    indent = min((len(it) for it in re.findall(r"^  +", text, re.MULTILINE)), default=0)
     for line in text.splitlines():
         if line.startswith("  ") != is_kept:
             is_kept = not is_kept
             lines.append(".RS\n.nf" if is_kept else ".fi\n.RE")
-        lines.append(escaped(line[4:] if line.startswith("    ") else line))
+        lines.append(escaped(line[indent:] if is_kept else line))
     return "\n".join([*lines, *[".fi\n.RE"] * is_kept, ""])
 
 

@@ -23,8 +23,16 @@ sys.path.append(os.path.join(TOP, "python"))
 import wheel_of_library
 
 VERSION, SECONDS = "1.2.0-dev", 1_700_000_000
-# a stand-in for the program
-PROGRAM = b"#!/bin/sh\n# GLIBC_2.3 GLIBC_2.34 \0libc.so.6\0\necho a stand-in >&2\nexit 3\n"
+# a stand-in for the program, with a help of one command
+PROGRAM = b"""#!/bin/sh
+# GLIBC_2.3 GLIBC_2.34 \0libc.so.6\0
+case $* in
+    --version) echo xbrlmerge 1.2.0-dev ;;
+    --help) printf 'Merges\\n\\nUsage: xbrlmerge\\n\\nCommands:\\n  merge  Writes\\n\\nOptions:\\n  -h, --help  Print help\\n' ;;
+    "merge --help") printf 'Writes\\n\\nUsage: xbrlmerge merge\\n\\nOptions:\\n      --allow <LEVEL>  Loosest [possible values: none, all]\\n' ;;
+    *) echo a stand-in >&2; exit 3 ;;
+esac
+"""
 URL = "# `url`\n\nA parser, ported from the Rust crate `url` 2.5.8 (MIT or Apache-2.0; both are here).\n"
 CRATES = {"low": Crate(["json"], "aa"), "xbrlmerge": Crate(["low", "url"], "bb")}
 
@@ -65,6 +73,14 @@ class Contents(Packages):
         self.assertEqual(page, manual.page("normalise", new, VERSION))
         self.assertIn("\n.SH OPTIONS\n.TP\n.B \\-o, \\-\\-output DIR\nthe rest\n.SH SEE", page)
         self.assertIn("\nxbrlmerge\\-normalise A\n", page)
+
+    def test_completions_and_pages_are_made_from_the_help(self):
+        texts = {os.path.basename(it.target): it.content.decode() for it in self.program() if it.target.startswith("share/")}
+        self.assertIn("        merge,--allow) _xbrlmerge_of \"$word\" none all ;;\n", texts["xbrlmerge"])
+        self.assertIn("--allow'[Loosest]:LEVEL:(none all)'", texts["_xbrlmerge"])
+        self.assertIn("-n '__fish_seen_subcommand_from merge' -l allow -x -a 'none all' -d Loosest\n", texts["xbrlmerge.fish"])
+        self.assertIn('\n.SH OPTIONS\n.TP\n.B \\-\\-allow <LEVEL>\nLoosest', texts["xbrlmerge-merge.1"])
+        self.assertIn("\n.SH COMMANDS\n.TP\n.B merge\nWrites\n", texts["xbrlmerge.1"])
 
     def test_the_newest_version_of_the_c_library_counts(self):
         self.assertEqual(newest_libc(PROGRAM), "2.34")

@@ -1,5 +1,5 @@
-"""Tests that the program, the Python module and the man page have the same version. This is the newest in the changelog, or
-a later `-dev` version if the changelog lists unreleased changes."""
+"""Tests that the program and the Python module have the same version. This is the newest in the changelog, or a later `-dev`
+version if the changelog lists unreleased changes."""
 import re
 import unittest
 
@@ -19,9 +19,7 @@ class Version(unittest.TestCase):
     def setUp(self):
         (self.program,) = found("crates/command_line/src/words.rt", r'^const VERSION: &str = "(.*)";$')
 
-    def test_man_page_and_module_have_that_of_the_program(self):
-        for page in ("xbrlmerge", *(f"man1/xbrlmerge-{tool}" for tool in ("contradictions", "make-sheet", "normalise", "recheck"))):
-            self.assertEqual(found(f"docs/{page}.1", r'^\.TH XBRLMERGE\S* 1 "" "xbrlmerge ([^"]*)"'), [self.program])
+    def test_the_module_has_that_of_the_program(self):
         # PEP 440 spells the ending `-dev` as `.dev0`
         self.assertEqual(found("python/pyproject.toml", r'^version = "(.*)"$'), [self.program.replace("-dev", ".dev0")])
 

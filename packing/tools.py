@@ -1,0 +1,10 @@
+"""The names of the tools."""
+from __future__ import annotations
+
+PROGRAM = "xbrlmerge"
+TOOLS = ("contradictions", "make_sheet", "normalise", "recheck")
+
+
+def command_of(tool: str) -> str:
+    """Returns the name of a tool's command after installation."""
+    return f"{PROGRAM}-{tool.replace('_', '-')}"
