@@ -91,10 +91,10 @@ def main() -> Status:
     options = read_options()
     limits = Limits(options.megabytes, options.outside, options.tags)
     with standard_input_kept(options.inputs) as inputs:
-        kinds, lines = (union(inputs, limits), []) if options.union else kinds_in(inputs, limits)
+        kinds, spelled, lines = (*union(inputs, limits), []) if options.union else kinds_in(inputs, limits)
     print_lines(lines)
     with reading("standard output"):
-        sys.stdout.buffer.write(sheet_text(kinds).encode())
+        sys.stdout.buffer.write(sheet_text(kinds, spelled).encode())
         sys.stdout.flush()
     return Status.LOOK if lines else Status.DONE
 

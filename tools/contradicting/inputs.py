@@ -84,10 +84,10 @@ class Run:
             check_files([self.options.sheet])
             return str(self.options.sheet)
         self.progress.show("making the sheet")
-        kinds, left_out = kinds_in(self.options.taxonomy, Limits())
+        kinds, spelled, left_out = kinds_in(self.options.taxonomy, Limits())
         path = os.path.join(self.folder, "sheet")
         with open(path, "w", encoding="utf-8") as file:
-            file.write(sheet_text(kinds))
+            file.write(sheet_text(kinds, spelled))
         self.files.append(("sheet.json", pieces_of_file(path)))
         self.notes += left_out
         self.losses += [f"{counted(len(left_out), 'omission')} from the taxonomy"] * bool(left_out)

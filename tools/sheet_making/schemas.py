@@ -54,6 +54,9 @@ class SchemaVisitor(Visitor):
         self.namespace: Optional[str] = None  # the namespace of its declarations; if it is None, nothing is declared
         self.part: Optional[Part] = None
 
+    def spell(self, prefix: str, uri: str) -> None:
+        """Receives a prefix that the schema binds to its own namespace."""
+
     def declare(self, part: Part) -> None:
         """Receives an element or a type that the schema declares at its top level."""
 
@@ -83,6 +86,8 @@ class SchemaVisitor(Visitor):
             raise ValueError("it is not a schema: name the package, the folder or a schema of the taxonomy")
         if self.wanted not in (None, self.namespace):
             raise ValueError(f"it is not a schema of the namespace {shortened(self.wanted or '')}")
+        for prefix in element.bindings.prefixes_of(self.namespace or ""):
+            self.spell(prefix, self.namespace or "")
 
     def open_part(self, element: Element, namespace: str) -> None:
         if element.name in REFERENCES:

@@ -9,6 +9,7 @@ from sheet_making.catalogs import Rewrites
 from sheet_making.files import Files
 from sheet_making.kinds import is_specification
 from sheet_making.limits import reading
+from sheet_making.prefixes import Spelled
 from sheet_making.schemas import Declaration, Part, SchemaVisitor
 from sheet_making.xml_reading import read_xml
 
@@ -23,6 +24,7 @@ class Taxonomy:
         self.files, self.rewrites = files, Rewrites()
         self.elements: dict[Name, Declaration] = {}
         self.types: dict[Name, Optional[Name]] = {}
+        self.spelled = Spelled()
         self.read: dict[str, set[Optional[str]]] = {}  # paths, with the namespaces for which they were read
         self.targets: dict[str, Optional[str]] = {}  # paths, with the namespaces that the schemas name
         self.read_again = 0  # bytes of schemas without a namespace, counted for each further namespace
@@ -86,6 +88,9 @@ class Declaring(SchemaVisitor):
     def __init__(self, taxonomy: Taxonomy, path: str, wanted: Optional[str]) -> None:
         super().__init__(wanted)
         self.taxonomy, self.path = taxonomy, path
+
+    def spell(self, prefix: str, uri: str) -> None:
+        self.taxonomy.spelled.add(prefix, uri)
 
     def declare(self, part: Part) -> None:
         self.taxonomy.declare(part, self.path)

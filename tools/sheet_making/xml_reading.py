@@ -39,6 +39,9 @@ class Bindings:
         for prefix in prefixes:
             self.uris[prefix].pop()
 
+    def prefixes_of(self, uri: str) -> list[str]:
+        return [prefix for prefix, uris in self.uris.items() if prefix and uris and uris[-1] == uri]
+
     def expanded(self, text: str) -> Name:
         """Returns the expanded name of a text, with or without a prefix. Errors: ValueError if the prefix is not bound."""
         prefix, _, local = text.rpartition(":")

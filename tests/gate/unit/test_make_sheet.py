@@ -13,26 +13,26 @@ TOY = os.path.join(in_process.HERE, "taxonomy")
 EXTENSION = os.path.join(in_process.HERE, "extension", "extension.xsd")
 DOUBTFUL = os.path.join(in_process.HERE, "doubtful", "doubtful.xsd")
 TOY_SHEET = {
-    "namespaces": {"n1": "http://toy.example/2024", "n2": "http://toy.example/2024/base"},
+    "namespaces": {"toy": "http://toy.example/2024", "n2": "http://toy.example/2024/base"},
     "concepts": {
-        "n1:Apprentices": "numeric",
-        "n1:Auditor": "text",
-        "n1:Costs": "numeric",
-        "n1:Country": "name",
-        "n1:Currency": "name",
-        "n1:Dividend": "numeric",
-        "n1:Emissions": "numeric",
-        "n1:Employees": "numeric",
-        "n1:Founded": "text",
-        "n1:Industry": "name",
-        "n1:Margin": "numeric",
-        "n1:Notes": "text",
-        "n1:Profit": "numeric",
-        "n1:Revenue": "numeric",
-        "n1:StaffCosts": "numeric",
+        "toy:Apprentices": "numeric",
+        "toy:Auditor": "text",
+        "toy:Costs": "numeric",
+        "toy:Country": "name",
+        "toy:Currency": "name",
+        "toy:Dividend": "numeric",
+        "toy:Emissions": "numeric",
+        "toy:Employees": "numeric",
+        "toy:Founded": "text",
+        "toy:Industry": "name",
+        "toy:Margin": "numeric",
+        "toy:Notes": "text",
+        "toy:Profit": "numeric",
+        "toy:Revenue": "numeric",
+        "toy:StaffCosts": "numeric",
         "n2:Assets": "numeric",
     },
-    "dimensions": {"n1:DistrictAxis": "explicit", "n1:ProductAxis": "typed", "n1:RegionAxis": "explicit"},
+    "dimensions": {"toy:DistrictAxis": "explicit", "toy:ProductAxis": "typed", "toy:RegionAxis": "explicit"},
 }
 SCHEMA = """<xs:schema xmlns:xs="http://www.w3.org/2001/XMLSchema" xmlns:xbrli="http://www.xbrl.org/2003/instance"
     xmlns:this="http://made.example" targetNamespace="http://made.example">%s</xs:schema>"""
@@ -97,8 +97,8 @@ class Taxonomies(ToolTest):
     def test_what_is_in_doubt_is_left_out_with_a_line_each(self):
         done = run(DOUBTFUL)
         self.assertEqual(done.returncode, 1)
-        self.assertEqual(json.loads(done.stdout)["concepts"], {"n1:Set": "text", "n1:Sure": "numeric"})
-        self.assertEqual(json.loads(done.stdout)["xbrlmerge:sets"], ["n1:Set"])
+        self.assertEqual(json.loads(done.stdout)["concepts"], {"this:Set": "text", "this:Sure": "numeric"})
+        self.assertEqual(json.loads(done.stdout)["xbrlmerge:sets"], ["this:Set"])
         left_out = [line.split("}")[1].split(" ")[0] for line in done.stderr.decode().splitlines()]
         names = "Fraction LostHead LostType NewInRegistry NoItemType NoType Prefixed RoundHead RoundHeadAgain"
         self.assertEqual(left_out, [*names.split(), "RoundType", "Structure"])
@@ -113,7 +113,7 @@ class Taxonomies(ToolTest):
             </xs:simpleContent></xs:complexType></xs:schema>""",
         )
         sheet = json.loads(run(DOUBTFUL, registry).stdout)
-        self.assertEqual(sheet["concepts"], {"n1:NewInRegistry": "numeric", "n1:Set": "text", "n1:Sure": "numeric"})
+        self.assertEqual(sheet["concepts"], {"this:NewInRegistry": "numeric", "this:Set": "text", "this:Sure": "numeric"})
 
 
 class Namespaces(ToolTest):
@@ -126,7 +126,7 @@ class Namespaces(ToolTest):
     def test_a_namespace_at_xbrl_org_may_have_items(self):
         for uri in ("https://www.xbrl.org/2024/sample", "https://xbrl.org/2021/"):
             text = SCHEMA.replace("http://made.example", uri) % ITEM % ("A", "string")
-            self.assertEqual(self.kinds(text), ({"n1:A": "text"}, []))
+            self.assertEqual(self.kinds(text), ({"this:A": "text"}, []))
 
     def test_a_head_that_the_specifications_lack(self):
         text = SCHEMA % ITEM % ("A", "string")
@@ -139,16 +139,16 @@ class Namespaces(ToolTest):
     def test_white_space_around_namespaces(self):
         derived = '<xs:complexType name="t"><xs:simpleContent><xs:restriction base="xbrli:stringItemType"/></xs:simpleContent></xs:complexType>'
         text = SCHEMA % (ITEM % ("A", "string") + derived + (ITEM % ("B", "")).replace("xbrli:ItemType", "this:t"))
-        self.assertEqual(self.kinds(text.replace('targetNamespace="', 'targetNamespace=" \n'))[0], {"n1:A": "text", "n1:B": "text"})
+        self.assertEqual(self.kinds(text.replace('targetNamespace="', 'targetNamespace=" \n'))[0], {"this:A": "text", "this:B": "text"})
         self.write("b.xsd", SCHEMA % ITEM % ("A", "string"))
         imports = '<xs:import namespace=" http://made.example " schemaLocation="b.xsd"/>'
-        self.assertEqual(self.kinds((SCHEMA % imports).replace('example">', 'example/a">'))[0], {"n1:A": "text"})
+        self.assertEqual(self.kinds((SCHEMA % imports).replace('example">', 'example/a">'))[0], {"this:A": "text"})
 
     def test_namespaces_that_look_like_those_of_specifications(self):
         derived = '<xs:complexType name="%s"><xs:simpleContent><xs:restriction base="xbrli:stringItemType"/></xs:simpleContent></xs:complexType>'
         for uri in ("registry", "http://made.example/extensible-enumerations"):
             text = SCHEMA % (derived % "percentItemType" + (ITEM % ("A", "percent")).replace("xbrli:percent", "this:percent"))
-            self.assertEqual(self.kinds(text.replace("http://made.example", uri)), ({"n1:A": "text"}, []))
+            self.assertEqual(self.kinds(text.replace("http://made.example", uri)), ({"this:A": "text"}, []))
 
 
 class BadInputs(ToolTest):
@@ -234,11 +234,19 @@ class Unions(ToolTest):
         second = self.write("b.json", json.dumps(concepts))
         for words in ((first,), (first, second), (second, first)):
             sheet = json.loads(run("--union", *words).stdout)
-            self.assertEqual(sheet["xbrlmerge:sets"], ["n1:A"])
-            self.assertEqual(sheet["concepts"], {"n1:A": "text", "n1:B": "text"})
+            self.assertEqual(sheet["xbrlmerge:sets"], ["p:A"])
+            self.assertEqual(sheet["concepts"], {"p:A": "text", "p:B": "text"})
         self.assertNotIn("xbrlmerge:sets", json.loads(run("--union", second).stdout))
         numeric = self.write("c.json", json.dumps({**concepts, "concepts": {"p:A": "numeric"}}))
         self.check_refused(3, "{http://a.example}A is set, but numeric", "--union", numeric, first)
+
+    def test_a_prefix_is_kept_if_it_is_the_only_one_of_its_namespace_and_of_no_other(self):
+        bindings = {"a": "u:1", "b": "u:2", "c": "u:2", "n7": "u:3", "é": "u:4", "x" * 41: "u:5", "y.Z-1": "u:6"}
+        sheet = {"namespaces": bindings, "concepts": {f"{prefix}:A": "text" for prefix in bindings}}
+        other = self.write("b.json", json.dumps({"namespaces": {"y.Z-1": "u:7"}}))
+        first, kept = self.write("a.json", json.dumps(sheet)), ["a", "n2", "n3", "n4", "n5"]
+        self.assertEqual(list(json.loads(run("--union", first).stdout)["namespaces"]), [*kept, "y.Z-1"])
+        self.assertEqual(list(json.loads(run("--union", first, other).stdout)["namespaces"]), [*kept, "n6"])
 
     def test_a_concept_of_two_kinds_is_named(self):
         first = self.sheet("a.json", "http://a.example", {"p:A": "numeric"}, {})
