@@ -1,4 +1,4 @@
-"""Tests of tests/gate/memory_sources on small files: which places make want of memory from nothing or from another error."""
+"""Tests of tests/gate/memory_sources on small files: which lines make want of memory from nothing or from another error."""
 import unittest
 
 import in_process  # noqa: F401 (lets this test import support)
@@ -89,71 +89,58 @@ fn read(bytes: &[u8]) -> Result<Tree, Reason> {
 
 
 def lines_of(text, *stay):
-    return memory_sources.problems([memory_sources.Code("a.rt", text)], stay)
+    """Returns the codes of the lines that are sources, and other problems."""
+    found = memory_sources.problems({"a.rt": text}, {("a.rt", code): "why" for code in stay})
+    return [it.partition(": ")[2] for it in found]
 
 
-def body(expression):
-    return f"fn make(failed: Error) -> Result<u8, AllocError> {{\n{expression}\n}}\n"
+def body(*lines):
+    return "fn make(failed: Error) -> Result<u8, AllocError> {\n" + "\n".join(lines) + "\n}\n"
 
 
 class MemorySources(unittest.TestCase):
     def test_planted_bodies(self):
-        self.assertEqual(lines_of(SETTLE), ["a.rt:10: BaseBuilder::settle makes AllocError from nothing"])
-        self.assertEqual(lines_of(ADD), ["a.rt:9: Dimensions::add makes OutOfMemory from nothing"])
-        self.assertEqual(lines_of(PUT), ["a.rt:5: SortedMap::put makes AllocError from nothing"])
+        self.assertEqual(lines_of(SETTLE), ["return Err(AllocError);"])
+        self.assertEqual(lines_of(ADD), ["Err(Reason::OutOfMemory)"])
+        self.assertEqual(lines_of(PUT), ["return Err(AllocError);"])
 
     def test_errors_that_were_received(self):
         self.assertEqual(lines_of(RECEIVED), [])
-        self.assertEqual(memory_sources.Code("a.rt", RECEIVED).received, 5)
 
-    def test_other_errors(self):
-        for expression in (
-            "match read() { Ok(a) => Ok(a), Err(_) => Err(AllocError) }",
-            "match read() { Ok(a) => Ok(a), Err(Fault::OutOfMemory(_) | Fault::Device(_)) => Err(AllocError) }",
-            "match read() { Err(e) if !e.is_memory() => Err(AllocError), other => other }",
-            "match read() { Err(e) if e.is_memory() || is_late() => Err(AllocError), other => other }",
+    def test_errors_from_nothing_or_from_others(self):
+        for line in (
+            "Err(_) => Err(AllocError),",
+            "Err(Fault::OutOfMemory(_) | Fault::Device(_)) => Err(AllocError),",
+            "Err(e) if !e.is_memory() => Err(AllocError),",
+            "Err(e) if e.is_memory() || is_late() => Err(AllocError),",
             "read().map_err(|_| AllocError)",
             "let Ok(a) = read() else { return Err(AllocError); };",
             "if let Ok(a) = read() { Ok(a) } else { Err(AllocError) }",
+            "Err(AllocError)",
+            "if is_late() { Err(Reason::OutOfMemory)? } Ok(1)",
+            "let list = Vec::<u8>::with_capacity(alloc, usize::MAX)?;",
+            "list.reserve(u64::MAX as usize)?;",
+            "list.reserve(1 << 60)?;",
+            "list.reserve(1_000_000_000_000)?;",
+            "Err(fmt::Error)",
+            "Err(io::Error::from(ErrorKind::OutOfMemory))",
         ):
-            with self.subTest(expression):
-                self.assertEqual(lines_of(body(expression)), ["a.rt:2: make makes AllocError from another error"])
-
-    def test_nothing(self):
-        for expression, made in (
-            ("Err(AllocError)", "AllocError"),
-            ("if is_late() { Err(Reason::OutOfMemory)? } Ok(1)", "OutOfMemory"),
-            ("if failed.is_memory() { Ok(1) } else { Err(AllocError) }", "AllocError"),
-            ("if failed != Error::OutOfMemory { return Err(AllocError); }", "AllocError"),
-            ("let list = Vec::<u8>::with_capacity(alloc, usize::MAX)?;", "usize::MAX"),
-            ("list.reserve(u64::MAX as usize)?;", "a request of MAX"),
-            ("list.reserve(1 << 60)?;", "a request of <<"),
-            ("list.reserve(1_000_000_000_000)?;", "a request of 1_000_000_000_000"),
-            ("Err(fmt::Error)", "fmt::Error"),
-            ("Err(io::Error::from(ErrorKind::OutOfMemory))", "OutOfMemory"),
-        ):
-            with self.subTest(expression):
-                self.assertEqual(lines_of(body(expression)), [f"a.rt:2: make makes {made} from nothing"])
+            with self.subTest(line):
+                self.assertEqual(lines_of(body(line)), [line])
+        self.assertEqual(lines_of(body("if failed != Error::OutOfMemory {", "return Err(AllocError);", "}")), ["return Err(AllocError);"])
 
     def test_another_name(self):
-        self.assertEqual(lines_of("use std::alloc::AllocError as Late;\n"), ["a.rt:1: use makes another name for AllocError from nothing"])
+        self.assertEqual(lines_of("use std::alloc::AllocError as Late;\n"), ["use std::alloc::AllocError as Late;"])
 
     def test_the_largest_number_is_no_request(self):
         self.assertEqual(lines_of(body("Ok(bound.unwrap_or(u64::MAX))")), [])
 
     def test_what_is_listed_stays(self):
         other = body("read().map_err(|_| AllocError)")
-        self.assertEqual(lines_of(other, ("a.rt", "make", 1, "why")), [])
-        self.assertEqual(lines_of(other, ("a.rt", "make", 2, "why")), ["a.rt: make has 1 sources, and 2 are listed"])
-        self.assertEqual(lines_of("", ("a.rt", "gone", 1, "why")), ["a.rt: gone has 0 sources, and 1 are listed"])
-        self.assertEqual(lines_of(9 * other, ("a.rt", "make", 9, "why")), ["9 sources are listed, and at most 8 may stay"])
-
-    def test_a_function_that_makes_one_counts_for_each_caller(self):
-        callers = body("Err(AllocError)") + "fn one() { make(a) }\nfn two() { make(b)?; make(c) }\nfn three() { make(d) }\n"
-        self.assertEqual(lines_of(callers, ("a.rt", "make", 3, "why")), [])
-        self.assertEqual(len(lines_of(callers, ("a.rt", "make", 2, "why"))), 1)
-        constant = "const REFUSED: AllocError = AllocError;\nfn one() { Err(REFUSED) }\nfn two() { Err(REFUSED) }\n"
-        self.assertEqual(lines_of(constant, ("a.rt", "REFUSED", 2, "why")), [])
+        line = "read().map_err(|_| AllocError)"
+        self.assertEqual(lines_of(other, line), [])
+        self.assertEqual(lines_of(2 * other, line), [f"2 times, not once: {line}"])
+        self.assertEqual(lines_of("", line), [f"0 times, not once: {line}"])
 
 
 if __name__ == "__main__":
