@@ -152,7 +152,7 @@ def check(parser: Parser, options: argparse.Namespace) -> None:
 
 def outputs_of(options: argparse.Namespace) -> list[str]:
     names = ["page.html", "contradictions.csv", "table.csv", *["merged.json"] * (not options.texts)]
-    names += ["sheet.json"] * bool(options.taxonomy) + ["changes.csv"] * options.normalise
+    names += ["sheet.json", "sheet.types.json"] * bool(options.taxonomy) + ["changes.csv"] * options.normalise
     if not options.texts:
         names += [f"{name}.txt" for name in LINES]
     if options.normalise:

@@ -42,9 +42,11 @@ from arguments import Parser  # noqa: E402
 from process import NotDone, Status, print_lines, run  # noqa: E402
 from sheet_making.limits import Limits, reading  # noqa: E402
 from sheet_making.making import kinds_in  # noqa: E402
-from sheet_making.sheet_text import sheet_text, union  # noqa: E402
+from sheet_making.sheet_text import Texts, union  # noqa: E402
 from text_files import LONGEST, PIECE, STANDARD, opened  # noqa: E402
-from whole_files import new_folder  # noqa: E402
+from whole_files import files_written, new_folder  # noqa: E402
+
+LARGE = "the types are left out: they would make the sheet more than a tenth longer. Write them with --types FILE"
 
 
 def read_options() -> argparse.Namespace:
@@ -55,6 +57,7 @@ def read_options() -> argparse.Namespace:
     parser.add_argument("--tags", type=int, default=100_000, metavar="N",
                         help="the most tags in a package, besides those that its size permits, by default 100,000")
     parser.add_argument("--outside", action="store_true", help="follow references to files outside the named folders")
+    parser.add_argument("--types", metavar="FILE", help="write the types, the period types and the items to this file of its own")
     parser.add_argument("words", nargs="*", metavar="INPUT", help="a schema, a package or a folder; with --union, a sheet")
     options = parser.read()
     options.inputs = [*options.words, *options.files]
@@ -91,11 +94,14 @@ def main() -> Status:
     options = read_options()
     limits = Limits(options.megabytes, options.outside, options.tags)
     with standard_input_kept(options.inputs) as inputs:
-        kinds, spelled, lines = (*union(inputs, limits), []) if options.union else kinds_in(inputs, limits)
+        kinds, lines = (union(inputs, limits), []) if options.union else kinds_in(inputs, limits)
+    texts = Texts(kinds, is_apart=options.types is not None)
+    lines += [LARGE] * (texts.is_large and options.types is None)
     print_lines(lines)
-    with reading("standard output"):
-        sys.stdout.buffer.write(sheet_text(kinds, spelled).encode())
-        sys.stdout.flush()
+    with files_written([(options.types, [texts.types])] if options.types else []):
+        with reading("standard output"):
+            sys.stdout.buffer.write(texts.sheet.encode())
+            sys.stdout.flush()
     return Status.LOOK if lines else Status.DONE
 
 

@@ -20,8 +20,8 @@ from process import NotDone
 from program import Program
 from sheet_making.limits import Limits
 from sheet_making.making import kinds_in
-from sheet_making.sheet_text import sheet_text
-from sheets import Sheet
+from sheet_making.sheet_text import Texts
+from sheets import Sheet, types_path
 
 File = tuple[str, Iterator[str]]  # the name of a file beside the page, and its pieces
 
@@ -84,11 +84,13 @@ class Run:
             check_files([self.options.sheet])
             return str(self.options.sheet)
         self.progress.show("making the sheet")
-        kinds, spelled, left_out = kinds_in(self.options.taxonomy, Limits())
-        path = os.path.join(self.folder, "sheet")
-        with open(path, "w", encoding="utf-8") as file:
-            file.write(sheet_text(kinds, spelled))
-        self.files.append(("sheet.json", pieces_of_file(path)))
+        kinds, left_out = kinds_in(self.options.taxonomy, Limits())
+        texts = Texts(kinds, is_apart=True)
+        path = os.path.join(self.folder, "sheet.json")
+        for each, text in ((path, texts.sheet), (types_path(path), texts.types)):
+            with open(each, "w", encoding="utf-8") as file:
+                file.write(text)
+            self.files.append((os.path.basename(each), pieces_of_file(each)))
         self.notes += left_out
         self.losses += [f"{counted(len(left_out), 'omission')} from the taxonomy"] * bool(left_out)
         return path

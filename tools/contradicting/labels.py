@@ -6,7 +6,6 @@ from typing import Dict, Mapping, NamedTuple, Optional, Sequence
 from names import Name
 from sheet_making.files import Files
 from sheet_making.limits import Limits, reading
-from sheet_making.schemas import Part
 from sheet_making.taxonomy import Taxonomy
 from sheet_making.xml_reading import XML, Element, Visitor, read_xml
 
@@ -30,17 +29,11 @@ class Labelled(Taxonomy):
 
     def __init__(self, files: Files, language: str) -> None:
         self.language = language.lower()
-        self.identified: dict[tuple[str, str], Name] = {}
         self.labels: dict[Name, Label] = {}
         super().__init__(files)
         for path in files.linkbases():
             with reading(path):
                 read_xml(files.pieces(path), Linkbase(self, path))
-
-    def declare(self, part: Part, path: str) -> None:
-        super().declare(part, path)
-        if part.identifier is not None:
-            self.identified[path, part.identifier] = part.name
 
     def name_at(self, href: str, base: str) -> Optional[Name]:
         """Returns the name of the element or type that `href` refers to, or None. `base` is the document that contains `href`."""

@@ -2,7 +2,7 @@
 from __future__ import annotations
 
 import sys
-from dataclasses import dataclass
+from dataclasses import dataclass, field
 from typing import NamedTuple, Optional
 
 from names import PART, SPACE, Name
@@ -10,21 +10,32 @@ from process import shortened
 from sheet_making.xml_reading import Element, Visitor
 
 XS = "http://www.w3.org/2001/XMLSchema"
-XBRLDT = "http://xbrl.org/2005/xbrldt"
+XBRLI, XBRLDT = "http://www.xbrl.org/2003/instance", "http://xbrl.org/2005/xbrldt"
 ANY_TYPE = Name(XS, "anyType")
-TYPES = (Name(XS, "complexType"), Name(XS, "simpleType"))
+SIMPLE = Name(XS, "simpleType")
+TYPES = (Name(XS, "complexType"), SIMPLE)
 ELEMENT, IMPORT = Name(XS, "element"), Name(XS, "import")
 REFERENCES = (Name(XS, "include"), IMPORT, Name(XS, "redefine"))
-DERIVATIONS = (Name(XS, "restriction"), Name(XS, "extension"))
+DERIVATIONS = tuple(Name(XS, local) for local in ("restriction", "extension", "list", "union"))
+SPACE_FACET = Name(XS, "whiteSpace")
+
+
+class Derivation(NamedTuple):
+    """What a type is made of, or the type of an element."""
+
+    base: Optional[Name] = None
+    parts: tuple[Name, ...] = ()  # all types that a simple type names: bases, items of lists and members of unions
+    space: Optional[str] = None  # the facet whiteSpace
 
 
 class Declaration(NamedTuple):
     """The declaration of an element in a schema, with the parts that a sheet needs."""
 
     head: Optional[Name]  # the name of its substitution group
-    type: Optional[Name]  # its type, or the base of a type declared inside it
+    type: Derivation  # if a type is declared inside the element, what this is made of
     is_abstract: bool
-    is_typed: bool  # whether it has a typed domain
+    domain: Optional[str]  # the reference to its typed domain
+    period: str  # its period type
 
 
 @dataclass
@@ -35,14 +46,21 @@ class Part:
     identifier: Optional[str]
     is_type: bool
     head: Optional[Name] = None
-    type: Optional[Name] = None
+    type: Optional[Name] = None  # the type, or the base of the type that is declared inside or is the part
+    parts: dict[Name, None] = field(default_factory=dict)
+    space: Optional[str] = None
     is_abstract: bool = False
-    is_typed: bool = False
+    domain: Optional[str] = None
+    period: str = ""
     type_level: int = 0  # the level of the type whose derivation is read; 0 outside a type
+    facet_level: int = 0  # the level of this type's own facets
     base_level: int = 0  # the level of the derivation that was found
 
+    def derivation(self) -> Derivation:
+        return Derivation(self.type, tuple(self.parts), self.space)
+
     def declaration(self) -> Declaration:
-        return Declaration(self.head, self.type, self.is_abstract, self.is_typed)
+        return Declaration(self.head, self.derivation(), self.is_abstract, self.domain, self.period)
 
 
 class SchemaVisitor(Visitor):
@@ -101,33 +119,41 @@ class SchemaVisitor(Visitor):
                 raise ValueError(f"{name.shown()} is not a name")
             self.part = Part(name, element.get("id"), element.name in TYPES)
             if self.part.is_type:
-                self.open_type(2, self.part)
+                self.open_type(element, 2, self.part)
             else:
                 self.open_element(element, self.part)
 
     def open_element(self, element: Element, part: Part) -> None:
         part.head, part.type = (self.expanded(element, key) for key in ("substitutionGroup", "type"))
         part.is_abstract = (element.get("abstract") or "").strip(SPACE) in ("true", "1")
-        part.is_typed = element.get_in(XBRLDT, "typedDomainRef") is not None
+        part.domain = element.get_in(XBRLDT, "typedDomainRef")
+        part.period = (element.get_in(XBRLI, "periodType") or "").strip(SPACE)
 
-    def open_type(self, level: int, part: Part) -> None:
+    def open_type(self, element: Element, level: int, part: Part) -> None:
         part.type, part.type_level, part.base_level = ANY_TYPE, level, 0
+        part.facet_level = level + (2 if element.name == SIMPLE else 3)
 
     def look_for_base(self, element: Element, level: int, part: Part) -> None:
-        """Opens a type inside an element, or records the base that a derivation in the open type names. The derivation is a
-        child of the type, or of its simpleContent or complexContent."""
+        """Opens a type inside an element, or records what the open type is made of. A derivation is a child of the type, or of
+        its simpleContent or complexContent."""
         if level == 3 and not part.is_type and element.name in TYPES:
-            self.open_type(level, part)
-        elif part.type_level and level - part.type_level in (1, 2) and element.name in DERIVATIONS:
-            base = self.expanded(element, "base")
-            if base and not (part.base_level and part.base_level <= level):
+            self.open_type(element, level, part)
+        elif part.type_level and element.name in DERIVATIONS:
+            base, is_own = self.expanded(element, "base"), level - part.type_level in (1, 2)
+            if base and is_own and not (part.base_level and part.base_level <= level):
                 part.type, part.base_level = base, level
+            if part.facet_level - part.type_level == 2:
+                named = [element.get(key) or "" for key in ("base", "itemType", "memberTypes")]
+                part.parts.update((self.expanded_text(text, element), None) for text in " ".join(named).split())
+        elif element.name == SPACE_FACET and level == part.facet_level:
+            part.space = element.get("value")
 
     def expanded(self, element: Element, key: str) -> Optional[Name]:
         """Returns the expanded name in an attribute, or None if the attribute is missing. If neither the name nor the schema has
         a namespace, the name is in the wanted namespace."""
         text = element.get(key)
-        if text is None:
-            return None
-        name = element.bindings.expanded(text.strip(SPACE))
+        return None if text is None else self.expanded_text(text.strip(SPACE), element)
+
+    def expanded_text(self, text: str, element: Element) -> Name:
+        name = element.bindings.expanded(text)
         return name if name.uri or self.target else Name(self.wanted or "", name.local)

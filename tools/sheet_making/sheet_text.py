@@ -1,45 +1,82 @@
-"""Writes the text of a sheet, and combines the kinds of several sheets."""
+"""Writes the text of a sheet and of its file of types, and combines several sheets."""
 from __future__ import annotations
 
 import json
-from typing import Any, Iterable
+import os
+from typing import Any, Iterable, Mapping
 
+from names import Name
 from process import NotDone
 from sheet_making.files import read_regular
 from sheet_making.kinds import Kinds
 from sheet_making.limits import Limits, reading
-from sheet_making.prefixes import Spelled
-from sheets import SETS, TABLES, Sheet
+from sheets import GROUPS, SETS, TABLES, TYPES, Sheet, types_path
+
+SMALL = 1 << 16  # characters: so many types may stand in any sheet, however small
+SHARE = 10  # larger types may stand in a sheet that is so many times their length
 
 
-def union(paths: Iterable[str], limits: Limits) -> tuple[Kinds, Spelled]:
-    kinds: Kinds = {table: {} for table in TABLES}
-    spelled = Spelled()
+def union(paths: Iterable[str], limits: Limits) -> Kinds:
+    kinds = Kinds()
     for path in paths:
         with reading(path):
-            sheet = Sheet(json.loads(read_regular(path, limits).decode("utf-8-sig")))
+            sheet = sheet_at(path, limits)
             for prefix, uri in sheet.uris.items():
-                spelled.add(prefix, uri)
+                kinds.spelled.add(prefix, uri)
             concepts = {**sheet.concepts, **dict.fromkeys(sheet.sets, "set")}
-            for of, listed in zip(kinds.values(), (concepts, sheet.dimensions)):
+            for of, listed in zip(kinds.tables.values(), (concepts, sheet.dimensions)):
                 for name, kind in listed.items():
                     before = of.setdefault(name, kind)
                     if {before, kind} == {"text", "set"}:
                         of[name] = "set"
                     elif before != kind:
                         raise NotDone(f"{path}: {name.shown()} is {kind}, but {before} in an earlier sheet")
-    return kinds, spelled
+            for member, groups in sheet.types.items():
+                for name, group in groups.items():
+                    kinds.types.add(member, name, group)
+    return kinds
 
 
-def sheet_text(kinds: Kinds, spelled: Spelled) -> str:
-    """Returns the text of a sheet, with sorted names. A concept of the kind set is listed as a text, and also under SETS."""
-    prefixes = spelled.for_uris({name.uri for table in kinds.values() for name in table})
-    tables = {
-        table: dict(sorted((f"{prefixes[name.uri]}:{name.local}", kind) for name, kind in of.items()))
-        for table, of in kinds.items()
-    }
-    sets = [name for name, kind in tables["concepts"].items() if kind == "set"]
-    tables["concepts"].update(dict.fromkeys(sets, "text"))
-    sheet: dict[str, Any] = {"namespaces": {prefix: uri for uri, prefix in prefixes.items()}, **tables}
-    sheet.update({SETS: sets} if sets else {})
-    return json.dumps(sheet, ensure_ascii=False, separators=(",", ":")) + "\n"
+def sheet_at(path: str, limits: Limits) -> Sheet:
+    """Returns a sheet, with the types in the file beside it if there is one. Errors: those of `read_regular` and of `Sheet`."""
+    beside = types_path(path)
+    paths = [path, beside] if os.path.isfile(beside) else [path]
+    return Sheet(*(json.loads(read_regular(each, limits).decode("utf-8-sig")) for each in paths))
+
+
+class Texts:
+    """The text of a sheet, and of a file with all types. Names are sorted.
+
+    A concept of the kind set is listed as a text, and also under SETS. Unless `is_apart`, the sheet also lists TYPES, if they make a long sheet at most a SHARE-th longer.
+    """
+
+    def __init__(self, kinds: Kinds, is_apart: bool) -> None:
+        names = {name for table in kinds.tables.values() for name in table}
+        self.prefixes = kinds.spelled.for_uris({name.uri for name in names})
+        start = {"namespaces": {prefix: uri for uri, prefix in self.prefixes.items()}}
+        tables = {table: self.spelled(kinds.tables[table]) for table in TABLES}
+        sets = [name for name, kind in tables["concepts"].items() if kind == "set"]
+        tables["concepts"].update(dict.fromkeys(sets, "text"))
+        sheet: dict[str, Any] = {**start, **tables, **({SETS: sets} if sets else {})}
+        known = {member: {name: group for name, group in of.items() if name in names} for member, of in kinds.types.items()}
+        groups = {member: grouped(self.spelled(of), GROUPS[member]) for member, of in known.items()}
+        self.sheet, listed = text_of(sheet), text_of({**sheet, TYPES: groups[TYPES]})
+        self.types = text_of({**start, **groups})
+        self.is_large = len(listed) - len(self.sheet) > max(SMALL, len(self.sheet) // SHARE)
+        if groups[TYPES] and not self.is_large and not is_apart:
+            self.sheet = listed
+
+    def spelled(self, of: Mapping[Name, str]) -> dict[str, str]:
+        return dict(sorted((f"{self.prefixes[name.uri]}:{name.local}", kind) for name, kind in of.items()))
+
+
+def grouped(of: Mapping[str, str], groups: Iterable[str]) -> dict[str, list[str]]:
+    """Returns the names of each group that has any."""
+    named: dict[str, list[str]] = {group: [] for group in groups}
+    for name, group in of.items():
+        named[group].append(name)
+    return {group: names for group, names in named.items() if names}
+
+
+def text_of(tree: Any) -> str:
+    return json.dumps(tree, ensure_ascii=False, separators=(",", ":")) + "\n"

@@ -3,28 +3,29 @@ from __future__ import annotations
 
 from typing import Optional
 
-from names import Name
+from names import SPACE, Name
 from process import NotDone, shortened
 from sheet_making.catalogs import Rewrites
 from sheet_making.files import Files
 from sheet_making.kinds import is_specification
 from sheet_making.limits import reading
 from sheet_making.prefixes import Spelled
-from sheet_making.schemas import Declaration, Part, SchemaVisitor
+from sheet_making.schemas import Declaration, Derivation, Part, SchemaVisitor
 from sheet_making.xml_reading import read_xml
 
 MOST_LINES = 100
 
 
 class Taxonomy:
-    """The elements and types in the named schemas, and in all schemas that these refer to, directly or through others. Each
-    type is kept with its base type."""
+    """The elements and types in the named schemas, and in all schemas that these refer to, directly or through others."""
 
     def __init__(self, files: Files) -> None:
         self.files, self.rewrites = files, Rewrites()
         self.elements: dict[Name, Declaration] = {}
-        self.types: dict[Name, Optional[Name]] = {}
+        self.types: dict[Name, Derivation] = {}
         self.spelled = Spelled()
+        self.identified: dict[tuple[str, str], Name] = {}  # elements and types by their files and identifiers
+        self.domains: dict[Name, tuple[str, str]] = {}  # the files and identifiers of typed domains, by dimension
         self.read: dict[str, set[Optional[str]]] = {}  # paths, with the namespaces for which they were read
         self.targets: dict[str, Optional[str]] = {}  # paths, with the namespaces that the schemas name
         self.read_again = 0  # bytes of schemas without a namespace, counted for each further namespace
@@ -60,22 +61,44 @@ class Taxonomy:
     def refer(self, location: str, base: str, wanted: str) -> None:
         """Schedules the schema at `location`, to which the document at `base` refers. A missing schema is recorded, unless it
         is wanted for the namespace of a specification."""
-        paths = self.rewrites.paths_of(location, base)
-        found = next((path for path, origin in paths if self.files.is_found(path, origin)), None)
+        found = self.found_at(location, base)
         if found:
             self.waiting.append((found, wanted))
         elif not is_specification(wanted):
             self.missing.append(f"{base}: {shortened(location)} is not in the named files")
 
+    def found_at(self, location: str, base: str) -> Optional[str]:
+        """Returns the path of the file at `location`, to which the document at `base` refers, or None."""
+        paths = self.rewrites.paths_of(location, base)
+        return next((path for path, origin in paths if self.files.is_found(path, origin)), None)
+
     def declare(self, part: Part, path: str) -> None:
         """Keeps an element or a type of the schema at `path`. Errors: ValueError if an earlier declaration differs."""
         if part.is_type:
-            is_same = self.types.setdefault(part.name, part.type) == part.type
+            derivation = part.derivation()
+            is_same = self.types.setdefault(part.name, derivation) == derivation
         else:
             declaration = part.declaration()
             is_same = self.elements.setdefault(part.name, declaration) == declaration
         if not is_same:
             raise ValueError(f"{part.name.shown()} is declared in two ways")
+        if part.identifier is not None:
+            self.identified[path, part.identifier] = part.name
+        if part.domain is not None:
+            self.domains[part.name] = self.domain_at(part.domain, path)
+
+    def domain_at(self, reference: str, base: str) -> tuple[str, str]:
+        """Returns the file and the identifier in a reference to a typed domain, and schedules the file."""
+        location, _, identifier = reference.strip(SPACE).partition("#")
+        path = self.found_at(location, base) if location else base
+        if path and path not in self.read:
+            self.waiting.append((path, None))
+        return path or "", identifier
+
+    def typed_domains(self) -> dict[Name, Optional[Name]]:
+        """Returns the elements that are the domains of typed dimensions. An element that is not found is None."""
+        found = {name: self.identified.get(domain) for name, domain in self.domains.items()}
+        return {name: domain if domain in self.elements else None for name, domain in found.items()}
 
     def without_namespace(self) -> list[str]:
         """Returns the schemas that have no target namespace, and to which no schema with a namespace refers, even indirectly."""

@@ -33,6 +33,7 @@ TOY_SHEET = {
         "n2:Assets": "numeric",
     },
     "dimensions": {"toy:DistrictAxis": "explicit", "toy:ProductAxis": "typed", "toy:RegionAxis": "explicit"},
+    "xbrlmerge:types": {"gYear": ["toy:Founded"], "QName": ["toy:Currency"]},
 }
 SCHEMA = """<xs:schema xmlns:xs="http://www.w3.org/2001/XMLSchema" xmlns:xbrli="http://www.xbrl.org/2003/instance"
     xmlns:this="http://made.example" targetNamespace="http://made.example">%s</xs:schema>"""
