@@ -36,6 +36,7 @@ of fault, with the option that mends it, if there is one. The other reports are 
 
 --normalise applies the rules of tools/normalise to each report first, and lists the changes in changes.csv. It permits the
 options of tools/normalise that lose something, such as --drop-notes. A report that cannot be normalised is used as it is.
+Without --normalise, only sets of names are respelled. A report with a set that cannot be respelled is not used.
 --map PROVIDER=MAP applies a map of tools/normalise to the reports of a provider; repeat it for each provider.
 
 --near NEAR.csv writes a table of pairs of rows that differ in one dimension only, perhaps by mistake: the same name or
@@ -152,10 +153,9 @@ def check(parser: Parser, options: argparse.Namespace) -> None:
 
 def outputs_of(options: argparse.Namespace) -> list[str]:
     names = ["page.html", "contradictions.csv", "table.csv", *["merged.json"] * (not options.texts)]
-    names += ["sheet.json", "sheet.types.json"] * bool(options.taxonomy) + ["changes.csv"] * options.normalise
+    names += ["sheet.json", "sheet.types.json"] * bool(options.taxonomy)
     if not options.texts:
-        names += [f"{name}.txt" for name in LINES]
-    if options.normalise:
+        names += ["changes.csv", *(f"{name}.txt" for name in LINES)]
         names += [report_file(number) for number, _ in enumerate(reports_named(options), 1)]
     return [*(os.path.join(options.output, name) for name in names), *[options.near] * bool(options.near)]
 
@@ -172,7 +172,7 @@ def inputs_of(options: argparse.Namespace) -> list[str]:
 def main() -> Status:
     options = read_options()
     with output_folder(options.output), Progress() as progress:
-        normalised = output_folder(os.path.join(options.output, FOLDER)) if options.normalise else contextlib.nullcontext()
+        normalised = contextlib.nullcontext() if options.texts else output_folder(os.path.join(options.output, FOLDER))
         with normalised, new_folder(os.path.abspath(options.output)) as folder:
             return write(inputs_for(options, folder, progress), options, folder, progress)
 

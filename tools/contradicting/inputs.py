@@ -5,7 +5,7 @@ import argparse
 import contextlib
 import os
 from dataclasses import dataclass, field
-from typing import Iterator, Optional
+from typing import Any, Iterator, Optional
 
 from contradicting.checking import LINES, command, report_file
 from contradicting.normalised import Normalised, pieces_of_file
@@ -61,11 +61,13 @@ class Run:
         self.files: list[File] = []
         self.losses: list[str] = []
         self.notes: list[str] = []
+        self.uncompared: list[tuple[Report, list[dict[str, Any]]]] = []  # reports with sets that cannot be respelled
         check_files(report.path for report in reports)
         self.program = Program(program, self.sheet(), folder)
 
     def inputs(self) -> Inputs:
-        paths = self.normalised() if self.options.normalise else [report.path for report in self.reports]
+        given = [report.path for report in self.reports]
+        paths = self.normalised() if self.options.normalise or sheet_at(self.program.sheet).sets else given
         found = [self.read(command, paths) for command in ("merge", "verdicts", "sources")]
         if found[1:] != found[:-1]:
             raise NotDone("a report or the sheet changed while it was read")
@@ -100,8 +102,13 @@ class Run:
         for number, report in enumerate(self.reports, 1):
             self.progress.show(f"normalising {report.path} ({number} of {len(self.reports)})")
             made.add(report)
-        self.files.append(("changes.csv", made.pieces()))
-        self.notes += made.notes
+        if self.options.normalise or made.sets:
+            self.files.append(("changes.csv", made.pieces()))
+        if made.faults and not made.paths:
+            raise NotDone(*(f"{report.path}: {line_of(fault)}" for report, faults in made.faults for fault in faults))
+        self.reports, self.uncompared = made.reports, made.faults
+        said = f"{counted(made.sets, 'set')} of names respelled as URI#LOCAL in changes.csv, which loses nothing"
+        self.notes += [*made.notes, *[said] * bool(made.sets)]
         self.losses += [f"{counted(len(made.notes), 'report')} not normalised"] * bool(made.notes)
         self.losses += [f"{counted(made.losses, 'loss', 'losses')} in changes.csv"] * bool(made.losses)
         return made.paths
@@ -144,6 +151,8 @@ class Run:
                 refusals.add(provider, path, refusal, self.program.faults(os.path.abspath(paths[number - 1])))
             except NotDone as fault:
                 refusals.add(provider, path, f"{refusal} ({'; '.join(fault.args)})", ())
+        for report, faults in self.uncompared:
+            refusals.add(*report, line_of(faults[0]), faults)
         return refusals
 
 
@@ -154,7 +163,7 @@ def counted(count: int, word: str, words: Optional[str] = None) -> str:
 
 @contextlib.contextmanager
 def output_folder(path: str) -> Iterator[None]:
-    """Makes the output folder unless it exists. If the `with` block fails, a new folder is removed unless it contains files.
+    """Makes the output folder unless it exists. After the `with` block, a new folder is removed unless it contains files.
 
     Errors: NotDone if the path is not a folder; OSError; exceptions of the block.
     """
@@ -165,8 +174,7 @@ def output_folder(path: str) -> Iterator[None]:
         if is_made:
             os.mkdir(path)
         yield
-    except BaseException:
+    finally:
         with contextlib.suppress(OSError):
             if is_made:
                 os.rmdir(path)  # removes only an empty folder
-        raise

@@ -1,4 +1,5 @@
-"""Normalises reports before the program reads them, by the rules of tools/normalise."""
+"""Normalises reports before the program reads them, by the rules of tools/normalise. Without --normalise, only sets of names are
+respelled, because the program would take two spellings of one set for two texts, or texts of two sets for one."""
 from __future__ import annotations
 
 import argparse
@@ -22,30 +23,52 @@ COLUMNS = ["provider", "report", *"fact number pointer rule loss".split(), *VALU
 
 
 class Normalised:
-    """Normalised reports in a folder, with a table of the changes."""
+    """Normalised reports in a folder, with a table of the changes. `reports` are those that can be compared, and `paths` their
+    files."""
 
     def __init__(self, program: Program, options: argparse.Namespace, folder: str) -> None:
-        self.normaliser, self.folder = Normaliser(sheet_at(program.sheet), options, program), folder
+        self.normaliser, self.folder, self.is_whole = Normaliser(sheet_at(program.sheet), options, program), folder, options.normalise
         self.maps = {provider: read_map(path) for provider, path in maps_named(options)}
         self.table = os.path.join(folder, "changes")
+        self.reports: list[Report] = []
         self.paths: list[str] = []
-        self.losses = 0
+        self.faults: list[tuple[Report, list[dict[str, Tree]]]] = []  # reports with sets that cannot be respelled
+        self.losses = self.sets = 0
         self.notes: list[str] = []  # messages about reports that are left as they are
 
     def add(self, report: Report) -> None:
-        """Normalises the next report. If that fails, keeps the original file and adds a note."""
+        """Normalises the next report. If that fails, keeps the original file and adds a note, unless it may have a set."""
         try:
             tree, length = read_json_of_length(report.path)
-            log = self.normaliser.normalise(tree, length, self.maps.get(report.provider))
+            log = self.log_of(report, tree, length)
         except (NotDone, ValueError, RecursionError) as fault:
             why = "; ".join(map(str, fault.args)) if isinstance(fault, NotDone) else sentence(fault)
-            self.notes.append(f"{report.path} is not normalised: {why.removeprefix(f'{report.path}: ')}")
-            self.paths.append(report.path)
+            why = why.removeprefix(f"{report.path}: ")
+            if self.normaliser.sheet.sets:
+                told = f"its sets are not respelled: {why}"
+                self.faults.append((report, [{"number": None, "name": "SetForm", "identifier": None, "part": None, "sentence": told}]))
+            else:
+                self.notes.append(f"{report.path} is not normalised: {why}")
+                self.keep(report, report.path)
             return
-        self.paths.append(os.path.join(self.folder, f"normalised{len(self.paths)}"))
-        with open(self.paths[-1], "w", encoding="utf-8", newline="") as file:
-            file.writelines(pieces_of(tree))
+        if log.faults:
+            self.faults.append((report, log.faults))
+            return
+        path = os.path.join(self.folder, f"normalised{len(self.paths)}")
+        self.keep(report, path if log.lines or self.is_whole else report.path)
+        if self.paths[-1] == path:
+            with open(path, "w", encoding="utf-8", newline="") as file:
+                file.writelines(pieces_of(tree))
         self.losses += self.write_changes(report, log)
+
+    def log_of(self, report: Report, tree: Tree, length: int) -> Log:
+        if self.is_whole:
+            return self.normaliser.normalise(tree, length, self.maps.get(report.provider))
+        return self.normaliser.spell_sets(tree, length)
+
+    def keep(self, report: Report, path: str) -> None:
+        self.reports.append(report)
+        self.paths.append(path)
 
     def write_changes(self, report: Report, log: Log) -> int:
         """Adds the changes of a report to the table. Returns how many of them lose something."""
@@ -54,6 +77,7 @@ class Normalised:
         with open(self.table, "a", encoding="utf-8", newline="") as file:
             table = ([*source, *(cell(shown(change, key)) for key in COLUMNS[2:])] for change in changes)
             file.writelines(itertools.islice(lines_of(table), 1, None))  # without the byte order mark, which `lines_of` yields first
+        self.sets += sum(change["rule"] == "set" for change in changes)
         return sum(change["loss"] for change in changes)
 
     def pieces(self) -> Iterator[str]:

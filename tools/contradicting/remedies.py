@@ -9,7 +9,8 @@ from typing import Any, Callable, Mapping, NamedTuple, Optional
 from names import NAME, SPACE
 from normalising import moments
 from normalising.json_text import Number
-from normalising.rules import CORE, SCIENTIFIC, plain_number, whole_number
+from normalising.numbers import SCIENTIFIC, plain_number, whole_number
+from normalising.rules import CORE
 from process import shortened
 
 Fault = Mapping[str, Any]  # as `explain --format json` prints it

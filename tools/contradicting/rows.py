@@ -14,6 +14,7 @@ from contradicting.groups import Group, groups_of, odd_facts, weights_of
 from contradicting.hints import Hint, hints_of
 from contradicting.sources import Holders, names_of
 from contradicting.texts import CORE, Text, Tree, using
+from normalising.sets import is_spelled
 from process import shortened
 from sheets import Sheet
 
@@ -156,6 +157,8 @@ class Reader:
                 raise ValueError(f"it has a number, or decimals, in another form: {shortened(tree['value'])}")
         elif not isinstance(tree["value"], (str, type(None))):
             raise ValueError("it has a value that is not a text")
+        elif tree["value"] is not None and self.text.name(concept) in self.sheet.sets and not is_spelled(tree["value"]):
+            raise ValueError(f"it has a set that is not written as URI#LOCAL, as tools/normalise does: {shortened(tree['value'])}")
         return kind
 
     def expanded(self, facts: dict[str, Tree]) -> tuple[Dimensions, dict[str, Fact]]:

@@ -19,6 +19,7 @@ class Reason(NamedTuple):
 
 class Log:
     """Collects the lines for one fact, or for the document: `lines` for changes, and `left` for parts that a rule left unchanged.
+    `faults` has the sets among these, in the form of `explain --format json`: two spellings of one set would count as two values.
 
     Identifiers, URIs and texts may be long, and lines repeat them, so all three are shortened. A line with a shortened
     fact identifier also has the number of the fact.
@@ -28,6 +29,7 @@ class Log:
         self.fact, self.number, self.is_lossy = fact, number, False
         self.lines: list[str] = []
         self.left: list[str] = []
+        self.faults: list[dict[str, Tree]] = []
 
     def tell(self, path: Path, rule: str, loss: bool, **values: Tree) -> None:
         """Adds the line for a change at a path, with the old value, and with the new value unless a member was removed."""
@@ -40,7 +42,7 @@ class Log:
 
     def tell_dropped(self, path: Path, reason: Reason, was: Tree) -> None:
         """Adds the line for a dropped fact, and removes the fact's other lines."""
-        self.lines, self.left, self.is_lossy = [], [], False
+        self.lines, self.left, self.faults, self.is_lossy = [], [], [], False
         details = {"was": brief_of(was), "why": reason.why.format(*map(shortened, reason.names))}
         self.add(path, details, reason.rule, True, is_long((*path, *reason.names)) or details["was"] != was)
 
@@ -58,10 +60,15 @@ class Log:
     def take(self, other: Log) -> None:
         self.lines += other.lines
         self.left += other.left
+        self.faults += other.faults
         self.is_lossy |= other.is_lossy
 
     def leave(self, path: Path, why: str) -> None:
         self.left.append(f"{pointer_of(path)} is left: {why}")
+
+    def leave_set(self, path: Path, value: str, why: str) -> None:
+        self.leave(path, why)
+        self.faults.append({"number": None, "name": "SetForm", "identifier": self.fact, "part": value, "sentence": why})
 
 
 def is_long(path: Path) -> bool:

@@ -23,6 +23,10 @@ class Number(str):
     __slots__ = ()
 
 
+def is_text(value: Tree) -> bool:
+    return isinstance(value, str) and not isinstance(value, Number)
+
+
 class Twins(NamedTuple):
     """Two members with the same name in one object, and the dict made from this object."""
 

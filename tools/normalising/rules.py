@@ -2,17 +2,17 @@
 from __future__ import annotations
 
 import argparse
-import functools
 import re
-from decimal import Decimal, InvalidOperation
 from typing import Optional
 
 from file_kinds import kind_of_report, looks_like
 from names import SPACE, XBRL, Name, Uris, expanded, uris_of
 from normalising import moments
 from normalising.changes import Log, Part, Reason
-from normalising.json_text import Number, Tree, pointer_of, text_of
+from normalising.json_text import Number, Tree, is_text, text_of
 from normalising.mapping import NameMap, ReportMap
+from normalising.numbers import SCIENTIFIC, plain_number, scale_value, whole_number
+from normalising.sets import ITEMS, full_name, set_of
 from normalising.unreadable import refused_in
 from process import NotDone
 from program import Program
@@ -25,11 +25,6 @@ KNOWN = {
 }
 PURE = Name("http://www.xbrl.org/2003/instance", "pure")
 CORE = ("concept", "entity", "period", "unit", "language", "noteId")
-SCIENTIFIC = re.compile(r"[+-]?(?P<mantissa>\d+(\.\d*)?|\.\d+)[eE][+-]?\d+", re.ASCII)
-WHOLE = re.compile(r"[+-]?\d{1,18}", re.ASCII)
-PLACES = range(-18, 19)  # the decimals that the program reads
-DIGITS = 18  # the most digits of a number written without its exponent, counted as in refusal 27
-
 GROWTH, SMALL = 16, 1_000_000  # the names of sets add at most GROWTH times the report's length plus SMALL bytes
 
 
@@ -76,6 +71,18 @@ class Normaliser:
             whole.left += refused.lines
         for log in logs.values():
             whole.take(log)
+        return whole
+
+    def spell_sets(self, tree: Tree, length: int) -> Log:
+        """Applies only the rule `set`, and returns a log. Parts without their form stay: the program refuses them. Errors: NotDone."""
+        whole, (information, facts) = Log(), (tree.get(key) if isinstance(tree, dict) else None for key in ("documentInfo", "facts"))
+        uris = uris_of(information.get("namespaces")) if isinstance(information, dict) else {}
+        reader = FactReader(self.sheet, self.options, uris, GROWTH * length + SMALL)
+        for number, (name, fact) in enumerate(facts.items() if isinstance(facts, dict) else (), 1):
+            if isinstance(fact, dict) and is_text(fact.get("value")) and reader.concept_of(fact) in self.sheet.sets:
+                log = Log(name, number)
+                reader.change_set(Part(fact, ("facts", name), log))
+                whole.take(log)
         return whole
 
 
@@ -203,7 +210,7 @@ class FactReader:
 
     def change_set(self, fact: Part) -> None:
         given = fact.get("value")
-        items = re.findall(rf"[^{SPACE}]+", given)
+        items = ITEMS.findall(given)
         if self.mapped:
             for name in filter(None, (full_name(item, self.mapped.before) for item in items)):
                 self.mapped.note_kept("items", Name(*name))
@@ -211,13 +218,14 @@ class FactReader:
         found = [name and self.in_namespace(name) for name in spelled]  # an item may spell its namespace
         names = {name for name in found if name}
         if len(names) < len(found):
-            fact.leave("value", "the set repeats a name, or has an item that cannot be written as URI#LOCAL")
+            why = "the set repeats a name, or has an item that cannot be written as URI#LOCAL"
+            fact.log.leave_set((*fact.path, "value"), given, why)
             return
         lengths = {uri: len(uri.encode()) for uri in {uri for uri, _ in names}}  # each URI is encoded once, since it may be long
         self.left -= sum(lengths[uri] + len(local.encode()) + 2 for uri, local in names) - len(given.encode())
         if self.left < 0:
             raise NotDone(f"the names of its sets, with their URIs, add more than {GROWTH} times its length plus {SMALL} bytes")
-        fact.change("value", " ".join(sorted(map("#".join, names))), *(("set", False) if found == spelled else ("map", True)))
+        fact.change("value", set_of(names), *(("set", False) if found == spelled else ("map", True)))
 
     def in_namespace(self, name: tuple[str, str]) -> tuple[str, str]:
         return (self.mapped.given.namespaces.get(name[0], name[0]), name[1]) if self.mapped else name
@@ -240,28 +248,6 @@ class FactReader:
         return None
 
 
-def scale_value(fact: Part, scale: int) -> None:
-    """Multiplies a value by ten to the power of `scale`, exactly. Errors: NotDone if that is not possible within the digits and
-    decimals that the program reads."""
-    value, decimals = fact.get("value"), fact.get("decimals")
-    if value is None:
-        return
-    number = SCIENTIFIC.fullmatch(f"{value}e{scale}") if is_text(value) else None
-    scaled = plain_number(number) if number else None
-    places = int(decimals) - scale if isinstance(decimals, Number) and whole_number(decimals) == decimals else None
-    if scaled is None or "decimals" in fact.members and (places is None or places not in PLACES):
-        where = pointer_of((*fact.path, "value"))
-        raise NotDone(f"{where} cannot be scaled by 10^{scale}: it is not a number of at most {DIGITS} digits with decimals from"
-                      f" {PLACES[0]} to {PLACES[-1]} then")
-    fact.change("value", scaled, "map", True)
-    if places is not None:
-        fact.change("decimals", Number(places), "map", True)
-
-
-def is_text(value: Tree) -> bool:
-    return isinstance(value, str) and not isinstance(value, Number)
-
-
 def core_spelling(key: str, uris: Uris) -> Optional[str]:
     """Returns the local part of a name in the namespace XBRL, or None. The prefix `xbrl` means XBRL unless it is bound."""
     prefix, colon, local = key.partition(":")
@@ -279,49 +265,3 @@ def trimmed(key: str, text: str) -> str:
         return text.lstrip(SPACE)
     signs = {"period": "([/])", "unit": "([*/()])"}.get(key)
     return "".join(token.strip(SPACE) for token in (re.split(signs, text) if signs else [text]))
-
-
-def whole_number(text: str) -> Optional[str]:
-    """Returns the plain spelling of a whole number, or None for any other text.
-
-    The number is a JSON number, such as 2.0 or 2e3, or a text of digits with or without a sign. A text may have at most 18
-    digits, and white space around them. A JSON number may have at most 18 characters, and at most 18 digits when written
-    without its exponent.
-    """
-    if isinstance(text, Number):
-        number = Decimal(text) if len(text) <= 18 else None
-        if not number:
-            return None if number is None else "0"
-        return str(int(number)) if abs(number.adjusted()) < 18 and number == number.to_integral_value() else None
-    return str(int(text)) if WHOLE.fullmatch(text := text.strip(SPACE)) else None
-
-
-def plain_number(scientific: re.Match[str]) -> Optional[str]:
-    """Returns a number in scientific notation without its exponent, or None if it then has more than DIGITS digits."""
-    if not scientific["mantissa"].strip("0."):
-        return "0"
-    try:
-        number = Decimal(scientific[0])
-    except InvalidOperation:  # the exponent itself is too large
-        return None
-    _, digits, exponent = number.as_tuple()
-    counting = len(bytes(digits).rstrip(b"\0"))
-    exponent = int(exponent) + len(digits) - counting
-    whole, places = max(counting + exponent, 0), max(-exponent, 0)
-    return format(number, "f") if whole + places <= DIGITS else None
-
-
-def full_name(item: str, uris: Uris) -> Optional[tuple[str, str]]:
-    """Returns the URI and the local part of an item, which must have the form PREFIX:LOCAL or URI#LOCAL. Returns None for other
-    items, and if the prefix is not bound, or its URI is empty or contains white space."""
-    if "#" in item:
-        uri, _, local = item.rpartition("#")
-        return (uri, local) if uri and local else None
-    name = expanded(item, uris)
-    return name if name and not has_space(name.uri) else None
-
-
-@functools.lru_cache(maxsize=None)
-def has_space(uri: str) -> bool:
-    """Returns whether a URI has white space. Each URI is searched once, since it may be long and have many names."""
-    return any(sign in uri for sign in SPACE)

@@ -250,7 +250,7 @@ class Numbers(unittest.TestCase):
     def test_drawn_exponents(self):
         from decimal import Context, Decimal
 
-        from normalising.rules import SCIENTIFIC, plain_number
+        from normalising.numbers import SCIENTIFIC, plain_number
 
         chance, context = random.Random(7), Context(prec=200)
         for _ in range(2_000):

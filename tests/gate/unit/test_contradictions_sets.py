@@ -1,0 +1,67 @@
+"""Tests of tools/contradictions on sets of names: two spellings of a set are one value, and two sets are never one."""
+import json
+import os
+import unittest
+
+from test_contradictions_run import Stubbed
+from support import content
+
+SHEET = {"namespaces": {"eg": "http://a.example"}, "concepts": {"eg:S": "text", "eg:T": "text"}, "xbrlmerge:sets": ["eg:S"]}
+MERGED = '{"documentInfo":{"namespaces":{"n1":"http://a.example"}},"facts":{"f1":{"dimensions":{"concept":"n1:S"},"value":"%s"}}}'
+
+
+def report(value, uri="http://a.example", concept="eg:S"):
+    fact = {"value": value, "dimensions": {"concept": concept}}
+    return json.dumps({"documentInfo": {"namespaces": {"eg": "http://a.example", "x": uri}}, "facts": {"f": fact}})
+
+
+class Sets(Stubbed):
+    def setUp(self):
+        super().setUp()
+        self.prints_nothing()
+        self.sheet = self.write("sheet.json", json.dumps(SHEET))
+
+    def run_sets(self, *texts, options=()):
+        """Runs the tool on reports with these texts. Returns the process and the texts that the program read."""
+        paths = [self.write(f"{name}.json", text) for name, text in zip("abcd", texts)]
+        self.forget_log()
+        done = self.run_on(*options, *paths, sheet=("--sheet", self.sheet))
+        given = self.log()[0][1] if os.path.exists(os.path.join(self.bin, "log")) else []
+        return done, [path for path in given if path in paths]
+
+    def test_sets_are_respelled_without_being_asked(self):
+        for options in ((), ("--normalise",)):
+            done, as_given = self.run_sets(report("x:B x:A"), report(" x:A", "http://b.example"), report("x:A", concept="eg:T"), options=options)
+            self.assertEqual((done.returncode, done.stderr),
+                             (0, "contradictions: 2 sets of names respelled as URI#LOCAL in changes.csv, which loses nothing\n"))
+            values = [json.loads(content(os.path.join(self.output, "reports", f"{n}.json")))["facts"]["f"]["value"] for n in (1, 2)]
+            self.assertEqual(values, ["http://a.example#A http://a.example#B", "http://b.example#A"])
+            self.assertEqual([cell["rule"] for cell in self.cells("changes.csv")], ["set", "set"])
+            self.assertEqual([os.path.basename(path) for path in as_given], [] if options else ["c.json"])
+
+    def test_a_report_with_another_set_is_not_merged(self):
+        for text, why in ((report("x:A x:A"), 'fact "f": the set repeats a name'), (report("q:A"), 'fact "f": the set repeats a name, or has'),
+                          ("{", "its sets are not respelled: the file cannot be read as JSON"), ('{"a":1,"a":2}', "is repeated")):
+            done, as_given = self.run_sets(text, report("http://a.example#A"))
+            self.assertEqual((done.returncode, [os.path.basename(path) for path in as_given]), (1, ["b.json"]), done.stderr)
+            self.assertIn("1 report refused", done.stdout)
+            self.assertIn(f"contradictions: {self.path_of('a.json')}: ", done.stderr)
+            self.assertIn(why, done.stderr)
+            self.assertFalse(os.path.exists(os.path.join(self.output, "reports")))
+
+    def test_nothing_is_written_if_no_report_is_left(self):
+        done, _ = self.run_sets(report("q:A"))
+        self.assertEqual((done.returncode, done.stdout, os.path.exists(self.output)), (3, "", False))
+        self.assertIn("a.json: ", done.stderr)
+
+    def test_earlier_output_has_only_sets_with_their_namespaces(self):
+        verdicts = self.write("verdicts", "1 f1 f1 complete\n")
+        for value, status in (("", 0), ("http://a.example#A http://b.example#A", 0), ("x:A", 3), ("http://a.example#B http://a.example#A", 3),
+                              ("http://a.example#A  http://a.example#B", 3), ("#A", 3), ("http://a.example#A http://a.example#A", 3)):
+            done = self.run_tool(self.write("merged.json", MERGED % value), self.sheet, verdicts)
+            self.assertEqual(done.returncode, status, (value, done.stderr))
+            self.assertEqual(b"a set that is not written as URI#LOCAL" in done.stderr, status == 3)
+
+
+if __name__ == "__main__":
+    unittest.main()
