@@ -7,12 +7,15 @@
 A schema is read together with the schemas that it imports, includes or redefines. In a folder or package, every .xsd file
 is read. One FILE or SHEET may be standard input, written as -. Nothing is downloaded: a schema that is imported by URL must
 be in a named folder or package whose META-INF/catalog.xml maps the URL to it. A package's own catalog comes first. The
-schemas of the specifications, at xbrl.org and w3.org, are not needed: their item types are built in, except some of the data
-type registry.
+schemas of the specifications, at xbrl.org and w3.org, are not needed: their item types are built in. The kind of an unknown
+type in the data type registry is that of the type in which its name ends; standard error lists the concept.
 
-Enumeration sets are listed as text, and in the member xbrlmerge:sets, which tools/normalise reads. Standard error lists
-the parts that are left out:
+Enumeration sets are listed as text, and in the member xbrlmerge:sets. The member xbrlmerge:types lists concepts and typed
+dimensions whose values have several spellings, by type, unless they make a large sheet more than a tenth longer. --types FILE
+writes the types to FILE instead, with the period types and with monetary, share and pure items. For SHEET.json, the tools read
+SHEET.types.json. Standard error lists the parts that are left out:
     concepts whose values are fractions, or contain prefixes that would not be expanded
+    typed dimensions of xs:QName or xs:NOTATION, and those whose domain is not found or has an unknown type
     elements with an unknown type or an unknown substitution group
     elements without a namespace or in a reserved namespace
     schemas without a namespace, unless a schema with a namespace refers to them, directly or through other schemas
@@ -63,6 +66,8 @@ def read_options() -> argparse.Namespace:
     options.inputs = [*options.words, *options.files]
     if not options.inputs:
         parser.error("name the taxonomies; with --union, the sheets")
+    if options.types == STANDARD or options.types and os.path.realpath(options.types) in map(os.path.realpath, options.inputs):
+        parser.error("--types takes a file that is not an input")
     if options.megabytes < 1 or options.tags < 1:
         parser.error("--megabytes and --tags take a number from 1")
     return options

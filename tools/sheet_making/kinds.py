@@ -56,7 +56,7 @@ SPELLINGS = {
     **{Name(XS, local): RENAMED.get(local, local) for local in (*GROUPS[TYPES], *RENAMED)},
     **{name: RENAMED.get(stem, stem) for name in KINDS for stem in [name.local[: -len(ITEM_TYPE)]]
        if RENAMED.get(stem, stem) in GROUPS[TYPES] and name.uri in (XBRLI, REGISTRY)},
-    **{Name(XBRLI, local): "decimal" for local in ("monetary", "shares", "pure", "nonZeroDecimal")},
+    **{Name(XBRLI, local + end): "decimal" for local in ("monetary", "shares", "pure", "nonZeroDecimal") for end in ("", ITEM_TYPE)},
     Name(XBRLI, "dateTimeItemType"): "dateUnion",
     Name(XBRLI, "dateUnion"): "dateUnion",
 }
@@ -174,7 +174,7 @@ class Judge:
             raise LeftOut("the element of its typed domain is not found")
         derivation = self.derivation(domain)
         last = self.last(derivation)
-        if any(part in self.prefixed for part in (derivation.base, *derivation.parts)):
+        if any(part in self.prefixed or is_prefixed(part) for part in (last, derivation.base or last, *derivation.parts)):
             raise LeftOut(f"the values of its typed domain {domain.shown()} contain prefixes, which would not be expanded")
         if not (last in ANY or last == STRING or last in SPELLINGS or listed(last) in KINDS):
             raise LeftOut(f"the type {last.shown()} of its typed domain {domain.shown()} is not known")

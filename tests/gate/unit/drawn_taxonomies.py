@@ -12,7 +12,8 @@ ELEMENTS = (
     '<xs:element name="{name}" type="m:{name}Type" substitutionGroup="xbrli:item"/><xs:complexType name="{name}Type">'
     '<xs:simpleContent><xs:restriction base="xbrli:stringItemType"/></xs:simpleContent></xs:complexType>',
     '<xs:element name="{name}" type="xbrli:stringItemType" substitutionGroup="m:{other}"/>',
-    '<xs:element name="{name}" abstract="true" substitutionGroup="xbrldt:dimensionItem" xbrldt:typedDomainRef="#d"/>',
+    '<xs:element name="{name}" abstract="true" substitutionGroup="xbrldt:dimensionItem" xbrldt:typedDomainRef="#d_{name}"/>'
+    '<xs:element name="{name}Domain" id="d_{name}" type="xs:integer"/>',
 )
 REFERENCES = (
     '<xs:import namespace="http://made.example/base" schemaLocation="base.xsd"/>',

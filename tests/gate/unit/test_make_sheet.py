@@ -152,6 +152,97 @@ class Namespaces(ToolTest):
             self.assertEqual(self.kinds(text.replace("http://made.example", uri)), ({"this:A": "text"}, []))
 
 
+# Types of values by section 5.1.1.3 of XBRL 2.1 and section 3 of XML Schema part 2: the type of a concept, and its group
+ITEMS = {"boolean": "boolean", "dateTime": "dateUnion", "date": "date", "gMonthDay": "gMonthDay", "NCName": "token", "anyURI": "anyURI",
+         "language": "language", "QName": "QName", "string": None, "integer": None, "hexBinary": "hexBinary"}
+# simple types as the domains of typed dimensions; None has one spelling, and LEFT_OUT has prefixes or an unknown type
+LEFT_OUT = "left out"
+RESTRICTED = '<xs:simpleType><xs:restriction base="%s">%s</xs:restriction></xs:simpleType>'
+COLLAPSED = '<xs:whiteSpace value="collapse"/>'
+DOMAINS = {
+    'type="xs:boolean"': "boolean", 'type="xs:unsignedByte"': "integer", 'type="xs:decimal"': "decimal", 'type="xs:string"': None,
+    'type="xs:IDREFS"': "token", 'type="xbrli:dateUnion"': "dateUnion", 'type="xbrli:monetaryItemType"': "decimal",
+    'type="this:year"': "gYear", 'type="this:words"': "token", 'substitutionGroup="this:Inherited"': "duration", "": None,
+    'type="xs:QName"': LEFT_OUT, 'type="xs:NOTATION"': LEFT_OUT, 'type="this:prefixed"': LEFT_OUT, 'type="this:prefixes"': LEFT_OUT,
+    'type="this:choice"': LEFT_OUT, 'type="this:lost"': LEFT_OUT, 'type="xbrli:QNameItemType"': LEFT_OUT,
+    ">" + RESTRICTED % ("xs:string", COLLAPSED): "token",
+    ">" + RESTRICTED % ("xs:string", '<xs:whiteSpace value="replace"/>'): "normalizedString",
+    ">" + RESTRICTED % ("xs:NCName", "<xs:pattern value='a'/>"): "token",
+    '><xs:simpleType><xs:union memberTypes="xs:date xs:gYear"/></xs:simpleType>': None,
+    "><xs:simpleType><xs:list>" + RESTRICTED % ("xs:QName", "") + "</xs:list></xs:simpleType>": LEFT_OUT,
+}
+NAMED = {"year": '<xs:restriction base="xs:gYear"/>', "words": f'<xs:restriction base="xs:string">{COLLAPSED}</xs:restriction>',
+         "prefixed": '<xs:restriction base="xs:QName"/>', "prefixes": '<xs:list itemType="this:prefixed"/>',
+         "choice": '<xs:union memberTypes="xs:int this:prefixes"/>'}
+
+
+class TypesOfValues(ToolTest):
+    def made(self, parts, *words, status=0):
+        done = run(*words, self.write("a.xsd", SCHEMA % parts))
+        self.assertEqual(done.returncode, status, done.stderr)
+        return json.loads(done.stdout), done.stderr.decode().splitlines()
+
+    def test_types_of_concepts(self):
+        parts = "".join(ITEM % (f"A{item}", item) for item in ITEMS)
+        sheet, _ = self.made(parts)
+        groups = {name[6:]: group for group, names in sheet["xbrlmerge:types"].items() for name in names}
+        self.assertEqual(groups, {item: group for item, group in ITEMS.items() if group})
+
+    def test_types_of_typed_dimensions(self):
+        parts = ['<xs:element name="Inherited" type="xs:duration"/>']
+        parts += [f'<xs:simpleType name="{name}">{text}</xs:simpleType>' for name, text in NAMED.items()]
+        for number, domain in enumerate([*DOMAINS, None]):
+            target = f'<xs:element name="D{number}" id="d{number}" {domain}' if domain is not None else ""
+            parts.append(f'<xs:element name="A{number}" substitutionGroup="d:dimensionItem" d:typedDomainRef="#d{number}"/>')
+            parts.append(f"{target}</xs:element>" if ">" in target[1:] else target and f"{target}/>")
+        text = "".join(parts).replace("<xs:element", '<xs:element xmlns:d="http://xbrl.org/2005/xbrldt"')
+        sheet, lines = self.made(text, status=1)
+        groups = {name: group for group, names in sheet["xbrlmerge:types"].items() for name in names}
+        found = [groups.get(name) if name in sheet["dimensions"] else LEFT_OUT for name in (f"this:A{n}" for n in range(len(DOMAINS) + 1))]
+        self.assertEqual(found, [*DOMAINS.values(), LEFT_OUT])
+        self.assertEqual(len(lines), found.count(LEFT_OUT), lines)
+
+    def test_period_types_and_items_are_in_a_file_of_their_own(self):
+        kinds = {"monetary": "instant", "shares": "instant", "pure": "duration", "decimal": "", "date": "duration"}
+        parts = "".join((ITEM % (kind, kind)).replace("/>", f' xbrli:periodType="{period}"/>') for kind, period in kinds.items())
+        types, whole = self.path_of("a.types.json"), self.write("a.json", run(self.write("b.xsd", SCHEMA % parts)).stdout)
+        sheet, _ = self.made(parts, "--types", types)
+        self.assertEqual(sorted(sheet), ["concepts", "dimensions", "namespaces"])
+        with open(types, encoding="utf-8") as file:
+            groups = json.load(file)
+        self.assertEqual(groups, {
+            "namespaces": sheet["namespaces"], "xbrlmerge:types": {"date": ["this:date"]},
+            "xbrlmerge:periods": {"instant": ["this:monetary", "this:shares"], "duration": ["this:date", "this:pure"]},
+            "xbrlmerge:items": {"monetary": ["this:monetary"], "shares": ["this:shares"], "pure": ["this:pure"]},
+        })
+        self.assertEqual(run("--union", whole, "--types", types).returncode, 0)
+        self.assertEqual(run("--union", whole, "--types", whole).returncode, 2)
+        with open(types, encoding="utf-8") as file:
+            self.assertEqual(json.load(file), groups)
+        for wrong, line in (({"xbrlmerge:types": {"gDay": ["this:date"]}}, "is date in xbrlmerge:types, but gDay earlier"),
+                            ({"xbrlmerge:items": {"money": []}}, "has the group money"), ({"xbrlmerge:periods": []}, "is not an object of lists")):
+            other = self.write("other.json", json.dumps({**sheet, **wrong}))
+            self.check_refused(3, line, "--union", other, whole)
+
+    def test_types_make_a_large_sheet_at_most_a_tenth_longer(self):
+        texts = "".join(ITEM % (f"Abcdefgh{number}", "string") for number in range(20_000))
+        for count, status in ((2_000, 0), (8_000, 1)):
+            sheet, lines = self.made(texts + "".join(ITEM % (f"B{number}", "boolean") for number in range(count)), status=status)
+            self.assertEqual((len(sheet.get("xbrlmerge:types", {}).get("boolean", ())), len(lines)), ((count, 0)[status], status))
+
+    def test_the_name_of_an_unknown_type_of_the_registry_ends_in_its_base(self):
+        registry = "http://www.xbrl.org/dtr/type/2030-01-01"
+        ends = {"newMonetary": "numeric", "newNoLangToken": "text", "newSQName": None, "newList": None, "newmonetary": None, "Monetary": "numeric"}
+        for known in "electricCharge energyPerMonetary flow ghgEmissionsPerMonetary monetaryPerMass".split():
+            ends[known] = "numeric"
+        ends.update(dict.fromkeys("durationString gYearList noLangString noLangToken".split(), "text"))
+        parts = "".join((ITEM % (end, end)).replace('"xbrli:', f'"r:', 1).replace(" name", f' xmlns:r="{registry}" name') for end in ends)
+        sheet, lines = self.made(parts, status=1)
+        self.assertEqual(sheet["concepts"], {f"this:{end}": kind for end, kind in sorted(ends.items()) if kind})
+        self.assertEqual(sheet["xbrlmerge:types"]["token"], ["this:gYearList", "this:newNoLangToken", "this:noLangToken"])
+        self.assertEqual([" is listed as " in line for line in lines], [True, False, True, True, False, False])
+
+
 class BadInputs(ToolTest):
     def test_no_xml_and_no_schema(self):
         self.check_refused(3, "not well-formed", self.write("a.xsd", "{}"))
