@@ -11,6 +11,7 @@ no merged.json:
     page.html           the contradictions: texts, names and nil values first, then the largest relative differences
     contradictions.csv  the facts of the contradictions as a table
     table.csv           all rows, with the values of each provider in a column
+    providers.csv       for each pair of providers, the rows that both report, that agree and that contradict each other
     merged.json         the merged report
 
 The first two forms also write verdicts.txt, sources.txt, refusals.txt and, with --normalise, the normalised reports as
@@ -21,6 +22,10 @@ once for each provider that reports it. The largest group comes first; the page 
 if no group is the largest. A hint names what may explain a difference: a factor of 100, 1,000, 1,000,000 or 1,000,000,000 at
 which the rounding intervals meet, opposite signs, nil, or a difference below 1 in the last place. --at-least 0.1% hides smaller
 differences between numbers from the page.
+
+Each row is a contradiction or else reported by one provider, or by several that agree exactly or within rounding. Standard output,
+the page and the column agreement of table.csv show this; if no provider is known, only the contradictions. providers.csv has no
+pairs if there are more than 100 providers.
 
 In table.csv, provider: NAME and decimals: NAME contain the values of a provider and their decimals, joined by "; ", and files:
 NAME its files if it has several. If no provider is known, or more than 100, the columns values and decimals have all values.
@@ -52,10 +57,16 @@ provider and the merged report of its own reports; repeat it for each provider.
 The page and changes.csv show at most 80 characters of an identifier, a URI or a text; the other tables contain them whole.
 In the tables, a ' precedes anything that a spreadsheet might read as a formula.
 
-Status 0: the files are written, and there is nothing to look at. 1: the files are written, and there is something to look at:
-a contradiction, a refused report or one with repeated members, a loss of --normalise, a report that cannot be normalised, a
-part that --taxonomy leaves out, or pairs that --near did not compare (0 with --exit-zero). 2: invalid arguments. 3: not done,
-and standard error shows why. After status 2 or 3, no output has changed, unless a replaced file could not be restored.
+Status 0: the files are written, and there is nothing to look at. 1: the files are written, and there is something to look at.
+--fail-on names the kinds of findings that give status 1, by default all; --exit-zero is for none:
+    contradictions  rows that are contradictions
+    refusals        refused reports
+    losses          changes of --normalise that lose something
+    omissions       parts that --taxonomy leaves out
+    uncompared      pairs that --near did not compare
+    warnings        reports with repeated members, and reports that cannot be normalised
+2: invalid arguments. 3: not done, and standard error shows why. After status 2 or 3, no output has changed, unless a replaced
+file could not be restored.
 """
 from __future__ import annotations
 
@@ -70,7 +81,8 @@ sys.dont_write_bytecode = True
 from arguments import Parser  # noqa: E402
 from contradicting.checking import FOLDER, LINES, report_file  # noqa: E402
 from contradicting.all_rows import AllRows  # noqa: E402
-from contradicting.inputs import Inputs, Run, counted, inputs_named, output_folder  # noqa: E402
+from contradicting.findings import KINDS, counted, kinds_named  # noqa: E402
+from contradicting.inputs import Inputs, Run, inputs_named, output_folder  # noqa: E402
 from contradicting.labels import Labels, read_labels  # noqa: E402
 from contradicting.made_from import MadeFrom, read_files  # noqa: E402
 from contradicting.near import Near  # noqa: E402
@@ -105,7 +117,10 @@ def read_options() -> argparse.Namespace:
     parser.add_argument("--near", metavar="NEAR.csv", help="write a table of pairs of rows that may differ only by mistake")
     parser.add_argument("--at-least", type=share, metavar="SHARE",
                         help="hide contradictions between numbers from the page whose difference is a smaller share, such as 0.1%%")
-    parser.add_argument("--exit-zero", action="store_true", help="exit with status 0 instead of 1")
+    look = parser.add_mutually_exclusive_group()
+    look.add_argument("--fail-on", type=kinds_named, default=KINDS, metavar="KIND,..",
+                      help=f"exit with status 1 only for these kinds of findings; by default, for all: {','.join(KINDS)}")
+    look.add_argument("--exit-zero", dest="fail_on", action="store_const", const=(), help="exit with status 0 instead of 1")
     parser.add_argument("--sources", metavar="SOURCES", help="with --from: the output of `xbrlmerge sources`")
     parser.add_argument("--names", metavar="NAME,..", help="with --sources: the providers, in the order of the reports")
     parser.add_argument("words", nargs="*", metavar="[NAME=]REPORT",
@@ -152,7 +167,7 @@ def check(parser: Parser, options: argparse.Namespace) -> None:
 
 
 def outputs_of(options: argparse.Namespace) -> list[str]:
-    names = ["page.html", "contradictions.csv", "table.csv", *["merged.json"] * (not options.texts)]
+    names = ["page.html", "contradictions.csv", "table.csv", "providers.csv", *["merged.json"] * (not options.texts)]
     names += ["sheet.json", "sheet.types.json"] * bool(options.taxonomy)
     if not options.texts:
         names += ["changes.csv", *(f"{name}.txt" for name in LINES)]
@@ -197,20 +212,22 @@ def write(inputs: Inputs, options: argparse.Namespace, folder: str, progress: Pr
     made_from = MadeFrom(inputs.version, read_files(inputs_of(options)))
     found = Found(rows, reader, labels, inputs.refusals, all_rows, counts, options.at_least, inputs.check, made_from)
     files = [("page.html", page(found)), ("contradictions.csv", lines_of(table(rows, labels, reader))),
-             ("table.csv", all_rows.table_pieces()), *inputs.files]
+             ("table.csv", all_rows.table_pieces()), ("providers.csv", lines_of(counts.table())), *inputs.files]
     texts = [(os.path.join(options.output, name), pieces) for name, pieces in files]
     if near:
         texts.append((options.near, lines_of(near.table(near.pairs(), labels))))
     progress.clear()
     print_lines([*inputs.notes, *inputs.refusals.lines(), *(near.notes() if near else [])])
     progress.show("writing")
-    refused = len(inputs.refusals.reports)
-    parts = [summary(reader), *[f"{counted(refused, 'report')} refused"] * bool(refused), *inputs.losses]
+    findings = inputs.findings
+    findings.add("contradictions", len(rows))
+    findings.add("refusals", len(inputs.refusals.reports), "report refused", "reports refused")
+    findings.add("uncompared", near.uncompared if near else 0)
+    rows_text = f"{counted(counts.count, 'row')}: " + ", ".join(f"{count} {words}" for count, words in counts.lines())
     with files_written(texts):
         progress.clear()
-        print("; ".join([*parts, f"page: {printable(os.path.join(options.output, 'page.html'))}"]), flush=True)
-    is_to_look_at = rows or refused or inputs.losses or near and near.uncompared
-    return Status.LOOK if is_to_look_at and not options.exit_zero else Status.DONE
+        print("; ".join([rows_text, *findings.phrases(), f"page: {printable(os.path.join(options.output, 'page.html'))}"]), flush=True)
+    return findings.status(options.fail_on)
 
 
 def labels_for(options: argparse.Namespace, inputs: Inputs) -> Labels:
@@ -222,13 +239,6 @@ def labels_for(options: argparse.Namespace, inputs: Inputs) -> Labels:
             raise
         inputs.notes += [f"the page has no labels: {line}" for line in fault.args]
         return Labels({}, options.language)
-
-
-def summary(reader: Reader) -> str:
-    """Returns the total number of rows, and the number for each verdict, as text."""
-    of = reader.counts
-    rows = counted(of["inconsistent"] + of["consistent"] + of["complete"], "row")
-    return f"{rows}: {counted(of['inconsistent'], 'contradiction')}, {of['consistent']} consistent, {of['complete']} with one fact"
 
 
 if __name__ == "__main__":

@@ -8,6 +8,7 @@ import collections
 import os
 from typing import Iterator, NamedTuple, Optional, Sequence
 
+from contradicting.agreement import Agreement, agreement_of
 from contradicting.facts import Fact
 from contradicting.labels import Labels
 from contradicting.rows import Row
@@ -19,10 +20,9 @@ from names import Name
 from process import NotDone
 from text_files import PIECE
 
-COLUMNS = [DIMENSIONS[0], "label", *DIMENSIONS[1:], *"verdict hint reported_by not_reported_by nil_by".split()]
+COLUMNS = [DIMENSIONS[0], "label", *DIMENSIONS[1:], *"verdict agreement hint reported_by not_reported_by nil_by".split()]
 MOST_PROVIDERS = 100  # if there are more, all values are in one column
 CHUNK = 200  # rows that the page loads together
-WORDS = {"inconsistent": "contradiction", "consistent": "consistent", "complete": "one fact"}
 HEAD = "<tr><th>Row<th>Concept<th>Period<th>Unit<th>Other dimensions<th>Verdict"
 
 
@@ -88,7 +88,8 @@ class AllRows:
 
     def cells(self, row: Row, own: Own, columns: Own) -> Iterator[str]:
         concept, *others = dimension_cells(row.dimensions)
-        yield from (concept, cell(self.labels.get(row.dimensions.concept, "")), *others, row.verdict, cell(hints(row)) if row.hints else "")
+        yield from (concept, cell(self.labels.get(row.dimensions.concept, "")), *others, row.verdict, agreement_of(row).value,
+                    cell(hints(row)) if row.hints else "")
         lacking = [name for name in self.providers if name not in own] if len(own) < len(self.everybody) else ()
         nil = [name for name, given in own.items() if any(each.fact.value is None for each in given)]
         if not own:
@@ -114,10 +115,11 @@ class AllRows:
 
     def write_page(self, row: Row, columns: Own) -> None:
         others = "; ".join(f"{axis}: {member}" for axis, member in other_dimensions(row, self.labels))
-        cells = [str(row.number), shown_label(row.dimensions.concept, self.labels), period(row), unit(row), others, WORDS[row.verdict]]
+        cells = [str(row.number), shown_label(row.dimensions.concept, self.labels), period(row), unit(row), others,
+                 agreement_of(row).value]
         start = start_of_cut(fact.value for fact in row.facts.values())
         cells += ["; ".join(shown_given(row, each, start) for each in columns.get(name, ())) for name in self.columns]
-        kind = " class=apart" * (row.verdict == "inconsistent")
+        kind = " class=apart" * (agreement_of(row) is Agreement.CONTRADICTION)
         self.chunk.append(f"<tr{kind}>" + "".join(f"<td>{each}" for each in cells) + "\n")
         self.ends = [*self.ends[:1], (row.number, cells[1])]
         if len(self.chunk) == CHUNK:

@@ -5,9 +5,10 @@ import argparse
 import contextlib
 import os
 from dataclasses import dataclass, field
-from typing import Any, Iterator, Optional
+from typing import Any, Iterator
 
 from contradicting.checking import LINES, command, report_file
+from contradicting.findings import Findings, counted
 from contradicting.normalised import Normalised, pieces_of_file
 from contradicting.progress import Progress
 from contradicting.refusals import Refusals, line_of
@@ -38,7 +39,7 @@ class Inputs:
     sources: FactSources
     refusals: Refusals = field(default_factory=Refusals)
     files: list[File] = field(default_factory=list)
-    losses: list[str] = field(default_factory=list)  # for the summary
+    findings: Findings = field(default_factory=Findings)
     notes: list[str] = field(default_factory=list)  # lines for standard error
     check: str = ""  # the command that checks the run, for a shell
     version: str = ""  # of the program, if it was run
@@ -59,7 +60,7 @@ class Run:
     def __init__(self, program: str, options: argparse.Namespace, reports: list[Report], folder: str, progress: Progress) -> None:
         self.options, self.reports, self.folder, self.progress = options, reports, folder, progress
         self.files: list[File] = []
-        self.losses: list[str] = []
+        self.findings = Findings()
         self.notes: list[str] = []
         self.uncompared: list[tuple[Report, list[dict[str, Any]]]] = []  # reports with sets that cannot be respelled
         check_files(report.path for report in reports)
@@ -78,7 +79,7 @@ class Run:
         refusals = self.refusals(found[0], paths)
         self.note_repeated(found[0], paths)
         return Inputs(Text(merged), sheet_at(self.program.sheet), verdicts, Sources(sources, self.reports, found[0]),
-                      refusals, files, self.losses, self.notes, check, self.program.version())
+                      refusals, files, self.findings, self.notes, check, self.program.version())
 
     def sheet(self) -> str:
         """Returns the path of the sheet, which is made first if taxonomies are named."""
@@ -94,7 +95,7 @@ class Run:
                 file.write(text)
             self.files.append((os.path.basename(each), pieces_of_file(each)))
         self.notes += left_out
-        self.losses += [f"{counted(len(left_out), 'omission')} from the taxonomy"] * bool(left_out)
+        self.findings.add("omissions", len(left_out), "omission from the taxonomy", "omissions from the taxonomy")
         return path
 
     def normalised(self) -> list[str]:
@@ -109,8 +110,8 @@ class Run:
         self.reports, self.uncompared = made.reports, made.faults
         said = f"{counted(made.sets, 'set')} of names respelled as URI#LOCAL in changes.csv, which loses nothing"
         self.notes += [*made.notes, *[said] * bool(made.sets)]
-        self.losses += [f"{counted(len(made.notes), 'report')} not normalised"] * bool(made.notes)
-        self.losses += [f"{counted(made.losses, 'loss', 'losses')} in changes.csv"] * bool(made.losses)
+        self.findings.add("warnings", len(made.notes), "report not normalised", "reports not normalised")
+        self.findings.add("losses", made.losses, "loss in changes.csv", "losses in changes.csv")
         return made.paths
 
     def check(self, paths: list[str]) -> str:
@@ -136,7 +137,7 @@ class Run:
         except NotDone as fault:
             self.notes += [f"repeated members are not listed: {line}" for line in fault.args]
         self.notes += [f"{self.reports[index].path}: {group.line_for(self.options)[0]}" for index, group in repeated.items()]
-        self.losses += [f"{counted(len(repeated), 'report')} with repeated members"] * bool(repeated)
+        self.findings.add("warnings", len(repeated), "report with repeated members", "reports with repeated members")
 
     def read(self, command: str, paths: list[str]) -> dict[int, str]:
         self.progress.show(f"running {command} on {counted(len(paths), 'report')}")
@@ -154,11 +155,6 @@ class Run:
         for report, faults in self.uncompared:
             refusals.add(*report, line_of(faults[0]), faults)
         return refusals
-
-
-def counted(count: int, word: str, words: Optional[str] = None) -> str:
-    """Returns a count with its noun, such as "1 report" or "2 reports"."""
-    return f"{count} {word if count == 1 else words or word + 's'}"
 
 
 @contextlib.contextmanager

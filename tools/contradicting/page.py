@@ -28,7 +28,6 @@ FIRST = 100  # rows before the index; the browser paints these rows at once, and
 CHUNK = 100  # the most rows of one concept that are loaded together
 HERE = os.path.dirname(os.path.abspath(__file__))
 NO_SCRIPT = "<noscript><p>These rows need JavaScript. contradictions.csv has them too.</p></noscript>"
-WORDS = {"inconsistent": "contradictions", "consistent": "consistent within rounding", "complete": "with one fact"}
 
 
 @dataclass
@@ -56,7 +55,8 @@ def page(found: Found) -> Iterator[str]:
     script = part("page.js")
     known = base64.b64encode(hashlib.sha256(script.encode()).digest()).decode()
     policy = f"default-src 'none'; style-src 'unsafe-inline'; script-src 'sha256-{known}'"
-    numbers = "".join(f"<span><b>{count}</b>{word}</span>" for count, word in counts(found.reader, found.refusals))
+    refused_count = [(len(found.refusals.reports), "refused reports")] * bool(found.refusals.reports)
+    numbers = "".join(f"<span><b>{count}</b>{words}</span>" for count, words in [*found.counts.lines(), *refused_count])
     yield f"""<!DOCTYPE html><html lang="en"><head><meta charset="utf-8"><title>Contradictions</title>
 <meta http-equiv="Content-Security-Policy" content="{policy}">
 <meta name="viewport" content="width=device-width"><style>{part("page.css")}</style></head><body><h1>Contradictions</h1>
@@ -80,16 +80,6 @@ first difference; contradictions.csv has them whole.</p>
         yield '<details class="check"><summary>Check this run with a second program</summary>\n'
         yield f"<p>Run this command in the folder where the page was made:</p><pre>{html.escape(found.check)}</pre></details>\n"
     yield f"<script>{script}</script></body></html>\n"
-
-
-def counts(reader: Reader, refusals: Refusals) -> Iterator[tuple[int, str]]:
-    """Yields counts with their words: the rows of each verdict, the rows with one fact from one provider (if providers are
-    known), and the refused reports (if there are any)."""
-    yield from ((reader.counts[verdict], word) for verdict, word in WORDS.items())
-    if reader.providers:
-        yield reader.counts["alone"], f"of these reported by {reader.reported_by(1)}"
-    if refusals.reports:
-        yield len(refusals.reports), "refused reports"
 
 
 def refused(refusals: Refusals) -> Iterator[str]:

@@ -1,38 +1,104 @@
-"""Counts for each provider: its facts, where it stands alone, and what it lacks."""
+"""Counts of rows by agreement, counts for each provider, and the matrix of providers."""
 from __future__ import annotations
 
 import collections
-from typing import Iterator, Sequence
+import itertools
+from typing import Iterator, NamedTuple, Sequence
 
+from contradicting.agreement import Agreement, agreement_of, opponents
 from contradicting.refusals import Refusals
 from contradicting.rows import Row
 from contradicting.shown import escaped
 from contradicting.sources import names_of
+from contradicting.tables import cell
 
-MOST_PROVIDERS = 100  # that the page lists
+MOST_PROVIDERS = 100  # that the page lists, and for which there is a matrix
 HEADS = ("Facts", "Contradictions where it stands alone", "Rows that it lacks", "Refused reports")
+COLUMNS = "provider other provider_rows other_rows shared agree contradict".split()
+
+
+class Pair(NamedTuple):
+    """Two providers, and how many rows each reports, both report, and are contradictions between the two."""
+
+    one: str
+    other: str
+    one_rows: int
+    other_rows: int
+    shared: int
+    contradicting: int
+
+    @property
+    def agreeing(self) -> int:
+        return self.shared - self.contradicting
 
 
 class ProviderCounts:
     """Receives all rows. A provider stands alone in a contradiction if none of its facts is in a group with a fact of another
-    provider. It lacks a row that only others report."""
+    provider. It lacks a row that only others report. `shared` counts its rows that others report, too."""
 
     def __init__(self, names: Sequence[str]) -> None:
         self.providers, self.count = [*dict.fromkeys(names)], 0
+        self.kinds: collections.Counter[Agreement] = collections.Counter()
         self.facts: collections.Counter[str] = collections.Counter()
         self.rows: collections.Counter[str] = collections.Counter()
+        self.shared: collections.Counter[str] = collections.Counter()
         self.alone: collections.Counter[str] = collections.Counter()
+        self.masks: dict[str, bytearray] = {}  # a bit for each row that the provider reports
+        self.contradicting: collections.Counter[frozenset[str]] = collections.Counter()
+
+    @property
+    def has_matrix(self) -> bool:
+        return 1 < len(self.providers) <= MOST_PROVIDERS
 
     def add(self, row: Row) -> None:
         self.count += 1
-        self.rows.update(names_of(row.holders))
+        kind = agreement_of(row)
+        self.kinds[kind] += 1
+        names = names_of(row.holders)
+        self.rows.update(names)
+        self.shared.update(names if len(names) > 1 else ())
         self.facts.update(holder.name for holders in row.holders.values() for holder in holders)
+        if self.has_matrix:
+            self.mark(row.number, names)
+        if kind is Agreement.CONTRADICTION:
+            self.add_contradiction(row)
+
+    def mark(self, number: int, names: set[str]) -> None:
+        byte, bit = divmod(number, 8)
+        for name in names:
+            mask = self.masks.setdefault(name, bytearray())
+            mask.extend(bytes(max(0, byte + 1 - len(mask))))
+            mask[byte] |= 1 << bit
+
+    def add_contradiction(self, row: Row) -> None:
         groups = [{holder.name for name in group for holder in row.holders[name]} for group in row.groups]
         joined = set().union(*(group for group in groups if len(group) > 1))
         self.alone.update(set().union(*groups) - joined)
+        if self.has_matrix:
+            self.contradicting.update(frozenset(pair) for pair in opponents(row))
+
+    def lines(self) -> Iterator[tuple[int, str]]:
+        """Yields the disjoint counts of rows, each with its words. Rows of no provider are counted only if there may be any."""
+        for kind in Agreement:
+            is_sure = kind is Agreement.CONTRADICTION or (kind is Agreement.NONE_KNOWN) != bool(self.providers)
+            if is_sure or self.kinds[kind]:
+                yield self.kinds[kind], kind.counted(self.kinds[kind])
+
+    def pairs(self) -> Iterator[Pair]:
+        """Yields the matrix: each pair of providers, in order. Without a matrix, yields nothing."""
+        names = self.providers if self.has_matrix else []
+        bits = {name: int.from_bytes(self.masks.get(name, b""), "little") for name in names}
+        for one, other in itertools.combinations(bits, 2):
+            shared = bin(bits[one] & bits[other]).count("1")
+            yield Pair(one, other, self.rows[one], self.rows[other], shared, self.contradicting[frozenset((one, other))])
+
+    def table(self) -> Iterator[Sequence[str]]:
+        yield COLUMNS
+        for pair in self.pairs():
+            yield [cell(pair.one), cell(pair.other), *map(str, (*pair[2:-1], pair.agreeing, pair.contradicting))]
 
     def html(self, refusals: Refusals) -> Iterator[str]:
-        """Yields a table of the providers, if any are known."""
+        """Yields a table of the providers and the matrix, if any are known."""
         refused = collections.Counter(report.provider for report in refusals.reports)
         names = [*dict.fromkeys([*self.providers, *refused])]
         if names:
@@ -43,3 +109,14 @@ class ProviderCounts:
             yield f"<tr><td><bdi>{escaped(name)}</bdi>{''.join(cells)}\n"
         if names:
             yield "</table>\n" + f"<p>and {len(names) - MOST_PROVIDERS} more providers</p>\n" * (len(names) > MOST_PROVIDERS)
+        yield from self.matrix()
+
+    def matrix(self) -> Iterator[str]:
+        """Yields a table of the pairs of providers."""
+        if self.has_matrix:
+            yield '<table class="providers" cellspacing="0"><tr><th>Both report<th>Rows<th>Agree<th>Contradict\n'
+            for pair in self.pairs():
+                cells = zip(("Rows", "Agree", "Contradict"), (pair.shared, pair.agreeing, pair.contradicting))
+                names = f"<bdi>{escaped(pair.one)}</bdi> and <bdi>{escaped(pair.other)}</bdi>"
+                yield f"<tr><td>{names}" + "".join(f'<td data-name="{head}">{count}' for head, count in cells) + "\n"
+            yield "</table>\n"

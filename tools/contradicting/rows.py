@@ -1,7 +1,6 @@
 """The rows of a merged report, and their verdicts as `verdicts` printed them."""
 from __future__ import annotations
 
-import collections
 import datetime
 import functools
 import itertools
@@ -12,7 +11,7 @@ from typing import Any, Iterable, Iterator, Mapping, NamedTuple, Optional, Proto
 from contradicting.facts import Dimensions, Fact, Interval
 from contradicting.groups import Group, groups_of, odd_facts, weights_of
 from contradicting.hints import Hint, hints_of
-from contradicting.sources import Holders, names_of
+from contradicting.sources import Holders
 from contradicting.texts import CORE, Text, Tree, using
 from normalising.sets import is_spelled
 from process import shortened
@@ -101,12 +100,11 @@ class Reader:
 
     def __init__(self, text: Text, sheet: Sheet, sources: FactSources, observers: Sequence[RowObserver]) -> None:
         self.text, self.sheet, self.sources, self.observers = text, sheet, sources, observers
-        self.counts: collections.Counter[str] = collections.Counter()
         self.kinds: dict[str, str] = {}
         self.providers = len(set(sources.names))
 
     def rows(self, path: str) -> list[Row]:
-        """Returns the rows that are contradictions, counts all rows, and passes each to the observers.
+        """Returns the rows that are contradictions, and passes each row to the observers.
 
         Errors: NotDone if an input cannot be read or is malformed, or if a verdict or a source does not match the facts.
         """
@@ -117,8 +115,6 @@ class Reader:
                 row = self.row(number, dict(group[1]), line)
                 if row is None:
                     raise ValueError(f"line {number} does not match the merged report")
-                self.counts[row.verdict] += 1
-                self.counts["alone"] += row.verdict == "complete" and len(names_of(row.holders)) == 1
                 for observer in self.observers:
                     observer.add(row)
                 if row.said["one"]:

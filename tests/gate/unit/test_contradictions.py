@@ -87,7 +87,7 @@ class Pages(ToolTest):
 
     def test_counts_come_first(self):
         start = self.shown.index("6contradictions")
-        self.assertIn("6contradictions1consistent within rounding1with one fact", self.shown)
+        self.assertIn("6contradictions2no contradiction", self.shown)
         self.assertLess(start, self.shown.index("Auditor"))
 
     def test_periods_are_shown_by_days(self):

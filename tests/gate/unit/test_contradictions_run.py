@@ -19,7 +19,7 @@ from test_contradictions_sources import example
 
 REPORTS = [os.path.realpath(example(f"{name}.json")) for name in ("issuer", "ledgerline", "statfeed")]
 SHEET = example("sheet.json")
-SUMMARY = "64 rows: 3 contradictions, 45 consistent, 16 with one fact"
+SUMMARY = "64 rows: 3 contradictions, 3 reported by one provider, 13 agree exactly, 45 agree within rounding"
 SCHEMA = """<xs:schema xmlns:xs="http://www.w3.org/2001/XMLSchema" xmlns:xbrli="http://www.xbrl.org/2003/instance"
     xmlns:xbrldt="http://xbrl.org/2005/xbrldt" targetNamespace="http://made.example/t">
     <xs:element id="m_Sales" name="Sales" type="xbrli:monetaryItemType" substitutionGroup="xbrli:item"/>%s</xs:schema>"""
@@ -99,14 +99,14 @@ class Files(Stubbed):
         self.assertEqual((done.returncode, done.stderr), (1, ""))
         self.assertEqual(done.stdout, f"{SUMMARY}; page: {self.page}\n")
         self.assertEqual(sorted(os.listdir(self.output)),
-                         ["contradictions.csv", "merged.json", "page.html", "refusals.txt", "sources.txt", "table.csv", "verdicts.txt"])
+                         ["contradictions.csv", "merged.json", "page.html", "providers.csv", "refusals.txt", "sources.txt", "table.csv", "verdicts.txt"])
         self.assertEqual(content(os.path.join(self.output, "merged.json")), content(example("merged.json")))
         self.assertEqual(len(self.cells("table.csv")), 64)
         found = {cell["fact"]: (cell["identifiers"], cell["reported_by"]) for cell in self.cells("contradictions.csv")}
         self.assertEqual(found["f066"], ("issuer: f33; statfeed: TS08474", "2 of 3"))
         self.assertEqual(self.log(), [(command, REPORTS) for command in ("merge", "verdicts", "sources", "explain")])
         for text in ("<title>Contradictions</title>", "<h1>Contradictions</h1>", "<b>3</b>contradictions",
-                     "<b>45</b>consistent within rounding", "<b>16</b>with one fact", "<dt>Reported by<dd>2 of 3"):
+                     "<b>3</b>reported by one provider", "<b>13</b>agree exactly", "<b>45</b>agree within rounding", "<dt>Reported by<dd>2 of 3"):
             self.assertIn(text, content(self.page))
 
     def test_inputs_may_be_in_the_folder_if_they_are_not_written(self):
@@ -136,7 +136,7 @@ class Files(Stubbed):
         self.prints_nothing()
         done = self.run_on(*REPORTS)
         self.assertEqual((done.returncode, done.stderr), (0, ""))
-        self.assertTrue(done.stdout.startswith("0 rows: 0 contradictions, 0 consistent, 0 with one fact; page: "))
+        self.assertTrue(done.stdout.startswith("0 rows: 0 contradictions, 0 reported by one provider, 0 agree exactly, 0 agree within rounding; page: "))
 
     def test_names_are_those_of_the_files_or_are_given(self):
         self.run_on(f"A={REPORTS[0]}", f"B; \u00e4={REPORTS[1]}", f"A={REPORTS[2]}")

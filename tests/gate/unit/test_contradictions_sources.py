@@ -26,7 +26,7 @@ class Sources(ToolTest):
         self.assertEqual(found["f018"], ("issuer", "issuer: f56", "1 of 3"))
         self.assertEqual(found["f019"], ("statfeed", "statfeed: TS08780", "1 of 3"))
         self.assertEqual(found["f066"], ("issuer, statfeed", "issuer: f33; statfeed: TS08474", "2 of 3"))
-        for text in ("<bdi>issuer f56</bdi>", "<bdi>statfeed TS08780</bdi>", "<dt>Reported by<dd>2 of 3", "of these reported by 1 of 3"):
+        for text in ("<bdi>issuer f56</bdi>", "<bdi>statfeed TS08780</bdi>", "<dt>Reported by<dd>2 of 3", "<b>3</b>reported by one provider"):
             self.assertIn(text, page)
 
     def test_a_row_that_one_provider_reports_is_marked(self):
