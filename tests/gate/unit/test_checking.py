@@ -31,7 +31,7 @@ class Checking(Stubbed):
         self.assertEqual(self.file_text("refusals.txt"), "")
         done = subprocess.run(["bash", "-c", self.command()], capture_output=True, text=True)
         self.assertEqual((done.returncode, done.stderr), (0, ""))
-        self.assertEqual(done.stdout, "references not checked: 2\n3 reports, 149 fact objects, 120 facts, 64 rows, 3 contradictions: agree\n")
+        self.assertEqual(done.stdout, "texts compared: merged, verdicts, sources, refusals\n3 reports, 149 fact objects, 120 facts, 64 rows, 3 contradictions: agree\n")
 
     def test_refusals_are_written_as_they_were_printed(self):
         self.refuses(REFUSED, ("a sentence", {}))

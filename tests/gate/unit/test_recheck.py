@@ -1,9 +1,11 @@
 """Tests of tools/recheck on the examples: it agrees, and it finds each single change in a text."""
 import contextlib
 import io
+import json
 import os
 import subprocess
 import sys
+import time
 import unittest
 from unittest import mock
 
@@ -15,19 +17,54 @@ from test_contradictions_sources import example
 TOOL = os.path.join(in_process.TOOLS, "recheck.py")
 REPORTS = ("issuer", "ledgerline", "statfeed", "oldharbour")
 LINES = {"verdicts": "verdicts.txt", "sources": "sources.txt", "refusals": "refused.txt"}
-AGREE = "4 reports, 1 refused report, 149 fact objects, 120 facts, 64 rows, 3 contradictions: agree\n"
-# references of the examples that are not plain, and their kept text
+AGREE = "texts compared: %s\n4 reports, 1 refused report, 149 fact objects, 120 facts, 64 rows, 3 contradictions: agree\n"
 KEPT = "https://norlake.example/taxonomy/2023/norlake-2023.xsd"
-NOT_PLAIN = ("../../taxonomy/2023/norlake-2023.xsd", "HTTPS://Norlake.example:443/taxonomy/2023/norlake-2023.xsd")
 TEXT = content("examples/merged.json")
 LAST = TEXT[TEXT.index(',"f120"'):-2]
 PAIR = TEXT[TEXT.index('"f003"'):TEXT.index('"f005"')]
 GOODWILL = '"n6:Goodwill","entity":"n1:743700NORLAKEOYJ0017","period":"2024-01-01T00:00:00"'
 COST = '"unit":"n3:EUR/(n4:km*n4:t)"'
-# URLs that are not plain, and plain ones
-ODD_URLS = """http://x.org HTTP://x.org/ http://x.org/a/../b http://x.org:80/ http://1.2/ http://xn--a/ urn:x:y a.xsd http://x.org/. http://a@x.org/
-    http://x.org/%2e http://x.org/\u00e9 http://X.org/ http://-a/ http://a..b/""".split()
-PLAIN_URLS = ("http://x.org/", "https://a-b.c1.example/d/E_f.xsd?g=h&i#j", "http://x/..a/a..b/", KEPT)
+UNJUDGED = object()
+# base URLs, references, and their kept texts; None if the reference is refused
+REFERENCES = {
+    None: {
+        "HTTPS://Norlake.example:443/a": "https://norlake.example/a", "http://x.org": "http://x.org/", "http:x.org:8080?": "http://x.org:8080/?",
+        " ht\ttp:///x.org:080/\n": "http://x.org/", "https://x.org:80/#": "https://x.org:80/#", "http://x.org:000/": "http://x.org:0/",
+        "http://x.org/a/./b/../c/%2E%2e/.": "http://x.org/a/", "http://x.org/../..//a": "http://x.org//a", "http://x.org/%41%zz": "http://x.org/%41%zz",
+        "http://%58.org/\u00e9 <\x7f?\"\u20ac#\t>": "http://x.org/%C3%A9%20%3C%7F?%22%E2%82%AC#%3E", "http://x.org/..a/.b.": "http://x.org/..a/.b.",
+        "http://x.org:65536/": "http://x.org:65536/", "http://": "http://", "HTTP:a:b": "HTTP:a:b", "a.xsd": "a.xsd", "//[": "//[", "": "",
+        "urn:X:y": "urn:X:y", " ftp://[": " ftp://[", "http://x.org/" + "\u00e9" * 10_920: "http://x.org/" + "%C3%A9" * 10_920,
+        "http://x.org/" + "\u00e9" * 10_921: None, "a" * 65_536: "a" * 65_536, "a" * 65_537: None, "\u00e9" * 32_769: None,
+        "http://[::1]/": UNJUDGED, "http://1.2/": UNJUDGED, "http://xn--a/": UNJUDGED, "http://u@x.org/": UNJUDGED, "http://\u212a/": UNJUDGED,
+        "http://x.org/{}": UNJUDGED, "http://x.org\\a": UNJUDGED, "http://a..b/": UNJUDGED, "http://a%00/": UNJUDGED},
+    "HTTP://X.org:80/a/./b/c.json?d#e": {
+        "": "http://x.org/a/b/c.json?d", "#f": "http://x.org/a/b/c.json?d#f", "?g": "http://x.org/a/b/c.json?g", "../../../h": "http://x.org/h",
+        "i/../j?k#l": "http://x.org/a/b/j?k#l", "/./m": "http://x.org/m", "//Y.org:80": "http://y.org/", "..": "http://x.org/a/", "1:2": "http://x.org/a/b/1:2",
+        "https:y.org": "https://y.org/", "urn:X:y": "urn:X:y", "//": None, "//y:z/": None, "http://:80": None, "http:": UNJUDGED, "http:y:z": UNJUDGED,
+        "ftp://x/": UNJUDGED, "a://x": UNJUDGED, "n|": UNJUDGED},
+    "http://1.2/": {"a": UNJUDGED, "": UNJUDGED, "http://X": "http://x/", "urn:X:y": "urn:X:y", "http://:1": None},
+}
+BASES = {"http://x.org": "", " HTTPS:x ": "", "x.org": None, "": None, "ftp://x.org/": None, "http:": None, "http://x:y/": None, None: None, 5: None,
+         "http://x.org/" + "a" * 65_524: None, "http://[::1]/": UNJUDGED, "http://x.org/'": UNJUDGED}
+SMALL_SHEET = {"namespaces": {"m": "http://m/"}, "concepts": {"m:A": "numeric", "m:T": "text"}, "dimensions": {"m:D": "explicit", "m:E": "typed"}}
+MORE = {"entity": "m:1", "period": "2024-01-01T00:00:00", "unit": "m:b/(m:d*m:c)", "m:D": "m:x", "m:E": None}
+SMALL = {"documentInfo": {"documentType": recheck.DOCUMENT_TYPE, "namespaces": {"m": "http://m/"}}, "facts": {
+    "a": {"dimensions": {"concept": "m:A", **MORE}, "value": "5", "decimals": 0}, "b": {"dimensions": {"concept": "m:A", **MORE}, "value": "5.2"},
+    "c,\u0001": {"dimensions": {"concept": "m:T", "language": "EN"}, "value": "x\r\"y\""}, "d": {"dimensions": {"concept": "m:T", "language": "en"}, "value": None}}}
+NAMES = ('{"concept":"{http://m/}A","entity":"{http://m/}1","{http://m/}D":"{http://m/}x","{http://m/}E":null,"period":"2024-01-01T00:00:00",'
+         '"unit":"{http://m/}b/({http://m/}c*{http://m/}d)"}')
+CELLS = '{http://m/}A,{http://m/}1,2024-01-01T00:00:00,{http://m/}b/({http://m/}c*{http://m/}d),,"{""{http://m/}D"":""{http://m/}x"",""{http://m/}E"":null}"'
+SMALL_TEXTS = {
+    "json": {"verdicts": f'{{"row":1,"verdict":"consistent","dimensions":{NAMES},"facts":[{{"fact":"f1","value":"5","decimals":0}},{{"fact":"f2","value":"5.2"}}],'
+                         '"evidence":{"common":{"low":"5.2","high":"5.2"}}}\n{"row":2,"verdict":"inconsistent","dimensions":{"concept":"{http://m/}T","language":"en"},'
+                         '"facts":[{"fact":"f3","value":null},{"fact":"f4","value":"x\\r\\"y\\""}],"evidence":{"apart":["f3","f4"]}}\n',
+             "sources": "".join(f'{{"report":1,"file":"FILE/a \\"b\\".json","identifier":"{own}","fact":"{fact}"}}\n' for own, fact in
+                                (("a", "f1"), ("b", "f2"), ("d", "f3"), ("c,\\u0001", "f4")))},
+    "csv": {"verdicts": recheck.COLUMNS[0] + f'1,consistent,f1,{CELLS},5,,0,5.2,5.2,,\r\n1,consistent,f2,{CELLS},5.2,,,5.2,5.2,,\r\n'
+                        '2,inconsistent,f3,{http://m/}T,,,,en,,,true,,,,f3,f4\r\n2,inconsistent,f4,{http://m/}T,,,,en,,"x\r""y""",,,,,f3,f4\r\n',
+            "sources": recheck.COLUMNS[1] + "".join(f'1,"FILE/a ""b"".json",{own},{fact}\r\n' for own, fact in (
+                ("a", "f1"), ("b", "f2"), ("d", "f3"), ('"c,\x01"', "f4")))},
+}
 # texts that are not JSON, and the values of other texts
 NO_JSON = (b"", b"NaN", b"-Infinity", b"1e999", b"1" * 400, b"01", b"1.", b"1 1", b"[1,]", b"{'a':1}", b'"\t"', b"\xff", b'"\xed\xa0\x80"',
            b'"\\ud800"', b'["\\udc00\\ud800"]', b'{"\\ud800":1,"a":2}', b"[" * 128 + b"]" * 128, b"[" * 100_000, b"\xef\xbb\xbf\xef\xbb\xbf1")
@@ -150,13 +187,11 @@ INPUTS = {
 
 
 class Examples(in_process.RoomTest):
-    """Tests with the files of the examples. Two references in them are replaced by plain ones."""
+    """Tests with the files of the examples."""
 
     def setUp(self):
         super().setUp()
         self.files = {name: content(f"examples/{name}.json") for name in ("sheet", "merged", *REPORTS)}
-        for text in NOT_PLAIN:
-            self.files["issuer"], self.files["ledgerline"] = (self.files[it].replace(text, KEPT) for it in ("issuer", "ledgerline"))
         self.files.update({name: content(f"examples/{file}") for name, file in LINES.items()})
 
     def words(self, reports=REPORTS, lines=tuple(LINES)):
@@ -175,7 +210,7 @@ class Examples(in_process.RoomTest):
         self.files[name] = before.replace(old, new, 1)
         status, printed = self.run_on(*self.words())
         self.files[name] = before
-        return status, printed.splitlines()[:-1]
+        return status, printed.splitlines()[:-2]
 
 
 class Changes(Examples):
@@ -188,8 +223,8 @@ class Changes(Examples):
                 self.assertTrue(any(line.startswith(f"{name}: line ") for line in lines), lines)
 
     def test_the_examples_agree(self):
-        self.assertEqual(self.run_on(*self.words()), (0, AGREE))
-        self.assertEqual(self.run_on(*self.words(lines=())), (0, AGREE))
+        self.assertEqual(self.run_on(*self.words()), (0, AGREE % "merged, verdicts, sources, refusals"))
+        self.assertEqual(self.run_on(*self.words(lines=["sources"])), (0, AGREE % "merged, sources"))
 
     def test_there_are_sixty_kinds_of_changes(self):
         self.assertGreaterEqual(sum(map(len, (MERGED, VERDICTS, SOURCES, REFUSALS, INPUTS))), 60)
@@ -238,24 +273,49 @@ class Changes(Examples):
 class Others(Examples):
     """Tests of references, of a row as on paper, and of hostile input."""
 
-    def test_references_that_are_not_plain_are_counted(self):
-        words = [f"--{name}={example(f'{name}.json')}" for name in ("sheet", "merged")]
-        self.assertEqual(self.run_on(*words, *(example(f"{name}.json") for name in REPORTS))[1], f"references not checked: 2\n{AGREE}")
-        self.assertEqual([url for url in (*ODD_URLS, "http://x.org/a b", "http://x.org/\n") if recheck.PLAIN_URL.fullmatch(url)], [])
-        self.assertEqual([url for url in PLAIN_URLS if not recheck.PLAIN_URL.fullmatch(url)], [])
+    def test_urls_are_judged_by_the_url_standard(self):
+        for base, references in REFERENCES.items():
+            for reference, kept in references.items():
+                with self.subTest(base=base, reference=reference):
+                    info = {"taxonomy": [reference], **({"baseURL": base} if base else {})}
+                    unjudged = [(6, base)] * (base == "http://1.2/") + [(7, reference)] * (kept == UNJUDGED)
+                    self.assertEqual(recheck.read_urls(info), ([] if kept in (None, UNJUDGED) else [kept], [7] * (kept is None), unjudged))
+        for base, found in BASES.items():
+            self.assertEqual(recheck.read_urls({"baseURL": base})[1:], ([6], []) if found is None else ([], [(6, base)] * (found == UNJUDGED)), base)
 
-    def test_a_reference_more_is_found_if_all_are_plain(self):
+    def test_a_reference_more_is_found(self):
         _, lines = self.changed("merged", *MERGED["a reference more"])
         self.assertEqual(lines[0], "merged: its reference https://norlake.example/taxonomy/2024.xsd is in no report")
 
-    def test_refusals_of_other_urls_are_taken_as_given(self):
-        self.files["issuer"] = self.files["issuer"].replace(KEPT, "http://[")
-        self.assertEqual(self.run_on(*self.words())[0], 0)
-        self.files["refusals"] = "report 1: 7 TaxonomyUrl at document\n" + self.files["refusals"]
-        self.assertIn("merged: fact ", self.run_on(*self.words())[1])
+    def test_json_and_csv_are_compared(self):
+        report = self.write('a "b".json', json.dumps(SMALL))
+        for form, texts in SMALL_TEXTS.items():
+            for name, text in texts.items():
+                run = recheck.Run(json.dumps(SMALL_SHEET).encode(), [report], {}, form=form)
+                self.assertEqual(run.texts[name], text.replace("FILE", self.scratch))
+
+    def test_the_status_and_the_level_are_compared(self):
+        for status, agrees in (("1", 0), ("0", 1), ("2", 1), ("3", 1)):
+            self.assertEqual(self.run_on(*self.words(), f"--status={status}")[0], agrees)
+        self.assertIn("\nstatus: 0 should be 1\n", "\n" + self.run_on(*self.words(), "--status=0")[1])
+        self.assertIn("merged: line 1", self.run_on(*self.words(), "--allow=consistent")[1])
+        self.files.update(merged="", refusals=self.files["refusals"] + "too loose: row 12\n")
+        self.assertEqual(self.run_on(*self.words(), "--allow=consistent", "--status=2")[0], 0)
+        self.assertEqual(self.run_on(*self.words(), "--allow=none", "--status=2")[0], 1)
+        self.files["refusals"] = self.files["refusals"].replace("row 12", "row 3")
+        self.assertEqual([self.run_on(*self.words(), f"--allow={level}", "--status=2")[0] for level in ("none", "complete", "all")], [0, 0, 1])
+
+    def test_a_long_row_is_judged_in_time_and_explained_in_part(self):
+        facts = {f"f{number}": {"dimensions": {"concept": "m:A"}, "value": str(number), "decimals": -6} for number in range(3000)}
+        info = {"documentType": recheck.DOCUMENT_TYPE, "namespaces": {"m": "http://m/"}}
+        words = ["--sheet", self.write("sheet", json.dumps(SMALL_SHEET)), "--merged", self.write("merged", ""), "--explain=1"]
+        begun = time.process_time()
+        lines = self.run_on(*words, self.write("report", json.dumps({"documentInfo": info, "facts": facts})))[1].splitlines()
+        self.assertLess(time.process_time() - begun, 2)
+        self.assertEqual((lines[0], lines[4001]), ("row 1: consistent common -497001 500000", f"pairs not shown: {3000 * 2999 // 2 - 1000}"))
 
     def test_a_row_as_on_paper(self):
-        self.assertEqual(self.run_on("--explain=13", *self.words())[1].splitlines()[:-1], [
+        self.assertEqual(self.run_on("--explain=13", *self.words())[1].splitlines()[:-2], [
             "row 13: consistent common 0.057125 0.057135",
             "f020: 0.057 with 3 decimals, from 0.0565 to 0.0575",
             "f021: 0.0571 with 4 decimals, from 0.05705 to 0.05715",
@@ -302,10 +362,13 @@ class Others(Examples):
         self.assertEqual(ran(*words[:-3], "--", *words[-3:])[0], 0)
         self.assertEqual(ran()[0], 2)
         self.assertEqual(ran("--explain=65", *words), (2, "recheck: there is no row 65\n"))
+        for option in ("verdicts", "sheet", "allow", "status", "explain"):
+            self.assertEqual(ran(*words, f"--{option}", "")[0], 2)
+        self.assertEqual(ran(*words, "--verdicts="), (2, "recheck: an argument is empty\n"))
         self.assertEqual(ran("--\x1b", *words), (2, "recheck: unrecognized arguments: --\\u001b\n"))
-        self.assertEqual(ran(*words, self.path_of("no\x1b"))[0], 3)
-        self.assertEqual(ran(*words, self.scratch)[0], 3)
-        self.assertEqual(ran(*words, preexec_fn=lambda: os.close(1))[0], 3)
+        self.assertEqual(ran(*words, self.path_of("no\x1b")), (3, f"recheck: {self.scratch}/no\\u001b: No such file or directory\n"))
+        self.assertEqual(ran(*words, self.scratch), (3, f"recheck: {self.scratch}: Is a directory\n"))
+        self.assertEqual(ran(*words, preexec_fn=lambda: os.close(1)), (3, "recheck: standard output: Bad file descriptor\n"))
         for stream in ("stdout", "stderr"):
             with open("/dev/full", "w") as full:
                 streams = {"stdout": subprocess.DEVNULL, "stderr": subprocess.DEVNULL, stream: full}
