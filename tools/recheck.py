@@ -292,8 +292,7 @@ def relative_url(text: str, base: Url) -> Optional[Url]:
     segments = path[1:].split("/") if path.startswith("/") else [*base[2][1:].split("/")[:-1], *path.split("/")]
     return base[0], base[1], without_dots(segments) if path else base[2], query if path or query else base[3], fragment
 
-def without_dots(segments: Sequence[str]) -> str:
-    """Returns the path with these segments."""
+def without_dots(segments: Sequence[str]) -> str:  # the path
     kept: list[str] = []
     for number, segment in enumerate(segments, 1):
         dots = segment.lower().replace("%2e", ".")
@@ -581,17 +580,18 @@ def main() -> int:
     return 1 if found or trust and not options.trust else 0
 
 def sentence(fault: BaseException) -> str:
-    if isinstance(fault, OSError):
-        return f"{fault.filename or 'standard output'}: {fault.strerror}"
-    return "out of memory" if isinstance(fault, MemoryError) else "interrupted" if isinstance(fault, KeyboardInterrupt) else "a defect of this program"
+    other = {MemoryError: "out of memory", KeyboardInterrupt: "interrupted"}.get(type(fault), "a defect of this program")
+    return f"{fault.filename or 'standard output'}: {fault.strerror}" if isinstance(fault, OSError) else other
 
 
 if __name__ == "__main__":
     gc.disable()  # no object refers to itself, and looking for such objects takes a third of the time
     try:
-        os.fstat(1)  # fails if standard output is closed
-        status = main()
-        sys.stdout.flush()
+        sys.stdout = open(1, "w", closefd=False, errors="backslashreplace")  # fails if standard output is closed
+        try:
+            status = main()
+        finally:
+            sys.stdout.flush()  # also after --help
     except (Exception, KeyboardInterrupt) as fault:
         try:
             print(f"{OWN_NAME}: {json.dumps(sentence(fault))[1:-1]}", file=sys.stderr, flush=True)

@@ -354,7 +354,7 @@ class Others(Examples):
 
     def test_statuses(self):
         def ran(*words, **options):
-            done = subprocess.run([sys.executable, TOOL, *words], capture_output=True, text=True, **options)
+            done = subprocess.run([sys.executable, TOOL, *words], **{"capture_output": True, "text": True, **options})
             return done.returncode, done.stderr
 
         words = self.words()
@@ -369,11 +369,24 @@ class Others(Examples):
         self.assertEqual(ran(*words, self.path_of("no\x1b")), (3, f"recheck: {self.scratch}/no\\u001b: No such file or directory\n"))
         self.assertEqual(ran(*words, self.scratch), (3, f"recheck: {self.scratch}: Is a directory\n"))
         self.assertEqual(ran(*words, preexec_fn=lambda: os.close(1)), (3, "recheck: standard output: Bad file descriptor\n"))
+        done = subprocess.run([sys.executable, TOOL, *words, "--explain=27"], capture_output=True, env={"LC_ALL": "C", "PYTHONUTF8": "0", "PYTHONCOERCECLOCALE": "0"})
+        self.assertEqual((done.returncode, done.stderr), (0, b""))
+        with open("/dev/full", "w") as full:
+            self.assertEqual(ran("--help", stdout=full, capture_output=False, stderr=subprocess.PIPE), (3, "recheck: standard output: No space left on device\n"))
         for stream in ("stdout", "stderr"):
             with open("/dev/full", "w") as full:
                 streams = {"stdout": subprocess.DEVNULL, "stderr": subprocess.DEVNULL, stream: full}
                 done = subprocess.run([sys.executable, TOOL, *words, *[self.scratch] * (stream == "stderr")], **streams)
                 self.assertEqual(done.returncode, 3)
+
+    def test_no_exception_reaches_the_user(self):
+        deep, long, half = "[" * 200 + "]" * 200, "1" * 5000, '"\\ud800"'
+        for text in (deep, long, half, f'{{"documentInfo":{deep}}}', f"report {long}: {long} NumberForm\nreport 1: 7{long} \n", '{"concepts":{"m:a":%s}}' % deep[40:-40]):
+            for name in self.files:
+                before, self.files[name] = self.files[name], text
+                status, printed = self.run_on(*self.words(), "--status=0")
+                self.files[name] = before
+                self.assertEqual((status, "defect" in printed), (1, False), (name, text[:40]))
 
 
 if __name__ == "__main__":
