@@ -2,7 +2,7 @@
 from __future__ import annotations
 
 PROGRAM = "xbrlmerge"
-TOOLS = ("contradictions", "make_sheet", "normalise", "recheck")
+TOOLS = ("contradictions", "make_sheet", "normalise", "recheck", "respell")
 
 
 def command_of(tool: str) -> str:

@@ -26,3 +26,7 @@ def normalise() -> None:
 
 def recheck() -> None:
     _run("recheck")
+
+
+def respell() -> None:
+    _run("respell")

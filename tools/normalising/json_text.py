@@ -36,6 +36,14 @@ class Twins(NamedTuple):
     second: Tree
 
 
+class Repeated(NotDone):
+    """Two members of one object share a name. `path` leads to the object if it is still in the tree."""
+
+    def __init__(self, line: str, path: tuple[str, ...]) -> None:
+        super().__init__(line)
+        self.path = path
+
+
 def read_json(path: str, is_sheet: bool = False) -> Tree:
     return read_json_of_length(path, is_sheet)[0]
 
@@ -87,7 +95,7 @@ def tree_of(text: str, path: str) -> Tree:
     except RecursionError:
         raise NotDone(f"{path}: it is nested too deeply") from None
     if twins:
-        raise NotDone(f"{path}: {told_twice(tree, twins[0])}")
+        raise Repeated(f"{path}: {told_twice(tree, twins[0])}", (*(path_to(tree, twins[0].made) or ()), twins[0].key))
     return tree
 
 

@@ -129,3 +129,23 @@ def rough_dimensions(chance, dimensions):
             member = f" {member}\t"
         made[f"xbrl:{key}" if ":" not in key and chance.random() < 0.3 else key] = member
     return made
+
+
+RESERVED = [f"http://www.xbrl.org/{it}" for it in ("2003/iso4217", "2003/instance", "2009/utr")]
+PREFIXES = ["eg", "toy-1.x", "iso4217", "utr", "n2", "xbrl", "xs", "\u00e9"]  # some are reserved for other namespaces
+
+
+def for_others(chance):
+    """Returns the texts of a sheet and of tidy reports, in namespaces that have reserved prefixes or not. The standards allow them:
+    a name has no language."""
+    uris = {U: chance.choice([U, *RESERVED]), T: chance.choice([T, T, V, RESERVED[0]])}
+    texts = [json.dumps(SHEET).replace('"eg', f'"{chance.choice(PREFIXES)}')]
+    for _ in range(chance.randrange(1, 4)):
+        tree = json.loads(tidy(chance))
+        for fact in tree["facts"].values():
+            if fact["dimensions"]["concept"] == "eg:Q":
+                fact["dimensions"].pop("language", None)
+        texts.append(json.dumps(tree))
+    for old, new in uris.items():
+        texts = [text.replace(old, new) for text in texts]
+    return texts[0], texts[1:]

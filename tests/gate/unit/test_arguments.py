@@ -49,7 +49,7 @@ class OddNames(Stubbed):
         self.assertEqual((status, errors, os.path.exists("--sheet=out"), os.path.exists("-")), (0, "", True, True))
         self.write("--union", SCHEMA % ITEM % ("A", "string"))
         status, errors, out = in_process.run_whole(make_sheet, "--", "--union")
-        self.assertEqual((status, errors, [*json.loads(out)["concepts"]]), (0, "", ["n1:A"]))
+        self.assertEqual((status, errors, [*json.loads(out)["concepts"]]), (0, "", ["this:A"]))
 
     def test_a_merged_report_of_a_provider_after_two_dashes(self):
         merged = shutil.copy(example("merged.json"), "--names=a")
@@ -95,7 +95,7 @@ class StandardStreams(Stubbed):
         packed = io.BytesIO()
         with zipfile.ZipFile(packed, "w") as package:
             package.writestr("a.xsd", schema)
-        for words, given, concept in ((["-"], schema, "n1:A"), (["-"], packed.getvalue(), "n1:A"), (["--union", "-"], sheet, "n1:B")):
+        for words, given, concept in ((["-"], schema, "this:A"), (["-"], packed.getvalue(), "this:A"), (["--union", "-"], sheet, "p:B")):
             status, errors, out = self.run_piped("make_sheet", *words, given=given)
             self.assertEqual((status, errors, [*json.loads(out)["concepts"]]), (0, b"", [concept]))
         line = b"make_sheet: standard input: it is not a schema: name the package, the folder or a schema of the taxonomy\n"
