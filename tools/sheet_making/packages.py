@@ -1,9 +1,12 @@
 """A taxonomy package, which is a zip file."""
 from __future__ import annotations
 
+import contextlib
+import errno
 import functools
 import os
 import zipfile
+import zlib
 from typing import Iterator
 
 from process import shortened
@@ -15,12 +18,29 @@ MOST_UNPACKED = 100  # times the size of the package
 TAG, ATTRIBUTES = 4, 4  # the bytes of a package that permit one more tag, and the attributes that count as one tag
 METHODS = (zipfile.ZIP_STORED, zipfile.ZIP_DEFLATED)  # for other methods, `zipfile` does not limit how much it unpacks at once
 
+ENCRYPTED = 1
+
+
+@contextlib.contextmanager
+def unpacking() -> Iterator[None]:
+    """Turns the exceptions of zipfile and zlib into ValueError."""
+    try:
+        yield
+    except (zipfile.BadZipFile, zlib.error, EOFError, NotImplementedError) as fault:
+        raise ValueError(f"the package is damaged: {fault}" if str(fault) else "the package is damaged") from None
+    except OSError as fault:
+        if fault.errno != errno.EINVAL:  # that is a place before the start of the file
+            raise
+        raise ValueError("the package is damaged") from None
+
 
 class Package:
     """A package, whose files are read when they are needed."""
 
     def __init__(self, path: str, limits: Limits) -> None:
-        self.path, self.limits, self.file = path, limits, zipfile.ZipFile(path)
+        self.path, self.limits = path, limits
+        with unpacking():
+            self.file = zipfile.ZipFile(path)
         size = os.path.getsize(path)
         self.left = limits.file + MOST_UNPACKED * size  # bytes that may still be unpacked
         self.tags_left: float = limits.tags + size // TAG
@@ -43,15 +63,17 @@ class Package:
             self.entries[path] = entry
 
     def pieces(self, path: str) -> Iterator[bytes]:
-        """Yields the bytes of a file. Errors: ValueError if the file is too long or compressed by another method than deflate, or
-        if with it the package is unpacked to too many bytes, or has too many tags and attributes; exceptions of zipfile and zlib.
+        """Yields the bytes of a file. Errors: ValueError if the file is too long, damaged, encrypted or compressed by another method
+        than deflate, or if with it the package is unpacked to too many bytes, or has too many tags and attributes; OSError.
 
         The signs < and = are counted, because they are found far faster than the tags and the attributes.
         """
         entry, length = self.entries[path], 0
         if entry.compress_type not in METHODS:
             raise ValueError("it is compressed by a method other than deflate")
-        with self.file.open(entry) as file:
+        if entry.flag_bits & ENCRYPTED:
+            raise ValueError("it is encrypted")
+        with unpacking(), self.file.open(entry) as file:
             for piece in iter(functools.partial(file.read, PIECE), b""):
                 length += len(piece)
                 self.left -= len(piece)

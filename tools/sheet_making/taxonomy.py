@@ -38,7 +38,8 @@ class Taxonomy:
             with reading(path):
                 self.read_schema(path, wanted)
         if self.missing or not self.read:
-            raise NotDone(*shown_lines(self.missing or ["none of the named files is a schema"]))
+            zipped = [f"{path}: not read, because it is in a folder or a package" for path in files.listed if path.lower().endswith(".zip")]
+            raise NotDone(*shown_lines(self.missing or ["none of the named files is a schema", *zipped]))
 
     def read_schema(self, path: str, wanted: Optional[str]) -> None:
         """Keeps the declarations of a schema, unless it was read before. A schema that names no namespace gets the namespace

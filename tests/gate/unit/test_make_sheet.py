@@ -53,6 +53,16 @@ def pack(package, folder):
                 made.write(path, os.path.join("toy", os.path.relpath(path, folder)))
 
 
+# bytes of a package that are replaced: where, from its directory of files or its start, by what, and the sentence
+DAMAGES = (
+    (True, 8, 1, "t.xsd: it is encrypted"), (True, 16, 0xff, "t.xsd: the package is damaged: Bad CRC-32 for file 't.xsd'"),
+    (True, 6, 99, "p.zip: the package is damaged: zip file version 9.9"), (True, 10, 14, "t.xsd: it is compressed by a method other than deflate"),
+    (True, 20, 9, "t.xsd: the package is damaged: Bad CRC-32 for file 't.xsd'"), (True, 45, 0x7f, "t.xsd: the package is damaged: Truncated file header"),
+    (True, 0, 0, "p.zip: the package is damaged: Bad magic number for central directory"), (False, 35, 0xff, "t.xsd: the package is damaged: Error -3"),
+    (None, 0, 0, "t.xsd: the package is damaged\n"),  # the bytes before the directory are left out
+)
+
+
 class ToolTest(in_process.RoomTest):
     def check_refused(self, status, wanted, *words):
         """Runs the tool, which must end with this status, print the reason, and print no sheet. Returns its lines."""
@@ -281,14 +291,23 @@ class BadInputs(ToolTest):
             made.writestr("b.xsd", SCHEMA % '<xs:include schemaLocation="../outside.xsd"/>')
         self.check_refused(3, "../outside.xsd is not in the named files", package)
 
-    def test_a_broken_package(self):
-        package = self.path_of("a.zip")
-        pack(package, TOY)
+    def test_a_damaged_package(self):
+        package = self.path_of("p.zip")
+        with zipfile.ZipFile(package, "w", zipfile.ZIP_DEFLATED) as made:
+            made.writestr("t.xsd", SCHEMA % ITEM % ("A", "string"))
         with open(package, "rb") as file:
             data = file.read()
-        self.check_refused(3, "cut.zip", self.write("cut.zip", data[: len(data) // 2]))
-        at = data.index(b"core.xsd") + 60
-        self.check_refused(3, "turned.zip", self.write("turned.zip", data[:at] + b"turned" + data[at + 6 :]))
+        listed = data.rindex(b"PK\1\2")
+        for is_listed, place, byte, wanted in DAMAGES:
+            changed = bytearray(data)
+            changed[listed * bool(is_listed) + place] = byte
+            self.write("p.zip", bytes(changed) if is_listed is not None else data[:20] + data[listed:])
+            self.check_refused(3, f"/{wanted}", package)
+
+    def test_a_package_in_a_package_is_named(self):
+        with zipfile.ZipFile(self.path_of("p.zip"), "w") as made:
+            made.writestr("inner.zip", b"PK")
+        self.check_refused(3, "p.zip/inner.zip: not read, because it is in a folder or a package", self.path_of("p.zip"))
 
     def test_two_declarations_of_one_name(self):
         path = self.write("a.xsd", SCHEMA % (ITEM % ("A", "string") + ITEM % ("A", "monetary")))
