@@ -21,6 +21,7 @@ Status 0: done, and there is nothing to look at. 1: --check found a fault, or st
 from __future__ import annotations
 
 import argparse
+import functools
 import json
 import os
 import sys
@@ -34,7 +35,7 @@ from process import NotDone, Status, print_lines, printable, run  # noqa: E402
 from respelling.checking import Checker  # noqa: E402
 from respelling.respelled import respelled  # noqa: E402
 from respelling.rules import WITH_SHEET, listed  # noqa: E402
-from text_files import LONGEST, STANDARD, opened, shown_path  # noqa: E402
+from text_files import LONGEST, PIECE, STANDARD, opened, shown_path  # noqa: E402
 from whole_files import write_files  # noqa: E402
 
 
@@ -65,11 +66,13 @@ def read_options() -> argparse.Namespace:
 
 def content_of(path: str) -> bytes:
     """Returns the bytes of a file. Errors: OSError, NotDone."""
+    content = bytearray()
     with opened(path) as file:
-        content = file.read(LONGEST + 1)
-    if len(content) > LONGEST:
-        raise NotDone(f"{shown_path(path)}: it is longer than {LONGEST} bytes")
-    return content
+        for piece in iter(functools.partial(file.read, PIECE), b""):
+            content += piece
+            if len(content) > LONGEST:
+                raise NotDone(f"{shown_path(path)}: it is longer than {LONGEST} bytes")
+    return bytes(content)
 
 
 def respell(options: argparse.Namespace) -> Status:

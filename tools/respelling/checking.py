@@ -5,6 +5,7 @@ import re
 from typing import Any, Iterator, Mapping, Optional
 
 import recheck
+import sheets
 from names import SPACE, XBRL, Name
 from normalising.changes import Path
 from normalising.json_text import Number, Tree, pointer_of
@@ -21,6 +22,7 @@ MEMBERS: Mapping[str, Mapping[str, str]] = {
     "fact": {"value": "text null!", "decimals": "integer", "dimensions": "object!", "links": "object"},
     "dimensions": dict.fromkeys(("concept", "entity", "period", "unit", "language", "noteId"), "text"),
 }
+TEXTS = (None, "token", "normalizedString", "language")  # the types that are derived from string, or that no sheet lists
 NCNAME = r"[^\W\d][\w.\-]*"
 PREFIX, ENTITY = re.compile(NCNAME), re.compile(rf"({NCNAME}):(.+)", re.DOTALL)
 NAME = re.compile(rf"({NCNAME}):({NCNAME})")
@@ -232,7 +234,8 @@ class Checker:
         if kind is None:
             self.fault("unknown-concept", *path, "dimensions", "concept")
             return
-        misplaced = [("unit", kind != "numeric", "dimensions"), ("language", kind != "text", "dimensions"), ("decimals", kind != "numeric", "")]
+        is_text = kind == "text" and sheet.types[sheets.TYPES].get(concept) in TEXTS
+        misplaced = [("unit", kind != "numeric", "dimensions"), ("language", not is_text, "dimensions"), ("decimals", kind != "numeric", "")]
         for key, is_misplaced, part in misplaced:
             if is_misplaced and key in (given if part else fact):
                 self.fault(f"misplaced-{key}", *path, *[part] * bool(part), key)

@@ -142,6 +142,7 @@ def for_others(chance):
     texts = [json.dumps(SHEET).replace('"eg', f'"{chance.choice(PREFIXES)}')]
     for _ in range(chance.randrange(1, 4)):
         tree = json.loads(tidy(chance))
+        tree["documentInfo"]["taxonomy"] = chance.choice([[], ["http://x.example/t.xsd", "b.xsd"]])
         for fact in tree["facts"].values():
             if fact["dimensions"]["concept"] == "eg:Q":
                 fact["dimensions"].pop("language", None)

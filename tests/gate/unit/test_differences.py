@@ -45,7 +45,7 @@ ROWS = {
     "Measures have any order": [of("1", unit="toy:b*toy:a"), of("1", unit="(toy:a)/toy:b")],
     "Languages may have upper case": [of("x", "T", language="en-GB")],
     "Decimals of nil facts": [of(None, members=',"decimals":0')],
-    "Names, dates and booleans": [of("toy:C", "Q", language="en")],
+    "Names, dates and booleans": [of("toy:C", "Q", language="en"), of("true", "B", language="en")],
     "A period may have equal ends": [of("1", period="2020-12-31T24:00:00/2021-01-01T00:00:00")],
     "Names and prefixes": [of("1", "1"), with_info('"features":{}').replace('"toy":', '"1":"u:1","toy":')],
     "Period types, units by type": [of("1", each=[{"period": "2020-01-01T00:00:00"}, {"unit": "toy:x"}])],
@@ -68,7 +68,7 @@ ROWS = {
 }
 
 
-LISTED = Sheet({**SHEET, "concepts": {**SHEET["concepts"], "toy:1": "numeric"}})
+LISTED = Sheet({**SHEET, "concepts": {**SHEET["concepts"], "toy:1": "numeric", "toy:B": "text"}, "xbrlmerge:types": {"boolean": ["toy:B"]}})
 
 
 def outcome(text):

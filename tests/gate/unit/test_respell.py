@@ -85,7 +85,7 @@ class Respelled(ToolTest):
     def test_round_trips(self):
         """The examples, and drawn bases. tests/program/respell has more, with the program."""
         examples = [(in_process.content(f"{EXAMPLES}/sheet.json"), [in_process.content(f"{EXAMPLES}/merged.json")])]
-        for sheet, reports in examples + [drawn_reports.for_others(random.Random(seed)) for seed in range(60)]:
+        for sheet, reports in examples + [drawn_reports.for_others(random.Random(seed)) for seed in range(30)]:
             text = merged(sheet, reports)
             references = json.loads(text)["documentInfo"]["taxonomy"]
             options = [] if references else ["--taxonomy", "http://x.example/t.xsd"]
