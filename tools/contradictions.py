@@ -54,6 +54,9 @@ more than 10,000 facts. With --from, --near needs the providers.
 and --names lists the providers in the order of the reports. Instead of --sources and --names, PROVIDER=MERGED names a
 provider and the merged report of its own reports; repeat it for each provider.
 
+The inputs are copied to DIR until the run ends, and the program and the tool read the copies. A file that changes later changes
+nothing; the SHA-256 on the page are of the copies, and of the normalised reports. One run at a time writes to DIR.
+
 The page and changes.csv show at most 80 characters of an identifier, a URI or a text; the other tables contain them whole.
 In the tables, a ' precedes anything that a spreadsheet might read as a formula.
 
@@ -82,18 +85,19 @@ from arguments import Parser  # noqa: E402
 from contradicting.checking import FOLDER, LINES, report_file  # noqa: E402
 from contradicting.all_rows import AllRows  # noqa: E402
 from contradicting.findings import KINDS, counted, kinds_named  # noqa: E402
-from contradicting.inputs import Inputs, Run, inputs_named, output_folder  # noqa: E402
-from contradicting.labels import Labels, read_labels  # noqa: E402
-from contradicting.made_from import MadeFrom, read_files  # noqa: E402
+from contradicting.inputs import Inputs, Run, inputs_named, snapshot_of  # noqa: E402
+from contradicting.made_from import MadeFrom  # noqa: E402
 from contradicting.near import Near  # noqa: E402
+from contradicting.output_folder import locked, output_folder  # noqa: E402
 from contradicting.page import Found, page  # noqa: E402
 from contradicting.progress import Progress  # noqa: E402
 from contradicting.provider_counts import ProviderCounts  # noqa: E402
 from contradicting.reports import maps_named, reports_named  # noqa: E402
 from contradicting.rows import Reader, RowObserver  # noqa: E402
+from contradicting.snapshot import Snapshot  # noqa: E402
 from contradicting.tables import lines_of, table  # noqa: E402
 from normalising.options import add_losses, loses  # noqa: E402
-from process import NotDone, Status, print_lines, printable, run  # noqa: E402
+from process import Status, print_lines, printable, run  # noqa: E402
 from program import add_program, program_at  # noqa: E402
 from text_files import STANDARD  # noqa: E402
 from whole_files import files_written, new_folder  # noqa: E402
@@ -186,30 +190,32 @@ def inputs_of(options: argparse.Namespace) -> list[str]:
 
 def main() -> Status:
     options = read_options()
-    with output_folder(options.output), Progress() as progress:
+    with output_folder(options.output), locked(options.output), Progress() as progress:
         normalised = contextlib.nullcontext() if options.texts else output_folder(os.path.join(options.output, FOLDER))
         with normalised, new_folder(os.path.abspath(options.output)) as folder:
-            return write(inputs_for(options, folder, progress), options, folder, progress)
+            progress.show("copying the inputs")
+            snapshot = snapshot_of(options, folder)
+            with snapshot.names_restored():
+                return write(inputs_for(options, snapshot, folder, progress), options, snapshot, folder, progress)
 
 
-def inputs_for(options: argparse.Namespace, folder: str, progress: Progress) -> Inputs:
+def inputs_for(options: argparse.Namespace, snapshot: Snapshot, folder: str, progress: Progress) -> Inputs:
     """Returns the named inputs, or the program's output for the named reports."""
     if options.texts:
-        return inputs_named(options)
-    program, reports = program_at(options.program), reports_named(options)
-    return Run(program, options, reports, folder, progress).inputs()
+        return inputs_named(options, snapshot)
+    return Run(program_at(options.program), options, snapshot, folder, progress).inputs()
 
 
-def write(inputs: Inputs, options: argparse.Namespace, folder: str, progress: Progress) -> Status:
+def write(inputs: Inputs, options: argparse.Namespace, snapshot: Snapshot, folder: str, progress: Progress) -> Status:
     """Writes all output files, prints the notes and the summary, and returns the status. `folder` is for temporary files."""
     progress.show("reading the rows")
-    labels, names = labels_for(options, inputs), inputs.sources.names
+    labels, names = inputs.labels, inputs.sources.names
     near, counts, all_rows = Near(names) if options.near else None, ProviderCounts(names), AllRows(folder, names, labels)
     observers: list[RowObserver] = [counts, all_rows, *([near] if near else [])]
     reader = Reader(inputs.text, inputs.sheet, inputs.sources, observers)
     rows = reader.rows(inputs.verdicts)
     all_rows.finish()
-    made_from = MadeFrom(inputs.version, read_files(inputs_of(options)))
+    made_from = MadeFrom(inputs.version, tuple(snapshot.files.values()))
     found = Found(rows, reader, labels, inputs.refusals, all_rows, counts, options.at_least, inputs.check, made_from)
     files = [("page.html", page(found)), ("contradictions.csv", lines_of(table(rows, labels, reader))),
              ("table.csv", all_rows.table_pieces()), ("providers.csv", lines_of(counts.table())), *inputs.files]
@@ -217,7 +223,7 @@ def write(inputs: Inputs, options: argparse.Namespace, folder: str, progress: Pr
     if near:
         texts.append((options.near, lines_of(near.table(near.pairs(), labels))))
     progress.clear()
-    print_lines([*inputs.notes, *inputs.refusals.lines(), *(near.notes() if near else [])])
+    print_lines([*map(snapshot.named, inputs.notes), *inputs.refusals.lines(), *(near.notes() if near else [])])
     progress.show("writing")
     findings = inputs.findings
     findings.add("contradictions", len(rows))
@@ -228,17 +234,6 @@ def write(inputs: Inputs, options: argparse.Namespace, folder: str, progress: Pr
         progress.clear()
         print("; ".join([rows_text, *findings.phrases(), f"page: {printable(os.path.join(options.output, 'page.html'))}"]), flush=True)
     return findings.status(options.fail_on)
-
-
-def labels_for(options: argparse.Namespace, inputs: Inputs) -> Labels:
-    """Returns the labels in the taxonomies of --labels or, by default, of --taxonomy. If the latter cannot be read, adds a note."""
-    try:
-        return read_labels(options.labels or options.taxonomy or [], options.language)
-    except NotDone as fault:
-        if options.labels:
-            raise
-        inputs.notes += [f"the page has no labels: {line}" for line in fault.args]
-        return Labels({}, options.language)
 
 
 if __name__ == "__main__":

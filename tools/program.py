@@ -45,13 +45,19 @@ class Program:
     def __init__(self, path: str, sheet: str, folder: str) -> None:
         self.path, self.sheet, self.folder = path, os.path.abspath(sheet), folder
 
+    def shortest(self, path: str) -> str:
+        """Returns the path of a file for the program, which runs in the folder: relative if the file is there. Then the name of
+        the folder may be anything."""
+        whole = os.path.abspath(path)
+        return os.path.relpath(whole, self.folder) if whole.startswith(os.path.join(self.folder, "")) else whole
+
     def path_of(self, name: str) -> str:
         return os.path.join(self.folder, name)
 
     def run(self, command: str, words: Sequence[str]) -> tuple[int, list[str]]:
         """Runs a command, and writes its output to `path_of(command)`. Returns the status and the lines on standard error."""
         with open(self.path_of(command), "wb") as out:
-            run = [self.path, command, "--sheet", self.sheet, *words]
+            run = [self.path, command, "--sheet", self.shortest(self.sheet), *words]
             done = subprocess.run(run, stdin=subprocess.DEVNULL, stdout=out, stderr=subprocess.PIPE, cwd=self.folder)  # nosec B603
         return done.returncode, done.stderr.decode(errors="replace").splitlines()
 
@@ -76,7 +82,7 @@ class Program:
         """Writes the list of reports for the program. Errors: NotDone if a path is not UTF-8, as the list must be; OSError."""
         with open(self.path_of("reports"), "wb") as file:
             for path in paths:
-                whole = os.path.abspath(path)
+                whole = self.shortest(path)
                 if NOT_UTF8.search(whole):
                     raise NotDone(f"{whole}: the name of the file or of a folder is not UTF-8")
                 file.write(os.fsencode(whole) + b"\0")
@@ -92,7 +98,7 @@ class Program:
 
     def faults(self, path: str) -> Iterator[dict[str, Any]]:
         """Yields the faults of a report, as `explain --format json` prints them. Errors: NotDone, OSError."""
-        yield from self.explained(["--", path])
+        yield from self.explained(["--", self.shortest(path)])
 
     def faults_by_report(self, paths: Iterable[str]) -> Iterator[tuple[int, dict[str, Any]]]:
         """Yields the faults of several reports, each with the index of its report, from 0. Errors: NotDone, OSError."""

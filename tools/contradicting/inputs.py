@@ -2,25 +2,27 @@
 from __future__ import annotations
 
 import argparse
-import contextlib
 import os
 from dataclasses import dataclass, field
 from typing import Any, Iterator
 
 from contradicting.checking import LINES, command, report_file
 from contradicting.findings import Findings, counted
+from contradicting.labels import Labelled, Labels
 from contradicting.normalised import Normalised, pieces_of_file
 from contradicting.progress import Progress
 from contradicting.refusals import Refusals, line_of
 from contradicting.remedies import FaultGroup
-from contradicting.reports import Report, check_files, reports_named
+from contradicting.reports import Report, check_files, maps_named, reports_named
 from contradicting.rows import FactSources
+from contradicting.snapshot import Snapshot, input_file
 from contradicting.sources import OwnTexts, Sources
 from contradicting.texts import Provider, Text, sheet_at
-from process import NotDone
+from process import NotDone, shortened
 from program import Program
+from sheet_making.files import Files
 from sheet_making.limits import Limits
-from sheet_making.making import kinds_in
+from sheet_making.making import kinds_from
 from sheet_making.sheet_text import Texts
 from sheets import Sheet, types_path
 
@@ -37,6 +39,7 @@ class Inputs:
     sheet: Sheet
     verdicts: str
     sources: FactSources
+    labels: Labels
     refusals: Refusals = field(default_factory=Refusals)
     files: list[File] = field(default_factory=list)
     findings: Findings = field(default_factory=Findings)
@@ -45,29 +48,54 @@ class Inputs:
     version: str = ""  # of the program, if it was run
 
 
-def inputs_named(options: argparse.Namespace) -> Inputs:
-    (merged, listed, verdicts), sources = options.texts, None
+def snapshot_of(options: argparse.Namespace, folder: str) -> Snapshot:
+    """Copies the inputs to a folder. Errors: NotDone, OSError."""
+    snapshot, reports, texts = Snapshot(folder), [report.path for report in reports_named(options)], options.texts or []
+    sheets = [*[options.sheet] * bool(options.sheet), *texts[1:2]]
+    if not texts:
+        check_files([*reports, *sheets])
+    snapshot.add_packages([*options.labels, *(options.taxonomy or [])])
+    for sheet in sheets:
+        snapshot.add_sheet(sheet)
+    for path in (*texts, *[options.sources] * bool(options.sources), *(path for _, path in maps_named(options)), *reports):
+        snapshot.add(path)
+    return snapshot
+
+
+def inputs_named(options: argparse.Namespace, snapshot: Snapshot) -> Inputs:
+    (merged, listed, verdicts), sources = map(snapshot.of, options.texts), None
     sheet, text = sheet_at(listed), Text(merged)
     if options.sources:
-        sources = Sources(options.sources, [Report(name, "") for name in options.names.split(",")])
-    owned = [Provider(*report, text, sheet) for report in reports_named(options)]
-    return Inputs(text, sheet, verdicts, sources or OwnTexts(owned))
+        sources = Sources(snapshot.of(options.sources), [Report(name, "") for name in options.names.split(",")])
+    owned = [Provider(name, snapshot.of(path), text, sheet) for name, path in reports_named(options)]
+    return Inputs(text, sheet, verdicts, sources or OwnTexts(owned), labels_in(options.labels, options.language, snapshot))
+
+
+def labels_in(words: list[str], language: str, snapshot: Snapshot) -> Labels:
+    """Returns the labels in taxonomies. Errors: NotDone."""
+    if not words:
+        return Labels({}, language)
+    taxonomy = Labelled(Files(map(snapshot.of, words), Limits()), language)
+    labels = taxonomy.read_labels()
+    snapshot.note(taxonomy.files.digests)
+    return labels
 
 
 class Run:
-    """Runs the program on reports, in a temporary folder."""
+    """Runs the program on copies of reports, in a temporary folder."""
 
-    def __init__(self, program: str, options: argparse.Namespace, reports: list[Report], folder: str, progress: Progress) -> None:
-        self.options, self.reports, self.folder, self.progress = options, reports, folder, progress
+    def __init__(self, program: str, options: argparse.Namespace, snapshot: Snapshot, folder: str, progress: Progress) -> None:
+        self.options, self.snapshot, self.folder, self.progress = options, snapshot, folder, progress
+        self.reports = reports_named(options)
         self.files: list[File] = []
         self.findings = Findings()
         self.notes: list[str] = []
         self.uncompared: list[tuple[Report, list[dict[str, Any]]]] = []  # reports with sets that cannot be respelled
-        check_files(report.path for report in reports)
+        self.labels = labels_in(options.labels, options.language, snapshot)
         self.program = Program(program, self.sheet(), folder)
 
     def inputs(self) -> Inputs:
-        given = [report.path for report in self.reports]
+        given = [self.snapshot.of(report.path) for report in self.reports]
         paths = self.normalised() if self.options.normalise or sheet_at(self.program.sheet).sets else given
         found = [self.read(command, paths) for command in ("merge", "verdicts", "sources")]
         if found[1:] != found[:-1]:
@@ -79,15 +107,16 @@ class Run:
         refusals = self.refusals(found[0], paths)
         self.note_repeated(found[0], paths)
         return Inputs(Text(merged), sheet_at(self.program.sheet), verdicts, Sources(sources, self.reports, found[0]),
-                      refusals, files, self.findings, self.notes, check, self.program.version())
+                      self.labels, refusals, files, self.findings, self.notes, check, self.program.version())
 
     def sheet(self) -> str:
         """Returns the path of the sheet, which is made first if taxonomies are named."""
         if not self.options.taxonomy:
-            check_files([self.options.sheet])
-            return str(self.options.sheet)
+            return self.snapshot.of(self.options.sheet)
         self.progress.show("making the sheet")
-        kinds, left_out = kinds_in(self.options.taxonomy, Limits())
+        taxonomy = Labelled(Files(map(self.snapshot.of, self.options.taxonomy), Limits()), self.options.language)
+        kinds, left_out = kinds_from(taxonomy)
+        self.read_labels(taxonomy)
         texts = Texts(kinds, is_apart=True)
         path = os.path.join(self.folder, "sheet.json")
         for each, text in ((path, texts.sheet), (types_path(path), texts.types)):
@@ -98,8 +127,20 @@ class Run:
         self.findings.add("omissions", len(left_out), "omission from the taxonomy", "omissions from the taxonomy")
         return path
 
+    def read_labels(self, taxonomy: Labelled) -> None:
+        """Reads the labels of --taxonomy, unless --labels is given. A fault in them is a note."""
+        try:
+            if not self.options.labels:
+                self.labels = taxonomy.read_labels()
+                if taxonomy.unfound:
+                    count, example = counted(len(taxonomy.unfound), "linkbase"), shortened(next(iter(taxonomy.unfound)))
+                    self.notes.append(f"the page lacks the labels of {count} outside the named files, such as {example}")
+        except NotDone as fault:
+            self.notes += [f"the page has no labels: {line}" for line in fault.args]
+        self.snapshot.note(taxonomy.files.digests)
+
     def normalised(self) -> list[str]:
-        made = Normalised(self.program, self.options, self.folder)
+        made = Normalised(self.program, self.options, self.folder, self.snapshot)
         for number, report in enumerate(self.reports, 1):
             self.progress.show(f"normalising {report.path} ({number} of {len(self.reports)})")
             made.add(report)
@@ -118,9 +159,10 @@ class Run:
         """Returns the command that checks the run. Each normalised report is also written beside the page."""
         reports = [report.path for report in self.reports]
         for index, path in enumerate(paths):
-            if path != reports[index]:
+            if path != self.snapshot.of(reports[index]):
                 self.files.append((report_file(index + 1), pieces_of_file(path)))
                 reports[index] = os.path.join(self.options.output, report_file(index + 1))
+                self.snapshot.files[reports[index]] = input_file(reports[index], path)
         sheet = os.path.join(self.options.output, "sheet.json") if self.options.taxonomy else self.options.sheet
         return command(self.options.output, sheet, reports)
 
@@ -149,28 +191,9 @@ class Run:
             provider, path = self.reports[number - 1]
             self.progress.show(f"explaining why {path} is refused")
             try:
-                refusals.add(provider, path, refusal, self.program.faults(os.path.abspath(paths[number - 1])))
+                refusals.add(provider, path, refusal, self.program.faults(paths[number - 1]))
             except NotDone as fault:
                 refusals.add(provider, path, f"{refusal} ({'; '.join(fault.args)})", ())
         for report, faults in self.uncompared:
             refusals.add(*report, line_of(faults[0]), faults)
         return refusals
-
-
-@contextlib.contextmanager
-def output_folder(path: str) -> Iterator[None]:
-    """Makes the output folder unless it exists. After the `with` block, a new folder is removed unless it contains files.
-
-    Errors: NotDone if the path is not a folder; OSError; exceptions of the block.
-    """
-    is_made = not os.path.isdir(path)
-    if is_made and os.path.lexists(path):
-        raise NotDone(f"{path} is not a folder; -o needs one")
-    try:
-        if is_made:
-            os.mkdir(path)
-        yield
-    finally:
-        with contextlib.suppress(OSError):
-            if is_made:
-                os.rmdir(path)  # removes only an empty folder

@@ -1,16 +1,17 @@
 """Reads the standard labels in taxonomies, with the reader of tools/make_sheet."""
 from __future__ import annotations
 
-from typing import Dict, Mapping, NamedTuple, Optional, Sequence
+from typing import Dict, Mapping, NamedTuple, Optional
 
-from names import Name
+from names import SPACE, Name
 from sheet_making.files import Files
-from sheet_making.limits import Limits, reading
+from sheet_making.limits import reading
 from sheet_making.taxonomy import Taxonomy
 from sheet_making.xml_reading import XML, Element, Visitor, read_xml
 
 LINK, XLINK = "http://www.xbrl.org/2003/linkbase", "http://www.w3.org/1999/xlink"
 STANDARD = "http://www.xbrl.org/2003/role/label"
+ROLES = ("", "http://www.xbrl.org/2003/role/labelLinkbaseRef")  # of references that may lead to labels
 
 
 class Label(NamedTuple):
@@ -25,15 +26,28 @@ class Label(NamedTuple):
 
 
 class Labelled(Taxonomy):
-    """A taxonomy with its standard labels in a language and its dialects. The labels are read from .xml files."""
+    """A taxonomy with its standard labels in a language and its dialects. The labels are read from .xml files, and from the files
+    that the schemas refer to. `unfound` has the references to files that are not named."""
 
     def __init__(self, files: Files, language: str) -> None:
-        self.language = language.lower()
+        self.language = language
         self.labels: dict[Name, Label] = {}
+        self.linkbases, self.unfound = {*files.linkbases()}, dict[str, None]()
         super().__init__(files)
-        for path in files.linkbases():
+
+    def link(self, element: Element, base: str) -> None:
+        location = (element.get_in(XLINK, "href") or "").strip(SPACE)
+        if location and (element.get_in(XLINK, "role") or "") in ROLES:
+            found = self.found_at(location, base)
+            self.linkbases |= {found} if found else set()
+            self.unfound.update({} if found else {location: None})
+
+    def read_labels(self) -> Labels:
+        """Returns the labels. Elements with an empty label are left out. Errors: NotDone."""
+        for path in sorted(self.linkbases):
             with reading(path):
-                read_xml(files.pieces(path), Linkbase(self, path))
+                read_xml(self.files.pieces(path), Linkbase(self, path))
+        return Labels({name: label.text for name, label in self.labels.items() if label.text}, self.language)
 
     def name_at(self, href: str, base: str) -> Optional[Name]:
         """Returns the name of the element or type that `href` refers to, or None. `base` is the document that contains `href`."""
@@ -84,7 +98,7 @@ class Linkbase(Visitor):
         elif element.name.local == "labelArc" and element.get("use") != "prohibited":
             link.arcs.append((element.get_in(XLINK, "from") or "", element.get_in(XLINK, "to") or ""))
         elif element.name.local == "label" and (element.get_in(XLINK, "role") or STANDARD) == STANDARD:
-            language, wanted = (element.get_in(XML, "lang") or "").lower(), self.taxonomy.language
+            language, wanted = (element.get_in(XML, "lang") or "").lower(), self.taxonomy.language.lower()
             if language == wanted or language.startswith(wanted + "-"):
                 self.opened = element.get_in(XLINK, "label") or "", language != wanted
 
@@ -116,7 +130,3 @@ class Labels(Dict[Name, str]):
         self.language = language
 
 
-def read_labels(words: Sequence[str], language: str) -> Labels:
-    """Returns the standard labels in taxonomies. Elements with an empty label are left out. Errors: NotDone."""
-    labels = Labelled(Files(words, Limits()), language).labels if words else {}
-    return Labels({name: label.text for name, label in labels.items() if label.text}, language)

@@ -9,6 +9,7 @@ import os
 from typing import Iterator
 
 from contradicting.reports import Report, maps_named, written
+from contradicting.snapshot import Snapshot
 from contradicting.tables import cell, lines_of
 from normalising.changes import Log
 from normalising.json_text import Number, Tree, pieces_of, read_json_of_length, text_of
@@ -26,9 +27,10 @@ class Normalised:
     """Normalised reports in a folder, with a table of the changes. `reports` are those that can be compared, and `paths` their
     files."""
 
-    def __init__(self, program: Program, options: argparse.Namespace, folder: str) -> None:
+    def __init__(self, program: Program, options: argparse.Namespace, folder: str, snapshot: Snapshot) -> None:
         self.normaliser, self.folder, self.is_whole = Normaliser(sheet_at(program.sheet), options, program), folder, options.normalise
-        self.maps = {provider: read_map(path) for provider, path in maps_named(options)}
+        self.snapshot = snapshot
+        self.maps = {provider: read_map(snapshot.of(path)) for provider, path in maps_named(options)}
         self.table = os.path.join(folder, "changes")
         self.reports: list[Report] = []
         self.paths: list[str] = []
@@ -38,24 +40,25 @@ class Normalised:
 
     def add(self, report: Report) -> None:
         """Normalises the next report. If that fails, keeps the original file and adds a note, unless it may have a set."""
+        given = self.snapshot.of(report.path)
         try:
-            tree, length = read_json_of_length(report.path)
+            tree, length = read_json_of_length(given)
             log = self.log_of(report, tree, length)
         except (NotDone, ValueError, RecursionError) as fault:
             why = "; ".join(map(str, fault.args)) if isinstance(fault, NotDone) else sentence(fault)
-            why = why.removeprefix(f"{report.path}: ")
+            why = why.removeprefix(f"{given}: ")
             if self.normaliser.sheet.sets:
                 told = f"its sets are not respelled: {why}"
                 self.faults.append((report, [{"number": None, "name": "SetForm", "identifier": None, "part": None, "sentence": told}]))
             else:
                 self.notes.append(f"{report.path} is not normalised: {why}")
-                self.keep(report, report.path)
+                self.keep(report, given)
             return
         if log.faults:
             self.faults.append((report, log.faults))
             return
         path = os.path.join(self.folder, f"normalised{len(self.paths)}")
-        self.keep(report, path if log.lines or self.is_whole else report.path)
+        self.keep(report, path if log.lines or self.is_whole else given)
         if self.paths[-1] == path:
             with open(path, "w", encoding="utf-8", newline="") as file:
                 file.writelines(pieces_of(tree))

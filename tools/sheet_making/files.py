@@ -1,6 +1,7 @@
 """Finds and reads files on disk and in packages, if they may be read."""
 from __future__ import annotations
 
+import hashlib
 import os
 import pathlib
 import stat
@@ -22,6 +23,7 @@ class Files:
         self.listed: list[str] = []  # files that are named, or are in a named folder or package
         self.named: set[str] = set()
         self.folders: set[str] = set()  # files on disk are read only in these folders, except with --outside
+        self.digests: dict[str, tuple[int, str]] = {}  # the length and the SHA-256 of each file on disk that was read
         for word in dict.fromkeys([word and os.path.abspath(word) for word in words]):
             with reading(word):
                 self.listed += sorted(self.paths_of(word))
@@ -63,7 +65,7 @@ class Files:
         """Returns the bytes of a file in pieces.
 
         Errors, some of them raised by the iterator: OSError; those of `Package.pieces`; ValueError if the file is not regular, is
-        too long or grew while it was read, or if it is outside the named folders and --outside is not given.
+        too long or changed since it was read before, or if it is outside the named folders and --outside is not given.
         """
         if path in self.packed:
             return self.packed[path].pieces(path)
@@ -71,6 +73,9 @@ class Files:
         if not self.limits.outside and self.folders.isdisjoint(map(str, pathlib.PurePath(really).parents)):
             raise ValueError("it is outside the named folders (make_sheet --outside)")
         data = read_regular(really, self.limits)
+        digest = len(data), hashlib.sha256(data).hexdigest()
+        if self.digests.setdefault(path, digest) != digest:
+            raise ValueError("it changed since it was read before")
         return (data[start : start + PIECE] for start in range(0, len(data), PIECE))
 
 

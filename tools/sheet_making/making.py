@@ -13,7 +13,10 @@ NO_NAMESPACE = "it has no namespace, and no schema with one refers to it"
 
 def kinds_in(inputs: Iterable[str], limits: Limits) -> tuple[Kinds, list[str]]:
     """Returns the kinds of the concepts and dimensions in taxonomies, and a line for each part that is left out."""
-    taxonomy = Taxonomy(Files(inputs, limits))
+    return kinds_from(Taxonomy(Files(inputs, limits)))
+
+
+def kinds_from(taxonomy: Taxonomy) -> tuple[Kinds, list[str]]:
     kinds, left_out = kinds_of(taxonomy.elements, taxonomy.types, taxonomy.typed_domains())
     kinds.spelled = taxonomy.spelled
     return kinds, [f"{path} is left out: {NO_NAMESPACE}" for path in taxonomy.without_namespace()] + left_out

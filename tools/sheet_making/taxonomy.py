@@ -11,9 +11,10 @@ from sheet_making.kinds import is_specification
 from sheet_making.limits import reading
 from sheet_making.prefixes import Spelled
 from sheet_making.schemas import Declaration, Derivation, Part, SchemaVisitor
-from sheet_making.xml_reading import read_xml
+from sheet_making.xml_reading import Element, read_xml
 
 MOST_LINES = 100
+LINKBASE = Name("http://www.xbrl.org/2003/linkbase", "linkbaseRef")
 
 
 class Taxonomy:
@@ -73,6 +74,9 @@ class Taxonomy:
         paths = self.rewrites.paths_of(location, base)
         return next((path for path, origin in paths if self.files.is_found(path, origin)), None)
 
+    def link(self, element: Element, base: str) -> None:
+        """Receives a reference to a linkbase in the schema at `base`."""
+
     def declare(self, part: Part, path: str) -> None:
         """Keeps an element or a type of the schema at `path`. Errors: ValueError if an earlier declaration differs."""
         if part.is_type:
@@ -112,6 +116,11 @@ class Declaring(SchemaVisitor):
     def __init__(self, taxonomy: Taxonomy, path: str, wanted: Optional[str]) -> None:
         super().__init__(wanted)
         self.taxonomy, self.path = taxonomy, path
+
+    def start(self, element: Element, level: int) -> None:
+        if element.name == LINKBASE:
+            self.taxonomy.link(element, self.path)
+        super().start(element, level)
 
     def spell(self, prefix: str, uri: str) -> None:
         self.taxonomy.spelled.add(prefix, uri)

@@ -1,11 +1,12 @@
 """A program in place of `xbrlmerge`. Each command prints the output prepared in the program's folder. The program also
-records each command with the names of its reports in the file `log`, and copies the sheet to the file `sheet`.
+records each command with the names of its reports (of copies, the digests) in the file `log`, and copies the sheet to the file `sheet`.
 
 --version prints a line and records nothing. If they exist, COMMAND.out goes to standard output, and COMMAND.err to standard error. The status is the number in
 COMMAND.status, or 0 without this file. If COMMAND.waits exists, the command first prints `waiting` on standard error, and
 waits for a minute. The output of `explain` for a list of reports is in explain_all.out. For a report named `normalised`, `explain` prints only the faults of the document and of facts in the
 report.
 """
+import hashlib
 import json
 import os
 import sys
@@ -22,6 +23,14 @@ def read(name):
         return b""
 
 
+def known(name):
+    """Returns the name of a report or, for a copy of one, its digest."""
+    if not name.startswith(b"copied_input"):
+        return name
+    with open(name, "rb") as file:
+        return hashlib.sha256(file.read()).hexdigest().encode()
+
+
 def main(command, *words):
     if command == "--version":
         print("xbrlmerge of the tests")
@@ -33,7 +42,7 @@ def main(command, *words):
     elif "--format" in words:
         reports = words[-1].encode() + b"\0"
     with open(os.path.join(FOLDER, "log"), "ab") as file:
-        file.write(command.encode() + b"\0" + reports + b"\n")
+        file.write(command.encode() + b"\0" + b"".join(known(name) + b"\0" for name in reports.split(b"\0")[:-1]) + b"\n")
     with open(words[words.index("--sheet") + 1], "rb") as file, open(os.path.join(FOLDER, "sheet"), "wb") as kept:
         kept.write(file.read())
     if os.path.exists(os.path.join(FOLDER, f"{command}.waits")):

@@ -1,5 +1,6 @@
 """Tests of tools/contradictions on reports, with a program that prints prepared lines."""
 import csv
+import fcntl
 import hashlib
 import json
 import os
@@ -29,6 +30,8 @@ LINKBASE = """<link:linkbase xmlns:link="http://www.xbrl.org/2003/linkbase" xmln
     <link:labelLink>%s</link:labelLink></link:linkbase>"""
 LABEL = """<link:loc xlink:href="t.xsd#m_{0}" xlink:label="{0}"/><link:labelArc xlink:from="{0}" xlink:to="{0}_label"/>
     <link:label xlink:label="{0}_label" xml:lang="{2}"><![CDATA[{1}]]></link:label>"""
+REFERENCE = """<xs:annotation><xs:appinfo><link:linkbaseRef xmlns:link="http://www.xbrl.org/2003/linkbase" xmlns:xlink="http://www.w3.org/1999/xlink"
+    xlink:href="{}" xlink:role="http://www.xbrl.org/2003/role/{}LinkbaseRef"/></xs:appinfo></xs:annotation>"""
 NONE = '{"documentInfo":{"namespaces":{}},"facts":{}}'
 OTHER_TOOLS = """{"documentInfo":{"documentType":"https://xbrl.org/2021/xbrl-json","namespaces":{"m":"http://made.example/t"}},
     "facts":{"a":{"value":1e3,"decimals":"INF","links":{"x":{"y":["a"]}},"dimensions":{"concept":"m:Sales"}}}}"""
@@ -81,7 +84,9 @@ class Stubbed(ToolTest):
     def log(self):
         """Returns the commands that were run, each with its reports."""
         lines = content(os.path.join(self.bin, "log")).split("\n")[:-1]
-        return [(line.split("\0")[0], line.split("\0")[1:-1]) for line in lines]
+        paths = [*REPORTS, *filter(os.path.isfile, map(self.path_of, os.listdir(self.scratch)))]
+        known = {hashlib.sha256(content(path).encode("utf-8", "surrogateescape")).hexdigest(): path for path in reversed(paths)}
+        return [(line.split("\0")[0], [known.get(name, name) for name in line.split("\0")[1:-1]]) for line in lines]
 
     def forget_log(self):
         for name in ("log", "sheet"):
@@ -299,6 +304,16 @@ class Prepared(Stubbed):
         self.assertEqual((done.returncode, done.stderr.count("\n")), (1, 1))
         self.assertIn("the page has no labels: ", done.stderr)
 
+    def test_a_schema_names_its_labels(self):
+        self.labelled()
+        schema = content(self.path_of("package/t.xsd"))
+        lacks = "contradictions: the page lacks the labels of 1 linkbase outside the named files, such as no.xml\n"
+        for location, role, is_found, line in (("labels.xml", "label", True, ""), ("no.xml", "label", False, lacks), ("no.xml", "reference", False, "")):
+            named = self.write("package/t.xsd", schema.replace("<xs:element", REFERENCE.format(location, role) + "<xs:element", 1))
+            done = self.run_on(*REPORTS, sheet=["--taxonomy", named])
+            self.assertEqual((done.returncode, done.stderr, "<bdi>Sales &amp; label</bdi>" in content(self.page)), (1, line, is_found))
+        self.assertIn(f"<bdi>{named}</bdi><td data-name=\"Bytes\">{os.path.getsize(named)}<td", content(self.page))
+
     def test_the_page_lists_the_version_and_the_files(self):
         self.run_on(*REPORTS)
         page = content(self.page)
@@ -322,7 +337,7 @@ class Prepared(Stubbed):
             self.assertEqual({change["provider"] for change in changes}, {"'+A", "B"})
             self.assertEqual([changes[1][key] for key in ("report", "fact", "was", "now", "loss")], [own[0], "a", "1e3", '"1e3"', "false"])
             self.assertEqual(sum(change["loss"] == "true" for change in changes), losses)
-        self.assertTrue(all(path.startswith(self.output) for path in self.log()[0][1]))
+        self.assertEqual(self.log()[0][1], ["normalised0", "normalised1"])
 
     def test_what_cannot_be_normalised_goes_to_the_program(self):
         bad = self.write("bad.json", "[" * 100_000)
@@ -366,7 +381,18 @@ class BadInputs(Stubbed):
     def test_a_name_that_is_not_utf_8(self):
         path = os.fsdecode(b"odd\xff.json")
         shutil.copy(REPORTS[0], self.path_of(path))
-        self.refused_run("the name of the file or of a folder is not UTF-8", "B=" + self.path_of(path))
+        self.prints_nothing()
+        done = self.run_on("B=" + self.path_of(path))
+        self.assertEqual((done.returncode, done.stderr), (0, ""))
+        self.assertIn("odd\\xff.json</bdi>", content(self.page))
+
+    def test_one_run_at_a_time_writes_to_a_folder(self):
+        os.mkdir(self.output)
+        folder = os.open(self.output, os.O_RDONLY)
+        fcntl.flock(folder, fcntl.LOCK_EX)
+        self.refused_run(f"another run writes to {self.output}: wait until it ends, or name another folder", *REPORTS)
+        os.close(folder)
+        self.assertEqual(self.run_on(*REPORTS).returncode, 1)
 
     def test_an_output_folder_that_is_a_file(self):
         self.write("out", "a file")
