@@ -50,13 +50,6 @@ def kind_of_text(text: str, is_sheet: bool) -> Optional[str]:
     return f"CSV: {CONVERT}" if is_row and not text.startswith(("[", "/")) else None
 
 
-def kind_of_report(tree: dict[str, Any]) -> Optional[str]:
-    """Guesses the kind of a JSON object that is not a report. Returns None if it may be one."""
-    if is_csv(tree):
-        return f"{CSV}: {CONVERT}"
-    return "a sheet, not a report" if "documentInfo" not in tree and "concepts" in tree else None
-
-
 def kind_of_sheet(tree: Any) -> Optional[str]:
     """Guesses the kind of a JSON value that is not a sheet."""
     if not isinstance(tree, dict):

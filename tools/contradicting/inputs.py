@@ -186,7 +186,7 @@ class Run:
         return self.program.read_reports(command, paths)
 
     def refusals(self, found: dict[int, str], paths: list[str]) -> Refusals:
-        refusals = Refusals("" if self.options.taxonomy else ADVICE, self.options)
+        refusals = Refusals("" if self.options.taxonomy else ADVICE, self.options, sheet_at(self.program.sheet).concepts)
         for number, refusal in sorted(found.items()):
             provider, path = self.reports[number - 1]
             self.progress.show(f"explaining why {path} is refused")

@@ -6,6 +6,7 @@ import json
 from typing import Any, Iterable, Iterator, Mapping, NamedTuple, Optional, Union
 
 from contradicting.remedies import FaultGroup, Remedy, remedy_for
+from names import Name
 from process import shortened
 
 MOST_LINES = 20  # the most faults of one report that are shown
@@ -33,8 +34,8 @@ class Refused(NamedTuple):
 class Refusals:
     """The refused reports, and the concepts and dimensions in them that the sheet lacks."""
 
-    def __init__(self, advice: str = "", options: Optional[argparse.Namespace] = None) -> None:
-        self.advice, self.options = advice, options
+    def __init__(self, advice: str = "", options: Optional[argparse.Namespace] = None, concepts: Iterable[Name] = ()) -> None:
+        self.advice, self.options, self.locals = advice, options, {name.local for name in concepts}
         self.reports: list[Refused] = []
         self.lacking: dict[str, dict[str, None]] = {"concept": {}, "dimension": {}}
 
@@ -45,13 +46,13 @@ class Refusals:
         for count, fault in enumerate(faults, 1):
             if count <= MOST_LINES:
                 first.append(line_of(fault))
-            remedy = remedy_for(fault)
+            remedy = remedy_for(fault, self.locals)
             group = groups.setdefault(remedy or fault["name"], FaultGroup(remedy, fault, line_of(fault)))
             group.add(fault)
             names = self.lacking.get(LACKING.get(fault["name"], ""))
             if names is not None and len(names) < MOST_NAMES:
                 names[shortened(fault["part"])] = None
-        lines_found = [group.line_for(self.options) for group in groups.values()] if self.options else []
+        lines_found = [group.line_for(self.options, path) for group in groups.values()] if self.options else []
         lines = tuple(line for line, _ in lines_found) or (refusal,)
         remedies = tuple(line for line, has_option in lines_found if has_option)
         self.reports.append(Refused(provider, path, tuple(first or [refusal]), count or 1, lines, remedies))

@@ -36,9 +36,9 @@ class Log:
         details = {key: brief_of(value) for key, value in values.items()}
         self.add(path, details, rule, loss, is_long(path) or details != values)
 
-    def tell_moved(self, path: Path, name: str, rule: str, was: Tree) -> None:
-        details = {"was": brief_of(was), "moved": pointer_of((*path[:-1], name))}
-        self.add(path, details, rule, False, is_long(path) or details["was"] != was)
+    def tell_moved(self, path: Path, to: Path, rule: str, was: Tree) -> None:
+        details = {"was": brief_of(was), "moved": pointer_of(to)}
+        self.add(path, details, rule, False, is_long((*path, *to)) or details["was"] != was)
 
     def tell_dropped(self, path: Path, reason: Reason, was: Tree) -> None:
         """Adds the line for a dropped fact, and removes the fact's other lines."""
@@ -103,13 +103,28 @@ class Part:
     def remove(self, key: str, rule: str, loss: bool = False) -> None:
         self.log.tell((*self.path, key), rule, loss, was=self.members.pop(key))
 
+    def add(self, key: str, now: Tree, rule: str) -> None:
+        """Adds a member, which a rule makes of others."""
+        self.members[key] = now
+        self.log.tell((*self.path, key), rule, False, now=now)
+
+    def move(self, key: str, to: Part, name: str, rule: str) -> None:
+        """Moves a member into another object. If that has an equal member, only removes this one; if a different one, leaves both."""
+        if name not in to.members:
+            to.members[name] = self.members.pop(key)
+            self.log.tell_moved((*self.path, key), (*to.path, name), rule, to.members[name])
+        elif text_of(to.members[name]) == text_of(self.members[key]):
+            self.remove(key, rule)
+        else:
+            self.leave(key, f"it differs from {pointer_of((*to.path, name))}")
+
     def rename(self, key: str, name: str, rule: str) -> None:
         """Renames a member, keeps the order of the members, and logs the change. Errors: NotDone if the new name is taken."""
         path = (*self.path, key)
         if name in self.members:
             values = " and ".join(shortened(text_of(self.members[each])) for each in (name, key))
             raise NotDone(f"{pointer_of(path)} and {name} are the same member: {values}")
-        self.log.tell_moved(path, name, rule, self.members[key])
+        self.log.tell_moved(path, (*self.path, name), rule, self.members[key])
         pairs = [(name if each == key else each, value) for each, value in self.members.items()]
         self.members.clear()
         self.members.update(pairs)

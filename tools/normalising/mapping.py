@@ -1,13 +1,13 @@
 """Replaces names by a map: the assumption that names of two taxonomies, schemes or units mean the same."""
 from __future__ import annotations
 
-import itertools
 import re
 import sys
 from typing import Any, Mapping, NamedTuple, Optional
 
 from names import PART, SPACE, Name, Uris, expanded
 from normalising.json_text import Number, Tree, read_json
+from normalising.prefixes import Prefixes
 from process import NotDone, shortened
 from text_files import shown_path
 
@@ -87,20 +87,23 @@ def read_map(path: str) -> NameMap:
         raise NotDone(f"{shown_path(path)}: {fault}") from None
 
 
-class ReportMap:
-    """Applies a map to the names of one report. `uris` and `namespaces` are those of the changed report.
+class ReportMap(Prefixes):
+    """Applies a map to the names of one report.
 
     Errors of all methods: NotDone if two names of the report would become equal. A measure that is scaled may become equal to
     another one.
     """
 
     def __init__(self, given: NameMap, namespaces: Tree, uris: Uris) -> None:
-        self.given, self.before = given, uris
+        super().__init__(namespaces, uris)
+        self.given = given
         self.uris = {prefix: given.namespaces.get(uri, uri) for prefix, uri in uris.items()}
-        self.namespaces = {**namespaces, **self.uris} if isinstance(namespaces, dict) else namespaces
+        self.namespaces.update(self.uris)
         self.prefixes = {uri: prefix for prefix, uri in self.uris.items() if prefix}
-        self.new_prefixes = (f"map{number}" for number in itertools.count(1))
         self.seen: dict[tuple[str, Name], Name] = {}
+
+    def uri_after(self, uri: str) -> str:
+        return self.given.namespaces.get(uri, uri)
 
     def renamed(self, kind: str, spelled: str) -> str:
         """Returns the new spelling of a name. `kind` is one of TABLES or, for names without a table, another text."""
@@ -150,7 +153,7 @@ class ReportMap:
     def spelled(self, name: Name) -> str:
         """Returns a name with a prefix, which is bound if its namespace has none yet."""
         if name.uri not in self.prefixes:
-            prefix = next(each for each in self.new_prefixes if each not in self.namespaces)
+            prefix = self.unused("map")
             self.prefixes[name.uri] = prefix
             self.uris[prefix] = self.namespaces[prefix] = name.uri
         return f"{self.prefixes[name.uri]}:{name.local}"

@@ -7,6 +7,11 @@ from typing import Callable, Container, Iterator, Optional
 
 MOMENT = re.compile(r"(?P<day>\d{4}-\d\d-\d\d)(?P<time>T\d\d:\d\d:\d\d)?(?P<part>\.\d+)?(?P<zone>Z|[+-]\d\d:\d\d)?", re.ASCII)
 UTC = ("Z", "+00:00", "-00:00")
+# a period of xBRL-CSV: a year, quarter, half, week, month or day, or its start or end; or two days
+CSV_DAY = r"\d{4}-\d\d-\d\d"
+CSV = re.compile(r"(?P<year>\d{4})(?:-(?P<month>\d\d)(?:-(?P<day>\d\d))?|Q(?P<quarter>[1-4])|H(?P<half>[12])|W(?P<week>\d\d?))?"
+                 r"(?P<side>@start|@end)?", re.ASCII)
+CSV_RANGE = re.compile(rf"(?P<first>{CSV_DAY})\.\.(?P<last>{CSV_DAY})", re.ASCII)
 
 # takes a moment and whether it is a start; returns the new text, or None to keep the moment
 Rewriting = Callable[["re.Match[str]", bool], Optional[str]]
@@ -64,6 +69,43 @@ def ahead(zone: str) -> datetime.timedelta:
     return datetime.timedelta(hours=hours, minutes=minutes) * (-1 if zone[0] == "-" else 1)
 
 
+def of_csv(period: str) -> Optional[str]:
+    """Returns a period in the form of xBRL-JSON. Returns None if it is not a period of xBRL-CSV, or if it is not valid."""
+    found, days = CSV.fullmatch(period), CSV_RANGE.fullmatch(period)
+    try:
+        if days:
+            first, last = map(datetime.date.fromisoformat, days.groups())
+            return ends_of(first, last + datetime.timedelta(days=1), None)
+        return ends_of(*days_of(found), found["side"]) if found else None
+    except (ValueError, OverflowError):
+        return None
+
+
+def ends_of(first: datetime.date, after: datetime.date, side: Optional[str]) -> str:
+    start, end = f"{first}T00:00:00", f"{after}T00:00:00"
+    return f"{start}/{end}" if side is None else start if side == "@start" else end
+
+
+def days_of(found: re.Match[str]) -> tuple[datetime.date, datetime.date]:
+    """Returns the first day of a period, and the day after it. Errors: ValueError, OverflowError."""
+    year = int(found["year"])
+    if found["day"]:
+        day = datetime.date(year, int(found["month"]), int(found["day"]))
+        return day, day + datetime.timedelta(days=1)
+    if found["week"]:
+        day = datetime.date.fromisocalendar(year, int(found["week"]), 1)
+        return day, day + datetime.timedelta(days=7)
+    length = next(length for part, length in (("month", 1), ("quarter", 3), ("half", 6), ("year", 12)) if found[part])
+    rank = int(found["month"] or found["quarter"] or found["half"] or 1)
+    months = year * 12 + (rank - 1) * length
+    return day_of_month(months), day_of_month(months + length)
+
+
+def day_of_month(months: int) -> datetime.date:
+    """Returns the first day of a month, which is counted from the year 0."""
+    return datetime.date(months // 12, months % 12 + 1, 1)
+
+
 def is_date(day: str) -> bool:
     try:
         return bool(datetime.date.fromisoformat(day))
@@ -90,8 +132,10 @@ def is_valid(text: str) -> bool:
 
 
 def doubts(period: str, applied: Container[str]) -> Iterator[str]:
-    """Yields a message for each fraction, time zone and missing time in a period. `xbrlmerge` refuses all three. A message names
-    the option that may help, unless its rule is among those applied."""
+    """Yields a message for each fraction, time zone and missing time in a period, and for a period of xBRL-CSV. `xbrlmerge` refuses
+    all four. A message names the option that may help, unless its rule is among those applied."""
+    if of_csv(period) and not MOMENT.fullmatch(period):
+        yield "it is a period of xBRL-CSV (--dates=csv)"
     for moment in map(MOMENT.fullmatch, period.split("/")):
         if moment and moment["part"]:
             yield "it has a fraction of a second"

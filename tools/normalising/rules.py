@@ -5,26 +5,22 @@ import argparse
 import re
 from typing import Optional
 
-from file_kinds import kind_of_report, looks_like
 from names import SPACE, XBRL, Name, Uris, expanded, uris_of
-from normalising import moments
+from normalising import moments, shapes
 from normalising.changes import Log, Part, Reason
+from normalising.documents import change_information, check_root, drop_unknown_members, facts_by_identifier
 from normalising.json_text import Number, Tree, is_text, text_of
 from normalising.mapping import NameMap, ReportMap
 from normalising.numbers import SCIENTIFIC, plain_number, scale_value, whole_number
+from normalising.prefixes import Prefixes
 from normalising.sets import ITEMS, full_name, set_of
+from normalising.shapes import CORE, PURE, core_spelling
+from normalising.spellings import spelling
 from normalising.unreadable import refused_in
 from process import NotDone
 from program import Program
-from sheets import Kinds, Sheet
+from sheets import TYPES, Kinds, Sheet
 
-KNOWN = {
-    "report": {"documentInfo", "facts"},
-    "documentInfo": {"documentType", "namespaces", "taxonomy", "baseURL", "features", "linkTypes", "linkGroups"},
-    "fact": {"value", "decimals", "dimensions", "links"},
-}
-PURE = Name("http://www.xbrl.org/2003/instance", "pure")
-CORE = ("concept", "entity", "period", "unit", "language", "noteId")
 GROWTH, SMALL = 16, 1_000_000  # the names of sets add at most GROWTH times the report's length plus SMALL bytes
 
 
@@ -40,29 +36,23 @@ class Normaliser:
 
         Errors: NotDone, OSError.
         """
-        if not isinstance(tree, dict):
-            raise NotDone("it is not a report: its root is not an object")
-        kind = kind_of_report(tree)
-        if kind:
-            raise NotDone(f"it is not an xBRL-JSON report{looks_like(kind)}")
-        whole = Log()
-        drop_unknown_members(Part(tree, (), whole), "report")
-        information = tree.get("documentInfo")
-        uris: Uris = {}
-        if isinstance(information, dict):
-            drop_unknown_members(Part(information, ("documentInfo",), whole), "documentInfo")
-            uris = uris_of(information.get("namespaces"))
-        mapped = ReportMap(names, information.get("namespaces"), uris) if names and isinstance(information, dict) else None
-        logs: dict[str, Log] = {}
+        check_root(tree)
+        whole, logs = Log(), dict[str, Log]()
+        drop_unknown_members(Part(tree, (), whole), "report", self.options)
+        facts_by_identifier(Part(tree, (), whole))
+        information, prefixes = Part(tree["documentInfo"], ("documentInfo",), whole), Prefixes(None, {})
+        if isinstance(information.members, dict):
+            change_information(information, self.options)
+            prefixes = prefixes_of(information.get("namespaces"), names)
         facts: dict[str, Tree] = {}
         if isinstance(tree.get("facts"), dict):
             facts, tree["facts"] = tree["facts"], {}
-            reader = FactReader(self.sheet, self.options, mapped.uris if mapped else uris, GROWTH * length + SMALL, mapped)
+            reader = FactReader(self.sheet, self.options, prefixes, GROWTH * length + SMALL)
             for number, (name, fact) in enumerate(facts.items(), 1):
                 logs[name] = Log(name, number)
                 reader.read(name, fact, logs[name], tree["facts"])
-        if mapped and isinstance(information, dict) and "namespaces" in information:
-            Part(information, ("documentInfo",), whole).change("namespaces", mapped.namespaces, "map", True)
+        if isinstance(information.members, dict):
+            change_namespaces(information, prefixes)
         if self.program and self.options.drop_unreadable:
             refused = refused_in(tree, self.program)
             for name, why in refused.facts.items():
@@ -77,7 +67,7 @@ class Normaliser:
         """Applies only the rule `set`, and returns a log. Parts without their form stay: the program refuses them. Errors: NotDone."""
         whole, (information, facts) = Log(), (tree.get(key) if isinstance(tree, dict) else None for key in ("documentInfo", "facts"))
         uris = uris_of(information.get("namespaces")) if isinstance(information, dict) else {}
-        reader = FactReader(self.sheet, self.options, uris, GROWTH * length + SMALL)
+        reader = FactReader(self.sheet, self.options, Prefixes(None, uris), GROWTH * length + SMALL)
         for number, (name, fact) in enumerate(facts.items() if isinstance(facts, dict) else (), 1):
             if isinstance(fact, dict) and is_text(fact.get("value")) and reader.concept_of(fact) in self.sheet.sets:
                 log = Log(name, number)
@@ -86,17 +76,27 @@ class Normaliser:
         return whole
 
 
-def drop_unknown_members(part: Part, kind: str) -> None:
-    """Removes members that the format does not define. A member with a colon in its name is an extension and stays."""
-    for key in [key for key in part.members if ":" not in key and key not in KNOWN[kind]]:
-        part.remove(key, "unknown-member")
+def prefixes_of(namespaces: Tree, names: Optional[NameMap]) -> Prefixes:
+    uris = uris_of(namespaces)
+    return ReportMap(names, namespaces, uris) if names else Prefixes(namespaces, uris)
+
+
+def change_namespaces(information: Part, prefixes: Prefixes) -> None:
+    """Adds the prefixes that names with their namespace need, and then replaces namespaces by a map."""
+    if "namespaces" not in information.members and prefixes.bound:
+        information.add("namespaces", {**prefixes.bound}, "expanded-name")
+    if isinstance(information.get("namespaces"), dict):
+        information.change("namespaces", {**information.get("namespaces"), **prefixes.bound}, "expanded-name")
+        information.change("namespaces", {**information.get("namespaces"), **prefixes.namespaces}, "map", True)
 
 
 class FactReader:
     """The rules for the facts of one report. `left` is the number of bytes that the names of sets may still add."""
 
-    def __init__(self, sheet: Sheet, options: argparse.Namespace, uris: Uris, left: int, mapped: Optional[ReportMap] = None) -> None:
-        self.sheet, self.options, self.uris, self.left, self.mapped = sheet, options, uris, left, mapped
+    def __init__(self, sheet: Sheet, options: argparse.Namespace, prefixes: Prefixes, left: int) -> None:
+        self.sheet, self.options, self.prefixes, self.left = sheet, options, prefixes, left
+        self.uris = prefixes.uris
+        self.mapped = prefixes if isinstance(prefixes, ReportMap) else None
 
     def read(self, name: str, fact: Tree, log: Log, kept: dict[str, Tree]) -> None:
         """Adds the changed fact to `kept`, or drops it. The log of a dropped fact contains only the drop."""
@@ -112,37 +112,60 @@ class FactReader:
 
     def change(self, members: dict[str, Tree], log: Log) -> None:
         fact, scale = Part(members, ("facts", log.fact or ""), log), 0
-        drop_unknown_members(fact, "fact")
         if isinstance(members.get("dimensions"), dict):
             members["dimensions"] = {**members["dimensions"]}
-            scale = self.change_dimensions(Part(members["dimensions"], (*fact.path, "dimensions"), log))
+        shapes.move_flat(fact, self.uris, self.is_dimension)
+        drop_unknown_members(fact, "fact", self.options, shapes.MEANING)
+        if isinstance(members.get("dimensions"), dict):
+            dimensions = Part(members["dimensions"], (*fact.path, "dimensions"), log)
+            scale = self.change_dimensions(dimensions)
+            kind = kind_of(self.concept_of(members), self.sheet.concepts)
+            shapes.drop_misplaced(dimensions, fact, kind, self.uris, self.options)
         if self.reason_to_drop(members):
             return
+        shapes.apply_scale(fact, self.options)
+        shapes.infer_decimals(fact)
         self.change_decimals(fact)
         self.change_value(fact)
         if scale:
             scale_value(fact, scale)
+        shapes.drop_empty_links(fact)
         if "links" in members and members["links"] != {} and (self.options.drop_links or self.options.drop_notes):
             fact.remove("links", "drop-links", True)
+
+    def is_dimension(self, key: str) -> bool:
+        return expanded(key, self.uris) in self.sheet.dimensions
 
     def change_dimensions(self, part: Part) -> int:
         """Changes the dimensions of a fact. Returns the scale of its unit: its value is to be multiplied by ten to this power."""
         for key in list(part.members):
-            name = core_spelling(key, self.uris)
+            name, axis = core_spelling(key, self.uris), self.prefixes.named(key)
             if name in CORE:
                 part.rename(key, name, "core-prefix")
+            elif axis:
+                part.rename(key, axis, "expanded-name")
+        shapes.join_period(part)
         for key in ("concept", "period", "unit", "language", "entity"):
             if is_text(part.get(key)):
                 part.change(key, trimmed(key, part.get(key)), "white-space")
+        if self.options.drop_null:
+            shapes.drop_empty(part)
         if is_text(part.get("period")):
             self.change_period(part)
+        self.expand(part, "concept")
         scale = self.map_dimensions(part, self.mapped) if self.mapped else 0
         concept = expanded(part.get("concept"), self.uris)
         if self.mapped and "unit" not in part.members and kind_of(concept, self.sheet.concepts) == "numeric":
             self.mapped.note_kept("units", PURE)  # a missing unit means the same
         for key in [key for key in part.members if ":" in key]:
-            self.change_member(part, key, kind_of(expanded(key, self.uris), self.sheet.dimensions))
+            self.change_member(part, key, expanded(key, self.uris))
         return scale
+
+    def expand(self, part: Part, key: str) -> None:
+        """Gives a name that is spelled with its namespace a prefix."""
+        name = self.prefixes.named(part.get(key)) if is_text(part.get(key)) else None
+        if name:
+            part.change(key, name, "expanded-name")
 
     @staticmethod
     def map_dimensions(part: Part, mapped: ReportMap) -> int:
@@ -158,23 +181,42 @@ class FactReader:
 
     def change_period(self, part: Part) -> None:
         steps: list[tuple[str, moments.Rewriting, bool]] = [("period-fraction", moments.without_zero_fraction, False)]
-        steps += [("dates", moments.with_time, True)] * bool(self.options.dates)
+        steps += [("dates", moments.with_time, True)] * (self.options.dates == "xbrl21")
         steps += [("zones", moments.in_utc, True)] * bool(self.options.zones)
+        if self.options.dates == "csv":
+            part.change("period", moments.of_csv(part.get("period")) or part.get("period"), "dates", True)
         for rule, rewritten, loss in steps:
             part.change("period", moments.each_moment(part.get("period"), rewritten), rule, loss)
         for why in dict.fromkeys(moments.doubts(part.get("period"), {rule for rule, _, _ in steps})):
             part.leave("period", why)
 
-    def change_member(self, part: Part, key: str, kind: Optional[str]) -> None:
-        member = part.get(key)
+    def change_member(self, part: Part, key: str, axis: Optional[Name]) -> None:
+        member, kind = part.get(key), kind_of(axis, self.sheet.dimensions)
         if kind == "explicit" and is_text(member):
             part.change(key, member.strip(SPACE), "white-space")
+            self.expand(part, key)
             if self.mapped:
                 part.change(key, self.mapped.renamed("members", part.get(key)), "map", True)
         elif kind == "explicit" and member is None and self.options.drop_null:
             part.remove(key, "drop-null", True)
         elif kind == "typed" and isinstance(member, (Number, bool)):
             part.change(key, text_of(member), "value-text")
+        if kind == "typed":
+            self.spell(part, key, axis)
+
+    def spell(self, part: Part, key: str, name: Optional[Name]) -> None:
+        """Gives a text the one spelling that its value has by the type of a concept or typed dimension."""
+        kind, text = self.sheet.types[TYPES].get(name) if name else None, part.get(key)
+        if not kind or not is_text(text):
+            return
+        try:
+            made = spelling(kind, text)
+        except ValueError:
+            part.leave(key, f"it is not a valid {kind}")
+            return
+        part.change(key, made.text, "type")
+        if made.doubt:
+            part.leave(key, made.doubt)
 
     def change_decimals(self, fact: Part) -> None:
         given = fact.get("decimals")
@@ -196,6 +238,8 @@ class FactReader:
         kind = kind_of(concept, self.sheet.concepts)
         if kind in ("numeric", "name"):
             fact.change("value", fact.get("value").strip(SPACE), "white-space")
+        if kind == "name":
+            self.expand(fact, "value")
         if kind == "name" and self.mapped:
             self.mapped.renamed("values", fact.get("value"))  # its prefix may be bound to another namespace
         scientific = SCIENTIFIC.fullmatch(fact.get("value")) if kind == "numeric" else None
@@ -207,6 +251,8 @@ class FactReader:
                 fact.change("value", plain, "exponent")
         if concept in self.sheet.sets:
             self.change_set(fact)
+        elif kind == "text":
+            self.spell(fact, "value", concept)
 
     def change_set(self, fact: Part) -> None:
         given = fact.get("value")
@@ -246,12 +292,6 @@ class FactReader:
                 if name and name not in listed:
                     return Reason("drop-unknown", "the sheet does not list {{{}}}{}", name)
         return None
-
-
-def core_spelling(key: str, uris: Uris) -> Optional[str]:
-    """Returns the local part of a name in the namespace XBRL, or None. The prefix `xbrl` means XBRL unless it is bound."""
-    prefix, colon, local = key.partition(":")
-    return local if colon and uris.get(prefix, XBRL if prefix == "xbrl" else None) == XBRL else None
 
 
 def kind_of(name: Optional[Name], kinds: Kinds) -> Optional[str]:

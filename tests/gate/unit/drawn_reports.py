@@ -8,7 +8,8 @@ SHEET = {
     "dimensions": {"eg:Reg": "explicit", "eg:Sku": "typed"},
     "xbrlmerge:sets": ["eg:S"],
 }
-OPTIONS = "--drop-links --drop-notes --drop-unknown --dates=xbrl21 --zones=utc --drop-null".split()
+OPTIONS = """--drop-links --drop-notes --drop-unknown --dates=xbrl21 --zones=utc --drop-null --drop-misplaced --drop-unknown-members
+--scale=ix --document-type""".split()
 URIS = {"eg": "http://example.org/t", "x": "http://example.org/u", "xbrl": "https://xbrl.org/2021"}
 T, U, V = ("http://example.org/t", "http://example.org/u", "http://example.org/v")
 # for each part of a map: what is replaced, and choices for what replaces it
@@ -112,7 +113,7 @@ def roughened(chance, text):
         elif chance.random() < 0.3:
             members["decimals"] = '"INF"'
         facts[name] = fact_text(members | ({"id": '"7"'} if chance.random() < 0.3 else {}))
-    return report(facts, {"generator": '"x"'}, "\n")
+    return report(facts, {"id": '"x"'}, "\n")
 
 
 def rough_number(chance, value):

@@ -4,13 +4,15 @@ import json
 import unittest
 
 import in_process
-from contradicting.remedies import FOR_NAMES, NUMBER, remedy_for
+from contradicting.refusals import Refusals
+from contradicting.remedies import EMPTY, FOR_NAMES, NUMBER, remedy_for
+from names import Name
 from normalising.json_text import Number
-from normalising.options import LOSSES
+from normalising.options import CHOICES, LOSSES
 from normalising.rules import Normaliser
 from normalising.sheet_file import sheet_at
 
-SHEET = {"namespaces": {"eg": "http://example.org/t"}, "concepts": {"eg:A": "numeric", "eg:Q": "name"},
+SHEET = {"namespaces": {"eg": "http://example.org/t"}, "concepts": {"eg:A": "numeric", "eg:Q": "name", "eg:T": "text"},
          "dimensions": {"eg:Reg": "explicit", "eg:Sku": "typed"}}
 # for each case: the name of the refusal, the part at fault, and the fact
 CASES = (
@@ -28,10 +30,23 @@ CASES = (
     ("Links", {"a": {"b": ["n"]}}, {"links": {"a": {"b": ["n"]}}}),
     ("Notes", "n", {"dimensions": {"noteId": "n"}}),
     ("UnknownMember", "id", {"id": "7"}),
+    ("UnknownMember", "label", {"label": "7"}),
+    ("UnknownMember", "scale", {"scale": Number("3")}),
+    ("UnknownMember", "sign", {"sign": "-"}),
+    ("UnknownMember", "precision", {"precision": Number("3")}),
+    ("UnknownMember", "period", {"period": "2023-12-31T00:00:00"}),
+    ("LanguageOnNumeric", "en", {"dimensions": {"language": "en"}}),
+    ("NameForm", "pure", {"dimensions": {"unit": "pure"}}),
+    ("UnitOnOther", "xbrli:pure", {"dimensions": {"concept": "eg:T", "unit": "xbrli:pure"}}),
+    ("DecimalsOnOther", 0, {"decimals": Number("0"), "dimensions": {"concept": "eg:T"}}),
+    *((name, "", {"dimensions": {key: ""}}) for name, key in (("NameForm", "entity"), ("UnitForm", "unit"), ("LanguageForm", "language"))),
+    *(("PeriodForm", period, {"dimensions": {"period": period}}) for period in ("", "2023", "2023-12-31@end", "2023-01-01..2023-06-30")),
+    *(("UnboundPrefix", name, {"dimensions": {"concept": name}}) for name in ("http://example.org/t#A", "{http://example.org/t}A")),
+    ("Links", {"a": {}}, {"links": {"a": {}}}),
     ("UnknownConcept", "eg:Z", {"dimensions": {"concept": "eg:Z"}}),
     ("UnknownDimension", "eg:Z", {"dimensions": {"eg:Z": "eg:A"}}),
 )
-WITHOUT = (("PeriodForm", "2023"), ("PeriodForm", "2023-12-31T00:00:00.5"), ("PeriodForm", "a/b/c"), ("PeriodForm", None), ("ValueForm", []),
+WITHOUT = (("UnitOnOther", "u:EUR"), ("UnitForm", "/"), ("UnboundPrefix", "q:A"), ("DocumentType", "x"), ("BaseUrl", "x"), ("PeriodForm", "2023-12-31T00:00:00.5"), ("PeriodForm", "a/b/c"), ("PeriodForm", None), ("ValueForm", []),
            ("ValueForm", True), ("DimensionValue", {"eg:Sku": []}), ("DimensionValue", "x"), ("DecimalsForm", "two"), ("DecimalsForm", "9" * 19),
            ("PeriodForm", "2023-02-30"), ("PeriodForm", "2023-02-30T00:00:00Z"), ("PeriodForm", "2023-12-31T00:00:00+15:00"),
            ("PeriodForm", "2023-12-31T25:00:00.0"), ("NumberForm", " 1,000 "), ("NumberForm", " INF"), ("NameForm", "Sales "),
@@ -40,10 +55,10 @@ WITHOUT = (("PeriodForm", "2023"), ("PeriodForm", "2023-12-31T00:00:00.5"), ("Pe
 
 class Remedies(in_process.RoomTest):
     def normalised(self, fact, option):
-        options = argparse.Namespace(**{word.replace("-", "_"): f"--{word}" == option for word in LOSSES}, dates=None, zones=None)
+        options = argparse.Namespace(**{word.replace("-", "_"): f"--{word}" == option for word in LOSSES}, **dict.fromkeys(CHOICES))
         if "=" in option:
             setattr(options, *option.removeprefix("--").split("="))
-        uris = {"eg": "http://example.org/t", "xbrl": "https://xbrl.org/2021"}
+        uris = {"eg": "http://example.org/t", "xbrl": "https://xbrl.org/2021", "xbrli": "http://www.xbrl.org/2003/instance"}
         whole = {"value": "1", **fact, "dimensions": {"concept": "eg:A", **fact.get("dimensions", {})}}
         tree = {"documentInfo": {"namespaces": uris}, "facts": {"f": whole}}
         log = Normaliser(sheet_at(self.write("sheet.json", json.dumps(SHEET))), options).normalise(tree)
@@ -67,9 +82,21 @@ class Remedies(in_process.RoomTest):
             ("DecimalsForm", '"decimals" must be an integer from -18 to 18', None), ("ValueForm", "numbers need quotes", NUMBER),
             ("DecimalsForm", "the decimals value null is not an integer without quotes", FOR_NAMES["DecimalsForm"](None)),
             ("UnknownMember", 'the format has no member "id" in "dimensions"', None),
-            ("UnknownMember", 'the format has no member "id"', FOR_NAMES["UnknownMember"]("id")),
+            ("UnknownMember", 'the format has no member "label"', FOR_NAMES["UnknownMember"]("label")),
+            ("MemberForm", '"period" is not a string', EMPTY), ("MemberForm", '"links" is not an object', None),
         ):
             self.assertEqual(remedy_for({"name": name, "part": None, "sentence": sentence}), wanted, sentence)
+
+    def test_a_concept_of_another_year_is_mapped_and_large_drops_are_told(self):
+        faults = [{"number": 16, "name": "UnknownConcept", "identifier": f"f{n}", "part": f"o:{'AZ'[n % 2]}", "sentence": ""} for n in range(6)]
+        report = {"documentInfo": {}, "facts": {f"f{n}": {} for n in range(60)}}
+        for facts, share in ((60, ""), (29, ", which drops 3 of 29 facts"), (0, ", which drops 3 of an unknown number of facts")):
+            report["facts"] = {f"f{n}": {} for n in range(facts)}
+            refusals = Refusals("", argparse.Namespace(normalise=True, drop_unknown=False, map=[]), [Name("http://example.org/t", "A")])
+            refusals.add("p", self.write("report.json", json.dumps(report if facts else [])), "", faults)
+            self.assertEqual(refusals.reports[0].groups, (
+                '3 facts with a concept that the sheet has in another namespace, as in "o:A": --map PROVIDER=MAP.json',
+                f'3 facts with a concept that the sheet lacks, as in "o:Z": --drop-unknown{share}'))
 
 
 if __name__ == "__main__":

@@ -18,6 +18,7 @@ from support import content
 
 TOOL = os.path.join(in_process.TOOLS, "normalise.py")
 REPORTS = f"{in_process.TOP}/tests/program/normalise"
+EMPTY = '{"documentInfo":{}}'
 
 
 def part_at(tree, pointer):
@@ -32,9 +33,13 @@ def undo(tree, changes):
     """Undoes changes, the last one first."""
     for change in reversed(changes):
         part, key = part_at(tree, change["pointer"])
-        if "moved" in change:
-            del part[part_at(tree, change["moved"])[1]]
-        part[key] = change["was"]
+        if "moved" in change or "was" not in change:
+            moved, name = part_at(tree, change.get("moved", change["pointer"]))
+            del moved[name]
+        if change["rule"] == "facts-array":  # the line only counts the facts
+            part[key] = [{"id": name, **fact} for name, fact in part[key].items()]
+        elif "was" in change:
+            part[key] = change["was"]
 
 
 class ToolTest(in_process.RoomTest):
@@ -106,9 +111,10 @@ class Docs(ToolTest):
 
     SHEET = {
         "namespaces": {"eg": "http://example.org/t"},
-        "concepts": {"eg:A": "numeric", "eg:Q": "name", "eg:S": "text", "eg:T": "text"},
+        "concepts": {"eg:A": "numeric", "eg:B": "text", "eg:Q": "name", "eg:S": "text", "eg:T": "text"},
         "dimensions": {"eg:Reg": "explicit", "eg:Sku": "typed"},
         "xbrlmerge:sets": ["eg:S"],
+        "xbrlmerge:types": {"boolean": ["eg:B"]},
     }
     URIS = {"eg": "http://example.org/t", "x": "http://example.org/u", "xbrl": "https://xbrl.org/2021"}
     TYPE = "https://xbrl.org/2021/xbrl-json"
@@ -116,7 +122,7 @@ class Docs(ToolTest):
     def test_the_examples(self):
         text = content("docs/GUIDE.md")
         sheet, seen = self.write("sheet.json", json.dumps(self.SHEET)), set()
-        for rule, example in re.findall(r"^### `([a-z-]+)`$.*?^```\n(.*?)^```$", text, re.MULTILINE | re.DOTALL):
+        for rule, example in re.findall(r"^### `([a-z-]+)`$.*?^```\n(normalise.*?)^```$", text, re.MULTILINE | re.DOTALL):
             options, before, after = example.splitlines()
             options = self.refusing({"f": "27 NumberDigits"}) if rule == "drop-unreadable" else options.split()[1:]
             information = json.dumps({"documentType": self.TYPE, "namespaces": self.URIS})
@@ -130,8 +136,9 @@ class Docs(ToolTest):
         self.assertEqual(seen, set(RULES))
 
 
-RULES = """decimals decimals-infinite value-text exponent period-fraction core-prefix white-space unknown-member set
-drop-links drop-notes drop-unknown dates zones drop-null drop-unreadable""".split()
+RULES = """decimals decimals-infinite precision value-text exponent type expanded-name period-fraction period-parts flat-dimensions
+core-prefix white-space unknown-member empty-links set drop-links drop-notes drop-unknown drop-unknown-members drop-misplaced scale dates
+zones drop-null drop-unreadable""".split()
 
 
 class Drawn(ToolTest):
@@ -229,7 +236,7 @@ class Periods(ToolTest):
     def period_of(self, period, *options):
         """Normalises a report with this period. Returns the new period, and the number of lines on standard error."""
         fact = '{"value":null,"dimensions":{"period":%s}}' % json.dumps(period)
-        _, errors, out, _ = self.normalised(self.write("report.json", '{"facts":{"f":%s}}' % fact), *options)
+        _, errors, out, _ = self.normalised(self.write("report.json", '{"documentInfo":{},"facts":{"f":%s}}' % fact), *options)
         return self.tree_of(out)["facts"]["f"]["dimensions"]["period"], len(errors.splitlines())
 
     def test_fractions(self):
@@ -239,7 +246,8 @@ class Periods(ToolTest):
             ("2023-12-31T00:00:00.50", ("2023-12-31T00:00:00.50", 1)),
             ("2023-12-31T00:00:00.000Z", ("2023-12-31T00:00:00Z", 1)),
             ("2023-12-31.0", ("2023-12-31.0", 2)),
-            ("2023", ("2023", 0)),
+            ("2023", ("2023", 1)),
+            ("2023-Q1", ("2023-Q1", 0)),
         ):
             self.assertEqual(self.period_of(period), made, period)
 
@@ -276,11 +284,11 @@ class Unreadable(ToolTest):
     def setUp(self):
         super().setUp()
         self.sheet = self.write("sheet.json", json.dumps(Docs.SHEET))
-        self.report = self.write("report.json", '{"facts":{"f":{"value":5,"id":1},"g":{"value":6}}}')
+        self.report = self.write("report.json", '{"documentInfo":{},"facts":{"f":{"value":5,"id":1},"g":{"value":6}}}')
 
     def test_a_refused_fact_has_one_change(self):
         status, errors, out, changes = self.normalised(self.report, "--sheet", self.sheet, *self.refusing({"f": "11 DimensionsMissing"}))
-        self.assertEqual((status, errors, out), (1, "", '{"facts":{"g":{"value":"6"}}}\n'))
+        self.assertEqual((status, errors, out), (1, "", '{"documentInfo":{},"facts":{"g":{"value":"6"}}}\n'))
         self.assertEqual([(change["fact"], change["rule"], change.get("why")) for change in changes],
                          [("f", "drop-unreadable", "11 DimensionsMissing"), ("g", "value-text", None)])
 
@@ -288,7 +296,7 @@ class Unreadable(ToolTest):
         options = self.refusing({}, place="document", identifier=None, number=2, name="MemberForm", sentence='"documentInfo" is missing')
         status, errors, out, _ = self.normalised(self.report, "--sheet", self.sheet, *options)
         self.assertEqual((status, errors), (0, 'normalise: the document is refused: 2 MemberForm: "documentInfo" is missing\n'))
-        self.assertEqual(out, '{"facts":{"f":{"value":"5"},"g":{"value":"6"}}}\n')
+        self.assertEqual(out, '{"documentInfo":{},"facts":{"f":{"value":"5"},"g":{"value":"6"}}}\n')
 
     def test_a_folder_that_is_missing(self):
         out = self.path_of("nowhere/out.json")
@@ -327,8 +335,8 @@ class BadInputs(ToolTest):
 
     def test_members_that_stand_twice(self):
         self.check_report('the member "a" is repeated in the root: 1 and 2.50', '{"a":1,"a":2.50}')
-        self.check_report('"k" is repeated in /facts/~1~0/0: null and null', '{"facts":{"/~":[{"k":null,"k":null}]}}')
-        both = '{"facts":{"f":{"dimensions":{"concept":"a:A","xbrl:concept":"a:B"}}}}'
+        self.check_report('"k" is repeated in /facts/~1~0/0: null and null', '{"documentInfo":{},"facts":{"/~":[{"k":null,"k":null}]}}')
+        both = '{"documentInfo":{},"facts":{"f":{"dimensions":{"concept":"a:A","xbrl:concept":"a:B"}}}}'
         self.check_report('/facts/f/dimensions/xbrl:concept and concept are the same member: "a:A" and "a:B"', both)
 
     def test_what_is_no_json(self):
@@ -337,7 +345,7 @@ class BadInputs(ToolTest):
         self.check_report("not a report", "[]")
 
     def test_files_that_are_missing_or_that_cannot_be_written(self):
-        report = self.write("good.json", "{}")
+        report = self.write("good.json", EMPTY)
         self.check_refused("nowhere", self.path_of("nowhere"), self.out, self.changes)
         self.check_refused("nowhere", report, self.out, self.changes, "--sheet", self.path_of("nowhere"))
         self.check_refused("/no", report, self.out, os.path.join(self.scratch, "no", "x"))
@@ -349,13 +357,13 @@ class BadInputs(ToolTest):
         self.assertEqual(content(self.out), "of a run before")
 
     def test_what_is_no_sheet(self):
-        report = self.write("good.json", "{}")
+        report = self.write("good.json", EMPTY)
         name = '{"namespaces":{"p":"u"},"concepts":{"p:A":"numeric"},"xbrlmerge:sets":["p:A"]}'
         for text in ("", "[]", '{"concepts":[]}', '{"concepts":{"p:A":"text"}}', '{"namespaces":{"p":"u"},"concepts":{"p:A":"x"}}', name):
             self.check_refused("bad.json", report, self.out, self.changes, "--sheet", self.write("bad.json", text))
 
     def test_usage(self):
-        report = self.write("good.json", "{}")
+        report = self.write("good.json", EMPTY)
         for words in ([], [report, self.out], [report, self.out, self.out], [report, self.out, report]):
             self.assertEqual(self.run_tool(*words)[0], 2)
         for option in ("--drop-unknown", "--drop-unreadable", f"--map={report}", "--dates=iso", "--zones=cet"):
@@ -364,12 +372,12 @@ class BadInputs(ToolTest):
     def test_the_command(self):
         run = [sys.executable, TOOL]
         self.assertEqual(subprocess.run([*run, "--help"], capture_output=True).returncode, 0)
-        done = subprocess.run([*run, self.write("good.json", '{"id":1}'), self.out, self.changes], capture_output=True)
-        self.assertEqual((done.returncode, done.stdout, done.stderr, content(self.out)), (0, b"", b"", "{}\n"))
+        done = subprocess.run([*run, self.write("good.json", '{"documentInfo":{},"id":1}'), self.out, self.changes], capture_output=True)
+        self.assertEqual((done.returncode, done.stdout, done.stderr, content(self.out)), (0, b"", b"", EMPTY + "\n"))
 
     def test_ten_thousand_facts_take_seconds(self):
         fact = '"f%d":{"value":%d.50,"decimals":"2","dimensions":{"concept":"eg:A","period":"2023-12-31T00:00:00.000Z"}}'
-        text = '{"facts":{%s}}' % ",".join(fact % (n, n) for n in range(10_000))
+        text = '{"documentInfo":{},"facts":{%s}}' % ",".join(fact % (n, n) for n in range(10_000))
         status, _ = self.run_tool(self.write("large.json", text), self.out, self.changes, "--zones=utc")
         self.assertEqual((status, content(self.changes).count("\n")), (1, 40_000))
 

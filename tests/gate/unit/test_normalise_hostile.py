@@ -17,8 +17,9 @@ SPACES = "\u00a0\u2003\u3000\x85\x1f"  # white space for Python, but not in the 
 SHEET = {
     "namespaces": {"eg": "http://example.org/t", "long": "http://example.org/" + "u" * 5_000},
     "concepts": {"eg:A": "numeric", "eg:Q": "name", "eg:S": "text", "eg:T": "text"},
-    "dimensions": {"eg:Reg": "explicit"},
+    "dimensions": {"eg:Reg": "explicit", "eg:Sku": "typed"},
     "xbrlmerge:sets": ["eg:S"],
+    "xbrlmerge:types": {"integer": ["eg:Sku"]},
 }
 
 
@@ -31,7 +32,7 @@ def report(facts):
 
 
 def twins(size):
-    return '{"facts":{%s,"k":1,"k":2}}' % ",".join(f'"f{number}":1' for number in range(size))
+    return '{"documentInfo":{},"facts":{%s,"k":1,"k":2}}' % ",".join(f'"f{number}":1' for number in range(size))
 
 
 def set_beside_a_long_uri(size):
@@ -49,10 +50,15 @@ LONG = {
     "slashes": (lambda size: report({"f": fact(period="/" * size)}), ALL),
     "zeros before an exponent": (lambda size: report({"f": fact("1" + "0" * size + "e-5")}), []),
     "digits of an exponent": (lambda size: report({"f": fact("1e" + "9" * size)}), []),
-    "digits of decimals": (lambda size: '{"facts":{"f":{"value":"1","decimals":%s}}}' % ("9" * size), ALL),
+    "digits of decimals": (lambda size: '{"documentInfo":{},"facts":{"f":{"value":"1","decimals":%s}}}' % ("9" * size), ALL),
     "repeated members": (twins, []),
     "members that are unknown": (lambda size: report({"f": {f"m{number}": 1 for number in range(size)}}), []),
     "dimensions": (lambda size: report({"f": fact(**{f"eg:d{number}": "" for number in range(size)})}), ALL),
+    "members beside dimensions": (lambda size: report({"f": {"concept": "eg:A", **{f"eg:m{number}": 1 for number in range(size)}}}), ALL),
+    "names with a namespace": (lambda size: report({f"f{n}": fact(concept=f"http://x{n}.example#A") for n in range(size // 4)}), ALL),
+    "an array of facts": (lambda size: report([{**fact(), "id": f"f{number}"} for number in range(size // 4)]), ALL),
+    "zeros of a typed integer": (lambda size: report({"f": fact(**{"eg:Sku": "0" * size + "x"})}), ALL),
+    "signs of a name": (lambda size: report({"f": fact(concept="a:" + "#:" * size)}), ALL),
     "names of a set": (lambda size: report({"f": fact(" ".join(f"eg:n{number}" for number in range(size)), "eg:S")}), []),
     "names of a set in a long namespace": (set_beside_a_long_uri, []),
     "depth": (lambda size: '{"a:a":' * (size // 10) + "1" + "}" * (size // 10), []),
@@ -94,7 +100,7 @@ class Long(ToolTest):
     def test_no_line_repeats_a_long_identifier_or_uri(self):
         long = {"f" * 5_000 + str(number): fact("x" * 5_000, "long:" + "B" * 5_000, extra="y") for number in range(20)}
         text = report({**long, "short": {"value": "1", "m" * 5_000: "z" * 5_000}})
-        status, _, _, changes = self.normalised(self.write("report.json", text), "--sheet", self.sheet, "--drop-unknown")
+        status, _, _, changes = self.normalised(self.write("report.json", text), "--sheet", self.sheet, "--drop-unknown", "--drop-unknown-members")
         lines = content(self.changes).splitlines()
         self.assertEqual((status, len(lines)), (1, 21))
         self.assertLess(max(map(len, lines)), 1_000)
@@ -108,7 +114,7 @@ class Long(ToolTest):
 
     def test_texts_of_eighty_characters_are_whole(self):
         text = report({"f" * 80: {**fact(), "m" * 80: "z" * 80}})
-        (change,) = self.normalised(self.write("report.json", text), "--sheet", self.sheet)[3]
+        (change,) = self.normalised(self.write("report.json", text), "--sheet", self.sheet, "--drop-unknown-members")[3]
         self.assertEqual((change["fact"], change["was"], "shortened" in change), ("f" * 80, "z" * 80, False))
 
     def test_sets_that_would_be_far_longer_are_refused(self):
@@ -164,7 +170,7 @@ class Exact(ToolTest):
     def test_the_changes_have_no_character_that_a_terminal_obeys(self):
         odd = "\x7f\x9b31m\u202e\u2028\ud83d\ude00".encode("utf-16", "surrogatepass").decode("utf-16")
         facts = {odd: {**fact(), odd: odd}}
-        _, _, out, changes = self.run_on(facts)
+        _, _, out, changes = self.run_on(facts, "--drop-unknown-members")
         raw = content(self.changes)
         self.assertFalse(re.search("[\x00-\x09\x0b-\x1f\x7f-\x9f\u202e\u2028]", raw))
         self.assertEqual((changes[0]["fact"], changes[0]["was"]), (odd, odd))
@@ -210,6 +216,9 @@ NO_REPORTS = (
     (json.dumps(CSV).encode(), f"it is not an xBRL-JSON report; the file looks like the metadata of an xBRL-CSV report: {CONVERT}"),
     (b'{"documentInfo":{},"tables":{}}', f"the file looks like the metadata of an xBRL-CSV report: {CONVERT}"),
     (json.dumps(SHEET).encode(), "it is not an xBRL-JSON report; the file looks like a sheet, not a report"),
+    (b'{"facts":{}}', "it is not an xBRL-JSON report (it has no documentInfo)"),
+    (b'{"data":[0,{"r/1":{"documentInfo":{},"facts":{}}}]}', "a report that is wrapped in another object: take out what is at /data/1/r~11"),
+    (b'{"cik":320193,"facts":{"us-gaap":{}}}', "the file looks like the answer of an API: ask it for the report as xBRL-JSON"),
 )
 NO_SHEETS = (
     (b"PK\3\4", "the file looks like a taxonomy: make a sheet of it with tools/make_sheet"),
