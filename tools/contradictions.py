@@ -12,6 +12,7 @@ no merged.json:
     contradictions.csv  the facts of the contradictions as a table
     table.csv           all rows, with the values of each provider in a column
     providers.csv       for each pair of providers, the rows that both report, that agree and that contradict each other
+    warnings.csv        accepted facts that do not fit the types of the sheet: values, period types, currencies, shares
     merged.json         the merged report
 
 The first two forms also write verdicts.txt, sources.txt, refusals.txt and, with --normalise, the normalised reports as
@@ -67,7 +68,7 @@ Status 0: the files are written, and there is nothing to look at. 1: the files a
     losses          changes of --normalise that lose something
     omissions       parts that --taxonomy leaves out
     uncompared      pairs that --near did not compare
-    warnings        reports with repeated members, and reports that cannot be normalised
+    warnings        reports with repeated members, reports that cannot be normalised and, only with --fail-on, warnings.csv
 2: invalid arguments. 3: not done, and standard error shows why. After status 2 or 3, no output has changed, unless a replaced
 file could not be restored.
 """
@@ -96,6 +97,7 @@ from contradicting.reports import maps_named, reports_named  # noqa: E402
 from contradicting.rows import Reader, RowObserver  # noqa: E402
 from contradicting.snapshot import Snapshot  # noqa: E402
 from contradicting.tables import lines_of, table  # noqa: E402
+from contradicting.warnings import Warnings  # noqa: E402
 from normalising.options import add_losses, loses  # noqa: E402
 from process import Status, print_lines, printable, run  # noqa: E402
 from program import add_program, program_at  # noqa: E402
@@ -171,7 +173,7 @@ def check(parser: Parser, options: argparse.Namespace) -> None:
 
 
 def outputs_of(options: argparse.Namespace) -> list[str]:
-    names = ["page.html", "contradictions.csv", "table.csv", "providers.csv", *["merged.json"] * (not options.texts)]
+    names = ["page.html", "contradictions.csv", "table.csv", "providers.csv", "warnings.csv", *["merged.json"] * (not options.texts)]
     names += ["sheet.json", "sheet.types.json"] * bool(options.taxonomy)
     if not options.texts:
         names += ["changes.csv", *(f"{name}.txt" for name in LINES)]
@@ -211,28 +213,32 @@ def write(inputs: Inputs, options: argparse.Namespace, snapshot: Snapshot, folde
     progress.show("reading the rows")
     labels, names = inputs.labels, inputs.sources.names
     near, counts, all_rows = Near(names) if options.near else None, ProviderCounts(names), AllRows(folder, names, labels)
-    observers: list[RowObserver] = [counts, all_rows, *([near] if near else [])]
+    warnings = Warnings(folder, inputs.sheet)
+    observers: list[RowObserver] = [counts, all_rows, warnings, *([near] if near else [])]
     reader = Reader(inputs.text, inputs.sheet, inputs.sources, observers)
     rows = reader.rows(inputs.verdicts)
     all_rows.finish()
     made_from = MadeFrom(inputs.version, tuple(snapshot.files.values()))
-    found = Found(rows, reader, labels, inputs.refusals, all_rows, counts, options.at_least, inputs.check, made_from)
+    found = Found(rows, reader, labels, inputs.refusals, all_rows, counts, options.at_least, inputs.check, made_from, warnings)
     files = [("page.html", page(found)), ("contradictions.csv", lines_of(table(rows, labels, reader))),
-             ("table.csv", all_rows.table_pieces()), ("providers.csv", lines_of(counts.table())), *inputs.files]
+             ("table.csv", all_rows.table_pieces()), ("providers.csv", lines_of(counts.table())),
+             ("warnings.csv", warnings.pieces()), *inputs.files]
     texts = [(os.path.join(options.output, name), pieces) for name, pieces in files]
     if near:
         texts.append((options.near, lines_of(near.table(near.pairs(), labels))))
     progress.clear()
-    print_lines([*map(snapshot.named, inputs.notes), *inputs.refusals.lines(), *(near.notes() if near else [])])
+    print_lines([*map(snapshot.named, inputs.notes), *inputs.refusals.lines(), *warnings.lines(), *(near.notes() if near else [])])
     progress.show("writing")
     findings = inputs.findings
     findings.add("contradictions", len(rows))
     findings.add("refusals", len(inputs.refusals.reports), "report refused", "reports refused")
     findings.add("uncompared", near.uncompared if near else 0)
+    findings.add("warnings", warnings.count if options.fail_on is not KINDS else 0)  # by default, they do not change the status
     rows_text = f"{counted(counts.count, 'row')}: " + ", ".join(f"{count} {words}" for count, words in counts.lines())
     with files_written(texts):
         progress.clear()
-        print("; ".join([rows_text, *findings.phrases(), f"page: {printable(os.path.join(options.output, 'page.html'))}"]), flush=True)
+        phrases = [rows_text, *findings.phrases(), *warnings.phrases()]
+        print("; ".join([*phrases, f"page: {printable(os.path.join(options.output, 'page.html'))}"]), flush=True)
     return findings.status(options.fail_on)
 
 

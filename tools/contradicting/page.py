@@ -21,6 +21,7 @@ from contradicting.refusals import Refusals
 from contradicting.rows import Reader, Row
 from contradicting.sections import heading, section, who
 from contradicting.shown import escaped, shown_label
+from contradicting.warnings import Warnings
 from names import Name
 from process import MOST_CHARACTERS, printable
 
@@ -43,6 +44,7 @@ class Found:
     at_least: Optional[Decimal] = None  # the least share of a difference that is shown
     check: str = ""  # the command that checks the run, if there is one
     made_from: MadeFrom = MadeFrom()
+    warnings: Optional[Warnings] = None
 
 
 def part(name: str) -> str:
@@ -67,6 +69,7 @@ first difference; contradictions.csv has them whole.</p>
 """
     yield from found.counts.html(found.refusals)
     yield from refused(found.refusals)
+    yield from found.warnings.html() if found.warnings else ()
     yield """<p class="filter" hidden><label>Rows with the words <input type="search"></label> <output></output></p>
 <div class="found"></div><div class="list">"""
     yield from contradictions(found)

@@ -104,7 +104,8 @@ class Files(Stubbed):
         self.assertEqual((done.returncode, done.stderr), (1, ""))
         self.assertEqual(done.stdout, f"{SUMMARY}; page: {self.page}\n")
         self.assertEqual(sorted(os.listdir(self.output)),
-                         ["contradictions.csv", "merged.json", "page.html", "providers.csv", "refusals.txt", "sources.txt", "table.csv", "verdicts.txt"])
+                         ["contradictions.csv", "merged.json", "page.html", "providers.csv", "refusals.txt", "sources.txt", "table.csv", "verdicts.txt",
+                          "warnings.csv"])
         self.assertEqual(content(os.path.join(self.output, "merged.json")), content(example("merged.json")))
         self.assertEqual(len(self.cells("table.csv")), 64)
         found = {cell["fact"]: (cell["identifiers"], cell["reported_by"]) for cell in self.cells("contradictions.csv")}

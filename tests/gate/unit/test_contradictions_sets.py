@@ -1,4 +1,5 @@
-"""Tests of tools/contradictions on sets of names: two spellings of a set are one value, and two sets are never one."""
+"""Tests of tools/contradictions on sets of names (two spellings of a set are one value, and two sets are never one), and on facts
+that do not fit the types of the sheet."""
 import json
 import os
 import unittest
@@ -61,6 +62,42 @@ class Sets(Stubbed):
             done = self.run_tool(self.write("merged.json", MERGED % value), self.sheet, verdicts)
             self.assertEqual(done.returncode, status, (value, done.stderr))
             self.assertEqual(b"a set that is not written as URI#LOCAL" in done.stderr, status == 3)
+
+
+TYPED = {"namespaces": {"eg": "http://a.example"}, "concepts": {"eg:B": "text", "eg:M": "numeric", "eg:P": "numeric", "eg:S": "numeric"},
+         "dimensions": {"eg:D": "typed"}, "xbrlmerge:types": {"boolean": ["eg:B"], "date": ["eg:D"]},
+         "xbrlmerge:periods": {"instant": ["eg:M"], "duration": ["eg:B", "eg:S"]},
+         "xbrlmerge:items": {"monetary": ["eg:M"], "pure": ["eg:P"], "shares": ["eg:S"]}}
+INSTANT, DURATION = "2024-01-01T00:00:00", "2023-01-01T00:00:00/2024-01-01T00:00:00"
+URIS = {"n1": "http://a.example", "n2": "http://www.xbrl.org/2003/instance", "n3": "http://www.xbrl.org/2003/iso4217"}
+VALUE, PERIOD, UNIT = "the value is not a valid boolean", "the period is not a", "the unit is not"
+# for each fact: the concept, other dimensions, the value, and the warnings
+FACTS = (
+    ("B", {"n1:D": "2023-02-30"}, "1", ["a typed member is not a valid date"]), ("B", {"n1:D": None}, "yes", [VALUE]),
+    ("B", {"period": DURATION}, " true ", []), ("B", {"period": INSTANT}, None, [f"{PERIOD} duration"]),
+    ("M", {"period": INSTANT, "unit": "n3:EUR"}, "1", []), ("M", {"unit": "n3:EUR"}, "1", [f"{PERIOD}n instant"]),
+    ("M", {"period": DURATION, "unit": "n3:EURO"}, None, [f"{PERIOD}n instant", f"{UNIT} an ISO 4217 currency"]),
+    ("M", {"period": INSTANT, "unit": "n3:EUR/n2:shares"}, "1", [f"{UNIT} an ISO 4217 currency"]),
+    ("P", {}, "1", []), ("P", {"unit": "n3:EUR"}, "1", [f"{UNIT} xbrli:pure"]), ("S", {"unit": "n2:shares"}, "1", []),
+    ("S", {"period": INSTANT}, "1", [f"{PERIOD} duration", f"{UNIT} xbrli:shares"]),
+)
+
+
+class Warned(Stubbed):
+    def test_facts_that_do_not_fit_their_types(self):
+        facts = {f"f{n:02}": {"dimensions": {"concept": f"n1:{concept}", **more}, "value": value}
+                 for n, (concept, more, value, _) in enumerate(FACTS, 1)}
+        merged = self.write("merged.json", json.dumps({"documentInfo": {"namespaces": URIS}, "facts": facts}))
+        texts = merged, self.write("sheet.json", json.dumps(TYPED)), self.write("verdicts", "".join(f"{n} {f} {f} complete\n" for n, f in enumerate(facts, 1)))
+        wanted = [(name, warning) for name, fact in zip(facts, FACTS) for warning in fact[3]]
+        done = self.run_tool(*texts)
+        self.assertEqual((done.returncode, [(cell["fact"], cell["warning"]) for cell in self.cells("warnings.csv")]), (0, wanted), done.stderr)
+        lines = done.stderr.decode().splitlines()
+        self.assertEqual(lines[1], f"contradictions: {PERIOD} duration in 2 facts, such as f04 (warnings.csv)")
+        self.assertEqual(len(lines), len({warning for _, warning in wanted}))
+        self.assertIn(f"; {len(wanted)} warnings in warnings.csv; page: ", done.stdout.decode())
+        self.assertIn(f"<li><bdi>{VALUE} in 1 fact, such as f02 (warnings.csv)</bdi>", content(self.page))
+        self.assertEqual([self.run_tool(*texts, "--fail-on", kind).returncode for kind in ("warnings", "losses")], [1, 0])
 
 
 if __name__ == "__main__":
