@@ -67,6 +67,8 @@ def wrong_source(top: str, folder: str) -> str:
         return f"{folder} cannot be written to"
     inside = os.path.relpath(os.path.realpath(folder), os.path.realpath(top))
     is_inside = not inside.startswith("..")
+    if is_inside and inside.split(os.sep)[0] in PACKED:
+        return f"{folder} is in a folder that is packed"
     if is_inside and git(top, "ls-files", "--", f":(literal){inside}"):
         return f"{folder} contains files of the checkout"
     besides = [f":(exclude,literal){inside}"] if is_inside else []

@@ -3,13 +3,12 @@
 `pip wheel python/` packs the module with the library. `./build --packages` adds the program and the tools, since pip cannot know
 whether ./xbrlmerge is built for this machine alone."""
 import base64
-import glob
 import hashlib
 import os
 import re
 import stat
 import zipfile
-from typing import Dict, List, Optional
+from typing import Dict, List, Optional, Tuple
 
 HERE = os.path.dirname(os.path.abspath(__file__))
 LIBRARY = os.path.join(HERE, "..", "lib", "libxbrlmerge.so")
@@ -19,6 +18,8 @@ SYSTEM = {b"libc.so.6", b"ld-linux-x86-64.so.2"}
 OLDEST = 5
 TIME = (1980, 1, 1, 0, 0, 0)
 TOOLS = "xbrlmerge_tools"
+# folders with files that were made, as .gitignore has them
+MADE = ("__pycache__", "out")
 # the permissions of a regular file: without its kind, pip would not make the program executable
 PLAIN, RUNS = stat.S_IFREG | 0o644, stat.S_IFREG | 0o755
 
@@ -36,6 +37,15 @@ def _read(path: str) -> bytes:
         return file.read()
 
 
+def _below(folder: str, endings: Tuple[str, ...]) -> List[str]:
+    """Returns the paths of the files below a folder whose names end as named, sorted, without those in MADE."""
+    found = []
+    for at, folders, names in os.walk(folder):
+        folders[:] = [it for it in folders if it not in MADE]
+        found += [os.path.join(at, it) for it in names if it.endswith(endings)]
+    return sorted(found)
+
+
 def _platform(binaries: List[bytes]) -> str:
     """Returns the platform tag: manylinux with the newest version of the C library that a library or program needs, but at least
     2.5. The tag is linux if one needs a library that SYSTEM lacks, or if no version is found."""
@@ -49,7 +59,7 @@ def _module(library: str) -> Dict[str, bytes]:
     """Returns the module with the library beside it, by path."""
     name = _project("name")
     files = {f"{name}/libxbrlmerge.so": _read(library)}
-    for path in sorted([*glob.glob(f"{HERE}/{name}/*.py"), f"{HERE}/{name}/py.typed"]):
+    for path in _below(os.path.join(HERE, name), (".py", "py.typed")):
         files[f"{name}/{os.path.basename(path)}"] = _read(path)
     return files
 
@@ -57,8 +67,7 @@ def _module(library: str) -> Dict[str, bytes]:
 def _commands(program: str, info: str) -> Dict[str, bytes]:
     """Returns the program and the tools, by path, and the names of the tools' commands."""
     tools = os.path.join(HERE, "..", "tools")
-    paths = sorted(it for it in glob.glob(f"{tools}/**", recursive=True) if it.endswith((".py", ".css", ".js")))
-    files = {f"{TOOLS}/{os.path.relpath(it, tools)}": _read(it) for it in paths}
+    files = {f"{TOOLS}/{os.path.relpath(it, tools)}": _read(it) for it in _below(tools, (".py", ".css", ".js"))}
     files[f"{TOOLS}/__init__.py"] = _read(f"{HERE}/{TOOLS}/__init__.py")
     names = re.findall(r"^def ([a-z]\w*)\(", files[f"{TOOLS}/__init__.py"].decode(), re.MULTILINE)
     lines = [f"xbrlmerge-{it.replace('_', '-')} = {TOOLS}:{it}" for it in names]

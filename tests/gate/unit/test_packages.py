@@ -17,7 +17,7 @@ from packing import bill, contents, debian, installation, kit, manual, release
 from packing.files import RUNS, File, folders_of, read_below
 from packing.source import Crate, Source, newest_libc, wrong_source
 from packing.tarball import tarball
-from support import content
+from support import bytes_of, content
 
 sys.path.append(os.path.join(TOP, "python"))
 import wheel_of_library
@@ -170,6 +170,17 @@ class Archives(Packages):
         for tool in contents.TOOLS:
             self.assertIn(f"\n{contents.command_of(tool)} = xbrlmerge_tools:{tool}\n", points)
 
+    def test_a_wheel_depends_on_no_name_above_it_and_has_nothing_that_was_made(self):
+        top = self.path_of("a [b]*? 'c\" $(d)\n-e%f")
+        for folder in ("python", "tools"):
+            shutil.copytree(os.path.join(TOP, folder), os.path.join(top, folder))
+        os.makedirs(os.path.join(top, "tools", "out"))
+        self.write(os.path.join(top, "tools", "out", "made.py"), "")
+        names = [wheel_of_library.make_wheel(self.scratch, self.path_of(contents.SHARED), self.path_of("program"))]
+        with mock.patch.object(wheel_of_library, "HERE", os.path.join(top, "python")):
+            names.append(wheel_of_library.make_wheel(top, self.path_of(contents.SHARED), self.path_of("program")))
+        self.assertEqual(*map(bytes_of, (self.path_of(names[0]), os.path.join(top, names[1]))))
+
     def test_the_module_alone_needs_no_program(self):
         name = wheel_of_library.make_wheel(self.scratch, self.path_of(contents.SHARED))
         with zipfile.ZipFile(self.path_of(name)) as wheel:
@@ -260,8 +271,9 @@ class Sources(Packages):
             self.assertEqual(wrong_source(top, out), "docs/page.md~ is not in the commit, and would be packed")
             self.write("top/docs/page.md", "")
             subprocess.run(["git", "-C", top, "add", "docs/page.md"], check=True)
-            for folder in (top, self.path_of("top/docs")):
-                self.assertEqual(wrong_source(top, folder), f"{folder} contains files of the checkout")
+            self.assertEqual(wrong_source(top, top), f"{top} contains files of the checkout")
+            for folder in (self.path_of("top/docs"), self.path_of("top/tools/out")):
+                self.assertEqual(wrong_source(top, folder), f"{folder} is in a folder that is packed")
 
 
 class Files(Packages):
