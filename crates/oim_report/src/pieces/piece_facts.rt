@@ -12,13 +12,12 @@ ghost use Rattle.oim_report.specs.code.Ranks.{AreRanks};
 
 use crate::fact::fact_members::FactMembers;
 use crate::fact_reader::FactReader;
-use crate::limits::{MOST_KEPT_BYTES, PIECE_BYTES};
+use crate::limits::MOST_KEPT_BYTES;
 use crate::pieces::found_facts::FoundFacts;
 use crate::unread::Unread;
 use json::{Element, Members, Scratch, Tape};
 use std::alloc::{AllocError, Global};
-
-const SPARE_NODES: usize = 64;
+use std::simd::prelude::*;
 
 /// The text of a piece and the scratch memory of its tape. They are reused for later pieces and
 /// reports.
@@ -75,12 +74,37 @@ pub(crate) fn parse_piece<'b>(
 ) -> Result<Tape<'b>, Unread>
     ensures { IfOk result (λ tape. (v : Json) × (document (alone piece.now) ≡ Some v) × BeginsWith tape v) }
 {
-    // `json` ignores a refusal when it requests memory for all nodes, so enough is requested here. A
-    // short piece may have more than one node for two bytes.
-    let nodes = Vec::with_capacity(alloc, (piece.len() / 2 + SPARE_NODES).min(PIECE_BYTES))?;
     fill_alone(&mut buffers.text, piece)?;
     let PieceBuffers { text, scratch } = buffers;
+    // `json` ignores a refusal when it requests memory for all nodes, so enough is requested here.
+    let nodes = Vec::with_capacity(alloc, most_places(text.as_bytes()))?;
     Ok(Tape::parse(text.as_str(), scratch, nodes)?)
+}
+
+// Returns at least the number of places at which `json` looks for a token: marks, and first bytes of
+// words. It requests a node for each.
+fn most_places(bytes: &[u8]) -> usize {
+    let mut count = bytes.len() % 64;
+    let mut at = 0;
+    while bytes.len() - at >= 64 {
+        count = count.saturating_add(places_in(u8x64::from_slice(&bytes[at..])));
+        at += 64;
+    }
+    count.min(bytes.len())
+}
+
+// Returns at least the number of places at the marks, and directly after each mark, quote or white
+// space.
+fn places_in(bytes: u8x64) -> usize {
+    // a brace and a bracket differ in this bit alone
+    let curly = bytes | u8x64::splat(0x20);
+    let marks = curly.simd_eq(u8x64::splat(b'{'))
+        | curly.simd_eq(u8x64::splat(b'}'))
+        | bytes.simd_eq(u8x64::splat(b':'))
+        | bytes.simd_eq(u8x64::splat(b','));
+    let others = bytes.simd_eq(u8x64::splat(b'"')) | bytes.simd_le(u8x64::splat(b' '));
+    let (marks, others) = (marks.to_bitmask(), others.to_bitmask());
+    2 * marks.count_ones() as usize + others.count_ones() as usize
 }
 
 /// Sets `buffer` to an array with one object, whose members are the piece.
