@@ -12,6 +12,7 @@ from packing.files import File, read
 from packing.running import run_tool
 from packing.source import Source, newest_libc
 from packing.tarball import tarball
+from packing.tools import PROGRAM
 
 SUMS = "SHA256SUMS"
 ABOUT = """\
@@ -24,7 +25,7 @@ Run bin/xbrlmerge, or copy bin/, lib/ and share/ into a folder such as /usr/loca
 def make(source: Source, folder: str) -> list[str]:
     """Makes the packages, and returns their paths. They appear in the folder once all are made. Errors: OSError."""
     with tempfile.TemporaryDirectory(prefix=".new-", dir=folder) as scratch:
-        new, trees, program = (os.path.join(scratch, it) for it in ("new", "trees", contents.PROGRAM))
+        new, trees, program = (os.path.join(scratch, it) for it in ("new", "trees", PROGRAM))
         os.mkdir(new)
         run_tool("strip", "-o", program, source.program)
         source = replace(source, program=program)
