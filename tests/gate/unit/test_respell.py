@@ -1,16 +1,17 @@
 """Tests of tools/respell: the respelled text, its round trip, refusals, and faults that --check must find."""
+import argparse
 import copy
 import json
 import os
 import random
 import unittest
-from unittest import mock
 
 import drawn_reports
 import in_process
 import recheck
 import respell
 from normalising.json_text import text_of, tree_of
+from normalising.options import add_losses
 from normalising.rules import Normaliser
 from respelling.rules import RULES
 from sheets import Sheet
@@ -51,9 +52,9 @@ def merged(sheet, texts):
 
 
 def normalised(sheet, text):
-    tree = tree_of(text, "")
-    options = mock.Mock(dates=None, zones=None, drop_links=False, drop_notes=False, drop_unknown=False, drop_null=False)
-    Normaliser(Sheet(json.loads(sheet)), options).normalise(tree, len(text))
+    tree, parser = tree_of(text, ""), argparse.ArgumentParser()
+    add_losses(parser, "losses")
+    Normaliser(Sheet(json.loads(sheet)), parser.parse_args([])).normalise(tree, len(text))
     return text_of(tree)
 
 
