@@ -169,6 +169,13 @@ def entities_of_a_long_uri(n, size=50_000):
     return merging(sheet(dimensions={"eg:D": "explicit"}), report(numbered(facts), bound))
 
 
+def entities_of_two_long_uris(n, size=25_000):
+    """n facts of one concept, in no order. The URIs of their entities have one length and differ in the last character."""
+    bound = {"eg": URI, **{prefix: f"{URI}/{'u' * size}{prefix}" for prefix in "uw"}}
+    facts = (fact(entity=f"{'uw'[place % 2]}:e{place:05}") for place in shuffled(range(n)))
+    return merging(sheet(), report(numbered(facts), bound))
+
+
 def sources_of_members_of_a_long_uri(n, size=50_000):
     words, files = members_of_a_long_uri(n, size)
     return ["sources", *words[1:]], files
@@ -489,6 +496,7 @@ SHAPES = {
     measures_in_no_order: 1_000,
     members_of_a_long_uri: 1_000,
     entities_of_a_long_uri: 1_000,
+    entities_of_two_long_uris: 1_000,
     sources_of_members_of_a_long_uri: 1_000,
     take_of_members_of_a_long_uri: 1_000,
     names_of_a_long_uri: 2_000,
@@ -556,6 +564,7 @@ MEGABYTES = {
     measures_in_no_order: (54_000, 490_000),
     members_of_a_long_uri: (5_200, 500_000),
     entities_of_a_long_uri: (5_200, 500_000),
+    entities_of_two_long_uris: (5_900, 250_000),
     sources_of_members_of_a_long_uri: (5_200, 500_000),
     take_of_members_of_a_long_uri: (5_200, 500_000),
     faults_of_names_of_a_long_uri: (3_400, 250_000),

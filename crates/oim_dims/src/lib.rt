@@ -18,7 +18,7 @@ mod unit_text;
 pub use dimensions::Dimensions;
 pub use fact::Fact;
 pub use language::{is_language, read_language};
-pub use long_uris::{has_long_uri, likely_order};
+pub use long_uris::{RankedUri, likely_order, rank_long_uris};
 pub use member::Member;
 pub use moment::Moment;
 pub use period::{Period, read_period, write_period};

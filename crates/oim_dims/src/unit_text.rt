@@ -73,12 +73,12 @@ fn measures(alloc: Global, aliases: &Aliases, side: &str) -> Result<Sequence<Nam
     Ok(Sequence::new(names))
 }
 
-// After the first sort, the second compares the URIs of adjacent names only. URIs may be long.
+// URIs may be long. If all measures share one, the second sort compares adjacent names only.
 fn sort(names: &mut Vec<Name>) -> Result<(), AllocError>
     ensures permutation { OnOk result (IsPermutation names.old.items names.new.items) }
     ensures sorted { OnOk result (IsSorted name_cmp names.new.items) }
 {
-    names.sort_unstable_by(|name, next| likely_name_order(name, next));
+    names.sort_unstable_by(|name, next| likely_name_order(name, next, &[]));
     names.sort()?;
     Ok(())
 }

@@ -66,7 +66,7 @@ pub(crate) fn index_of(facts: &[LentFact<'_>], guess: usize, fact: &Fact) -> usi
 }
 
 fn is_likely_less(one: &LentFact<'_>, fact: &Fact) -> bool {
-    likely_order(one.dimensions, &fact.dimensions)
+    likely_order(one.dimensions, &fact.dimensions, &[])
         .then_with(|| one.value.cmp(&fact.value))
         .is_lt()
 }

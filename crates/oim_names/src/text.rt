@@ -52,6 +52,11 @@ impl Text {
     {
         self.text.as_str()
     }
+
+    // Whether both are copies of one text. No contract depends on the result.
+    pub(crate) fn shares(&self, other: &Text) -> bool {
+        Rc::ptr_eq(&self.text, &other.text)
+    }
 }
 
 impl PartialEq for Text {

@@ -7,7 +7,7 @@ ghost use Rattle.oim_report.specs.Report.{IsOrderOf, index_cmp};
 ghost use Rattle.oim_report.specs.code.DimensionRuns.{HaveDimensionsOf};
 ghost use Rattle.oim_report.specs.code.Ranks.{OrderConcepts};
 
-use oim_dims::{Fact, has_long_uri, likely_order};
+use oim_dims::{Fact, RankedUri, likely_order, rank_long_uris};
 use std::alloc::{AllocError, Global};
 use std::cmp::Ordering;
 
@@ -29,24 +29,28 @@ pub(crate) fn order_of(
 }
 
 // Returns the index of each fact once. If a URI is long, the facts at these indices likely ascend, so
-// a sort compares few URIs.
+// a sort compares adjacent facts only.
 fn indices_of(alloc: Global, facts: &[Fact]) -> Result<Vec<usize>, AllocError>
     ensures { IfOk result (λ all. IsPermutation (range_with_len 0 (length facts.now)) all.items) }
 {
     // `collect` is not used: if its request for memory is refused, it requests a smaller amount
     let mut all: Vec<usize> = Vec::with_capacity(alloc, facts.len())?;
     all.extend(0..facts.len())?;
-    if facts.iter().any(|fact| has_long_uri(&fact.dimensions)) {
-        all.sort_unstable_by(|i, j| likely_compared(facts, *i, *j));
+    let uris = rank_long_uris(alloc, facts)?;
+    let uris = uris.as_slice();
+    if !uris.is_empty() {
+        all.sort_unstable_by(|i, j| likely_compared(facts, uris, *i, *j));
     }
     Ok(all)
 }
 
-fn likely_compared(facts: &[Fact], i: usize, j: usize) -> Ordering {
+fn likely_compared(facts: &[Fact], uris: &[RankedUri<'_>], i: usize, j: usize) -> Ordering {
     match (facts.get(i), facts.get(j)) {
-        (Some(one), Some(other)) => likely_order(&one.dimensions, &other.dimensions).then_with(
-            || one.value.cmp(&other.value),
-        ),
+        (Some(one), Some(other)) => likely_order(
+            &one.dimensions,
+            &other.dimensions,
+            uris,
+        ).then_with(|| one.value.cmp(&other.value)),
         _ => i.cmp(&j),
     }
 }
