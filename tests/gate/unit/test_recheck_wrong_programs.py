@@ -2,6 +2,7 @@
 
 A wrong program is tools/recheck itself with a rule changed, or with other bytes read. Its four texts and its status fit together.
 """
+import json
 import re
 import unittest
 from fractions import Fraction
@@ -13,6 +14,7 @@ ROW, FACT, MOMENT, NUMBERED = recheck.row_of, recheck.read_fact, recheck.read_mo
 VALUE, NUMBER, PLAIN, KEPT = recheck.read_value, recheck.read_number, recheck.plain, recheck.kept_text
 PHANTOM, REFUSED = '"http://phantom.example/"', "report 2: 1 NotJson at document\n"
 UNBOUND = "report 4: 13 UnboundPrefix at fact 15\n"
+NEEDED = re.compile("(?i)axis|language|null|transport|emissions|goodwill|equity|pershare|assurance|contingent|pure|comprehensive")
 
 
 def number(change):
@@ -102,13 +104,17 @@ PRINTS = {
     "a refusal is not printed": ({}, {"refusals": (".*\n", "")}, 1),
     "the status hides a refusal": ({}, {}, 0),
     "the status is that of a loose row": ({}, {}, 2),
-    "nothing is merged, as if a row were too loose": ({}, {"merged": (r"(?s).+", ""), "refusals": (r"\Z", "too loose: row 12\n")}, 2),
+    "nothing is merged, as if a row were too loose": ({}, {"merged": (r"(?s).+", ""), "refusals": (r"\Z", "too loose: row 10\n")}, 2),
 }
 
 
 class Judged(Examples):
     def setUp(self):
         super().setUp()
+        for name in REPORTS[:3]:  # with fewer facts, a case takes half the time
+            report = json.loads(self.files[name])
+            report["facts"] = {own: fact for own, fact in report["facts"].items() if NEEDED.search(json.dumps(fact))}
+            self.files[name] = json.dumps(report)
         self.right = self.texts()
 
     def texts(self, files=None):
@@ -164,9 +170,9 @@ class Trust(Judged):
     def test_what_is_taken_on_trust_is_listed(self):
         texts, status = self.with_reference("http://[::1]/")
         for merged in (texts["merged"], re.sub(r'("taxonomy":\[)', rf'\1{PHANTOM},', texts["merged"])):
-            done, last = self.judged({"merged": merged}, status)
+            done, last = self.judged({**texts, "merged": merged}, status)
             self.assertEqual((done, last.rpartition(": ")[2]), (1, "agree, except what is taken on trust (1)"))
-            self.assertEqual(self.judged({"merged": merged}, status, "--trust=references")[0], 0)
+            self.assertEqual(self.judged({**texts, "merged": merged}, status, "--trust=references")[0], 0)
         self.assertIn("not judged: report 3: http://[::1]/\n", self.run_on(*self.words())[1])
 
     def test_a_refusal_on_trust_is_listed(self):
@@ -181,7 +187,7 @@ class Trust(Judged):
     def test_a_lone_base_url_gives_no_reference(self):
         texts, status = self.with_reference("http://[::1]/", "baseURL")
         self.assertEqual(self.judged(texts, status)[1][-1:], ")")
-        self.assertEqual(self.judged({"merged": re.sub(r'("taxonomy":\[)', rf'\1{PHANTOM},', texts["merged"])}, status)[1][-6:], "differ")
+        self.assertEqual(self.judged({**texts, "merged": re.sub(r'("taxonomy":\[)', rf'\1{PHANTOM},', texts["merged"])}, status)[1][-6:], "differ")
 
 
 if __name__ == "__main__":
