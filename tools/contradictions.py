@@ -14,6 +14,7 @@ no merged.json:
     providers.csv       for each pair of providers, the rows that both report, that agree and that contradict each other
     warnings.csv        accepted facts that do not fit the types of the sheet: values, period types, currencies, shares
     merged.json         the merged report
+    report.json         with --respell: the merged report for other processors, as tools/respell writes it
 
 The first two forms also write verdicts.txt, sources.txt, refusals.txt and, with --normalise, the normalised reports as
 reports/NUMBER.json. The foot of the page has a command that checks the run with these files and tools/recheck.
@@ -117,6 +118,7 @@ def read_options() -> argparse.Namespace:
     parser.add_argument("-o", "--output", required=True, metavar="DIR", help="the folder for the output; it is created if needed")
     add_program(parser)
     parser.add_argument("--normalise", action="store_true", help="normalise the reports first")
+    parser.add_argument("--respell", action="store_true", help="also write the merged report for other processors")
     parser.add_argument("--labels", action="append", default=[], metavar="TAXONOMY",
                         help="show the standard labels of this package or folder; may be repeated; by default, those of --taxonomy")
     parser.add_argument("--language", default="en", help="the language of the labels, by default en")
@@ -149,8 +151,8 @@ def share(text: str) -> Decimal:
 def check(parser: Parser, options: argparse.Namespace) -> None:
     """Exits with a usage error if an option or a report's name is invalid, an output is an input, or two outputs are one file."""
     if options.texts:
-        if options.normalise or options.program:
-            parser.error("--from takes neither --normalise nor --program")
+        if options.normalise or options.program or options.respell:
+            parser.error("--from takes neither --normalise nor --program nor --respell")
         if bool(options.sources) != bool(options.names) or options.sources and (options.words or options.files):
             parser.error("use --sources and --names together, and without PROVIDER=MERGED")
         if options.names and not all(options.names.split(",")):
@@ -174,7 +176,7 @@ def check(parser: Parser, options: argparse.Namespace) -> None:
 
 def outputs_of(options: argparse.Namespace) -> list[str]:
     names = ["page.html", "contradictions.csv", "table.csv", "providers.csv", "warnings.csv", *["merged.json"] * (not options.texts)]
-    names += ["sheet.json", "sheet.types.json"] * bool(options.taxonomy)
+    names += ["sheet.json", "sheet.types.json"] * bool(options.taxonomy) + ["report.json"] * options.respell
     if not options.texts:
         names += ["changes.csv", *(f"{name}.txt" for name in LINES)]
         names += [report_file(number) for number, _ in enumerate(reports_named(options), 1)]

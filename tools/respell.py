@@ -22,10 +22,8 @@ from __future__ import annotations
 
 import argparse
 import functools
-import json
 import os
 import sys
-from typing import Any
 
 sys.dont_write_bytecode = True
 from arguments import Parser  # noqa: E402
@@ -33,7 +31,7 @@ from normalising.json_text import Repeated, read_json  # noqa: E402
 from normalising.sheet_file import sheet_at  # noqa: E402
 from process import NotDone, Status, print_lines, printable, run  # noqa: E402
 from respelling.checking import Checker  # noqa: E402
-from respelling.respelled import respelled  # noqa: E402
+from respelling.respelled import respelled, text_of  # noqa: E402
 from respelling.rules import WITH_SHEET, listed  # noqa: E402
 from text_files import LONGEST, PIECE, STANDARD, opened, shown_path  # noqa: E402
 from whole_files import write_files  # noqa: E402
@@ -83,8 +81,7 @@ def respell(options: argparse.Namespace) -> Status:
     except NotDone as fault:
         raise NotDone(f"{shown_path(merged)}: {fault}") from None
     lines = taxonomy_lines(tree["documentInfo"]["taxonomy"], options.taxonomy)
-    spaces: dict[str, Any] = {"separators": (",", ":")} if options.compact else {"indent": 2}
-    text = json.dumps(tree, ensure_ascii=False, **spaces) + "\n"
+    text = text_of(tree, options.compact)
     print_lines(lines)
     if out == STANDARD:
         sys.stdout.buffer.write(text.encode())

@@ -6,6 +6,7 @@ import os
 from dataclasses import dataclass, field
 from typing import Any, Iterator
 
+from commands import with_commands
 from contradicting.checking import LINES, command, report_file
 from contradicting.findings import Findings, counted
 from contradicting.labels import Labelled, Labels
@@ -20,6 +21,7 @@ from contradicting.sources import OwnTexts, Sources
 from contradicting.texts import Provider, Text, sheet_at
 from process import NotDone, shortened
 from program import Program
+from respelling.respelled import respelled, text_of
 from sheet_making.files import Files
 from sheet_making.limits import Limits
 from sheet_making.making import kinds_from
@@ -103,11 +105,21 @@ class Run:
         merged, verdicts, sources = map(self.program.path_of, ("merge", "verdicts", "sources"))
         check, refused = self.check(paths), (f"report {number}: {refusal}\n" for number, refusal in sorted(found[0].items()))
         lines = zip((f"{name}.txt" for name in LINES), (pieces_of_file(verdicts), pieces_of_file(sources), refused))
-        files = [("merged.json", pieces_of_file(merged)), *self.files, *lines]
+        files = [("merged.json", pieces_of_file(merged)), *self.respelled(merged), *self.files, *lines]
         refusals = self.refusals(found[0], paths)
         self.note_repeated(found[0], paths)
         return Inputs(Text(merged), sheet_at(self.program.sheet), verdicts, Sources(sources, self.reports, found[0]),
                       self.labels, refusals, files, self.findings, self.notes, check, self.program.version())
+
+    def respelled(self, merged: str) -> list[File]:
+        """Returns the merged report for other processors, if --respell is given. Errors: NotDone."""
+        if not self.options.respell:
+            return []
+        with open(merged, "rb") as file:
+            tree = respelled(file.read(), sheet_at(self.program.sheet), [])
+        if not tree["documentInfo"]["taxonomy"]:
+            self.notes.append(with_commands("report.json has no taxonomy, which xBRL-JSON 1.0 does not allow: tools/respell --taxonomy adds it"))
+        return [("report.json", iter([text_of(tree)]))]
 
     def sheet(self) -> str:
         """Returns the path of the sheet, which is made first if taxonomies are named."""

@@ -1,6 +1,7 @@
 """Respells a merged report for other processors. The report is read and written as tools/recheck does it."""
 from __future__ import annotations
 
+import json
 import re
 from typing import Any, Mapping, Sequence
 
@@ -35,6 +36,11 @@ def respelled(content: bytes, sheet: Sheet, taxonomy: Sequence[str]) -> dict[str
             "taxonomy": references or [*taxonomy]}
     trees = {own: fact_tree(fact, sets.get(own), prefixes) for own, fact in objects.items()}
     return {"documentInfo": info, "facts": trees}
+
+
+def text_of(tree: Mapping[str, Any], is_compact: bool = False) -> str:
+    spaces: dict[str, Any] = {"separators": (",", ":")} if is_compact else {"indent": 2}
+    return json.dumps(tree, ensure_ascii=False, **spaces) + "\n"
 
 
 def is_set(fact: Fact, sheet: Sheet) -> bool:

@@ -114,6 +114,9 @@ class Files(Stubbed):
         for text in ("<title>Contradictions</title>", "<h1>Contradictions</h1>", "<b>3</b>contradictions",
                      "<b>3</b>reported by one provider", "<b>13</b>agree exactly", "<b>45</b>agree within rounding", "<dt>Reported by<dd>2 of 3"):
             self.assertIn(text, content(self.page))
+        self.run_on("--respell", *REPORTS)
+        report = json.loads(content(os.path.join(self.output, "report.json")))
+        self.assertEqual(sorted(report["documentInfo"]["namespaces"]), ["ifrs-full", "iso4217", "n1", "norlake", "utr", "xbrl", "xbrli"])
 
     def test_inputs_may_be_in_the_folder_if_they_are_not_written(self):
         os.mkdir(self.output)
