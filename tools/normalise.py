@@ -6,9 +6,9 @@
 REPORT is an xBRL-JSON report; - means standard input. OUT is the new report, on one line. For OUT or CHANGES.jsonl, - means
 standard output. After --, - is a file, too. CHANGES.jsonl contains a line for each change, with the fact, the JSON pointer, the
 old value, any new value, the rule, and whether something was lost. In these lines, identifiers, URIs and texts are cut to 80
-characters. Without options, nothing that the format defines is lost. Some rules need the kind of a concept or dimension, and
-act only on names that SHEET lists. If a rule has to leave an exponent, a set or a period as it is, standard error shows where
-and why. For example, a time zone stays without --zones. docs/GUIDE.md describes the rules and the list of changes.
+characters. Without options, nothing that the format defines is lost. Some rules need the kind or type of a name, and act only on
+names that SHEET lists. If a rule leaves a part as it is, standard error shows where and why. For example, a time zone stays
+without --zones. docs/GUIDE.md describes the rules and the list of changes.
 
 --map MAP.json replaces names that are assumed to mean the same. MAP.json is an object with any of these members:
     namespaces  an object with a new URI for each old one

@@ -5,12 +5,13 @@ import argparse
 import json
 from typing import Any, Iterable, Iterator, Mapping, NamedTuple, Optional, Union
 
-from contradicting.remedies import FaultGroup, Remedy, remedy_for
+from contradicting.remedies import UNKNOWN, FaultGroup, Remedy, guess_at, remedy_for
 from names import Name
 from process import shortened
 
 MOST_LINES = 20  # the most faults of one report that are shown
 MOST_NAMES, MOST_PRINTED = 1_000, 20  # the most missing names of one kind: on the page, and in the printed lines
+MISSING = '"documentInfo" is missing'
 LACKING = {"UnknownConcept": "concept", "UnknownDimension": "dimension"}  # refusals that another sheet may avoid
 
 
@@ -52,6 +53,9 @@ class Refusals:
             names = self.lacking.get(LACKING.get(fault["name"], ""))
             if names is not None and len(names) < MOST_NAMES:
                 names[shortened(fault["part"])] = None
+        for group in [group for group in groups.values() if group.first["sentence"] == MISSING]:
+            group.line += guess_at(path)
+            groups.pop(UNKNOWN, None)  # no member of another file is to be dropped
         lines_found = [group.line_for(self.options, path) for group in groups.values()] if self.options else []
         lines = tuple(line for line, _ in lines_found) or (refusal,)
         remedies = tuple(line for line, has_option in lines_found if has_option)

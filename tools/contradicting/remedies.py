@@ -6,6 +6,7 @@ import json
 import re
 from typing import Any, Callable, Container, Mapping, NamedTuple, Optional
 
+from file_kinds import looks_like
 from names import NAME, SPACE
 from normalising import documents, moments, prefixes
 from normalising.json_text import Number, read_json
@@ -63,8 +64,16 @@ def facts_in(path: str) -> int:
     """Returns the number of facts in a report, or 0 if it is not known."""
     try:
         return len(read_json(path)["facts"])
-    except (NotDone, ValueError, LookupError, TypeError, OSError):
+    except (NotDone, LookupError, TypeError):
         return 0
+
+
+def guess_at(path: str) -> str:
+    """Returns the end of a sentence about a file that is no report: what it looks like, if that is known."""
+    try:
+        return looks_like(documents.kind_of_root(read_json(path)))
+    except (NotDone, TypeError, AttributeError):
+        return ""
 
 
 DATE = Remedy("date without a time", "dates without a time", "--dates=xbrl21")

@@ -87,6 +87,16 @@ class Remedies(in_process.RoomTest):
         ):
             self.assertEqual(remedy_for({"name": name, "part": None, "sentence": sentence}), wanted, sentence)
 
+    def test_a_file_that_is_no_report_is_not_to_lose_its_members(self):
+        faults = [{"number": number, "name": name, "identifier": None, "part": part, "sentence": sentence} for number, name, part, sentence in (
+            (2, "MemberForm", None, '"documentInfo" is missing'), (3, "UnknownMember", "data", 'the format has no member "data"'))]
+        refusals = Refusals("", argparse.Namespace(normalise=False, drop_unknown_members=False))
+        refusals.add("p", self.write("report.json", '{"data":{"documentInfo":{},"facts":{}}}'), "", faults)
+        refusals.add("p", self.path_of("nowhere"), "", faults)
+        wanted = '2 MemberForm: "documentInfo" is missing'
+        guess = "; the file looks like a report that is wrapped in another object: take out what is at /data"
+        self.assertEqual([report.groups for report in refusals.reports], [(wanted + guess,), (wanted,)])
+
     def test_a_concept_of_another_year_is_mapped_and_large_drops_are_told(self):
         faults = [{"number": 16, "name": "UnknownConcept", "identifier": f"f{n}", "part": f"o:{'AZ'[n % 2]}", "sentence": ""} for n in range(6)]
         report = {"documentInfo": {}, "facts": {f"f{n}": {} for n in range(60)}}
