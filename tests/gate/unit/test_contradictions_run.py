@@ -215,10 +215,10 @@ class Refused(Stubbed):
     def test_faults_are_grouped_with_the_option_that_mends_them(self):
         kinds = ((19, "PeriodForm", "2023-12-31", "dates without a time", ' as in "2023-12-31": ', " --dates=xbrl21"),
                  (19, "PeriodForm", "2023-12-31T00:00:00Z", "moments with a time zone", ' as in "2023-12-31T00:00:00Z": ', " --zones=utc"),
-                 (10, "Notes", "n1", "footnotes", ' as in "n1": ', " --drop-notes"),
+                 (10, "Notes", "n1", "footnotes", ' as in "n1": ', " --drop-notes, which drops 12 of 58 facts"),
                  (25, "ValueForm", 1.5, "values that are JSON numbers", "", ""),
                  (28, "DecimalsForm", "INF", "texts as decimals", ' as in "INF": ', ""),
-                 (9, "Links", {}, "facts with links", "", " --drop-links"))
+                 (9, "Links", {"l": {"g": ["f1"]}}, "facts with links", "", " --drop-links"))
         faults = [("a sentence", {"number": number, "name": name, "part": part, "identifier": f"{index}"})
                   for index in range(12) for number, name, part, *_ in kinds]
         self.refuses("report 1: 19 PeriodForm at fact 1\n", *faults)
