@@ -22,6 +22,10 @@ class Parser(argparse.ArgumentParser):
         super().__init__(prog=os.path.basename(command(tool)), description=with_commands(description or ""), usage=usage,
                          formatter_class=argparse.RawDescriptionHelpFormatter)
 
+    def add_most_output(self) -> None:
+        self.add_argument("--most-output", type=natural, metavar="BYTES", help="stop with status 3 if the output has more bytes;"
+                          " by default, 1 MiB and 16 for each byte of the inputs")
+
     def read(self) -> argparse.Namespace:
         """Returns the options. `words` contains the arguments before `--` that are not options, and `files` the arguments after
         `--`, where `-` is a file as well. Ends the tool with status USAGE if an argument is invalid."""
@@ -35,3 +39,10 @@ class Parser(argparse.ArgumentParser):
         self.print_usage(sys.stderr)
         print_lines([f"error: {message}"])
         sys.exit(Status.USAGE)
+
+
+def natural(text: str) -> int:
+    """Returns a number from 0. Errors: ValueError."""
+    if not text.isdecimal():
+        raise ValueError
+    return int(text)

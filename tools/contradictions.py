@@ -103,7 +103,7 @@ from normalising.options import add_losses, loses  # noqa: E402
 from process import Status, print_lines, printable, run  # noqa: E402
 from program import add_program, program_at  # noqa: E402
 from text_files import STANDARD  # noqa: E402
-from whole_files import files_written, new_folder  # noqa: E402
+from whole_files import OutputLimit, bytes_in, files_written, most_output, new_folder  # noqa: E402
 
 SHARE = re.compile(r"(\d{1,9}(?:\.\d{1,9})?)(%?)", re.ASCII)
 
@@ -131,6 +131,7 @@ def read_options() -> argparse.Namespace:
     look.add_argument("--exit-zero", dest="fail_on", action="store_const", const=(), help="exit with status 0 instead of 1")
     parser.add_argument("--sources", metavar="SOURCES", help="with --from: the output of `xbrlmerge sources`")
     parser.add_argument("--names", metavar="NAME,..", help="with --sources: the providers, in the order of the reports")
+    parser.add_most_output()
     parser.add_argument("words", nargs="*", metavar="[NAME=]REPORT",
                         help="the reports; with --from, PROVIDER=MERGED for each provider")
     lossy = add_losses(parser, "options of --normalise that lose something")
@@ -169,6 +170,8 @@ def check(parser: Parser, options: argparse.Namespace) -> None:
         inputs = inputs_of(options)
     except ValueError as fault:
         parser.error(str(fault))
+    if options.most_output is None:
+        options.most_output = most_output(bytes_in(inputs))
     written, read = ([os.path.realpath(path) for path in paths] for paths in (outputs_of(options), inputs))
     if len({*written}) < len(written) or {*written} & {*read}:
         parser.error("an output is an input, or two outputs are one file")
@@ -195,7 +198,7 @@ def inputs_of(options: argparse.Namespace) -> list[str]:
 def main() -> Status:
     options = read_options()
     with output_folder(options.output), locked(options.output), Progress() as progress:
-        normalised = contextlib.nullcontext() if options.texts else output_folder(os.path.join(options.output, FOLDER))
+        normalised = contextlib.nullcontext() if options.texts else output_folder(os.path.join(options.output, FOLDER), is_below=True)
         with normalised, new_folder(os.path.abspath(options.output)) as folder:
             progress.show("copying the inputs")
             snapshot = snapshot_of(options, folder)
@@ -213,8 +216,8 @@ def inputs_for(options: argparse.Namespace, snapshot: Snapshot, folder: str, pro
 def write(inputs: Inputs, options: argparse.Namespace, snapshot: Snapshot, folder: str, progress: Progress) -> Status:
     """Writes all output files, prints the notes and the summary, and returns the status. `folder` is for temporary files."""
     progress.show("reading the rows")
-    labels, names = inputs.labels, inputs.sources.names
-    near, counts, all_rows = Near(names) if options.near else None, ProviderCounts(names), AllRows(folder, names, labels)
+    labels, names, most = inputs.labels, inputs.sources.names, options.most_output
+    near, counts, all_rows = Near(names) if options.near else None, ProviderCounts(names), AllRows(folder, names, labels, most)
     warnings = Warnings(folder, inputs.sheet)
     observers: list[RowObserver] = [counts, all_rows, warnings, *([near] if near else [])]
     reader = Reader(inputs.text, inputs.sheet, inputs.sources, observers)
@@ -237,7 +240,7 @@ def write(inputs: Inputs, options: argparse.Namespace, snapshot: Snapshot, folde
     findings.add("uncompared", near.uncompared if near else 0)
     findings.add("warnings", warnings.count if options.fail_on is not KINDS else 0)  # by default, they do not change the status
     rows_text = f"{counted(counts.count, 'row')}: " + ", ".join(f"{count} {words}" for count, words in counts.lines())
-    with files_written(texts):
+    with files_written(texts, OutputLimit(options.most_output)):
         progress.clear()
         phrases = [rows_text, *findings.phrases(), *warnings.phrases()]
         print("; ".join([*phrases, f"page: {printable(os.path.join(options.output, 'page.html'))}"]), flush=True)

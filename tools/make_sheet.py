@@ -26,9 +26,9 @@ folder of a named file, or in a named package. The limits are:
     100,000 files in a package, paths of 1,024 characters, and 100 times its size plus 64 MB when unpacked
     100,000 tags in a package and one for each 4 bytes of its size, where 4 attributes count as a tag
     1,000 levels in a document, which must not have a document type, and 8,000,000 bytes in a tag or a comment
-    1,000 different lengths of uriStartString in the catalogs
+    200,000 tries of catalog rules, each of which may match a reference
     4 MB for schemas without a namespace that are read again, once for each further namespace whose schemas include them
---megabytes N replaces 64 with N, and 4 with N / 16. --tags N replaces 100,000 with N.
+--megabytes N replaces 64 with N, and 4 with N / 16. --tags N replaces 100,000 with N, and 200,000 with 2 N.
 
 Status 0: done. 1: done, but something is left out. 2: invalid arguments. 3: not done, and standard error shows why. After
 status 3, standard output contains at most a part of a sheet.
@@ -47,7 +47,7 @@ from sheet_making.limits import Limits, reading  # noqa: E402
 from sheet_making.making import kinds_in  # noqa: E402
 from sheet_making.sheet_text import Texts, union  # noqa: E402
 from text_files import LONGEST, PIECE, STANDARD, opened  # noqa: E402
-from whole_files import files_written, new_folder  # noqa: E402
+from whole_files import OutputLimit, bytes_in, files_written, most_output, new_folder  # noqa: E402
 
 LARGE = "the types are left out: they would make the sheet more than a tenth longer. Write them with --types FILE"
 
@@ -60,6 +60,7 @@ def read_options() -> argparse.Namespace:
     parser.add_argument("--tags", type=int, default=100_000, metavar="N",
                         help="the most tags in a package, besides those that its size permits, by default 100,000")
     parser.add_argument("--outside", action="store_true", help="follow references to files outside the named folders")
+    parser.add_most_output()
     parser.add_argument("--types", metavar="FILE", help="write the types, the period types and the items to this file of its own")
     parser.add_argument("words", nargs="*", metavar="INPUT", help="a schema, a package or a folder; with --union, a sheet")
     options = parser.read()
@@ -100,12 +101,14 @@ def main() -> Status:
     limits = Limits(options.megabytes, options.outside, options.tags)
     with standard_input_kept(options.inputs) as inputs:
         kinds, lines = (union(inputs, limits), []) if options.union else kinds_in(inputs, limits)
+        limit = OutputLimit(most_output(bytes_in(inputs)) if options.most_output is None else options.most_output)
     texts = Texts(kinds, is_apart=options.types is not None)
     lines += [LARGE] * (texts.is_large and options.types is None)
     print_lines(lines)
-    with files_written([(options.types, [texts.types])] if options.types else []):
+    with files_written([(options.types, [texts.types])] if options.types else [], limit):
+        sheet = b"".join(limit.encoded([texts.sheet]))
         with reading("standard output"):
-            sys.stdout.buffer.write(texts.sheet.encode())
+            sys.stdout.buffer.write(sheet)
             sys.stdout.flush()
     return Status.LOOK if lines else Status.DONE
 

@@ -44,7 +44,7 @@ from normalising.sheet_file import sheet_at  # noqa: E402
 from process import NotDone, Status, print_lines, run  # noqa: E402
 from program import Program, add_program, program_at  # noqa: E402
 from text_files import STANDARD, shown_path  # noqa: E402
-from whole_files import files_written, new_folder  # noqa: E402
+from whole_files import OutputLimit, bytes_in, files_written, most_output, new_folder  # noqa: E402
 
 
 def read_options() -> argparse.Namespace:
@@ -52,6 +52,7 @@ def read_options() -> argparse.Namespace:
     parser.add_argument("words", nargs="*", metavar="REPORT OUT CHANGES", help="the report, and the two files to write")
     parser.add_argument("--sheet", help="the sheet with the kinds of concepts and dimensions")
     add_program(parser)
+    parser.add_most_output()
     lossy = add_losses(parser, "options that lose something")
     lossy.add_argument("--map", metavar="MAP", help="replace names by this map, which is an assumption: see docs/GUIDE.md")
     options = parser.read()
@@ -95,16 +96,18 @@ def main() -> Status:
     options = read_options()
     sheet, names = sheet_at(options.sheet), read_map(options.map) if options.map else None
     tree, length = read_json_of_length(options.REPORT)
+    most = options.most_output if options.most_output is not None else most_output(length + bytes_in(filter(None, (options.sheet, options.map))))
     try:
         with program_asked(options) as program:
             log = Normaliser(sheet, options, program).normalise(tree, length, names)
     except NotDone as fault:
         raise NotDone(f"{shown_path(options.REPORT)}: {fault}") from None
     print_lines(log.left)
-    outputs = (options.OUT, [*pieces_of(tree), "\n"]), (options.CHANGES, log.lines)
-    with files_written(output for output in outputs if output[0] != STANDARD):
+    outputs = (options.OUT, [*pieces_of(tree, most), "\n"]), (options.CHANGES, log.lines)
+    limit = OutputLimit(most)
+    with files_written((output for output in outputs if output[0] != STANDARD), limit):
         for _, pieces in (output for output in outputs if output[0] == STANDARD):
-            sys.stdout.buffer.writelines(piece.encode() for piece in pieces)
+            sys.stdout.buffer.write(b"".join(limit.encoded(pieces)))
             sys.stdout.flush()
     return Status.LOOK if log.is_lossy else Status.DONE
 

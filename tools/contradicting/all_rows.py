@@ -15,10 +15,11 @@ from contradicting.rows import Row
 from contradicting.sections import hints
 from contradicting.shown import escaped, other_dimensions, period, shown, shown_label, start_of_cut, unit
 from contradicting.sources import Holder
-from contradicting.tables import DIMENSIONS, LONGEST_ROW, LONGEST_TABLE, cell, dimension_cells, length_of, line_of
+from contradicting.tables import DIMENSIONS, LONGEST_ROW, cell, dimension_cells, length_of, line_of
 from names import Name
 from process import NotDone
 from text_files import PIECE
+from whole_files import OutputLimit
 
 COLUMNS = [DIMENSIONS[0], "label", *DIMENSIONS[1:], *"verdict agreement hint reported_by not_reported_by nil_by".split()]
 MOST_PROVIDERS = 100  # if there are more, all values are in one column
@@ -44,12 +45,12 @@ ALL = ""
 class AllRows:
     """Receives all rows, and yields the table and the part of the page. Call `finish` between the two."""
 
-    def __init__(self, folder: str, names: Sequence[str], labels: Labels) -> None:
+    def __init__(self, folder: str, names: Sequence[str], labels: Labels, most: int) -> None:
         counts = collections.Counter(names)
         self.everybody = [*counts]
         self.providers = self.everybody if len(counts) <= MOST_PROVIDERS else []
         self.several = {name for name in self.providers if counts[name] > 1}  # reports
-        self.labels, self.length = labels, 0
+        self.labels, self.limit = labels, OutputLimit(most)
         self.paths = [os.path.join(folder, f"all_rows.{ending}") for ending in ("csv", "html")]
         self.table, self.page = (open(path, "w", encoding="utf-8", newline="") for path in self.paths)
         self.chunk: list[str] = []  # the waiting rows of the page; `ends` has the number and the concept of the first and the last
@@ -81,9 +82,7 @@ class AllRows:
 
     def write_line(self, cells: list[str]) -> None:
         text = line_of(cells)
-        self.length += len(text)
-        if self.length > LONGEST_TABLE:
-            raise NotDone(f"the table of all rows has more than {LONGEST_TABLE} characters")
+        self.limit.count(len(text))
         self.table.write(text)
 
     def cells(self, row: Row, own: Own, columns: Own) -> Iterator[str]:
@@ -121,6 +120,7 @@ class AllRows:
         cells += ["; ".join(shown_given(row, each, start) for each in columns.get(name, ())) for name in self.columns]
         kind = " class=apart" * (agreement_of(row) is Agreement.CONTRADICTION)
         self.chunk.append(f"<tr{kind}>" + "".join(f"<td>{each}" for each in cells) + "\n")
+        self.limit.count(len(self.chunk[-1]))
         self.ends = [*self.ends[:1], (row.number, cells[1])]
         if len(self.chunk) == CHUNK:
             self.write_chunk()

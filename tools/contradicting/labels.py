@@ -1,6 +1,7 @@
 """Reads the standard labels in taxonomies, with the reader of tools/make_sheet."""
 from __future__ import annotations
 
+import os
 from typing import Dict, Mapping, NamedTuple, Optional
 
 from names import SPACE, Name
@@ -33,6 +34,7 @@ class Labelled(Taxonomy):
         self.language = language
         self.labels: dict[Name, Label] = {}
         self.linkbases, self.unfound = {*files.linkbases()}, dict[str, None]()
+        self.located: dict[tuple[str, str], str] = {}  # as `found`, but only schemas that are read
         super().__init__(files)
 
     def link(self, element: Element, base: str) -> None:
@@ -52,8 +54,10 @@ class Labelled(Taxonomy):
     def name_at(self, href: str, base: str) -> Optional[Name]:
         """Returns the name of the element or type that `href` refers to, or None. `base` is the document that contains `href`."""
         location, _, identifier = href.partition("#")
-        path = next((path for path, _ in self.rewrites.paths_of(location, base) if path in self.read), "")
-        return self.identified.get((path, identifier))
+        key = location, os.path.dirname(base)
+        if key not in self.located:
+            self.located[key] = next((path for path, _ in self.rewrites.paths_of(location, base) if path in self.read), "")
+        return self.identified.get((self.located[key], identifier))
 
     def keep(self, name: Name, label: Label) -> None:
         if label.counts_before(self.labels.get(name)):

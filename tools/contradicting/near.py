@@ -8,7 +8,7 @@ from typing import Iterator, Mapping, NamedTuple, Optional, Sequence, Union
 from contradicting.facts import Dimensions, Fact
 from contradicting.rows import Row
 from contradicting.sources import Holders, names_of, providers
-from contradicting.tables import DIMENSIONS, Cell, cell, check_lengths, dimension_cells, value_cells
+from contradicting.tables import DIMENSIONS, Cell, cell, checked_cells, value_cells
 from names import Name
 
 COLUMNS = ["pair", "differs", "row", "fact", *DIMENSIONS, *"value nil decimals low high providers label".split()]
@@ -110,13 +110,11 @@ class Near:
 
     def table(self, pairs: list[tuple[int, int, Axis]], labels: Mapping[Name, str]) -> Iterator[Sequence[str]]:
         """Yields the lines of the table: the headings, then, for each pair, one line for each fact of its two rows."""
-        listed = (self.kept[number] for pair in pairs for number in pair[:2])
-        check_lengths((kept.dimensions, len(kept.facts)) for kept in listed)
         yield COLUMNS
         for rank, (one, other, axis) in enumerate(pairs, 1):
             for number in (one, other):
                 kept = self.kept[number]
-                dimensions, label = dimension_cells(kept.dimensions), labels.get(kept.dimensions.concept, "")
+                dimensions, label = checked_cells(kept.dimensions), labels.get(kept.dimensions.concept, "")
                 for name, fact in kept.facts.items():
                     cells: list[Cell] = [*value_cells(fact), *fact.precision(), providers(kept.holders[name]), label]
                     yield [cell(rank), cell(axis), cell(number), cell(name), *dimensions, *map(cell, cells)]

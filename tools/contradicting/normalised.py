@@ -31,7 +31,7 @@ class Normalised:
         self.normaliser, self.folder, self.is_whole = Normaliser(sheet_at(program.sheet), options, program), folder, options.normalise
         self.snapshot = snapshot
         self.maps = {provider: read_map(snapshot.of(path)) for provider, path in maps_named(options)}
-        self.table = os.path.join(folder, "changes")
+        self.table, self.most = os.path.join(folder, "changes"), options.most_output
         self.reports: list[Report] = []
         self.paths: list[str] = []
         self.faults: list[tuple[Report, list[dict[str, Tree]]]] = []  # reports with sets that cannot be respelled
@@ -61,7 +61,7 @@ class Normalised:
         self.keep(report, path if log.lines or self.is_whole else given)
         if self.paths[-1] == path:
             with open(path, "w", encoding="utf-8", newline="") as file:
-                file.writelines(pieces_of(tree))
+                file.writelines(pieces_of(tree, self.most))
         self.losses += self.write_changes(report, log)
 
     def log_of(self, report: Report, tree: Tree, length: int) -> Log:

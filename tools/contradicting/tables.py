@@ -25,7 +25,7 @@ BEFORE_FORMULA = re.compile(f"{SKIPPED}|(?<![^;|])(?=[{re.escape(SIGNS)}])")
 SEPARATOR = re.compile("[\t\r\n]")
 DIMENSIONS = "concept entity period unit language dimensions".split()
 COLUMNS = ["row", "fact", *DIMENSIONS, *"value nil decimals low high group evidence hint providers identifiers reported_by label".split()]
-LONGEST_ROW, LONGEST_TABLE = 1 << 24, 1 << 30  # the most characters of the dimensions in one row, and in a whole table
+LONGEST_ROW = 1 << 24  # the most characters of the dimensions in one row
 
 SHORT = 200  # characters
 
@@ -86,17 +86,11 @@ def guarded(found: re.Match[str]) -> str:
     return first + SEPARATOR.sub(r"\g<0>'", skipped)
 
 
-def check_lengths(rows: Iterable[tuple[Dimensions, int]]) -> None:
-    """Raises NotDone if the dimensions of one row, or the dimensions in all lines of the table, are too long. `rows` contains
-    the dimensions of each row, and the number of its lines."""
-    total = 0
-    for dimensions, facts in rows:
-        length = length_of(dimensions)
-        total += length * facts
-        if length > LONGEST_ROW:
-            raise NotDone(f"the dimensions of one row, with the URI of each name, have more than {LONGEST_ROW} characters")
-    if total > LONGEST_TABLE:
-        raise NotDone(f"the dimensions in a table, with the URI of each name, have more than {LONGEST_TABLE} characters")
+def checked_cells(of: Dimensions) -> list[str]:
+    """Returns the cells of dimensions. Errors: NotDone if they are too long for one line."""
+    if length_of(of) > LONGEST_ROW:
+        raise NotDone(f"the dimensions of one row, with the URI of each name, have more than {LONGEST_ROW} characters")
+    return dimension_cells(of)
 
 
 def length_of(dimensions: Dimensions) -> int:
@@ -122,10 +116,9 @@ def unit_text(sides: Sequence[str], unit: Sequence[Sequence[Name]], sign: str) -
 
 def table(rows: Sequence[Row], labels: Mapping[Name, str], reader: Reader) -> Iterator[Sequence[str]]:
     """Yields the lines of the table of contradictions: the headings, then one line for each fact."""
-    check_lengths((row.dimensions, len(row.facts)) for row in rows)
     yield COLUMNS
     for row in rows:
-        dimensions, label = dimension_cells(row.dimensions), labels.get(row.dimensions.concept, "")
+        dimensions, label = checked_cells(row.dimensions), labels.get(row.dimensions.concept, "")
         groups = {name: number for number, group in enumerate(row.groups, 1) for name in group}
         hints: dict[str, str] = {}
         for hint in row.hints:

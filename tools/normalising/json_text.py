@@ -7,11 +7,13 @@ from __future__ import annotations
 
 import json
 import re
+import sys
 from typing import Any, Callable, NamedTuple, Optional
 
 from file_kinds import kind_of_bytes, looks_like
 from process import NotDone, shortened
 from text_files import PIECE, NotUtf8, read_text, shown_path
+from whole_files import OutputLimit
 
 Tree = Any  # None, bool, str, Number, or a dict or list of such trees
 HALF = re.compile(r"\\u[dD][89a-fA-F]")  # an escaped half of a surrogate pair
@@ -154,9 +156,16 @@ def text_of(tree: Tree) -> str:
     return "".join(pieces_of(tree))
 
 
-def pieces_of(tree: Tree) -> list[str]:
+def pieces_of(tree: Tree, most: int = sys.maxsize) -> list[str]:
+    """Returns the pieces of a tree's text. Errors: NotDone if they have more than `most` characters."""
     pieces: list[str] = []
-    put(tree, pieces.append)
+    limit = OutputLimit(most)
+
+    def write(piece: str) -> None:
+        limit.count(len(piece))
+        pieces.append(piece)
+
+    put(tree, write)
     return pieces
 
 

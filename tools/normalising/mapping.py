@@ -101,6 +101,7 @@ class ReportMap(Prefixes):
         self.namespaces.update(self.uris)
         self.prefixes = {uri: prefix for prefix, uri in self.uris.items() if prefix}
         self.seen: dict[tuple[str, Name], Name] = {}
+        self.spellings: dict[Name, str] = {}  # a long name that is repeated takes memory once
 
     def uri_after(self, uri: str) -> str:
         return self.given.namespaces.get(uri, uri)
@@ -156,4 +157,4 @@ class ReportMap(Prefixes):
             prefix = self.unused("map")
             self.prefixes[name.uri] = prefix
             self.uris[prefix] = self.namespaces[prefix] = name.uri
-        return f"{self.prefixes[name.uri]}:{name.local}"
+        return self.spellings.setdefault(name, f"{self.prefixes[name.uri]}:{name.local}")

@@ -6,7 +6,7 @@ import functools
 import os
 import re
 from dataclasses import dataclass
-from typing import Iterator
+from typing import Iterator, Optional
 from urllib.parse import unquote
 
 from names import Name
@@ -14,9 +14,6 @@ from sheet_making.xml_reading import Element, Visitor
 
 REWRITE = Name("urn:oasis:names:tc:entity:xmlns:xml:catalog", "rewriteURI")
 ABSOLUTE = re.compile(r"[A-Za-z][A-Za-z0-9+.-]*:")  # the scheme of an absolute URI (RFC 3986, section 3.1)
-MOST_LENGTHS = 1_000  # different lengths of uriStartString; a lookup may try each
-MOST_RULES = 100  # rules with one uriStartString; a lookup may try each
-
 
 @dataclass(frozen=True)
 class Rewrite:
@@ -27,29 +24,52 @@ class Rewrite:
     catalog: str
 
 
-class Rules:
-    """Rules by their `start`."""
+class Tries:
+    """Counts how often rules are tried, because packages may have many rules and many references."""
 
-    def __init__(self) -> None:
-        self.rules: dict[str, list[Rewrite]] = {}
-        self.lengths: list[int] = []  # the different lengths, the shortest first
+    def __init__(self, most: int) -> None:
+        self.most, self.count = most, 0
+
+    def add(self) -> None:
+        self.count += 1
+        if self.count > self.most:
+            raise ValueError(f"with it, rules of catalogs are tried more than {self.most} times (make_sheet --tags)")
+
+
+class Rules:
+    """Rules by their `start`. Equal rules count once."""
+
+    def __init__(self, tries: Tries) -> None:
+        self.tries = tries
+        self.rules: dict[str, dict[Rewrite, None]] = {}
+        self.starts: list[str] = []  # sorted, once all rules are known
+        self.outer: dict[str, Optional[str]] = {}  # the longest other start with which a start begins
 
     def add(self, rule: Rewrite) -> None:
-        rules = self.rules.setdefault(rule.start, [])
-        rules.append(rule)
-        if len(rules) > MOST_RULES:
-            raise ValueError(f"more than {MOST_RULES} rules have one uriStartString")
-        at = bisect.bisect_left(self.lengths, len(rule.start))
-        if self.lengths[at : at + 1] != [len(rule.start)]:
-            self.lengths.insert(at, len(rule.start))
-        if len(self.lengths) > MOST_LENGTHS:
-            raise ValueError(f"the uriStartStrings have more than {MOST_LENGTHS} different lengths")
+        self.rules.setdefault(rule.start, {})[rule] = None
+
+    def sort(self) -> None:
+        self.starts, around = sorted(self.rules), list[str]()
+        for start in self.starts:
+            while around and not start.startswith(around[-1]):
+                around.pop()
+            self.outer[start] = around[-1] if around else None
+            around.append(start)
 
     def rules_of(self, location: str) -> Iterator[Rewrite]:
-        """Returns the rules whose start matches: those with longer starts first, and those with one start in their order."""
-        lengths = self.lengths[: bisect.bisect_right(self.lengths, len(location))]
-        for length in reversed(lengths):
-            yield from self.rules.get(location[:length], ())
+        """Returns the rules whose start matches: those with longer starts first, and those with one start in their order.
+
+        The sorted start before the location begins with all starts that match."""
+        if len(self.starts) < len(self.rules):
+            self.sort()
+        at = bisect.bisect_right(self.starts, location)
+        start = self.starts[at - 1] if at else None
+        while start is not None:
+            self.tries.add()
+            for rule in self.rules[start] if location.startswith(start) else ():
+                self.tries.add()
+                yield rule
+            start = self.outer[start]
 
 
 class Rewrites(Visitor):
@@ -60,8 +80,9 @@ class Rewrites(Visitor):
     of one publisher may have rules with the same start, so several rules are tried.
     """
 
-    def __init__(self) -> None:
-        self.all = Rules()
+    def __init__(self, most_tries: int) -> None:
+        self.tries = Tries(most_tries)
+        self.all = Rules(self.tries)
         self.own: dict[str, Rules] = {}  # by the folder of the package
         self.catalog = ""
         self.rules_around = functools.lru_cache(maxsize=None)(self.rules_at)
@@ -70,7 +91,7 @@ class Rewrites(Visitor):
         """Returns itself, and adds the rules that it then visits to those of this catalog. Open all catalogs before the first
         call of `paths_of`."""
         self.catalog = catalog
-        self.own[os.path.dirname(os.path.dirname(catalog))] = Rules()
+        self.own[os.path.dirname(os.path.dirname(catalog))] = Rules(self.tries)
         return self
 
     def start(self, element: Element, level: int) -> None:
@@ -85,7 +106,7 @@ class Rewrites(Visitor):
         """Returns the rules of the package that contains a folder. Without a package, they are empty."""
         while folder not in self.own and os.path.dirname(folder) != folder:
             folder = os.path.dirname(folder)
-        return self.own.get(folder) or Rules()
+        return self.own.get(folder) or Rules(self.tries)
 
     def paths_of(self, location: str, base: str) -> Iterator[tuple[str, str]]:
         """Returns the paths that `location` may name in the document at `base`, the one that counts first. With each path, returns

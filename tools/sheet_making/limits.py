@@ -28,6 +28,11 @@ class Limits:
         """How many bytes of schemas without a namespace may be read again for further namespaces."""
         return self.file // 16
 
+    @property
+    def tries(self) -> int:
+        """How often rules of catalogs may be tried."""
+        return 2 * self.tags
+
 
 @contextlib.contextmanager
 def reading(path: str) -> Iterator[None]:

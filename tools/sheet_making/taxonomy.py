@@ -1,6 +1,7 @@
 """The declarations in the schemas of a taxonomy."""
 from __future__ import annotations
 
+import os
 from typing import Optional
 
 from names import SPACE, Name
@@ -21,12 +22,13 @@ class Taxonomy:
     """The elements and types in the named schemas, and in all schemas that these refer to, directly or through others."""
 
     def __init__(self, files: Files) -> None:
-        self.files, self.rewrites = files, Rewrites()
+        self.files, self.rewrites = files, Rewrites(files.limits.tries)
         self.elements: dict[Name, Declaration] = {}
         self.types: dict[Name, Derivation] = {}
         self.spelled = Spelled()
         self.identified: dict[tuple[str, str], Name] = {}  # elements and types by their files and identifiers
         self.domains: dict[Name, tuple[str, str]] = {}  # the files and identifiers of typed domains, by dimension
+        self.found: dict[tuple[str, str], Optional[str]] = {}  # paths by locations and the folders of the documents that refer to them
         self.read: dict[str, set[Optional[str]]] = {}  # paths, with the namespaces for which they were read
         self.targets: dict[str, Optional[str]] = {}  # paths, with the namespaces that the schemas name
         self.read_again = 0  # bytes of schemas without a namespace, counted for each further namespace
@@ -71,8 +73,11 @@ class Taxonomy:
 
     def found_at(self, location: str, base: str) -> Optional[str]:
         """Returns the path of the file at `location`, to which the document at `base` refers, or None."""
-        paths = self.rewrites.paths_of(location, base)
-        return next((path for path, origin in paths if self.files.is_found(path, origin)), None)
+        key = location, os.path.dirname(base)
+        if key not in self.found:
+            paths = self.rewrites.paths_of(location, base)
+            self.found[key] = next((path for path, origin in paths if self.files.is_found(path, origin)), None)
+        return self.found[key]
 
     def link(self, element: Element, base: str) -> None:
         """Receives a reference to a linkbase in the schema at `base`."""

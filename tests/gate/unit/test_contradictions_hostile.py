@@ -82,7 +82,7 @@ class Hostile(ToolTest):
                 words = {at: self.kept_words(made(at), is_near) for at in (size, 4 * size)}
 
                 def run(at):
-                    self.assertIn(in_process.run(contradictions, *words[at])[0], (0, 1))
+                    self.assertIn(in_process.run(contradictions, "--most-output", "1000000000", *words[at])[0], (0, 1))
 
                 self.assertLess(in_process.growth(run, size), 9)
 
@@ -169,10 +169,10 @@ class Hostile(ToolTest):
             self.assertEqual(line_of(cells), made.getvalue())
 
     def test_a_table_that_would_be_too_long_is_refused_before_it_is_written(self):
-        for limit, wanted in (("LONGEST_ROW", "one row"), ("LONGEST_TABLE", "a table")):
-            with in_process.mock.patch.dict(in_process.sys.modules["contradicting.tables"].__dict__, {limit: 12_000}):
-                facts = [number(each, unit="l:a*l:b*l:c") for each in range(2)]
-                status, line = in_process.run(contradictions, *self.words(facts))
+        facts = [number(each, unit="l:a*l:b*l:c") for each in range(2)]
+        for limit, words, wanted in ((12_000, (), "one row"), (1 << 24, ("--most-output", "20000"), "--most-output BYTES sets the bound")):
+            with in_process.mock.patch.dict(in_process.sys.modules["contradicting.tables"].__dict__, {"LONGEST_ROW": limit}):
+                status, line = in_process.run(contradictions, *words, *self.words(facts))
                 self.assertEqual((status, os.path.exists(self.output)), (3, False))
                 self.assertIn(wanted, line)
 

@@ -6,6 +6,7 @@ import resource
 import signal
 import subprocess
 import sys
+import time
 import tracemalloc
 import unittest
 import zipfile
@@ -18,6 +19,8 @@ from test_make_sheet import ITEM, SCHEMA, TOOL, ToolTest, run
 
 from contradicting.labels import read_labels
 from sheet_making import files, packages
+from sheet_making.limits import Limits
+from sheet_making.taxonomy import Taxonomy
 
 HEAD = '<xs:element name="{}" type="xbrli:stringItemType" substitutionGroup="{}"/>'
 TYPE = '<xs:complexType name="{}"><xs:simpleContent><xs:restriction base="{}"/></xs:simpleContent></xs:complexType>'
@@ -205,11 +208,26 @@ class Long(HostileTest):
             self.refused("more than 4 files", package)
         self.refused("a path of more than 1024 characters", self.pack({"a" * 1_100 + ".xsd": SCHEMA % ""}))
 
-    def test_lengths_of_rewrites(self):
-        rules = "".join(REWRITE.format("b" * length, "../") for length in range(1, 1_002))
-        self.refused("more than 1000 different lengths", self.pack({"META-INF/catalog.xml": CATALOG % rules}))
-        rules = REWRITE.format("b:", "../") * 101
-        self.refused("more than 100 rules have one uriStartString", self.pack({"META-INF/catalog.xml": CATALOG % rules}))
+    def test_rules_and_references_are_no_product(self):
+        references = each(INCLUDE, 200, f"b:{'b' * 100}{{0}}.xsd")
+        for prefix, wanted in (("x{0}/", "a.xsd: with it, rules of catalogs are tried more than 200000 times"), ("../", "is not in the named files")):
+            rules = "".join(each(REWRITE, 100, "b:" + "b" * length, prefix) for length in range(100))
+            package = self.pack({"META-INF/catalog.xml": CATALOG % rules, "a.xsd": SCHEMA % references})
+            started = time.process_time()
+            status, lines = in_process.run(make_sheet, package)
+            self.assertEqual((status, wanted in lines, time.process_time() - started < 4), (3, True, True), lines)
+
+    def test_the_rule_with_the_longest_start_counts_first(self):
+        starts = ("b:", "b:c", "b:c/", "b:d", "b:c/e/f", "a:", "b:c0")
+        rules = "".join(REWRITE.format(start, f"../r{number}/") for number, start in enumerate(starts))
+        for location, order in (("b:c/e/f.xsd", "r4/.xsd r2/e/f.xsd r1/e/f.xsd r0/c/e/f.xsd"), ("b:c.xsd", "r1/.xsd r0/c.xsd")):
+            order = order.split()
+            for number, path in enumerate(order):
+                made = {path: SCHEMA % "" for path in order[number:]}
+                package = self.pack({"META-INF/catalog.xml": CATALOG % rules, "a/a.xsd": SCHEMA % INCLUDE.format(location), **made})
+                taxonomy = Taxonomy(files.Files([package], Limits()))
+                found = taxonomy.found_at(location, os.path.join(package, "a", "a.xsd"))
+                self.assertEqual(os.path.relpath(found, package), path)
 
 
 class Packages(HostileTest):

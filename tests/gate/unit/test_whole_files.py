@@ -17,14 +17,22 @@ import sys, time
 sys.dont_write_bytecode = True
 sys.path.insert(0, {TOOLS!r})
 from process import Status, run
-from whole_files import write_files
+from whole_files import files_written
 def pieces():
     yield "first"
     print("ready", flush=True)
     while True:
         time.sleep(0.01)
-run(lambda: write_files([(sys.argv[1], ["x"]), (sys.argv[2], pieces())]) or Status.DONE)
+def write():
+    with files_written([(sys.argv[1], ["x"]), (sys.argv[2], pieces())]):
+        return Status.DONE
+run(write)
 """
+
+
+def write_files(texts, most=sys.maxsize):
+    with whole_files.files_written(texts, whole_files.OutputLimit(most)):
+        pass
 
 
 class WholeFiles(RoomTest):
@@ -47,7 +55,7 @@ class WholeFiles(RoomTest):
 
     def test_files_are_made_and_replaced(self):
         self.put(self.first)
-        whole_files.write_files([(self.first, ["n", "ew"]), (self.second, ["new"])])
+        write_files([(self.first, ["n", "ew"]), (self.second, ["new"])])
         self.assertEqual(self.texts(), {"first": "new", "second": "new"})
 
     def test_the_mode_is_kept_without_setuid_and_setgid(self):
@@ -55,9 +63,9 @@ class WholeFiles(RoomTest):
         self.addCleanup(os.umask, before)
         for mode, kept in ((0o640, 0o640), (0o4755, 0o755), (0o2755, 0o755), (0o666, 0o666)):
             self.put(self.first, mode=mode)
-            whole_files.write_files([(self.first, ["new"])])
+            write_files([(self.first, ["new"])])
             self.assertEqual(stat.S_IMODE(os.stat(self.first).st_mode), kept)
-        whole_files.write_files([(self.second, ["new"])])
+        write_files([(self.second, ["new"])])
         self.assertEqual(stat.S_IMODE(os.stat(self.second).st_mode), 0o644)
 
     def test_no_other_user_can_open_a_new_file_before_it_has_its_mode(self):
@@ -68,14 +76,14 @@ class WholeFiles(RoomTest):
 
         seen = []
         self.put(self.first, mode=0o600)
-        whole_files.write_files([(self.first, pieces())])
+        write_files([(self.first, pieces())])
         self.assertEqual((seen, stat.S_IMODE(os.stat(self.first).st_mode)), ([0o700], 0o600))
 
     @unittest.skipIf(os.geteuid(), "only root may give a file to another user")
     def test_owner_and_group_are_kept(self):
         self.put(self.first, mode=0o4755)
         os.chown(self.first, 65534, 65533)
-        whole_files.write_files([(self.first, ["new"])])
+        write_files([(self.first, ["new"])])
         file = os.stat(self.first)
         self.assertEqual((file.st_uid, file.st_gid, stat.S_IMODE(file.st_mode)), (65534, 65533, 0o755))
 
@@ -91,7 +99,7 @@ class WholeFiles(RoomTest):
         for has_links in (True, False):
             refused = mock.patch("os.link", side_effect=None if has_links else OSError, wraps=os.link)
             with refused, mock.patch("os.replace", replace), self.assertRaises(PermissionError):
-                whole_files.write_files([(path, ["new"]) for path in (self.first, self.second, third)])
+                write_files([(path, ["new"]) for path in (self.first, self.second, third)])
             self.assertEqual(self.texts(), {"first": "old"})
 
     def test_a_fault_leaves_every_place_as_it_was(self):
@@ -101,33 +109,69 @@ class WholeFiles(RoomTest):
 
         self.put(self.first)
         with self.assertRaises(ValueError):
-            whole_files.write_files([(self.first, ["new"]), (self.second, pieces())])
+            write_files([(self.first, ["new"]), (self.second, pieces())])
         with self.assertRaises(UnicodeEncodeError):
-            whole_files.write_files([(self.first, ["new"]), (self.second, ["\ud800"])])
+            write_files([(self.first, ["new"]), (self.second, ["\ud800"])])
         with self.assertRaises(OSError):
-            whole_files.write_files([(self.first, ["new"]), (self.scratch, ["new"])])
+            write_files([(self.first, ["new"]), (self.scratch, ["new"])])
         with self.assertRaises(OSError):
-            whole_files.write_files([(self.first, ["new"]), (os.path.join(self.scratch, ".", "first"), ["newer"])])
+            write_files([(self.first, ["new"]), (os.path.join(self.scratch, ".", "first"), ["newer"])])
         self.assertEqual(self.texts(), {"first": "old"})
 
     def test_files_of_other_runs_stay(self):
         others = [self.first + f".{os.getpid()}.new", self.path_of(".new-other")]
         for other in others:
             self.put(other)
-        whole_files.write_files([(self.first, ["new"])])
+        write_files([(self.first, ["new"])])
         self.assertEqual(self.texts(), {"first": "new", **dict.fromkeys(map(os.path.basename, others), "old")})
 
     def test_a_name_of_255_bytes(self):
         path = os.path.join(self.scratch, "ö" * 127 + "x")
-        whole_files.write_files([(path, ["new"])])
+        write_files([(path, ["new"])])
         self.assertEqual(self.texts(), {os.path.basename(path): "new"})
 
-    def test_a_link_is_followed(self):
+    def test_no_link_is_followed(self):
         self.put(self.first)
-        os.symlink(self.first, self.second)
-        whole_files.write_files([(self.second, ["new"])])
-        self.assertTrue(os.path.islink(self.second))
-        self.assertEqual(self.texts(), {"first": "new", "second": "new"})
+        for target in (self.first, self.path_of("nowhere"), "first", self.scratch):
+            os.symlink(target, self.second)
+            with self.assertRaisesRegex(OSError, "second exists and is not a file that can be replaced"):
+                write_files([(self.path_of("third"), ["new"]), (self.second, ["new"])])
+            self.assertEqual((os.readlink(self.second), sorted(os.listdir(self.scratch))), (target, ["first", "second"]))
+            os.unlink(self.second)
+        self.assertEqual(self.texts(), {"first": "old"})
+        os.mkdir(self.path_of("real"))
+        os.symlink("real", self.path_of("linked"))  # the user names this folder
+        write_files([(self.path_of("linked/file"), ["new"])])
+        self.assertEqual(os.listdir(self.path_of("real")), ["file"])
+
+    def test_paths_stay_below_their_folder(self):
+        os.symlink("/etc", self.path_of("linked"))
+        os.mkdir(self.path_of("a"))
+        self.assertEqual(whole_files.below(self.scratch, "a/b"), self.path_of("a/b"))
+        for path in ("", "/abs", "../a", "a/../../b", "a/..", "..", ".", "a/", "./a", "a//b", "linked/passwd"):
+            with self.assertRaises(OSError, msg=path):
+                whole_files.below(self.scratch, path)
+
+    def test_the_output_of_all_files_is_limited(self):
+        for most in (7, 6):
+            self.put(self.first)
+            texts = [(self.first, ["é", "ew"]), (self.second, iter("new"))]
+            if most == 7:
+                write_files(texts, most)
+            else:
+                with self.assertRaisesRegex(process.NotDone, "more than 6 bytes; --most-output BYTES sets the bound"):
+                    write_files(texts, most)
+        self.assertEqual(self.texts(), {"first": "old", "second": "new"})
+        self.assertEqual(whole_files.bytes_in([self.first, self.scratch, self.path_of("nowhere")]), 9)
+
+    def test_leftovers_of_killed_runs_are_removed(self):
+        for name in (".new-abcd_123", ".new-other", ".new-ABCD1234", "new-abcd1234"):
+            os.mkdir(self.path_of(name))
+        self.put(self.path_of(".new-abcd_123/new"))
+        self.put(self.path_of(".new-12345678"))
+        os.symlink(self.path_of(".new-other"), self.path_of(".new-linked12"))
+        whole_files.remove_leftovers(self.scratch)
+        self.assertEqual(sorted(os.listdir(self.scratch)), [".new-12345678", ".new-ABCD1234", ".new-linked12", ".new-other", "new-abcd1234"])
 
     def test_a_signal_leaves_nothing_behind(self):
         self.put(self.first)
@@ -150,7 +194,7 @@ class WholeFiles(RoomTest):
             removed(path, **options)
 
         with mock.patch("shutil.rmtree", stopped_at_first), self.assertRaises(process.Stopped):
-            whole_files.write_files([(self.first, ["new"])])
+            write_files([(self.first, ["new"])])
         self.assertEqual(self.texts(), {"first": "new"})
 
 
