@@ -103,7 +103,7 @@ def main() -> Status:
         kinds, lines = (union(inputs, limits), []) if options.union else kinds_in(inputs, limits)
         limit = OutputLimit(most_output(bytes_in(inputs)) if options.most_output is None else options.most_output)
     texts = Texts(kinds, is_apart=options.types is not None)
-    lines += [LARGE] * (texts.is_large and options.types is None)
+    lines += [LARGE] * texts.is_large
     print_lines(lines)
     with files_written([(options.types, [texts.types])] if options.types else [], limit):
         sheet = b"".join(limit.encoded([texts.sheet]))

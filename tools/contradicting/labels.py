@@ -57,7 +57,7 @@ class Labelled(Taxonomy):
         key = location, os.path.dirname(base)
         if key not in self.located:
             self.located[key] = next((path for path, _ in self.rewrites.paths_of(location, base) if path in self.read), "")
-        return self.identified.get((self.located[key], identifier))
+        return self.identified.get(self.located[key], {}).get(identifier)
 
     def keep(self, name: Name, label: Label) -> None:
         if label.counts_before(self.labels.get(name)):

@@ -44,7 +44,7 @@ def locked(path: str) -> Iterator[None]:
                 fcntl.flock(folder, fcntl.LOCK_EX | fcntl.LOCK_NB)
             except BlockingIOError:
                 raise NotDone(f"another run writes to {path}: wait until it ends, or name another folder") from None
-            for each in (path, os.path.join(path, FOLDER)):
+            for each in (os.path.realpath(path), os.path.join(path, FOLDER)):
                 remove_leftovers(each)
         yield
     finally:

@@ -90,13 +90,16 @@ class Kinds:
 
     def add(self, name: Name, judgement: Judgement) -> None:
         self.tables[judgement.table][name] = judgement.kind
-        for member, group in ((TYPES, judgement.type), (PERIODS, judgement.period), (ITEMS, judgement.item)):
-            if group in GROUPS[member]:
-                self.types.add(member, name, group)
+        if judgement.type:
+            self.types.add(TYPES, name, judgement.type)
+        if judgement.period in GROUPS[PERIODS]:
+            self.types.add(PERIODS, name, judgement.period)
+        if judgement.item:
+            self.types.add(ITEMS, name, judgement.item)
 
 
 class Judgement(NamedTuple):
-    """How a sheet lists an element. Groups that a sheet does not have are not listed."""
+    """How a sheet lists an element. Only the period may be one that no sheet lists."""
 
     table: str
     kind: str

@@ -1,8 +1,9 @@
 """Reads one schema: its declarations, and its references to other schemas."""
 from __future__ import annotations
 
+import functools
 import sys
-from dataclasses import dataclass, field
+from dataclasses import dataclass
 from typing import NamedTuple, Optional
 
 from names import PART, SPACE, Name
@@ -28,6 +29,12 @@ class Derivation(NamedTuple):
     space: Optional[str] = None  # the facet whiteSpace
 
 
+@functools.lru_cache(1_000)
+def based_on(base: Optional[Name]) -> Derivation:
+    """Returns a derivation that many elements share."""
+    return Derivation(base)
+
+
 class Declaration(NamedTuple):
     """The declaration of an element in a schema, with the parts that a sheet needs."""
 
@@ -47,7 +54,7 @@ class Part:
     is_type: bool
     head: Optional[Name] = None
     type: Optional[Name] = None  # the type, or the base of the type that is declared inside or is the part
-    parts: dict[Name, None] = field(default_factory=dict)
+    parts: Optional[dict[Name, None]] = None
     space: Optional[str] = None
     is_abstract: bool = False
     domain: Optional[str] = None
@@ -57,7 +64,7 @@ class Part:
     base_level: int = 0  # the level of the derivation that was found
 
     def derivation(self) -> Derivation:
-        return Derivation(self.type, tuple(self.parts), self.space)
+        return Derivation(self.type, tuple(self.parts or ()), self.space) if self.parts or self.space else based_on(self.type)
 
     def declaration(self) -> Declaration:
         return Declaration(self.head, self.derivation(), self.is_abstract, self.domain, self.period)
@@ -126,8 +133,11 @@ class SchemaVisitor(Visitor):
     def open_element(self, element: Element, part: Part) -> None:
         part.head, part.type = (self.expanded(element, key) for key in ("substitutionGroup", "type"))
         part.is_abstract = (element.get("abstract") or "").strip(SPACE) in ("true", "1")
-        part.domain = element.get_in(XBRLDT, "typedDomainRef")
-        part.period = (element.get_in(XBRLI, "periodType") or "").strip(SPACE)
+        for key in element.attributes:
+            if key.endswith(":typedDomainRef"):
+                part.domain = element.get_in(XBRLDT, "typedDomainRef")
+            elif key.endswith(":periodType"):
+                part.period = sys.intern((element.get_in(XBRLI, "periodType") or "").strip(SPACE))
 
     def open_type(self, element: Element, level: int, part: Part) -> None:
         part.type, part.type_level, part.base_level = ANY_TYPE, level, 0
@@ -144,6 +154,7 @@ class SchemaVisitor(Visitor):
                 part.type, part.base_level = base, level
             if part.facet_level - part.type_level == 2:
                 named = [element.get(key) or "" for key in ("base", "itemType", "memberTypes")]
+                part.parts = part.parts or {}
                 part.parts.update((self.expanded_text(text, element), None) for text in " ".join(named).split())
         elif element.name == SPACE_FACET and level == part.facet_level:
             part.space = element.get("value")

@@ -33,7 +33,8 @@ def union(paths: Iterable[str], limits: Limits) -> Kinds:
                         raise NotDone(f"{path}: {name.shown()} is {kind}, but {before} in an earlier sheet")
             for member, groups in sheet.types.items():
                 for name, group in groups.items():
-                    kinds.types.add(member, name, group)
+                    if name in sheet.concepts or name in sheet.dimensions:
+                        kinds.types.add(member, name, group)
     return kinds
 
 
@@ -47,24 +48,23 @@ def sheet_at(path: str, limits: Limits) -> Sheet:
 class Texts:
     """The text of a sheet, and of a file with all types. Names are sorted.
 
-    A concept of the kind set is listed as a text, and also under SETS. Unless `is_apart`, the sheet also lists TYPES, if they make a long sheet at most a SHARE-th longer.
+    A concept of the kind set is listed as a text, and also under SETS. Unless the types are apart, the sheet also lists TYPES, if they
+    make a long sheet at most a SHARE-th longer.
     """
 
     def __init__(self, kinds: Kinds, is_apart: bool) -> None:
-        names = {name for table in kinds.tables.values() for name in table}
-        self.prefixes = kinds.spelled.for_uris({name.uri for name in names})
+        self.prefixes = kinds.spelled.for_uris({name.uri for table in kinds.tables.values() for name in table})
         start = {"namespaces": {prefix: uri for uri, prefix in self.prefixes.items()}}
         tables = {table: self.spelled(kinds.tables[table]) for table in TABLES}
         sets = [name for name, kind in tables["concepts"].items() if kind == "set"]
         tables["concepts"].update(dict.fromkeys(sets, "text"))
         sheet: dict[str, Any] = {**start, **tables, **({SETS: sets} if sets else {})}
-        known = {member: {name: group for name, group in of.items() if name in names} for member, of in kinds.types.items()}
-        groups = {member: grouped(self.spelled(of), GROUPS[member]) for member, of in known.items()}
-        self.sheet, listed = text_of(sheet), text_of({**sheet, TYPES: groups[TYPES]})
-        self.types = text_of({**start, **groups})
-        self.is_large = len(listed) - len(self.sheet) > max(SMALL, len(self.sheet) // SHARE)
-        if groups[TYPES] and not self.is_large and not is_apart:
-            self.sheet = listed
+        groups = {member: grouped(self.spelled(of), GROUPS[member]) for member, of in kinds.types.items() if is_apart or member == TYPES}
+        self.sheet, self.types = text_of(sheet), text_of({**start, **groups}) if is_apart else ""
+        listed = "" if is_apart or not groups[TYPES] else text_of({TYPES: groups[TYPES]})
+        self.is_large = len(listed) > max(SMALL, len(self.sheet) // SHARE)
+        if listed and not self.is_large:
+            self.sheet = f"{self.sheet[:-2]},{listed[1:]}"
 
     def spelled(self, of: Mapping[Name, str]) -> dict[str, str]:
         return dict(sorted((f"{self.prefixes[name.uri]}:{name.local}", kind) for name, kind in of.items()))

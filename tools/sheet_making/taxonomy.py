@@ -26,7 +26,7 @@ class Taxonomy:
         self.elements: dict[Name, Declaration] = {}
         self.types: dict[Name, Derivation] = {}
         self.spelled = Spelled()
-        self.identified: dict[tuple[str, str], Name] = {}  # elements and types by their files and identifiers
+        self.identified: dict[str, dict[str, Name]] = {}  # elements and types by their files and identifiers
         self.domains: dict[Name, tuple[str, str]] = {}  # the files and identifiers of typed domains, by dimension
         self.found: dict[tuple[str, str], Optional[str]] = {}  # paths by locations and the folders of the documents that refer to them
         self.read: dict[str, set[Optional[str]]] = {}  # paths, with the namespaces for which they were read
@@ -93,7 +93,7 @@ class Taxonomy:
         if not is_same:
             raise ValueError(f"{part.name.shown()} is declared in two ways")
         if part.identifier is not None:
-            self.identified[path, part.identifier] = part.name
+            self.identified.setdefault(path, {})[part.identifier] = part.name
         if part.domain is not None:
             self.domains[part.name] = self.domain_at(part.domain, path)
 
@@ -107,7 +107,7 @@ class Taxonomy:
 
     def typed_domains(self) -> dict[Name, Optional[Name]]:
         """Returns the elements that are the domains of typed dimensions. An element that is not found is None."""
-        found = {name: self.identified.get(domain) for name, domain in self.domains.items()}
+        found = {name: self.identified.get(path, {}).get(identifier) for name, (path, identifier) in self.domains.items()}
         return {name: domain if domain in self.elements else None for name, domain in found.items()}
 
     def without_namespace(self) -> list[str]:

@@ -61,8 +61,11 @@ class Element:
         return self.attributes.get(local)
 
     def get_in(self, uri: str, local: str) -> Optional[str]:
-        keys = (key for key in self.attributes if key.endswith(":" + local))
-        return next((self.attributes[key] for key in keys if self.bindings.expanded(key) == (uri, local)), None)
+        end = ":" + local
+        for key, value in self.attributes.items():
+            if key.endswith(end) and self.bindings.expanded(key) == (uri, local):
+                return value
+        return None
 
 
 class Visitor:
