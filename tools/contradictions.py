@@ -218,7 +218,7 @@ def write(inputs: Inputs, options: argparse.Namespace, snapshot: Snapshot, folde
     progress.show("reading the rows")
     labels, names, most = inputs.labels, inputs.sources.names, options.most_output
     near, counts, all_rows = Near(names) if options.near else None, ProviderCounts(names), AllRows(folder, names, labels, most)
-    warnings = Warnings(folder, inputs.sheet)
+    warnings = Warnings(folder, inputs.sheet, most)
     observers: list[RowObserver] = [counts, all_rows, warnings, *([near] if near else [])]
     reader = Reader(inputs.text, inputs.sheet, inputs.sources, observers)
     rows = reader.rows(inputs.verdicts)

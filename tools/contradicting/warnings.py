@@ -14,6 +14,7 @@ from normalising.shapes import PURE
 from normalising.spellings import spelling
 from sheets import ITEMS, PERIODS, TYPES, Sheet
 from text_files import PIECE
+from whole_files import OutputLimit
 
 COLUMNS = "row fact concept period value nil warning providers identifiers".split()
 CURRENCIES, SHARES = "http://www.xbrl.org/2003/iso4217", PURE._replace(local="shares")
@@ -23,7 +24,8 @@ MOST_LINES = 100  # that are printed and shown
 class Warnings:
     """Receives all rows, and writes the table of warnings to a temporary file. Call `pieces` after the last row."""
 
-    def __init__(self, folder: str, sheet: Sheet) -> None:
+    def __init__(self, folder: str, sheet: Sheet, most: int) -> None:
+        self.limit = OutputLimit(most)
         self.types, self.path, self.count = sheet.types, os.path.join(folder, "warnings"), 0
         self.table = open(self.path, "w", encoding="utf-8", newline="")
         self.found: dict[tuple[str, str], tuple[int, str]] = {}  # by provider and warning: how many facts, and the first one
@@ -64,8 +66,10 @@ class Warnings:
     def write(self, row: Row, name: str, warning: str) -> None:
         fact, holders = row.facts[name], row.holders[name]
         self.count += 1
-        self.table.write(line_of([cell(row.number), cell(name), cell(row.dimensions.concept), cell(row.dimensions.period),
-                                  *map(cell, (*value_cells(fact), warning, providers(holders), identifiers(holders)))]))
+        line = line_of([cell(row.number), cell(name), cell(row.dimensions.concept), cell(row.dimensions.period),
+                        *map(cell, (*value_cells(fact), warning, providers(holders), identifiers(holders)))])
+        self.limit.count(len(line))
+        self.table.write(line)
         for provider in names_of({name: holders}) or [""]:
             count, first = self.found.get((provider, warning), (0, name))
             self.found[provider, warning] = count + 1, first
