@@ -34,7 +34,7 @@ from respelling.checking import Checker  # noqa: E402
 from respelling.respelled import respelled, text_of  # noqa: E402
 from respelling.rules import WITH_SHEET, listed  # noqa: E402
 from text_files import LONGEST, PIECE, STANDARD, opened, shown_path  # noqa: E402
-from whole_files import write_files  # noqa: E402
+from whole_files import files_written  # noqa: E402
 
 
 def read_options() -> argparse.Namespace:
@@ -87,7 +87,8 @@ def respell(options: argparse.Namespace) -> Status:
         sys.stdout.buffer.write(text.encode())
         sys.stdout.flush()
     else:
-        write_files([(out, [text])])
+        with files_written([(out, [text])]):
+            pass
     return Status.LOOK if lines else Status.DONE
 
 
