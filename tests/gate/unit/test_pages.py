@@ -31,12 +31,12 @@ class Pages(unittest.TestCase):
         self.assertEqual(self.ran("SECURITY.md", page), (1, 600, ["SECURITY.md: 100 words too many"]))
 
     def test_pages_that_share_a_bound(self):
-        self.tree.put("docs/FORMAT.md", WORDS * 400)
+        self.tree.put("docs/FORMAT.md", WORDS * 500)
         self.tree.put("crates/shop/specs/Order.antt", "")
         entries = "- `crates/shop/specs/Order.antt`: `order_of`\n- [Order](../crates/shop/specs/Order.antt): `order_of`\n| a | b |\n"
-        page = f"{entries}{WORDS * 400}"
+        page = f"{entries}{WORDS * 500}"
         names = "docs/DOUBT.md and docs/FORMAT.md"
-        self.assertEqual(self.ran("docs/DOUBT.md", page), (1, 2400, [f"{names}: 200 words too many"]))
+        self.assertEqual(self.ran("docs/DOUBT.md", page), (1, 3000, [f"{names}: 590 words too many"]))
 
     def test_links_need_their_file_and_heading(self):
         self.tree.put("docs/COSTS.md", "# Costs\n\n## What `merge` costs\n\n## Again\n\n## Again\n")
