@@ -2,8 +2,12 @@
 from __future__ import annotations
 
 import os
+import sys
 from dataclasses import dataclass, replace
 from typing import Iterable
+
+sys.path.append(os.path.join(os.path.dirname(os.path.dirname(os.path.abspath(__file__))), "tools"))
+from whole_files import below  # noqa: E402
 
 PLAIN, RUNS = 0o644, 0o755  # the permissions of a file, and of a program
 # folders with files that were made, as .gitignore has them
@@ -43,8 +47,8 @@ def read_below(folder: str, target: str, endings: tuple[str, ...]) -> list[File]
 
 
 def put(file: File, folder: str) -> str:
-    """Puts a file below a folder in one step, and returns its new path."""
-    path = os.path.join(folder, file.target)
+    """Puts a file below a folder in one step, and returns its new path. Errors: OSError, also if a folder on the way is a link."""
+    path = below(folder, file.target)
     os.makedirs(os.path.dirname(path), exist_ok=True)
     new = f"{path}.new"
     if os.path.lexists(new):
@@ -54,6 +58,8 @@ def put(file: File, folder: str) -> str:
     else:
         with open(new, "xb") as opened:
             opened.write(file.content)
+            opened.flush()
+            os.fsync(opened.fileno())
         os.chmod(new, file.mode)
     os.replace(new, path)
     return path

@@ -86,6 +86,15 @@ class Contents(Packages):
         self.assertEqual(newest_libc(PROGRAM), "2.34")
 
 
+FILES = [File("bin/a", b"a", RUNS), File("bin/b", b"b"), File("share/c", b"a", is_link=True)]
+
+
+def tree(folder):
+    """Returns the contents of the files in a folder and those below it, by their paths."""
+    paths = (os.path.join(at, name) for at, folders, names in os.walk(folder) for name in (*folders, *names))
+    return {path: os.readlink(path) if os.path.islink(path) else os.path.isfile(path) and content(path) for path in paths}
+
+
 class Installation(Packages):
     def run_installed(self, prefix, tool, *words, path=None):
         around = {**os.environ, "PATH": path or os.environ["PATH"]}
@@ -134,6 +143,41 @@ class Installation(Packages):
         self.assertEqual([os.path.join(at, it) for at, _, names in os.walk(prefix) for it in names], [own])
         self.assertEqual(sorted(os.listdir(prefix)), ["share"])
         self.assertRaisesRegex(OSError, "nothing is installed there", installation.uninstall, prefix)
+
+    def test_nothing_else_is_removed(self):
+        prefix, victim = self.path_of("prefix"), self.write("victim", "own")
+        listed = os.path.join(prefix, installation.LIST)
+        os.makedirs(self.path_of("dir"))
+        for line in (victim, "../victim", "../dir/", "bin/../../victim", "linked/victim", "..", "bin/..", "/", "", "bin//x"):
+            for digest in ("", hashlib.sha256(b"own").hexdigest() + "  "):
+                installation.install(FILES, prefix)
+                os.symlink("..", os.path.join(prefix, "linked"))
+                lines = content(listed)
+                self.write(listed, f"{lines}{digest}{line}\n")
+                before = tree(self.scratch)
+                for action in (installation.uninstall, lambda at: installation.install(FILES, at)):
+                    with self.assertRaisesRegex(OSError, f"installed.txt, line {lines.count(chr(10)) + 1}: ", msg=line):
+                        action(prefix)
+                self.assertEqual(tree(self.scratch), before)
+                shutil.rmtree(prefix)
+
+    def test_files_that_changed_stay_and_links_on_the_way_are_refused(self):
+        prefix, victim = self.path_of("prefix"), self.write("victim", "own")
+        installation.install(FILES, prefix)
+        changed, linked = (os.path.join(prefix, "bin", name) for name in ("a", "b"))
+        self.write(changed, "own")
+        os.unlink(linked)
+        os.symlink(victim, linked)
+        installation.uninstall(prefix)
+        self.assertEqual((sorted(os.listdir(os.path.join(prefix, "bin"))), content(victim)), (["a", "b"], "own"))
+        installation.install(FILES, prefix)
+        self.assertEqual((content(victim), os.path.islink(linked)), ("own", False))
+        shutil.rmtree(os.path.join(prefix, "bin"))
+        os.symlink(self.scratch, os.path.join(prefix, "bin"))
+        before = tree(self.scratch)
+        for action in (installation.uninstall, lambda at: installation.install(FILES, at)):
+            self.assertRaisesRegex(OSError, "through a link", action, prefix)
+        self.assertEqual(tree(self.scratch), before)
 
 
     def test_other_users_can_read_what_was_installed(self):
