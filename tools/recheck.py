@@ -451,7 +451,7 @@ def verdict_text(form: str, row: Row) -> str:
         found: Tree = {"common": dict(zip(("low", "high"), shown[1:]))} if word == "consistent" else {"apart": shown[1:]}
         tree = {"row": row.number, "verdict": word, "dimensions": dimensions, "facts": facts}
         return json_text({**tree, "evidence": found} if shown else tree) + "\n"
-    core = [dimensions.pop(key, None) for key in ("concept", "entity", "period", "unit", "language")]
+    core = [dimensions.pop(key, None) for key in CORE_TEXTS]
     defined, ends = json_text(dimensions) if dimensions else None, [*[None] * 2 * (word == "inconsistent"), *shown[1:], *[None] * 4][:4]
     return "".join(record(row.number, word, fact["fact"], *core, defined, fact["value"], "true" if fact["value"] is None else None,
                           fact.get("decimals"), *ends) for fact in facts)
