@@ -289,6 +289,16 @@ def empty_keys_before_and_behind_facts(n):
     return merging(sheet(), {"x:a": half, **report(numbered([fact()])), "x:b": half})
 
 
+def objects_behind_dimensions(n, extension=None):
+    """n facts, each with an object as an extension. A piece may be cut before this object."""
+    extended = ({**fact(), "x:e": extension or {"a": 1}} for place in range(n))
+    return merging(sheet(), report(numbered(extended)))
+
+
+def nested_objects_behind_dimensions(n):
+    return objects_behind_dimensions(n, {"x:a": {"b": 1}, "x:c": {"x:d": {"e": 1}}})
+
+
 def concepts(n):
     return merging(sheet({"eg:C": "text", **{f"eg:C{place:07}": "numeric" for place in range(n)}}), report(numbered([fact()])))
 
@@ -519,6 +529,8 @@ SHAPES = {
     objects_in_an_extension: 50_000,
     empty_keys_in_an_extension: 50_000,
     empty_keys_before_and_behind_facts: 50_000,
+    objects_behind_dimensions: 5_000,
+    nested_objects_behind_dimensions: 5_000,
     concepts: 5_000,
     dimensions_of_a_sheet: 5_000,
     facts: 5_000,

@@ -9,7 +9,7 @@ ghost use Rattle.oim_report.specs.code.Ranks.{AreRanks};
 
 use crate::fact_reader::FactReader;
 use crate::limits::PIECE_BYTES;
-use crate::pieces::cuts::split_piece;
+use crate::pieces::cuts::{Cut, split_piece};
 use crate::pieces::first_refused::first_refused;
 use crate::pieces::found_facts::FoundFacts;
 use crate::pieces::piece_facts::{PieceBuffers, read_taped_facts};
@@ -37,13 +37,20 @@ pub(crate) fn read_facts_in_pieces(
         return Ok(Ok(read_single_piece(reader, buffers, text)?));
     }
     let mut found = FoundFacts::new(alloc);
+    let mut cut = Cut::Guessed;
     let mut left = text;
     for _ in 0..text.len() {
-        let (piece, rest) = split_piece(left, PIECE_BYTES);
+        let (piece, rest) = split_piece(left, PIECE_BYTES, cut);
         match read_piece_facts(reader, buffers, piece, &mut found) {
             Ok(()) => {}
             Err(Unread::OutOfMemory) => return Err(Unread::OutOfMemory),
-            Err(Unread::NeedsTree) => return Ok(Err(first_refused(reader, buffers, found, left)?)),
+            Err(Unread::NeedsTree) if cut.is_wrong(left, piece, PIECE_BYTES) => {
+                cut = Cut::Counted;
+                continue;
+            }
+            Err(Unread::NeedsTree) => {
+                return Ok(Err(first_refused(reader, buffers, found, left, cut)?));
+            }
         }
         match rest {
             Some(rest) => left = rest,
@@ -54,7 +61,7 @@ pub(crate) fn read_facts_in_pieces(
 }
 
 fn is_single(text: &str) -> bool {
-    let (_piece, rest) = split_piece(text, PIECE_BYTES);
+    let (_piece, rest) = split_piece(text, PIECE_BYTES, Cut::Guessed);
     rest.is_none()
 }
 

@@ -11,7 +11,7 @@ ghost use Rattle.oim_report.specs.code.Pieces.{IsUpTo};
 
 use crate::fact_reader::FactReader;
 use crate::limits::PIECE_BYTES;
-use crate::pieces::cuts::split_piece;
+use crate::pieces::cuts::{Cut, split_piece};
 use crate::pieces::found_facts::FoundFacts;
 use crate::pieces::judgement::Judgement;
 use crate::pieces::judgements::Judgements;
@@ -32,6 +32,7 @@ pub(crate) fn first_refused(
     buffers: &mut PieceBuffers,
     found: FoundFacts,
     left: &str,
+    mut cut: Cut,
 ) -> Result<Refusal, Unread>
     ensures same { reader.new ≡ reader.old }
     ensures refused { (text : List ℕ) (before : Members) → IsUpTo text left.now before →
@@ -43,9 +44,15 @@ pub(crate) fn first_refused(
     drop(found);
     let mut rest = left;
     for _ in 0..left.len() {
-        let (piece, more) = split_piece(rest, PIECE_BYTES);
-        let later = judge_piece(reader, buffers, piece, &judgements)?;
-        judgements.absorb(alloc, later)?;
+        let (piece, more) = split_piece(rest, PIECE_BYTES, cut);
+        match judge_piece(reader, buffers, piece, &judgements) {
+            Ok(later) => judgements.absorb(alloc, later)?,
+            Err(Unread::NeedsTree) if cut.is_wrong(rest, piece, PIECE_BYTES) => {
+                cut = Cut::Counted;
+                continue;
+            }
+            Err(unread) => return Err(unread),
+        }
         match more {
             Some(more) => rest = more,
             None => return judgements.first_refusal().ok_or(Unread::NeedsTree),

@@ -28,14 +28,14 @@ pub loop-preserved : goal.loop-preserved
 loop-preserved c =
     let l = c.loop in
     let s = c.args.reader.now in
-    let judged = c.in_ok-later.ensures.judged in
+    let judged = c.in-Ok.ensures.judged in
     let piece = c.split_piece.result.0.now in
     let splits : l.rest.now ≡ with_rest piece (option_map (λ r. r.now) c.split_piece.result.1) = c.split_piece.ensures in
     let next = splits ∙ ap (λ r. with_rest piece (option_map (λ r. r.now) r)) c.in-Some.is in (
       search rules,
       λ text before up found.
           let now = l.invariant.1 text before up found in
-          (append now.0 judged.0, one_more text l.rest.now piece c.in-Some.more.now now.0 judged.0 now.1 next judged.1, joined s l.reader now.0 judged.0 _ _ _ l.invariant.2 c.in_ok-absorb.ensures now.2 judged.2),
+          (append now.0 judged.0, one_more text l.rest.now piece c.in-Some.more.now now.0 judged.0 now.1 next judged.1, joined s l.reader now.0 judged.0 _ _ _ l.invariant.2 c.in_ok-absorb-in-Ok.ensures now.2 judged.2),
       c.judge_piece.ensures.same ∙ l.invariant.2,
     )
 
@@ -43,12 +43,12 @@ pub returns-in-None-clause-refused : goal.returns-in-None-clause-refused
 returns-in-None-clause-refused c = λ text before up found.
     let l = c.loop in
     let s = c.args.reader.now in
-    let judged = c.in_ok-later.ensures.judged in
+    let judged = c.in-Ok.ensures.judged in
     let piece = c.split_piece.result.0.now in
     let splits : l.rest.now ≡ with_rest piece (option_map (λ r. r.now) c.split_piece.result.1) = c.split_piece.ensures in
     let next = splits ∙ ap (λ r. with_rest piece (option_map (λ r. r.now) r)) c.in-None.is in
     let now = l.invariant.1 text before up found in
     let all = append now.0 judged.0 in
-    let are = joined s l.reader now.0 judged.0 _ _ _ l.invariant.2 c.in_ok-absorb.ensures now.2 judged.2 in
+    let are = joined s l.reader now.0 judged.0 _ _ _ l.invariant.2 c.in_ok-absorb-in-Ok.ensures now.2 judged.2 in
     if_refused c.first_refusal.result _ c.ok_or.result _ (λ r. (ms : Members) × IsPiece text ms × (facts_said s.sheet s.aliases ms ≡ Err r)) c.ok_or.ensures.value c.first_refusal.ensures
     (λ r h. (put_all all no_members, last_one text l.rest.now piece now.0 judged.0 now.1 next judged.1, h s.sheet s.aliases (put_all all no_members) are))
