@@ -1,4 +1,4 @@
-"""Tests of tools/normalise: the reports of tests/program/normalise, the examples of docs/GUIDE.md, drawn reports and bad inputs."""
+"""Tests of tools/normalise: the reports of tests/program/normalise, drawn reports and bad inputs."""
 import json
 import os
 import random
@@ -106,39 +106,12 @@ class Reports(ToolTest):
         self.assertGreaterEqual(len({os.path.dirname(case["report"]) for case in cases}), 12)
 
 
-class Docs(ToolTest):
-    """docs/GUIDE.md has an example for each rule: options, a fact before, and the fact after or `dropped`."""
-
-    SHEET = {
-        "namespaces": {"eg": "http://example.org/t"},
-        "concepts": {"eg:A": "numeric", "eg:B": "text", "eg:Q": "name", "eg:S": "text", "eg:T": "text"},
-        "dimensions": {"eg:Reg": "explicit", "eg:Sku": "typed"},
-        "xbrlmerge:sets": ["eg:S"],
-        "xbrlmerge:types": {"boolean": ["eg:B"]},
-    }
-    URIS = {"eg": "http://example.org/t", "x": "http://example.org/u", "xbrl": "https://xbrl.org/2021"}
-    TYPE = "https://xbrl.org/2021/xbrl-json"
-
-    def test_the_examples(self):
-        text = content("docs/GUIDE.md")
-        sheet, seen = self.write("sheet.json", json.dumps(self.SHEET)), set()
-        for rule, example in re.findall(r"^### `([a-z-]+)`$.*?^```\n(normalise.*?)^```$", text, re.MULTILINE | re.DOTALL):
-            options, before, after = example.splitlines()
-            options = self.refusing({"f": "27 NumberDigits"}) if rule == "drop-unreadable" else options.split()[1:]
-            information = json.dumps({"documentType": self.TYPE, "namespaces": self.URIS})
-            report = self.write("report.json", '{"documentInfo":%s,"facts":{"f":%s}}' % (information, before))
-            with self.subTest(rule):
-                _, _, out, changes = self.normalised(report, "--sheet", sheet, *options)
-                self.assertEqual({change["rule"] for change in changes} - {"value-text"} or {"value-text"}, {rule})
-                facts = self.tree_of(out)["facts"]
-                self.assertEqual(text_of(facts["f"]) if facts else "dropped", after)
-                seen.add(rule)
-        self.assertEqual(seen, set(RULES))
-
-
-RULES = """decimals decimals-infinite precision value-text exponent type expanded-name period-fraction period-parts flat-dimensions
-core-prefix white-space unknown-member empty-links set drop-links drop-notes drop-unknown drop-unknown-members drop-misplaced scale dates
-zones drop-null drop-unreadable""".split()
+SHEET = {
+    "namespaces": {"eg": "http://example.org/t"},
+    "concepts": {"eg:A": "numeric", "eg:Q": "name", "eg:S": "text", "eg:T": "text"},
+    "dimensions": {"eg:Reg": "explicit", "eg:Sku": "typed"},
+    "xbrlmerge:sets": ["eg:S"],
+}
 
 
 class Drawn(ToolTest):
@@ -199,7 +172,7 @@ class Drawn(ToolTest):
 class Numbers(ToolTest):
     def value_of(self, token):
         """Normalises a report with a numeric fact of this value. Returns the new value as JSON, and standard error."""
-        sheet = self.write("sheet.json", json.dumps(Docs.SHEET))
+        sheet = self.write("sheet.json", json.dumps(SHEET))
         fact = '{"value":%s,"dimensions":{"concept":"eg:A"}}' % token
         text = '{"documentInfo":{"namespaces":{"eg":"http://example.org/t"}},"facts":{"f":%s}}' % fact
         _, errors, out, _ = self.normalised(self.write("report.json", text), "--sheet", sheet)
@@ -283,7 +256,7 @@ class Unreadable(ToolTest):
 
     def setUp(self):
         super().setUp()
-        self.sheet = self.write("sheet.json", json.dumps(Docs.SHEET))
+        self.sheet = self.write("sheet.json", json.dumps(SHEET))
         self.report = self.write("report.json", '{"documentInfo":{},"facts":{"f":{"value":5,"id":1},"g":{"value":6}}}')
 
     def test_a_refused_fact_has_one_change(self):

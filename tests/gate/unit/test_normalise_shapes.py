@@ -19,7 +19,7 @@ ROWS = [*report_shapes.rows()]
 class Shapes(in_process.RoomTest):
     def test_each_shape(self):
         sheet = self.write("sheet.json", json.dumps(report_shapes.SHEET))
-        out, changes = self.path_of("out.json"), self.path_of("changes.jsonl")
+        out, changes, used = self.path_of("out.json"), self.path_of("changes.jsonl"), {"map", "zones", "drop-unreadable"}
         for row in ROWS:
             with self.subTest(row=row):
                 _, options, before, after, mark = row
@@ -29,11 +29,13 @@ class Shapes(in_process.RoomTest):
                     self.assertEqual((status, after in errors), (3, True), errors)
                     continue
                 self.assertEqual((status, "is left: " in errors), (mark in "! dropped".split(), mark == "left" or "is left: " in errors), errors)
+                used.update(json.loads(line)["rule"] for line in content(changes).splitlines())
                 made = read_json(out)
                 whole = self.tree(report_shapes.report(after)) if after else None
                 self.assertEqual(text_of(made["facts"]), text_of(whole["facts"]) if after else "{}")
                 if after and "ns1:" not in after:
                     self.assertEqual(text_of(made), text_of(whole))
+        self.assertEqual(used, {*re.findall(r"^\| `([a-z0-9-]+)` \| ", content("docs/GUIDE.md").partition("### Rules and")[2], re.MULTILINE)})
 
     def tree(self, text):
         return read_json(self.write("wanted.json", text))
