@@ -24,6 +24,10 @@ if ! command -v python3 >/dev/null; then
     echo "{command}: Python 3.9 or later is not installed" >&2
     exit 3
 fi
+# SIGINT is held back until the tool can take it, unless it is ignored already
+trap 'export XBRLMERGE_INTERRUPTS=held' INT
+kill -s INT $$
+trap '' INT
 exec python3 -B "$here/../{share}/run_tool.py" {tool} "$0" "$@"
 """
 # python3 run_tool.py TOOL COMMAND ARGUMENT ..: with COMMAND as its name, the tool finds the program beside the command

@@ -75,14 +75,15 @@ file could not be restored.
 """
 from __future__ import annotations
 
-import argparse
-import contextlib
-import os
-import re
 import sys
-from decimal import Decimal
 
 sys.dont_write_bytecode = True
+import interrupts  # noqa: E402, F401, I001 (it comes first)
+import argparse  # noqa: E402
+import contextlib  # noqa: E402
+import os  # noqa: E402
+import re  # noqa: E402
+from decimal import Decimal  # noqa: E402
 from arguments import Parser  # noqa: E402
 from contradicting.checking import FOLDER, LINES, report_file  # noqa: E402
 from contradicting.all_rows import AllRows  # noqa: E402

@@ -33,14 +33,15 @@ folder of a named file, or in a named package. The limits are:
 Status 0: done. 1: done, but something is left out. 2: invalid arguments. 3: not done, and standard error shows why. After
 status 3, standard output contains at most a part of a sheet.
 """
-import argparse
-import contextlib
-import functools
-import os
 import sys
-from typing import Iterator
 
 sys.dont_write_bytecode = True
+import interrupts  # noqa: E402, F401, I001 (it comes first)
+import argparse  # noqa: E402
+import contextlib  # noqa: E402
+import functools  # noqa: E402
+import os  # noqa: E402
+from typing import Iterator  # noqa: E402
 from arguments import Parser  # noqa: E402
 from process import NotDone, Status, print_lines, run  # noqa: E402
 from sheet_making.limits import Limits, reading  # noqa: E402

@@ -28,13 +28,14 @@ status 2 or 3, no file has changed, unless a replaced file could not be restored
 """
 from __future__ import annotations
 
-import argparse
-import contextlib
-import os
 import sys
-from typing import Iterator, Optional
 
 sys.dont_write_bytecode = True
+import interrupts  # noqa: E402, F401, I001 (it comes first)
+import argparse  # noqa: E402
+import contextlib  # noqa: E402
+import os  # noqa: E402
+from typing import Iterator, Optional  # noqa: E402
 from arguments import Parser  # noqa: E402
 from normalising.json_text import pieces_of, read_json_of_length  # noqa: E402
 from normalising.mapping import read_map  # noqa: E402

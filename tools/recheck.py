@@ -24,6 +24,7 @@ import itertools
 import json
 import os
 import re
+import signal
 import sys
 from datetime import datetime, timedelta
 from fractions import Fraction
@@ -587,6 +588,8 @@ def sentence(fault: BaseException) -> str:
 if __name__ == "__main__":
     gc.disable()  # no object refers to itself, and looking for such objects takes a third of the time
     try:
+        if os.environ.pop("XBRLMERGE_INTERRUPTS", ""):  # the launcher has held SIGINT back
+            signal.signal(signal.SIGINT, signal.default_int_handler)
         sys.stdout = open(1, "w", closefd=False, errors="backslashreplace")  # fails if standard output is closed
         try:
             status = main()

@@ -20,12 +20,13 @@ Status 0: done, and there is nothing to look at. 1: --check found a fault, or st
 """
 from __future__ import annotations
 
-import argparse
-import functools
-import os
 import sys
 
 sys.dont_write_bytecode = True
+import interrupts  # noqa: E402, F401, I001 (it comes first)
+import argparse  # noqa: E402
+import functools  # noqa: E402
+import os  # noqa: E402
 from arguments import Parser  # noqa: E402
 from normalising.json_text import Repeated, read_json  # noqa: E402
 from normalising.sheet_file import sheet_at  # noqa: E402

@@ -1,7 +1,11 @@
 """The installed tools of xbrlmerge. Beside this file are the files of the repository's tools/."""
-import os
-import runpy
-import sys
+import signal
+
+if signal.getsignal(signal.SIGINT) is signal.default_int_handler:
+    signal.signal(signal.SIGINT, signal.SIG_DFL)  # else a SIGINT while modules are imported shows a traceback
+import os  # noqa: E402
+import runpy  # noqa: E402
+import sys  # noqa: E402
 
 HERE = os.path.dirname(os.path.abspath(__file__))
 

@@ -5,9 +5,11 @@ import signal
 import subprocess
 import sys
 import textwrap
+import time
 import unittest
 
-from in_process import TOOLS, RoomTest, heeding
+from in_process import TOOLS, TOP, RoomTest, heeding
+from support import content
 
 HEAD = f"""
 import argparse, lzma, sys, time
@@ -107,6 +109,27 @@ class Signals(ProcessTest):
                 tool.send_signal(number)
                 self.assertEqual(tool.communicate(), (b"clean\n", b""))
             self.assertEqual(tool.returncode, -number)
+
+    def test_an_early_interrupt_shows_no_traceback(self):
+        for number, tool in enumerate(["contradictions", "make_sheet", "normalise", "recheck", "respell"] * 8):
+            words = [os.path.join(TOP, "tools", tool), *["nowhere"] * (tool != "recheck")]
+            with subprocess.Popen(words, stdout=subprocess.PIPE, stderr=subprocess.PIPE, cwd=self.scratch,
+                                  preexec_fn=heeding(signal.SIGINT)) as run:
+                time.sleep(number / 100)
+                run.send_signal(signal.SIGINT)
+                out, errors = run.communicate()
+            self.assertIn((run.returncode, b"Traceback" in errors), ((-2, False), (2, False), (3, False)), (out, errors))
+
+    def test_an_interrupt_that_is_ignored_at_the_start_stays_ignored(self):
+        launched = self.write("tool", content("tools/make_sheet"))
+        self.write("tool.py", f"#!{sys.executable}\nimport sys\nsys.dont_write_bytecode = True\nsys.path.append({TOOLS!r})\nimport interrupts\n"
+                              "import os, signal\nprint(signal.getsignal(signal.SIGINT) is signal.SIG_IGN, interrupts.HELD in os.environ)\n")
+        for path in (launched, launched + ".py"):
+            os.chmod(path, 0o755)
+        for handler, wanted in ((signal.SIG_IGN, b"True False\n"), (signal.SIG_DFL, b"False False\n")):
+            for path in (launched, launched + ".py"):
+                done = subprocess.run([path], stdout=subprocess.PIPE, preexec_fn=lambda handler=handler: signal.signal(signal.SIGINT, handler))
+                self.assertEqual(done.stdout, wanted)
 
     def test_an_ignored_signal_stays_ignored(self):
         body = "import os, signal; os.kill(os.getpid(), signal.SIGHUP); return Status.DONE"
