@@ -19,7 +19,7 @@ def refused_in(tree: Tree, program: Program) -> Refused:
     with open(program.path_of("normalised"), "w", encoding="utf-8", newline="") as file:
         file.writelines(pieces_of(tree))
     refused = Refused({}, [])
-    for fault in program.faults("normalised"):
+    for fault in program.faults(program.path_of("normalised")):
         why = f"{fault['number']} {fault['name']}"
         if fault["identifier"] is not None:
             refused.facts.setdefault(fault["identifier"], why)
