@@ -30,8 +30,9 @@ class OddNames(Stubbed):
         self.addCleanup(os.chdir, before)
 
     def put(self, *names):
-        for name in names:
-            shutil.copy(REPORTS[0], self.path_of(name))
+        """Writes reports with different bytes, by which the log of the stub program names them."""
+        for number, name in enumerate(names, 1):
+            self.write(name, content(REPORTS[0]) + " " * number)
 
     def test_each_argument_after_two_dashes_is_a_report(self):
         names = ["--sheet=z.json", "--output=x.json", "--near=n.json", "-o", "-", "--", "A=B.json"]
