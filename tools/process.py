@@ -96,7 +96,7 @@ def sentence(fault: Exception) -> str:
         return f"{fault.filename}: {fault.strerror}" if fault.filename else fault.strerror
     if isinstance(fault, (OSError, ValueError)) and str(fault):
         return str(fault)
-    return f"{type(fault).__name__}: {fault}"
+    return f"a defect of this tool, which you can report: {type(fault).__name__} {fault}"
 
 
 def stop(number: int, _frame: Optional[FrameType]) -> NoReturn:
@@ -157,10 +157,14 @@ def print_lines(lines: Iterable[str]) -> None:
 
 
 def printable(text: str) -> str:
-    """Returns a text in which characters that are not printable are JSON escapes."""
-    if text.isprintable():
-        return text
-    return "".join(each if each.isprintable() else json.dumps(each)[1:-1] for each in text)
+    """Returns a text in which characters that are not printable are JSON escapes. If there are any, backslashes are escaped as well,
+    so that no two texts look alike."""
+    return text if text.isprintable() else printable_json(text.replace("\\", "\\\\"))
+
+
+def printable_json(text: str) -> str:
+    """Returns a JSON text in which characters that are not printable are escapes."""
+    return text if text.isprintable() else "".join(each if each.isprintable() else json.dumps(each)[1:-1] for each in text)
 
 
 def shortened(text: str) -> str:

@@ -4,7 +4,7 @@ from __future__ import annotations
 from typing import NamedTuple, Optional
 
 from normalising.json_text import Number, Tree, pointer_of, text_of
-from process import NotDone, printable, shortened
+from process import NotDone, printable_json, shortened
 
 Path = tuple[str, ...]  # the keys that lead to a part of a report
 
@@ -54,7 +54,7 @@ class Log:
         if self.fact is not None and is_long((self.fact,)):
             line["number"] = Number(self.number)
         text = text_of(line)
-        self.lines.append((text if text.isprintable() else printable(text)) + "\n")
+        self.lines.append(printable_json(text) + "\n")
         self.is_lossy |= loss
 
     def take(self, other: Log) -> None:

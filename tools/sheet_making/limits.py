@@ -42,7 +42,8 @@ def reading(path: str) -> Iterator[None]:
     except NotDone:
         raise
     except Exception as fault:  # expat, zipfile and zlib raise their own exceptions
-        raise NotDone(f"{path}: {sentence(fault)}") from None
+        why = fault.strerror if isinstance(fault, OSError) and fault.strerror else sentence(fault)
+        raise NotDone(f"{path}: {why}") from None
 
 
 def too_long(limits: Limits) -> ValueError:

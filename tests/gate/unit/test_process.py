@@ -41,12 +41,12 @@ class Statuses(ProcessTest):
     def test_no_exception_ends_in_status_1(self):
         raised = {
             "NotDone('a', 'b')": "tool: a\ntool: b\n",
-            "KeyError('k')": "tool: KeyError: 'k'\n",
+            "KeyError('k')": "tool: a defect of this tool, which you can report: KeyError 'k'\n",
             "RecursionError()": "tool: nested too deeply\n",
             "MemoryError()": "tool: out of memory\n",
-            "lzma.LZMAError('bad')": "tool: LZMAError: bad\n",
+            "lzma.LZMAError('bad')": "tool: a defect of this tool, which you can report: LZMAError bad\n",
             "OSError('bad')": "tool: bad\n",
-            "OSError()": "tool: OSError: \n",
+            "OSError()": "tool: a defect of this tool, which you can report: OSError \n",
             "OSError(5, 'bad')": "tool: bad\n",
             "OSError(5, 'bad', 'a file')": "tool: a file: bad\n",
         }
@@ -63,6 +63,7 @@ class Statuses(ProcessTest):
     def test_a_line_cannot_control_a_terminal(self):
         self.check(3, r"tool: \n\u001b\u009b\u007f\udcff\udb40\udc01" + "\n",
                    r"raise NotDone('\n\x1b\x9b\x7f\udcff\U000e0001')")
+        self.check(3, r"tool: l\\n\n" + "\n" + r"tool: l\n" + "\n", r"raise NotDone('l\\n\n', 'l\\n')")
 
 
 class Devices(ProcessTest):
