@@ -13,17 +13,25 @@ no merged.json:
     table.csv           all rows, with the values of each provider in a column
     providers.csv       for each pair of providers, the rows that both report, that agree and that contradict each other
     warnings.csv        accepted facts that do not fit the types of the sheet: values, period types, currencies, shares
+    summary.json        for programs: counts, pairs, hints by provider, files with SHA-256, refusals, options and versions
     merged.json         the merged report
     report.json         with --respell: the merged report for other processors, as tools/respell writes it
 
-The first two forms also write verdicts.txt, sources.txt, refusals.txt and, with --normalise, the normalised reports as
-reports/NUMBER.json. The foot of the page has a command that checks the run with these files and tools/recheck.
+The first two forms also write verdicts.txt, sources.txt, refusals.txt, the faults of refused reports as refusals.csv and, with
+--normalise, the normalised reports as reports/NUMBER.json. The foot of the page has a command that checks the run with these
+files and tools/recheck.
 
 The facts of a contradiction form groups: again and again, the largest set of facts that a common number fits. A fact counts
 once for each provider that reports it. The largest group comes first; the page shows the facts outside it in red, or all facts
 if no group is the largest. A hint names what may explain a difference: a factor of 100, 1,000, 1,000,000 or 1,000,000,000 at
-which the rounding intervals meet, opposite signs, nil, or a difference below 1 in the last place. --at-least 0.1% hides smaller
-differences between numbers from the page.
+which the rounding intervals meet, opposite signs, nil, or a difference below 1 in the last place. --at-least 0.1%
+hides smaller differences between numbers from the page.
+
+Standard error lists the hints in most of the rows that a provider shares with others, even if all agree since their decimals are
+coarse. It names providers that share less than a hundredth of their rows with others, and the likely cause, if rows are equal
+except for the entity, the namespaces, the unit, the period or the language. maps/PROVIDER.json is a map of tools/normalise that
+would join the rows, if there is one; it is never applied without --map. Providers whose reports have the same bytes, or exactly the
+same facts, are named too.
 
 Each row is a contradiction or else reported by one provider, or by several that agree exactly or within rounding. Standard output,
 the page and the column agreement of table.csv show this; if no provider is known, only the contradictions. providers.csv has no
@@ -69,7 +77,9 @@ Status 0: the files are written, and there is nothing to look at. 1: the files a
     losses          changes of --normalise that lose something
     omissions       parts that --taxonomy leaves out
     uncompared      pairs that --near did not compare
-    warnings        reports with repeated members, reports that cannot be normalised and, only with --fail-on, warnings.csv
+    unshared        providers that share almost no row with others
+    warnings        reports with repeated members or that cannot be normalised; providers with the same facts, or with a scale that
+                    rounding hides; only with --fail-on, warnings.csv
 2: invalid arguments. 3: not done, and standard error shows why. After status 2 or 3, no output has changed, unless a replaced
 file could not be restored.
 """
@@ -80,26 +90,19 @@ import sys
 sys.dont_write_bytecode = True
 import interrupts  # noqa: E402, F401, I001 (it comes first)
 import argparse  # noqa: E402
-import contextlib  # noqa: E402
 import os  # noqa: E402
 import re  # noqa: E402
 from decimal import Decimal  # noqa: E402
 from arguments import Parser  # noqa: E402
 from contradicting.checking import FOLDER, LINES, report_file  # noqa: E402
-from contradicting.all_rows import AllRows  # noqa: E402
-from contradicting.findings import KINDS, counted, kinds_named  # noqa: E402
+from contradicting.findings import KINDS, kinds_named  # noqa: E402
 from contradicting.inputs import Inputs, Run, inputs_named, snapshot_of  # noqa: E402
-from contradicting.made_from import MadeFrom  # noqa: E402
-from contradicting.near import Near  # noqa: E402
 from contradicting.output_folder import locked, output_folder  # noqa: E402
-from contradicting.page import Found, page  # noqa: E402
+from contradicting.outcome import Outcome  # noqa: E402
 from contradicting.progress import Progress  # noqa: E402
-from contradicting.provider_counts import ProviderCounts  # noqa: E402
 from contradicting.reports import maps_named, reports_named  # noqa: E402
-from contradicting.rows import Reader, RowObserver  # noqa: E402
 from contradicting.snapshot import Snapshot  # noqa: E402
-from contradicting.tables import lines_of, table  # noqa: E402
-from contradicting.warnings import Warnings  # noqa: E402
+from contradicting.unshared import FOLDER as MAPS  # noqa: E402
 from normalising.options import add_losses, loses  # noqa: E402
 from process import Status, print_lines, printable, run  # noqa: E402
 from program import add_program, program_at  # noqa: E402
@@ -179,10 +182,11 @@ def check(parser: Parser, options: argparse.Namespace) -> None:
 
 
 def outputs_of(options: argparse.Namespace) -> list[str]:
-    names = ["page.html", "contradictions.csv", "table.csv", "providers.csv", "warnings.csv", *["merged.json"] * (not options.texts)]
+    names = ["page.html", "contradictions.csv", "table.csv", "providers.csv", "warnings.csv", "summary.json"]
+    names += ["merged.json"] * (not options.texts)
     names += ["sheet.json", "sheet.types.json"] * bool(options.taxonomy) + ["report.json"] * options.respell
     if not options.texts:
-        names += ["changes.csv", *(f"{name}.txt" for name in LINES)]
+        names += ["changes.csv", "refusals.csv", *(f"{name}.txt" for name in LINES)]
         names += [report_file(number) for number, _ in enumerate(reports_named(options), 1)]
     return [*(os.path.join(options.output, name) for name in names), *[options.near] * bool(options.near)]
 
@@ -198,13 +202,15 @@ def inputs_of(options: argparse.Namespace) -> list[str]:
 
 def main() -> Status:
     options = read_options()
+    reports, maps = (os.path.join(options.output, name) for name in (FOLDER, MAPS))
     with output_folder(options.output), locked(options.output), Progress() as progress:
-        normalised = contextlib.nullcontext() if options.texts else output_folder(os.path.join(options.output, FOLDER), is_below=True)
-        with normalised, new_folder(os.path.abspath(options.output)) as folder:
+        with output_folder(reports, is_below=True), output_folder(maps, is_below=True), new_folder(os.path.abspath(options.output)) as folder:
             progress.show("copying the inputs")
             snapshot = snapshot_of(options, folder)
             with snapshot.names_restored():
-                return write(inputs_for(options, snapshot, folder, progress), options, snapshot, folder, progress)
+                inputs = inputs_for(options, snapshot, folder, progress)
+                progress.show("reading the rows")
+                return write(Outcome(inputs, options, snapshot, folder), progress)
 
 
 def inputs_for(options: argparse.Namespace, snapshot: Snapshot, folder: str, progress: Progress) -> Inputs:
@@ -214,38 +220,16 @@ def inputs_for(options: argparse.Namespace, snapshot: Snapshot, folder: str, pro
     return Run(program_at(options.program), options, snapshot, folder, progress).inputs()
 
 
-def write(inputs: Inputs, options: argparse.Namespace, snapshot: Snapshot, folder: str, progress: Progress) -> Status:
-    """Writes all output files, prints the notes and the summary, and returns the status. `folder` is for temporary files."""
-    progress.show("reading the rows")
-    labels, names, most = inputs.labels, inputs.sources.names, options.most_output
-    near, counts, all_rows = Near(names) if options.near else None, ProviderCounts(names), AllRows(folder, names, labels, most)
-    warnings = Warnings(folder, inputs.sheet, most)
-    observers: list[RowObserver] = [counts, all_rows, warnings, *([near] if near else [])]
-    reader = Reader(inputs.text, inputs.sheet, inputs.sources, observers)
-    rows = reader.rows(inputs.verdicts)
-    all_rows.finish()
-    made_from = MadeFrom(inputs.version, tuple(snapshot.files.values()))
-    found = Found(rows, reader, labels, inputs.refusals, all_rows, counts, options.at_least, inputs.check, made_from, warnings)
-    files = [("page.html", page(found)), ("contradictions.csv", lines_of(table(rows, labels, reader))),
-             ("table.csv", all_rows.table_pieces()), ("providers.csv", lines_of(counts.table())),
-             ("warnings.csv", warnings.pieces()), *inputs.files]
-    texts = [(os.path.join(options.output, name), pieces) for name, pieces in files]
-    if near:
-        texts.append((options.near, lines_of(near.table(near.pairs(), labels))))
+def write(outcome: Outcome, progress: Progress) -> Status:
+    """Writes all output files, prints the notes and the summary, and returns the status."""
     progress.clear()
-    print_lines([*map(snapshot.named, inputs.notes), *inputs.refusals.lines(), *warnings.lines(), *(near.notes() if near else [])])
+    texts, page = [*outcome.texts()], printable(os.path.join(outcome.options.output, "page.html"))
+    print_lines(outcome.lines())
     progress.show("writing")
-    findings = inputs.findings
-    findings.add("contradictions", len(rows))
-    findings.add("refusals", len(inputs.refusals.reports), "report refused", "reports refused")
-    findings.add("uncompared", near.uncompared if near else 0)
-    findings.add("warnings", warnings.count if options.fail_on is not KINDS else 0)  # by default, they do not change the status
-    rows_text = f"{counted(counts.count, 'row')}: " + ", ".join(f"{count} {words}" for count, words in counts.lines())
-    with files_written(texts, OutputLimit(options.most_output)):
+    with files_written(texts, OutputLimit(outcome.options.most_output)):
         progress.clear()
-        phrases = [rows_text, *findings.phrases(), *warnings.phrases()]
-        print("; ".join([*phrases, f"page: {printable(os.path.join(options.output, 'page.html'))}"]), flush=True)
-    return findings.status(options.fail_on)
+        print("; ".join([*outcome.phrases(), f"page: {page}"]), flush=True)
+    return outcome.status()
 
 
 if __name__ == "__main__":

@@ -25,10 +25,12 @@ class Findings:
     """What a run found: phrases for the summary, by kind."""
 
     def __init__(self) -> None:
+        self.counts = dict.fromkeys(KINDS, 0)
         self.found: dict[str, list[str]] = {}
 
     def add(self, kind: str, count: int, word: str = "", words: Optional[str] = None) -> None:
         """Records a number of findings, unless it is 0. If they have a noun, a phrase counts them."""
+        self.counts[kind] += count
         if count:
             self.found.setdefault(kind, []).extend([counted(count, word, words)] * bool(word))
 

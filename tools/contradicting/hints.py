@@ -46,7 +46,7 @@ def phrase_for(facts: Facts, one: Group, other: Group) -> Optional[str]:
     if is_last_place(facts, one, other):
         return "less than 1 away in the last place"
     if has_zero(first) or has_zero(second):
-        return None
+        return coarse_scale(facts[one[0]], facts[other[0]])
     return scale(first, second) if (first[0] > 0) == (second[0] > 0) else opposite(first, second)
 
 
@@ -56,6 +56,22 @@ def scale(first: Interval, second: Interval) -> Optional[str]:
         if meet(first, (second[0] * factor, second[1] * factor)):
             return f"{factor:,} times smaller"
         if meet((first[0] * factor, first[1] * factor), second):
+            return f"{factor:,} times larger"
+    return None
+
+
+def coarse_scale(first: Fact, second: Fact) -> Optional[str]:
+    """Returns the exact factor between two values, of which one is so coarse that its interval contains 0."""
+    one, other = first.value, second.value
+    return exact_scale(one, other) if isinstance(one, Decimal) and isinstance(other, Decimal) else None
+
+
+def exact_scale(one: Decimal, other: Decimal) -> Optional[str]:
+    """Returns by which factor the second value is exactly smaller or larger than the first. Neither is 0."""
+    for factor in FACTORS:
+        if one and one == other * factor:
+            return f"{factor:,} times smaller"
+        if one and one * factor == other:
             return f"{factor:,} times larger"
     return None
 

@@ -105,8 +105,8 @@ class Run:
         merged, verdicts, sources = map(self.program.path_of, ("merge", "verdicts", "sources"))
         check, refused = self.check(paths), (f"report {number}: {refusal}\n" for number, refusal in sorted(found[0].items()))
         lines = zip((f"{name}.txt" for name in LINES), (pieces_of_file(verdicts), pieces_of_file(sources), refused))
-        files = [("merged.json", pieces_of_file(merged)), *self.respelled(merged), *self.files, *lines]
         refusals = self.refusals(found[0], paths)
+        files = [("merged.json", pieces_of_file(merged)), *self.respelled(merged), *self.files, *lines]
         self.note_repeated(found[0], paths)
         return Inputs(Text(merged), sheet_at(self.program.sheet), verdicts, Sources(sources, self.reports, found[0]),
                       self.labels, refusals, files, self.findings, self.notes, check, self.program.version())
@@ -173,8 +173,9 @@ class Run:
         for index, path in enumerate(paths):
             if path != self.snapshot.of(reports[index]):
                 self.files.append((report_file(index + 1), pieces_of_file(path)))
-                reports[index] = os.path.join(self.options.output, report_file(index + 1))
-                self.snapshot.files[reports[index]] = input_file(reports[index], path)
+                written, report = os.path.join(self.options.output, report_file(index + 1)), reports[index]
+                self.snapshot.normalised[report] = self.snapshot.files[written] = input_file(written, path)
+                reports[index] = written
         sheet = os.path.join(self.options.output, "sheet.json") if self.options.taxonomy else self.options.sheet
         return command(self.options.output, sheet, reports)
 
@@ -198,12 +199,14 @@ class Run:
         return self.program.read_reports(command, paths)
 
     def refusals(self, found: dict[int, str], paths: list[str]) -> Refusals:
-        refusals = Refusals("" if self.options.taxonomy else ADVICE, self.options, sheet_at(self.program.sheet).concepts)
+        concepts, table = sheet_at(self.program.sheet).concepts, os.path.join(self.folder, "refusals.csv")
+        refusals = Refusals("" if self.options.taxonomy else ADVICE, self.options, concepts, table)
+        self.files.append(("refusals.csv", refusals.pieces()))
         for number, refusal in sorted(found.items()):
             provider, path = self.reports[number - 1]
             self.progress.show(f"explaining why {path} is refused")
             try:
-                refusals.add(provider, path, refusal, self.program.faults(paths[number - 1]))
+                refusals.add(provider, path, refusal, self.program.faults(paths[number - 1]), paths[number - 1])
             except NotDone as fault:
                 refusals.add(provider, path, f"{refusal} ({'; '.join(fault.args)})", ())
         for report, faults in self.uncompared:

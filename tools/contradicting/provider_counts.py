@@ -78,11 +78,14 @@ class ProviderCounts:
             self.contradicting.update(frozenset(pair) for pair in opponents(row))
 
     def lines(self) -> Iterator[tuple[int, str]]:
-        """Yields the disjoint counts of rows, each with its words. Rows of no provider are counted only if there may be any."""
+        """Yields the disjoint counts of rows, each with its words."""
+        yield from ((self.kinds[kind], kind.counted(self.kinds[kind])) for kind in self.shown_kinds())
+
+    def shown_kinds(self) -> Iterator[Agreement]:
+        """Yields the kinds of rows that there may be."""
         for kind in Agreement:
-            is_sure = kind is Agreement.CONTRADICTION or (kind is Agreement.NONE_KNOWN) != bool(self.providers)
-            if is_sure or self.kinds[kind]:
-                yield self.kinds[kind], kind.counted(self.kinds[kind])
+            if kind is Agreement.CONTRADICTION or self.kinds[kind] or (kind is Agreement.NONE_KNOWN) != bool(self.providers):
+                yield kind
 
     def pairs(self) -> Iterator[Pair]:
         """Yields the matrix: each pair of providers, in order. Without a matrix, yields nothing."""

@@ -28,12 +28,14 @@ class InputFile(NamedTuple):
 
 
 class Snapshot:
-    """Copies of files in a temporary folder, by the paths of the files. `files` lists what was copied."""
+    """Copies of files in a temporary folder, by the paths of the files. `files` lists what was read, and `normalised` the normalised
+    texts of reports."""
 
     def __init__(self, folder: str) -> None:
         self.folder = folder
         self.copies: dict[str, str] = {}
         self.files: dict[str, InputFile] = {}
+        self.normalised: dict[str, InputFile] = {}
 
     def of(self, path: str) -> str:
         """Returns the path of the copy, or the path itself if it is not copied."""

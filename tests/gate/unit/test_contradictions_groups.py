@@ -116,7 +116,7 @@ class Reported(ToolTest):
         lines = self.write("lines", lines_of_verdicts.lines(content(merged)))
         words = ["--from", merged, self.write("sheet.json", json.dumps(SHEET)), lines, "--sources", self.write("sources", "".join(sources))]
         done = subprocess.run([sys.executable, TOOL, *words, "--names", ",".join(self.NAMES), "-o", self.output, *options], capture_output=True)
-        self.assertEqual((done.returncode, done.stderr), (1, b""))
+        self.assertEqual((done.returncode, self.other_lines(done.stderr.decode())), (1, []))
         return content(self.page), self.cells("contradictions.csv"), self.cells("table.csv")
 
     def cells(self, name):

@@ -40,6 +40,8 @@ OTHER_TOOLS = """{"documentInfo":{"documentType":"https://xbrl.org/2021/xbrl-jso
 class Stubbed(ToolTest):
     """Tests with the stub program in the folder `bin`. By default it prints the merged text and the lines of the examples."""
 
+    is_empty = False
+
     def setUp(self):
         super().setUp()
         self.bin = self.path_of("bin")
@@ -55,6 +57,8 @@ class Stubbed(ToolTest):
                 self.write(os.path.join("bin", f"{command}.{part}"), str(text))
 
     def prints_nothing(self):
+        """Makes the commands print nothing. `run_on` then ignores that no provider reports a fact."""
+        self.is_empty = True
         for command, text in (("merge", NONE), ("verdicts", ""), ("sources", "")):
             self.prints(command, text)
 
@@ -68,8 +72,11 @@ class Stubbed(ToolTest):
         self.prints("explain", "".join(lines), status=1)
 
     def run_on(self, *words, sheet=("--sheet", SHEET), **options):
-        run = [sys.executable, TOOL, "--program", self.program, *sheet, "-o", self.output, *words]
-        return subprocess.run(run, capture_output=True, text=True, **options)
+        others = ["--fail-on", "contradictions,refusals,losses,omissions"] if self.is_empty and "--exit-zero" not in words else []
+        run = [sys.executable, TOOL, "--program", self.program, *sheet, "-o", self.output, *others, *words]
+        done = subprocess.run(run, capture_output=True, text=True, **options)
+        done.stderr = "".join(f"{line}\n" for line in self.other_lines(done.stderr)) if self.is_empty else done.stderr
+        return done
 
     def refused_run(self, wanted, *words, status=3, **options):
         """Runs the tool, which must end with this status, print the reason in its last line, and make or remove no file."""

@@ -1,0 +1,98 @@
+"""What a run found, with its lines for the user and its files."""
+from __future__ import annotations
+
+import argparse
+import os
+from typing import Iterator
+
+from contradicting.all_rows import AllRows
+from contradicting.findings import KINDS, counted
+from contradicting.inputs import File, Inputs
+from contradicting.made_from import MadeFrom
+from contradicting.near import Near
+from contradicting.page import Found, page
+from contradicting.patterns import Patterns
+from contradicting.provider_counts import ProviderCounts
+from contradicting.reports import Report, maps_named, reports_named
+from contradicting.rows import Reader, RowObserver
+from contradicting.snapshot import Snapshot
+from contradicting.summary import summary
+from contradicting.tables import lines_of, table
+from contradicting.unshared import UnsharedFinder, map_path, map_pieces
+from contradicting.warnings import Warnings
+from process import Status
+
+
+class Outcome:
+    """Reads all rows of a run, and records what there is to look at. `folder` is for temporary files."""
+
+    def __init__(self, inputs: Inputs, options: argparse.Namespace, snapshot: Snapshot, folder: str) -> None:
+        self.inputs, self.options, self.snapshot, self.findings = inputs, options, snapshot, inputs.findings
+        self.reports: list[Report] = [] if options.texts else reports_named(options)
+        names = inputs.sources.names
+        self.near, self.counts, self.patterns = Near(names) if options.near else None, ProviderCounts(names), Patterns()
+        self.all_rows, finder = AllRows(folder, names, inputs.labels, options.most_output), UnsharedFinder(names)
+        self.warnings = Warnings(folder, inputs.sheet, options.most_output)
+        observers: list[RowObserver] = [self.counts, self.all_rows, self.warnings, self.patterns, finder, *([self.near] if self.near else [])]
+        self.reader = Reader(inputs.text, inputs.sheet, inputs.sources, observers)
+        self.rows = self.reader.rows(inputs.verdicts)
+        self.all_rows.finish()
+        self.copies, self.systematic = [*self.patterns.same(self.reports, snapshot)], [*self.patterns.lines(self.counts)]
+        self.unshared = [*finder.found(self.counts, self.without_map())]
+        self.count()
+
+    def without_map(self) -> set[str]:
+        """Returns the providers for which no map is written: those that have one, and those whose map would be an input."""
+        inputs = {os.path.realpath(path) for path in self.snapshot.copies}
+        mapped = {name for name, _ in maps_named(self.options)} if self.reports else {*self.inputs.sources.names}
+        paths = {report.provider: os.path.join(self.options.output, map_path(report.provider)) for report in self.reports}
+        return mapped | {name for name, path in paths.items() if os.path.realpath(path) in inputs}
+
+    def count(self) -> None:
+        add = self.findings.add
+        add("contradictions", len(self.rows))
+        add("refusals", len(self.inputs.refusals.reports), "report refused", "reports refused")
+        add("uncompared", self.near.uncompared if self.near else 0)
+        add("unshared", len(self.unshared), "provider shares almost no row", "providers share almost no row")
+        add("warnings", len(self.copies), "warning about copies", "warnings about copies")
+        add("warnings", sum(is_hidden for _, is_hidden in self.systematic), "scale that rounding hides", "scales that rounding hides")
+        add("warnings", self.warnings.count if self.options.fail_on is not KINDS else 0)  # by default, they do not change the status
+
+    def status(self) -> Status:
+        return self.findings.status(self.options.fail_on)
+
+    def lines(self) -> Iterator[str]:
+        """Yields the lines for standard error."""
+        yield from map(self.snapshot.named, self.inputs.notes)
+        yield from self.copies
+        yield from (each.line() for each in self.unshared)
+        yield from (line for line, _ in self.systematic)
+        yield from self.inputs.refusals.lines()
+        yield from self.warnings.lines()
+        yield from self.near.notes() if self.near else ()
+
+    def phrases(self) -> list[str]:
+        """Returns the parts of the line for standard output."""
+        rows = ", ".join(f"{count} {words}" for count, words in self.counts.lines())
+        return [f"{counted(self.counts.count, 'row')}: {rows}", *self.findings.phrases(), *self.warnings.phrases()]
+
+    def files(self) -> Iterator[File]:
+        """Yields the names and the pieces of the files in the output folder."""
+        inputs = self.inputs
+        made_from = MadeFrom(inputs.version, tuple(self.snapshot.files.values()))
+        found = Found(self.rows, self.reader, inputs.labels, inputs.refusals, self.all_rows, self.counts, self.options.at_least,
+                      inputs.check, made_from, self.warnings)
+        yield "page.html", page(found)
+        yield "contradictions.csv", lines_of(table(self.rows, inputs.labels, self.reader))
+        yield "table.csv", self.all_rows.table_pieces()
+        yield "providers.csv", lines_of(self.counts.table())
+        yield "warnings.csv", self.warnings.pieces()
+        yield "summary.json", summary(self)
+        yield from inputs.files
+        yield from ((map_path(each.provider), map_pieces(each.map)) for each in self.unshared if each.map)
+
+    def texts(self) -> Iterator[File]:
+        """Yields the paths and the pieces of all files."""
+        yield from ((os.path.join(self.options.output, name), pieces) for name, pieces in self.files())
+        if self.near:
+            yield self.options.near, lines_of(self.near.table(self.near.pairs(), self.inputs.labels))
