@@ -101,8 +101,10 @@ from contradicting.output_folder import locked, output_folder  # noqa: E402
 from contradicting.outcome import Outcome  # noqa: E402
 from contradicting.progress import Progress  # noqa: E402
 from contradicting.reports import maps_named, reports_named  # noqa: E402
+from contradicting.since import Earlier  # noqa: E402
 from contradicting.snapshot import Snapshot  # noqa: E402
 from contradicting.unshared import FOLDER as MAPS  # noqa: E402
+from contradicting.workbook import library  # noqa: E402
 from normalising.options import add_losses, loses  # noqa: E402
 from process import Status, print_lines, printable, run  # noqa: E402
 from program import add_program, program_at  # noqa: E402
@@ -129,6 +131,8 @@ def read_options() -> argparse.Namespace:
     parser.add_argument("--near", metavar="NEAR.csv", help="write a table of pairs of rows that may differ only by mistake")
     parser.add_argument("--at-least", type=share, metavar="SHARE",
                         help="hide contradictions between numbers from the page whose difference is a smaller share, such as 0.1%%")
+    parser.add_argument("--xlsx", metavar="FILE", help="also write the tables as a workbook; needs the Python library XlsxWriter")
+    parser.add_argument("--since", metavar="DIR", help="compare the contradictions with those of an earlier run in this folder")
     look = parser.add_mutually_exclusive_group()
     look.add_argument("--fail-on", type=kinds_named, default=KINDS, metavar="KIND,..",
                       help=f"exit with status 1 only for these kinds of findings; by default, for all: {','.join(KINDS)}")
@@ -166,7 +170,7 @@ def check(parser: Parser, options: argparse.Namespace) -> None:
             parser.error("--near needs the providers: --sources and --names, or PROVIDER=MERGED")
     elif not (options.words or options.files) or options.sources or options.names:
         parser.error("name the reports; --sources and --names need --from")
-    if STANDARD in (options.output, options.near):
+    if STANDARD in (options.output, options.near, options.xlsx):
         parser.error("standard output has the summary: write ./- for a folder or a file with the name -")
     if (loses(options) or options.map) and not options.normalise:
         parser.error("options that lose something need --normalise")
@@ -183,12 +187,13 @@ def check(parser: Parser, options: argparse.Namespace) -> None:
 
 def outputs_of(options: argparse.Namespace) -> list[str]:
     names = ["page.html", "contradictions.csv", "table.csv", "providers.csv", "warnings.csv", "summary.json"]
+    names += ["since.csv"] * bool(options.since)
     names += ["merged.json"] * (not options.texts)
     names += ["sheet.json", "sheet.types.json"] * bool(options.taxonomy) + ["report.json"] * options.respell
     if not options.texts:
         names += ["changes.csv", "refusals.csv", *(f"{name}.txt" for name in LINES)]
         names += [report_file(number) for number, _ in enumerate(reports_named(options), 1)]
-    return [*(os.path.join(options.output, name) for name in names), *[options.near] * bool(options.near)]
+    return [*(os.path.join(options.output, name) for name in names), *[options.near] * bool(options.near), *[options.xlsx] * bool(options.xlsx)]
 
 
 def inputs_of(options: argparse.Namespace) -> list[str]:
@@ -202,13 +207,17 @@ def inputs_of(options: argparse.Namespace) -> list[str]:
 
 def main() -> Status:
     options = read_options()
+    if options.xlsx:
+        library()
     reports, maps = (os.path.join(options.output, name) for name in (FOLDER, MAPS))
     with output_folder(options.output), locked(options.output), Progress() as progress:
         with output_folder(reports, is_below=True), output_folder(maps, is_below=True), new_folder(os.path.abspath(options.output)) as folder:
             progress.show("copying the inputs")
             snapshot = snapshot_of(options, folder)
             with snapshot.names_restored():
+                earlier = Earlier(options.since, snapshot) if options.since else None
                 inputs = inputs_for(options, snapshot, folder, progress)
+                inputs.earlier = earlier
                 progress.show("reading the rows")
                 return write(Outcome(inputs, options, snapshot, folder), progress)
 

@@ -9,9 +9,11 @@ import stat
 import sys
 import tempfile
 from dataclasses import dataclass
-from typing import Iterable, Iterator, Optional
+from typing import Iterable, Iterator, Optional, Union
 
 from process import NotDone, Stopped, signals_held
+
+Piece = Union[str, bytes]
 
 NEW = ".new-"
 LEFTOVER = re.compile(re.escape(NEW) + r"[a-z0-9_]{8}")  # as `tempfile` names folders
@@ -68,10 +70,10 @@ class OutputLimit:
     def __init__(self, most: int) -> None:
         self.most, self.written = most, 0
 
-    def encoded(self, pieces: Iterable[str]) -> Iterator[bytes]:
+    def encoded(self, pieces: Iterable[Piece]) -> Iterator[bytes]:
         """Yields the bytes of the pieces. Errors: NotDone if the tool writes more than `most` bytes; exceptions of the pieces."""
         for piece in pieces:
-            data = piece.encode()
+            data = piece.encode() if isinstance(piece, str) else piece
             self.count(len(data))
             yield data
 
@@ -121,7 +123,7 @@ def remove_leftovers(folder: str) -> None:
 
 
 @contextlib.contextmanager
-def files_written(texts: Iterable[tuple[str, Iterable[str]]], limit: Optional[OutputLimit] = None) -> Iterator[None]:
+def files_written(texts: Iterable[tuple[str, Iterable[Piece]]], limit: Optional[OutputLimit] = None) -> Iterator[None]:
     """Writes all files or none. `texts` contains the path and the pieces of each file.
 
     Each file is written in a new folder beside its path. When the `with` block ends, all files are moved to their paths, unless

@@ -4,7 +4,7 @@ from __future__ import annotations
 import argparse
 import os
 from dataclasses import dataclass, field
-from typing import Any, Iterator
+from typing import Any, Iterator, Optional
 
 from commands import with_commands
 from contradicting.checking import LINES, command, report_file
@@ -16,6 +16,7 @@ from contradicting.refusals import Refusals, line_of
 from contradicting.remedies import FaultGroup
 from contradicting.reports import Report, check_files, maps_named, reports_named
 from contradicting.rows import FactSources
+from contradicting.since import Earlier
 from contradicting.snapshot import Snapshot, input_file
 from contradicting.sources import OwnTexts, Sources
 from contradicting.texts import Provider, Text, sheet_at
@@ -46,6 +47,8 @@ class Inputs:
     files: list[File] = field(default_factory=list)
     findings: Findings = field(default_factory=Findings)
     notes: list[str] = field(default_factory=list)  # lines for standard error
+    sheet_digest: str = ""
+    earlier: Optional[Earlier] = None  # the run of --since
     check: str = ""  # the command that checks the run, for a shell
     version: str = ""  # of the program, if it was run
 
@@ -70,7 +73,8 @@ def inputs_named(options: argparse.Namespace, snapshot: Snapshot) -> Inputs:
     if options.sources:
         sources = Sources(snapshot.of(options.sources), [Report(name, "") for name in options.names.split(",")])
     owned = [Provider(name, snapshot.of(path), text, sheet) for name, path in reports_named(options)]
-    return Inputs(text, sheet, verdicts, sources or OwnTexts(owned), labels_in(options.labels, options.language, snapshot))
+    labels, digest = labels_in(options.labels, options.language, snapshot), snapshot.files[options.texts[1]].digest
+    return Inputs(text, sheet, verdicts, sources or OwnTexts(owned), labels, sheet_digest=digest)
 
 
 def labels_in(words: list[str], language: str, snapshot: Snapshot) -> Labels:
@@ -109,7 +113,8 @@ class Run:
         files = [("merged.json", pieces_of_file(merged)), *self.respelled(merged), *self.files, *lines]
         self.note_repeated(found[0], paths)
         return Inputs(Text(merged), sheet_at(self.program.sheet), verdicts, Sources(sources, self.reports, found[0]),
-                      self.labels, refusals, files, self.findings, self.notes, check, self.program.version())
+                      self.labels, refusals, files, self.findings, self.notes, input_file("", self.program.sheet).digest, None, check,
+                      self.program.version())
 
     def respelled(self, merged: str) -> list[File]:
         """Returns the merged report for other processors, if --respell is given. Errors: NotDone."""

@@ -2,8 +2,10 @@
 from __future__ import annotations
 
 import argparse
+import functools
+import itertools
 import os
-from typing import Iterator
+from typing import Iterable, Iterator
 
 from contradicting.all_rows import AllRows
 from contradicting.findings import KINDS, counted
@@ -13,14 +15,20 @@ from contradicting.near import Near
 from contradicting.page import Found, page
 from contradicting.patterns import Patterns
 from contradicting.provider_counts import ProviderCounts
-from contradicting.reports import Report, maps_named, reports_named
+from contradicting.normalised import COLUMNS as CHANGES
+from contradicting.reports import Report, maps_named, reports_named, written
 from contradicting.rows import Reader, RowObserver
+from contradicting.since import Since
 from contradicting.snapshot import Snapshot
+from contradicting.subject import Subject
 from contradicting.summary import summary
-from contradicting.tables import lines_of, table
+from contradicting.tables import cell, lines_of, table
 from contradicting.unshared import UnsharedFinder, map_path, map_pieces
 from contradicting.warnings import Warnings
+from contradicting.workbook import Table, lines_in, write_workbook
 from process import Status
+from text_files import PIECE
+from whole_files import Piece
 
 
 class Outcome:
@@ -32,13 +40,17 @@ class Outcome:
         names = inputs.sources.names
         self.near, self.counts, self.patterns = Near(names) if options.near else None, ProviderCounts(names), Patterns()
         self.all_rows, finder = AllRows(folder, names, inputs.labels, options.most_output), UnsharedFinder(names)
-        self.warnings = Warnings(folder, inputs.sheet, options.most_output)
-        observers: list[RowObserver] = [self.counts, self.all_rows, self.warnings, self.patterns, finder, *([self.near] if self.near else [])]
+        self.warnings, self.subject = Warnings(folder, inputs.sheet, options.most_output), Subject()
+        observers: list[RowObserver] = [self.counts, self.all_rows, self.warnings, self.subject, self.patterns, finder]
+        self.since = Since(inputs.earlier) if inputs.earlier else None
+        observers += [*[self.near] * bool(self.near), *[self.since] * bool(self.since)]  # type: ignore[list-item]
         self.reader = Reader(inputs.text, inputs.sheet, inputs.sources, observers)
         self.rows = self.reader.rows(inputs.verdicts)
         self.all_rows.finish()
         self.copies, self.systematic = [*self.patterns.same(self.reports, snapshot)], [*self.patterns.lines(self.counts)]
         self.unshared = [*finder.found(self.counts, self.without_map())]
+        self.changes, self.workbook = (os.path.join(folder, name) for name in ("changes", "workbook.xlsx"))
+        self.limits = [*self.write_workbook(self.workbook)] if options.xlsx else []
         self.count()
 
     def without_map(self) -> set[str]:
@@ -47,6 +59,15 @@ class Outcome:
         mapped = {name for name, _ in maps_named(self.options)} if self.reports else {*self.inputs.sources.names}
         paths = {report.provider: os.path.join(self.options.output, map_path(report.provider)) for report in self.reports}
         return mapped | {name for name, path in paths.items() if os.path.realpath(path) in inputs}
+
+    def write_workbook(self, path: str) -> Iterator[str]:
+        """Writes the workbook to a temporary file. Yields a line for each limit that a table exceeds."""
+        changes = itertools.chain([CHANGES], lines_in(self.changes) if os.path.exists(self.changes) else ())
+        files = ([cell(written(file.path)), str(file.length), file.digest] for file in self.snapshot.files.values())
+        tables: list[tuple[str, Table]] = [
+            ("contradictions", table(self.rows, self.inputs.labels, self.reader)), ("rows", lines_in(self.all_rows.paths[0])),
+            ("providers", self.counts.table()), ("changes", changes), ("files", itertools.chain([["file", "bytes", "sha256"]], files))]
+        return write_workbook(path, tables)
 
     def count(self) -> None:
         add = self.findings.add
@@ -64,35 +85,45 @@ class Outcome:
     def lines(self) -> Iterator[str]:
         """Yields the lines for standard error."""
         yield from map(self.snapshot.named, self.inputs.notes)
+        yield from self.inputs.earlier.notes(self.inputs.version, self.inputs.sheet_digest) if self.inputs.earlier else ()
         yield from self.copies
         yield from (each.line() for each in self.unshared)
         yield from (line for line, _ in self.systematic)
         yield from self.inputs.refusals.lines()
         yield from self.warnings.lines()
         yield from self.near.notes() if self.near else ()
+        yield from self.limits
 
     def phrases(self) -> list[str]:
         """Returns the parts of the line for standard output."""
         rows = ", ".join(f"{count} {words}" for count, words in self.counts.lines())
-        return [f"{counted(self.counts.count, 'row')}: {rows}", *self.findings.phrases(), *self.warnings.phrases()]
+        return [f"{counted(self.counts.count, 'row')}: {rows}", *self.findings.phrases(), *self.warnings.phrases(), *([self.since.phrase()] if self.since else [])]
 
     def files(self) -> Iterator[File]:
         """Yields the names and the pieces of the files in the output folder."""
         inputs = self.inputs
         made_from = MadeFrom(inputs.version, tuple(self.snapshot.files.values()))
         found = Found(self.rows, self.reader, inputs.labels, inputs.refusals, self.all_rows, self.counts, self.options.at_least,
-                      inputs.check, made_from, self.warnings)
+                      inputs.check, made_from, self.warnings, self.subject, self.since)
         yield "page.html", page(found)
         yield "contradictions.csv", lines_of(table(self.rows, inputs.labels, self.reader))
         yield "table.csv", self.all_rows.table_pieces()
         yield "providers.csv", lines_of(self.counts.table())
         yield "warnings.csv", self.warnings.pieces()
+        yield from [("since.csv", lines_of(self.since.table()))] if self.since else []
         yield "summary.json", summary(self)
         yield from inputs.files
         yield from ((map_path(each.provider), map_pieces(each.map)) for each in self.unshared if each.map)
 
-    def texts(self) -> Iterator[File]:
+    def texts(self) -> Iterator[tuple[str, Iterable[Piece]]]:
         """Yields the paths and the pieces of all files."""
         yield from ((os.path.join(self.options.output, name), pieces) for name, pieces in self.files())
         if self.near:
             yield self.options.near, lines_of(self.near.table(self.near.pairs(), self.inputs.labels))
+        if self.options.xlsx:
+            yield self.options.xlsx, bytes_in(self.workbook)
+
+
+def bytes_in(path: str) -> Iterator[bytes]:
+    with open(path, "rb") as file:
+        yield from iter(functools.partial(file.read, PIECE), b"")

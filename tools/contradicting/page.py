@@ -9,7 +9,7 @@ import base64
 import hashlib
 import html
 import os
-from dataclasses import dataclass
+from dataclasses import dataclass, field
 from decimal import Decimal
 from typing import Iterable, Iterator, Optional
 
@@ -21,6 +21,8 @@ from contradicting.refusals import Refusals
 from contradicting.rows import Reader, Row
 from contradicting.sections import heading, section, who
 from contradicting.shown import escaped, shown_label
+from contradicting.since import Since
+from contradicting.subject import Subject
 from contradicting.warnings import Warnings
 from names import Name
 from process import MOST_CHARACTERS, printable
@@ -45,6 +47,8 @@ class Found:
     check: str = ""  # the command that checks the run, if there is one
     made_from: MadeFrom = MadeFrom()
     warnings: Optional[Warnings] = None
+    subject: Subject = field(default_factory=Subject)
+    since: Optional[Since] = None
 
 
 def part(name: str) -> str:
@@ -58,15 +62,15 @@ def page(found: Found) -> Iterator[str]:
     known = base64.b64encode(hashlib.sha256(script.encode()).digest()).decode()
     policy = f"default-src 'none'; style-src 'unsafe-inline'; script-src 'sha256-{known}'"
     refused_count = [(len(found.refusals.reports), "refused reports")] * bool(found.refusals.reports)
-    numbers = "".join(f"<span><b>{count}</b>{words}</span>" for count, words in [*found.counts.lines(), *refused_count])
+    numbers = "".join(f"<span{' class=apart' * bool(count and words.startswith('contradiction'))}><b>{count}</b>{words}</span>" for count, words in [*found.counts.lines(), *refused_count])
     yield f"""<!DOCTYPE html><html lang="en"><head><meta charset="utf-8"><title>Contradictions</title>
 <meta http-equiv="Content-Security-Policy" content="{policy}">
-<meta name="viewport" content="width=device-width"><style>{part("page.css")}</style></head><body><h1>Contradictions</h1>
-<p class="counts">{numbers}</p>
+<meta name="viewport" content="width=device-width"><style>{part("page.css")}</style></head><body>{heading_of(found)}<p class="counts">{numbers}</p>
 <p>A value with decimals represents all numbers within half of its last decimal place. The facts of a group agree. Facts in red are
 not in the largest group; if no group is the largest, all are red. Long texts are cut to {MOST_CHARACTERS} characters near the
 first difference; contradictions.csv has them whole.</p>
 """
+    yield from found.since.html() if found.since else ()
     yield from found.counts.html(found.refusals)
     yield from refused(found.refusals)
     yield from found.warnings.html() if found.warnings else ()
@@ -83,6 +87,10 @@ first difference; contradictions.csv has them whole.</p>
         yield '<details class="check"><summary>Check this run with a second program</summary>\n'
         yield f"<p>Run this command in the folder where the page was made:</p><pre>{html.escape(found.check)}</pre></details>\n"
     yield f"<script>{script}</script></body></html>\n"
+
+
+def heading_of(found: Found) -> str:
+    return "".join(found.subject.html(found.counts, len(found.rows)))
 
 
 def refused(refusals: Refusals) -> Iterator[str]:

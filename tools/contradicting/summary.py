@@ -24,6 +24,7 @@ def summary(outcome: Outcome) -> Iterator[str]:
         "rows": {"all": counts.count, **{kind.name.lower(): counts.kinds[kind] for kind in counts.shown_kinds()}},
         "providers": [*providers(outcome)],
         "pairs": [{**pair._asdict(), "agreeing": pair.agreeing} for pair in counts.pairs()],
+        "since": outcome.since and outcome.since.counts(),
         "unshared": [each.tree() for each in outcome.unshared],
         "hints": [each._asdict() for each in outcome.patterns.counts()],
         "reports": [*reports(outcome)],
@@ -31,6 +32,7 @@ def summary(outcome: Outcome) -> Iterator[str]:
         "refusals": [{"provider": report.provider, "file": report.path, "faults": report.faults, "first": [each._asdict() for each in report.first]}
                      for report in refused],
         "lines": [*outcome.lines()],
+        "sheet": outcome.inputs.sheet_digest,
         "versions": {"xbrlmerge": outcome.inputs.version, "python": platform.python_version()},
         "options": vars(outcome.options),
     }

@@ -1,0 +1,59 @@
+"""What the page is about: the headline, the entities and the periods."""
+from __future__ import annotations
+
+import collections
+from typing import Iterator, Sequence
+
+from contradicting.facts import day
+from contradicting.findings import counted
+from contradicting.provider_counts import ProviderCounts
+from contradicting.rows import Row
+from contradicting.shown import escaped, period, shown
+from names import Name
+
+MOST_SHOWN = 10  # entities and periods that the page lists
+MOST_YEARS = 3  # that the headline lists; of more, it has the first and the last
+WORDS = "no one two three four five six seven eight nine ten eleven twelve".split()
+
+
+class Subject:
+    """Receives all rows, and counts their entities, periods and years. The year of a period is that of its last day."""
+
+    def __init__(self) -> None:
+        self.entities: collections.Counter[Name] = collections.Counter()
+        self.periods: collections.Counter[str] = collections.Counter()
+        self.years: set[str] = set()
+
+    def add(self, row: Row) -> None:
+        self.entities.update([row.dimensions.entity] if row.dimensions.entity else [])
+        self.periods[period(row)] += 1
+        end = row.dimensions.period.rpartition("/")[2]
+        self.years |= {day(end, True)[:4]} if end else set()
+
+    def headline(self, counts: ProviderCounts, contradictions: int) -> Iterator[str]:
+        """Yields the parts of the headline as HTML."""
+        if self.entities:
+            yield shown(self.entities.most_common(1)[0][0].local) + f" and {len(self.entities) - 1} more" * (len(self.entities) > 1)
+        years = sorted(self.years)
+        if years:
+            yield f", {joined(years)}" if len(years) <= MOST_YEARS else f", {years[0]} to {years[-1]}"
+        providers = len(counts.providers)
+        number = WORDS[providers] if providers < len(WORDS) else str(providers)
+        yield f", {number} provider{'s' * (providers != 1)}" * bool(providers)
+        yield f": {counted(contradictions, 'contradiction')} in {counted(counts.count, 'row')}"
+        first, second = [*counts.alone.most_common(2), ("", 0), ("", 0)][:2]
+        if providers > 2 and first[1] > second[1]:
+            yield f"; <bdi>{escaped(first[0])}</bdi> stands alone in {first[1]}"
+
+    def html(self, counts: ProviderCounts, contradictions: int) -> Iterator[str]:
+        """Yields the headline, and lists of the entities and periods if there are several."""
+        text = "".join(self.headline(counts, contradictions)).lstrip(",: ")
+        yield f"<h1>{text}</h1>\n"
+        entities = [(f"{shown(name)}", count) for name, count in self.entities.most_common(MOST_SHOWN)]
+        for title, found, total in (("Entities", entities, len(self.entities)), ("Periods", self.periods.most_common(MOST_SHOWN), len(self.periods))):
+            more = f"; and {total - len(found)} more" * (total > len(found))
+            yield f'<p class="subject">{title}: ' + "; ".join(f"{text} ({counted(count, 'row')})" for text, count in found) + f"{more}</p>\n" if found else ""
+
+
+def joined(words: Sequence[str]) -> str:
+    return " and ".join(filter(None, [", ".join(words[:-1]), words[-1]]))
