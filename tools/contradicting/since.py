@@ -12,8 +12,9 @@ from contradicting.shown import escaped
 from contradicting.snapshot import Snapshot
 from contradicting.sources import providers
 from contradicting.summary import FORMAT
-from contradicting.tables import DIMENSIONS, LONGEST_TABLE, cell, dimension_cells, value_cells
+from contradicting.tables import DIMENSIONS, cell, dimension_cells, value_cells
 from process import NotDone
+from text_files import LONGEST
 
 COLUMNS = ["change", "row", *DIMENSIONS, "now", "facts_before", "facts_now"]
 CHANGES = ("new", "changed", "open", "gone")
@@ -41,7 +42,7 @@ class Earlier:
             raise NotDone(f"{paths[0]} has the format {json.dumps(found)[:20]}, but --since reads the format {FORMAT}")
         self.version, self.sheet = summary.get("versions", {}).get("xbrlmerge"), summary.get("sheet")
         self.rows: dict[Key, set[Key]] = {}
-        csv.field_size_limit(LONGEST_TABLE)
+        csv.field_size_limit(LONGEST)
         with open(snapshot.of(paths[1]), encoding="utf-8-sig", newline="") as table:
             reader = csv.DictReader(table)
             if not {*DIMENSIONS, *FACT} <= {*(reader.fieldnames or ())}:

@@ -6,8 +6,9 @@ import importlib
 import re
 from typing import Any, Iterable, Iterator, Optional, Sequence
 
-from contradicting.tables import LONGEST_TABLE, SIGNS, SKIPPED, safe
+from contradicting.tables import SIGNS, SKIPPED, safe
 from process import NotDone
+from text_files import LONGEST
 
 MOST_ROWS, LONGEST_CELL = 1_048_576, 32_767  # of a sheet, and characters of a cell
 MOST_DIGITS = 15  # significant digits of a number in a cell
@@ -40,7 +41,7 @@ def write_workbook(path: str, tables: Sequence[tuple[str, Table]]) -> Iterator[s
 
 def lines_in(path: str) -> Iterator[Sequence[str]]:
     """Yields the lines of a CSV file."""
-    csv.field_size_limit(LONGEST_TABLE)
+    csv.field_size_limit(LONGEST)
     with open(path, encoding="utf-8-sig", newline="") as file:
         yield from csv.reader(file)
 
