@@ -60,6 +60,12 @@ language, or a dimension that one row lacks. Pairs are left out if one provider 
 dimension and equal in all others form a group. In each group, at most 1,000 pairs are compared, fewer if the pairs found have
 more than 10,000 facts. With --from, --near needs the providers.
 
+--since DIR compares the contradictions with those that an earlier run wrote to DIR, by the dimensions of their rows: since.csv
+lists which are new, changed, open and gone. DIR may be the folder of -o; it is read first.
+
+--xlsx FILE writes a workbook with the sheets contradictions, rows, providers, changes and files. Numbers of up to 15 digits are
+numbers, and all else is text. Lines and texts beyond the limits of a sheet are only in the .csv files.
+
 --from uses the earlier output of `xbrlmerge merge` and `xbrlmerge verdicts`. --sources uses the output of `xbrlmerge sources`,
 and --names lists the providers in the order of the reports. Instead of --sources and --names, PROVIDER=MERGED names a
 provider and the merged report of its own reports; repeat it for each provider.

@@ -56,7 +56,8 @@ def faults(program):
                 file.write(report(values))
         words = ["--program", program, "--taxonomy", "taxonomy.zip", "-o", "out", *(f"{provider}={name}" for name, (provider, _) in FILES.items())]
         ran = subprocess.run([os.path.join(TOP, "tools", "contradictions"), *words], capture_output=True, text=True, cwd=scratch)
-        if (ran.returncode, ran.stderr) != (1, ""):
+        line = "contradictions: Beta: 1,000 times smaller in 20 of 23 rows that others report, too\n"
+        if (ran.returncode, ran.stderr) != (1, line):
             return [f"the trial ends with {ran.returncode}: {ran.stderr}"]
         folder = os.path.join(scratch, "out")
         with open(os.path.join(folder, "page.html"), encoding="utf-8") as file:

@@ -111,14 +111,14 @@ class Files(Stubbed):
         self.assertEqual((done.returncode, done.stderr), (1, ""))
         self.assertEqual(done.stdout, f"{SUMMARY}; page: {self.page}\n")
         self.assertEqual(sorted(os.listdir(self.output)),
-                         ["contradictions.csv", "merged.json", "page.html", "providers.csv", "refusals.txt", "sources.txt", "table.csv", "verdicts.txt",
-                          "warnings.csv"])
+                         ["contradictions.csv", "merged.json", "page.html", "providers.csv", "refusals.csv", "refusals.txt", "sources.txt",
+                          "summary.json", "table.csv", "verdicts.txt", "warnings.csv"])
         self.assertEqual(content(os.path.join(self.output, "merged.json")), content(example("merged.json")))
         self.assertEqual(len(self.cells("table.csv")), 64)
         found = {cell["fact"]: (cell["identifiers"], cell["reported_by"]) for cell in self.cells("contradictions.csv")}
         self.assertEqual(found["f066"], ("issuer: f33; statfeed: TS08474", "2 of 3"))
         self.assertEqual(self.log(), [(command, REPORTS) for command in ("merge", "verdicts", "sources", "explain")])
-        for text in ("<title>Contradictions</title>", "<h1>Contradictions</h1>", "<b>3</b>contradictions",
+        for text in ("<title>Contradictions</title>", "three providers: 3 contradictions in 64 rows</h1>", "<b>3</b>contradictions",
                      "<b>3</b>reported by one provider", "<b>13</b>agree exactly", "<b>45</b>agree within rounding", "<dt>Reported by<dd>2 of 3"):
             self.assertIn(text, content(self.page))
         self.run_on("--respell", *REPORTS)
@@ -152,7 +152,8 @@ class Files(Stubbed):
         self.prints_nothing()
         done = self.run_on(*REPORTS)
         self.assertEqual((done.returncode, done.stderr), (0, ""))
-        self.assertTrue(done.stdout.startswith("0 rows: 0 contradictions, 0 reported by one provider, 0 agree exactly, 0 agree within rounding; page: "))
+        self.assertTrue(done.stdout.startswith("0 rows: 0 contradictions, 0 reported by one provider, 0 agree exactly, 0 agree within rounding;"
+                                               " 3 providers share almost no row; page: "))
 
     def test_names_are_those_of_the_files_or_are_given(self):
         self.run_on(f"A={REPORTS[0]}", f"B; \u00e4={REPORTS[1]}", f"A={REPORTS[2]}")
@@ -289,7 +290,9 @@ class Prepared(Stubbed):
             self.assertEqual(content(os.path.join(self.bin, "sheet")), content(os.path.join(self.output, "sheet.json")))
 
     def labelled(self, language="en"):
-        """Makes a taxonomy with labels of a concept, a dimension and a member, and a merged report that uses them."""
+        """Makes a taxonomy with labels of a concept, a dimension and a member, and a merged report that uses them. The third
+        provider has no fact, which `run_on` then ignores."""
+        self.is_empty = True
         parts = "".join(PART.format(name, kind) for name, kind in (("RegionAxis", "xbrldt:dimensionItem"), ("NorthMember", "xbrli:item")))
         words = self.package(parts)
         labels = "".join(LABEL.format(name, f"{name} & label", language) for name in ("Sales", "RegionAxis", "NorthMember"))

@@ -129,7 +129,8 @@ class OfProviders(Stubbed):
         own = [self.write(f"{name}.json", json.dumps({"documentInfo": {"namespaces": URIS}, "facts": {"f": fact()}})) for name in "AB"]
         names = self.write("map.json", json.dumps(YEAR))
         words = ["--program", self.program, "--sheet", self.write("sheet.json", json.dumps(KINDS)), "-o", self.output, "--normalise"]
-        self.assertEqual(in_process.run(contradictions, *words, "--map", f"B={names}", *own), (1, ""))
+        status, errors = in_process.run(contradictions, *words, "--map", f"B={names}", *own)
+        self.assertEqual((status, len(self.other_lines(errors))), (1, 1), errors)  # A and B have the same bytes
         with open(os.path.join(self.output, "changes.csv"), encoding="utf-8-sig", newline="") as file:
             found = [(change["provider"], change["pointer"], change["rule"], change["loss"]) for change in csv.DictReader(file)]
         self.assertEqual(found, [("B", "/documentInfo/namespaces", "map", "true")])
