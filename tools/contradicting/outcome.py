@@ -47,6 +47,7 @@ class Outcome:
         self.reader = Reader(inputs.text, inputs.sheet, inputs.sources, observers)
         self.rows = self.reader.rows(inputs.verdicts)
         self.all_rows.finish()
+        self.near_pairs = self.near.pairs() if self.near else []
         self.copies, self.systematic = [*self.patterns.same(self.reports, snapshot)], [*self.patterns.lines(self.counts)]
         self.unshared = [*finder.found(self.counts, self.without_map())]
         self.changes, self.workbook = (os.path.join(folder, name) for name in ("changes", "workbook.xlsx"))
@@ -119,7 +120,7 @@ class Outcome:
         """Yields the paths and the pieces of all files."""
         yield from ((os.path.join(self.options.output, name), pieces) for name, pieces in self.files())
         if self.near:
-            yield self.options.near, lines_of(self.near.table(self.near.pairs(), self.inputs.labels))
+            yield self.options.near, lines_of(self.near.table(self.near_pairs, self.inputs.labels))
         if self.options.xlsx:
             yield self.options.xlsx, bytes_in(self.workbook)
 
