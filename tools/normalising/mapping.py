@@ -10,6 +10,7 @@ from normalising.json_text import Number, Tree, read_json
 from normalising.prefixes import Prefixes
 from process import NotDone, shortened
 from text_files import shown_path
+from whole_files import OutputLimit
 
 TABLES = ("entities", "concepts", "members")
 PARTS = ("namespaces", *TABLES, "units")
@@ -94,9 +95,9 @@ class ReportMap(Prefixes):
     another one.
     """
 
-    def __init__(self, given: NameMap, namespaces: Tree, uris: Uris) -> None:
+    def __init__(self, given: NameMap, namespaces: Tree, uris: Uris, limit: OutputLimit) -> None:
         super().__init__(namespaces, uris)
-        self.given = given
+        self.given, self.limit = given, limit
         self.uris = {prefix: given.namespaces.get(uri, uri) for prefix, uri in uris.items()}
         self.namespaces.update(self.uris)
         self.prefixes = {uri: prefix for prefix, uri in self.uris.items() if prefix}
@@ -157,4 +158,6 @@ class ReportMap(Prefixes):
             prefix = self.unused("map")
             self.prefixes[name.uri] = prefix
             self.uris[prefix] = self.namespaces[prefix] = name.uri
-        return self.spellings.setdefault(name, f"{self.prefixes[name.uri]}:{name.local}")
+        spelled = self.spellings.setdefault(name, f"{self.prefixes[name.uri]}:{name.local}")
+        self.limit.count(len(spelled))
+        return spelled

@@ -17,11 +17,9 @@ from normalising.sets import ITEMS, full_name, set_of
 from normalising.shapes import CORE, PURE, core_spelling
 from normalising.spellings import spelling
 from normalising.unreadable import refused_in
-from process import NotDone
 from program import Program
 from sheets import TYPES, Kinds, Sheet
-
-GROWTH, SMALL = 16, 1_000_000  # the names of sets add at most GROWTH times the report's length plus SMALL bytes
+from whole_files import OutputLimit, most_output
 
 
 class Normaliser:
@@ -37,17 +35,17 @@ class Normaliser:
         Errors: NotDone, OSError.
         """
         check_root(tree)
-        whole, logs = Log(), dict[str, Log]()
+        whole, logs, limit = Log(), dict[str, Log](), self.limit(length)
         drop_unknown_members(Part(tree, (), whole), "report", self.options)
         facts_by_identifier(Part(tree, (), whole))
         information, prefixes = Part(tree["documentInfo"], ("documentInfo",), whole), Prefixes(None, {})
         if isinstance(information.members, dict):
             change_information(information, self.options)
-            prefixes = prefixes_of(information.get("namespaces"), names)
+            prefixes = prefixes_of(information.get("namespaces"), names, limit)
         facts: dict[str, Tree] = {}
         if isinstance(tree.get("facts"), dict):
             facts, tree["facts"] = tree["facts"], {}
-            reader = FactReader(self.sheet, self.options, prefixes, GROWTH * length + SMALL)
+            reader = FactReader(self.sheet, self.options, prefixes, limit)
             for number, (name, fact) in enumerate(facts.items(), 1):
                 logs[name] = Log(name, number)
                 reader.read(name, fact, logs[name], tree["facts"])
@@ -63,11 +61,16 @@ class Normaliser:
             whole.take(log)
         return whole
 
+    def limit(self, length: int) -> OutputLimit:
+        """Returns the limit for the names that rules write. Namespaces and names of a map may be long, and many facts have them."""
+        most = vars(self.options).get("most_output")
+        return OutputLimit(most_output(length) if most is None else most)
+
     def spell_sets(self, tree: Tree, length: int) -> Log:
         """Applies only the rule `set`, and returns a log. Parts without their form stay: the program refuses them. Errors: NotDone."""
         whole, (information, facts) = Log(), (tree.get(key) if isinstance(tree, dict) else None for key in ("documentInfo", "facts"))
         uris = uris_of(information.get("namespaces")) if isinstance(information, dict) else {}
-        reader = FactReader(self.sheet, self.options, Prefixes(None, uris), GROWTH * length + SMALL)
+        reader = FactReader(self.sheet, self.options, Prefixes(None, uris), self.limit(length))
         for number, (name, fact) in enumerate(facts.items() if isinstance(facts, dict) else (), 1):
             if isinstance(fact, dict) and is_text(fact.get("value")) and reader.concept_of(fact) in self.sheet.sets:
                 log = Log(name, number)
@@ -76,9 +79,9 @@ class Normaliser:
         return whole
 
 
-def prefixes_of(namespaces: Tree, names: Optional[NameMap]) -> Prefixes:
+def prefixes_of(namespaces: Tree, names: Optional[NameMap], limit: OutputLimit) -> Prefixes:
     uris = uris_of(namespaces)
-    return ReportMap(names, namespaces, uris) if names else Prefixes(namespaces, uris)
+    return ReportMap(names, namespaces, uris, limit) if names else Prefixes(namespaces, uris)
 
 
 def change_namespaces(information: Part, prefixes: Prefixes) -> None:
@@ -91,10 +94,10 @@ def change_namespaces(information: Part, prefixes: Prefixes) -> None:
 
 
 class FactReader:
-    """The rules for the facts of one report. `left` is the number of bytes that the names of sets may still add."""
+    """The rules for the facts of one report. `limit` counts the bytes that the names of sets add."""
 
-    def __init__(self, sheet: Sheet, options: argparse.Namespace, prefixes: Prefixes, left: int) -> None:
-        self.sheet, self.options, self.prefixes, self.left = sheet, options, prefixes, left
+    def __init__(self, sheet: Sheet, options: argparse.Namespace, prefixes: Prefixes, limit: OutputLimit) -> None:
+        self.sheet, self.options, self.prefixes, self.limit = sheet, options, prefixes, limit
         self.uris = prefixes.uris
         self.mapped = prefixes if isinstance(prefixes, ReportMap) else None
 
@@ -268,9 +271,7 @@ class FactReader:
             fact.log.leave_set((*fact.path, "value"), given, why)
             return
         lengths = {uri: len(uri.encode()) for uri in {uri for uri, _ in names}}  # each URI is encoded once, since it may be long
-        self.left -= sum(lengths[uri] + len(local.encode()) + 2 for uri, local in names) - len(given.encode())
-        if self.left < 0:
-            raise NotDone(f"the names of its sets, with their URIs, add more than {GROWTH} times its length plus {SMALL} bytes")
+        self.limit.count(sum(lengths[uri] + len(local.encode()) + 2 for uri, local in names) - len(given.encode()))
         fact.change("value", set_of(names), *(("set", False) if found == spelled else ("map", True)))
 
     def in_namespace(self, name: tuple[str, str]) -> tuple[str, str]:

@@ -121,7 +121,7 @@ class Long(ToolTest):
         text = report({f"f{number}": fact("long:a eg:b", "eg:S") for number in range(400)})
         status, errors = self.run_tool(*self.words(text))
         self.assertEqual((status, os.listdir(self.scratch).count("out.json")), (3, 0))
-        self.assertIn("the names of its sets, with their URIs, add more than 16 times its length", errors)
+        self.assertIn("--most-output BYTES sets the bound", errors)
 
     def test_the_growth_of_sets_is_counted_in_bytes(self):
         facts = {f"f{number}": fact("wide:a", "eg:S") for number in range(100)}
