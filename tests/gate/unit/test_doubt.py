@@ -278,6 +278,14 @@ class Doubt(unittest.TestCase):
         self.assertEqual(self.tree.run("--quiet", "--write")[0], 0)
         self.assertEqual(self.page("FORMAT"), form.replace(rows[1], mended))
 
+    def test_the_definitions_of_the_program_are_counted(self):
+        names = ["Order", "added", "total", "paid", "IsPaid"]
+        self.tree.put("crates/command_line/src/program.rt", CODE.replace("fn sum", "fn run"))
+        stated = "\nOf the program they have {} lines, 3 of them in `command_line`.\n".format
+        wrong = "doubt: docs/DOUBT.md: of the program's definitions it should say that they have 20 lines, 3 of them in `command_line`"
+        self.assertEqual(self.problems(names, 20, words=stated(19))[1], [wrong])
+        self.assertEqual(self.problems(names, 20, words=stated(20))[0], 0)
+
     def test_write_lists_each_name_before_its_users(self):
         self.problems(["Order", "IsPaid", "total", "AllArePaid"], 3)
         status, _, found = self.tree.run("--quiet", "--write")
