@@ -290,8 +290,8 @@ def empty_keys_before_and_behind_facts(n):
 
 
 def objects_behind_dimensions(n, extension=None):
-    """n facts, each with an object as an extension. A piece may be cut before this object."""
-    extended = ({**fact(), "x:e": extension or {"a": 1}} for place in range(n))
+    """n facts of different lengths, each with an object as an extension. A piece may be cut before this object."""
+    extended = ({**fact("v" * (place % 50)), "x:e": extension or {"a": 1}} for place in range(n))
     return merging(sheet(), report(numbered(extended)))
 
 
