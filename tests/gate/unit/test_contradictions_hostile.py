@@ -4,6 +4,7 @@ import io
 import itertools
 import json
 import os
+import shutil
 import subprocess
 import sys
 import tracemalloc
@@ -191,6 +192,25 @@ class Hostile(ToolTest):
             self.assertEqual(status, 2, errors)
             self.assertIn("an output is an input, or two outputs are one file", errors)
         self.assertEqual({name: content(self.path_of(name)) for name in before}, before)
+
+    def test_no_link_below_the_output_folder_is_followed(self):
+        words, victim = self.words([number(1), number(2)]), self.write("victim", "own")
+        for name in ("page.html", "table.csv", "providers.csv"):
+            for target in (victim, "../victim", "nowhere", "."):
+                os.mkdir(self.output)
+                os.symlink(target, os.path.join(self.output, name))
+                status, line = in_process.run(contradictions, *words)
+                self.assertEqual((status, os.listdir(self.output), content(victim)), (3, [name], "own"))
+                self.assertIn(f"{name} exists and is not a file that can be replaced", line)
+                shutil.rmtree(self.output)
+        os.mkdir(self.path_of("real"))
+        os.symlink("real", self.output)  # the user names this folder
+        self.assertEqual(in_process.run(contradictions, *words)[0], 1)
+        os.makedirs(self.path_of("real/.new-a1b2c3d4/of a killed run"))
+        os.symlink("..", self.path_of("real/reports"))
+        status, line = in_process.run(contradictions, *words)
+        self.assertEqual((status, "reports is not a folder" in line), (3, True), line)
+        self.assertFalse({name for name in os.listdir(self.output) if name.startswith(".new-")})
 
     def test_what_no_merged_text_has_is_a_sentence(self):
         odd = {"period": ["2020", "a/b/c", "/".join(["2020-01-01T00:00:00"] * 30), "2020-13-01T00:00:00", 5], "unit": [5, [], {}],
