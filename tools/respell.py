@@ -35,7 +35,7 @@ from respelling.checking import Checker  # noqa: E402
 from respelling.respelled import respelled, text_of  # noqa: E402
 from respelling.rules import WITH_SHEET, listed  # noqa: E402
 from text_files import LONGEST, PIECE, STANDARD, opened, shown_path  # noqa: E402
-from whole_files import files_written  # noqa: E402
+from whole_files import OutputLimit, bytes_in, files_written, most_output  # noqa: E402
 
 
 def read_options() -> argparse.Namespace:
@@ -46,6 +46,7 @@ def read_options() -> argparse.Namespace:
     parser.add_argument("--compact", action="store_true", help="write one line, without spaces")
     parser.add_argument("--check", action="store_true", help="check a report")
     parser.add_argument("--rules", action="store_true", help="print the rules that --check applies")
+    parser.add_most_output()
     options = parser.read()
     options.names = [*options.words, *options.files]
     if len(options.names) != (0 if options.rules else 1 if options.check else 2):
@@ -84,11 +85,12 @@ def respell(options: argparse.Namespace) -> Status:
     lines = taxonomy_lines(tree["documentInfo"]["taxonomy"], options.taxonomy)
     text = text_of(tree, options.compact)
     print_lines(lines)
+    limit = OutputLimit(most_output(len(content) + bytes_in([options.sheet])) if options.most_output is None else options.most_output)
     if out == STANDARD:
-        sys.stdout.buffer.write(text.encode())
+        sys.stdout.buffer.write(b"".join(limit.encoded([text])))
         sys.stdout.flush()
     else:
-        with files_written([(out, [text])]):
+        with files_written([(out, [text])], limit):
             pass
     return Status.LOOK if lines else Status.DONE
 
