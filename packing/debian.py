@@ -68,7 +68,7 @@ def packages(source: Source) -> list[Package]:
     return [
         Package("xbrlmerge", "merge xBRL-JSON reports, and show where they disagree",
                 {"Architecture": MACHINE, "Section": "text", "Depends": f"libc6 (>= {newest_libc(program[0].content)})",
-                 "Recommends": "python3 (>= 3.9)"}, moved([*program, *contents.documents(top)])),
+                 "Recommends": "python3 (>= 3.9)", "Suggests": "python3-xlsxwriter"}, moved([*program, *contents.documents(top)])),
         Package(SHARED_PACKAGE, "merge xBRL-JSON reports (shared library)",
                 {"Architecture": MACHINE, "Section": "libs", "Multi-Arch": "same",
                  "Depends": f"libc6 (>= {newest_libc(library[0].content)})"}, library,

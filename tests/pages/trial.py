@@ -70,7 +70,7 @@ def lacking(page, cells, rows):
     row = {row["label"]: row for row in rows}
     checks = {
         "the restatement with its file": found.get(("Profit", "500000")) == ("2", f"Alpha: annual.json, i{len(USUAL)}")
-        and found["Profit", "520000"][0] == "1" and "<bdi>annual.json</bdi>" in page,
+        and found["Profit", "520000"][0] == "1" and row["Profit of the group"]["hint"] == "Alpha: restated: restated.json after annual.json",
         "the scale error as one hint": page.count('<bdi>Beta</bdi></b>: 1,000 times smaller in 20 rows</summary>') == 1,
         "the missing fact by its label": row["Equity of the group"]["not_reported_by"] == "Gamma",
         "the outlier's group": found.get(("Staff", "140"), " ")[0] == "2" and found.get(("Staff", "100"), " ")[0] == "1",

@@ -7,6 +7,7 @@ from typing import Iterator, Mapping, NamedTuple, Optional
 
 from contradicting.facts import Fact, Interval
 from contradicting.groups import MOST_GROUPS, Group, Weights, weight
+from contradicting.sources import Holders
 
 FACTORS = (10**3, 10**6, 10**9, 100)
 MOST_PAIRS = 100  # the most pairs of facts that are compared for a difference in the last place
@@ -15,10 +16,11 @@ Facts = Mapping[str, Fact]
 
 
 class Hint(NamedTuple):
-    """What may explain the difference of a group: the facts of the group, and a phrase about its providers."""
+    """What may explain the difference of a group: the facts of the group, and a phrase about its providers, or about one."""
 
     group: Group
     phrase: str
+    provider: str = ""
 
 
 def hints_of(facts: Facts, groups: tuple[Group, ...], weights: Weights) -> Iterator[Hint]:
@@ -32,6 +34,19 @@ def hints_of(facts: Facts, groups: tuple[Group, ...], weights: Weights) -> Itera
         if phrase:
             found.setdefault(Hint(other, phrase))
     yield from found
+
+
+def restatements(holders: Mapping[str, Holders], groups: tuple[Group, ...]) -> Iterator[Hint]:
+    """Yields a hint for each provider whose reports contradict each other: the last report, after the one before it."""
+    places = {name: index for index, group in enumerate(groups) for name in group}
+    own: dict[str, list[tuple[int, str, str]]] = {}  # the report, its file and the fact
+    for fact, holder in ((fact, holder) for fact, each in holders.items() for holder in each):
+        own.setdefault(holder.name, []).extend((each.report, each.file, fact) for each in holder.identifiers if each.file)
+    for provider, found in own.items():
+        last = max(found, default=(0, "", ""))
+        before = [each for each in found if each[0] < last[0] and places[each[2]] != places[last[2]]]
+        if before:
+            yield Hint((last[2],), f"restated: {last[1]} after {max(before)[1]}", provider)
 
 
 def phrase_for(facts: Facts, one: Group, other: Group) -> Optional[str]:

@@ -138,7 +138,7 @@ def by_hint(rows: list[Row]) -> dict[tuple[str, str], list[Row]]:
     found: dict[tuple[str, str], list[Row]] = {}
     for row in rows:
         for hint in row.hints[:1]:
-            found.setdefault((who(row, hint.group), hint.phrase), []).append(row)
+            found.setdefault((who(row, hint), hint.phrase), []).append(row)
     several = [(key, each) for key, each in found.items() if len(each) > 1]
     return dict(sorted(several, key=lambda item: (-len(item[1]), item[0])))
 

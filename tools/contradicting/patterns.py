@@ -10,7 +10,7 @@ from typing import Iterator, NamedTuple, Sequence
 from contradicting.agreement import Agreement, agreement_of
 from contradicting.facts import Fact
 from contradicting.findings import counted
-from contradicting.hints import exact_scale
+from contradicting.hints import Hint, exact_scale
 from contradicting.provider_counts import ProviderCounts
 from contradicting.rows import Row
 from contradicting.snapshot import Snapshot
@@ -42,11 +42,15 @@ class Patterns:
         for name, holders in row.holders.items():
             for holder in holders:
                 self.digests.setdefault(holder.name, hashlib.sha256()).update(name.encode())
-        self.hints.update({(holder.name, hint.phrase) for hint in row.hints for name in hint.group for holder in row.holders[name]})
+        self.hints.update({(name, hint.phrase) for hint in row.hints for name in self.providers(row, hint)})
         if agreement_of(row) is Agreement.ROUNDING:
             found = {*self.factors(row)}
             self.hints.update(found)
             self.agreeing.update(found)
+
+    @staticmethod
+    def providers(row: Row, hint: Hint) -> Iterator[str]:
+        yield from [hint.provider] if hint.provider else (holder.name for name in hint.group for holder in row.holders[name])
 
     def factors(self, row: Row) -> Iterator[tuple[str, str]]:
         """Yields the providers whose value is exactly a factor smaller than another value, with the factor."""

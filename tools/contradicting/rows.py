@@ -10,7 +10,7 @@ from typing import Any, Iterable, Iterator, Mapping, NamedTuple, Optional, Proto
 
 from contradicting.facts import Dimensions, Fact, Interval
 from contradicting.groups import Group, groups_of, odd_facts, weights_of
-from contradicting.hints import Hint, hints_of
+from contradicting.hints import Hint, hints_of, restatements
 from contradicting.sources import Holders
 from contradicting.texts import CORE, Text, Tree, using
 from normalising.sets import is_spelled
@@ -91,7 +91,7 @@ def contradiction(row: Row) -> Optional[Row]:
             return None
     weights = weights_of(row.holders)
     groups = groups_of(row.facts, weights)
-    odd, hints = frozenset(odd_facts(groups, weights)), tuple(hints_of(row.facts, groups, weights))
+    odd, hints = frozenset(odd_facts(groups, weights)), (*restatements(row.holders, groups), *hints_of(row.facts, groups, weights))
     return row._replace(gap=gap, groups=groups, odd=odd, hints=hints)
 
 

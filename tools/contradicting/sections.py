@@ -7,6 +7,7 @@ from typing import Iterator, NamedTuple, Optional
 
 from contradicting.facts import Fact, Interval
 from contradicting.rows import Reader, Row
+from contradicting.hints import Hint
 from contradicting.labels import Labels
 from contradicting.shown import escaped, in_language, of_holders, other_dimensions, period, shown, start_of_cut, unit
 from contradicting.sources import names_of
@@ -60,13 +61,13 @@ def terms(row: Row, shown_unit: str, reader: Reader, labels: Labels) -> Iterator
 
 def hints(row: Row) -> str:
     """Returns the hints of a row as a text."""
-    return "; ".join(f"{who(row, hint.group)}: {hint.phrase}" for hint in row.hints)
+    return "; ".join(f"{who(row, hint)}: {hint.phrase}" for hint in row.hints)
 
 
-def who(row: Row, group: tuple[str, ...]) -> str:
-    """Returns the names of a group's providers or, if these are not known, the identifiers of its facts."""
-    names = dict.fromkeys(holder.name for name in group for holder in row.holders[name])
-    return ", ".join(names or group)
+def who(row: Row, hint: Hint) -> str:
+    """Returns the provider of a hint, or those of its group or, if these are not known, the identifiers of its facts."""
+    names = dict.fromkeys(holder.name for name in hint.group for holder in row.holders[name])
+    return hint.provider or ", ".join(names or hint.group)
 
 
 class NumberLine(NamedTuple):

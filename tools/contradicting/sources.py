@@ -17,11 +17,12 @@ LONGEST_LINE = 1 << 26  # characters
 
 class Identifier(NamedTuple):
     """The identifier of a fact in a report. `path` is empty if the report is not known. `file` is empty unless the provider has
-    several reports."""
+    several reports. `report` is the index of the report."""
 
     text: str
     path: str
     file: str
+    report: int = 0
 
 
 class Holder(NamedTuple):
@@ -73,7 +74,7 @@ class Sources:
             while self.head and self.head[0] == name:
                 _, index, identifier = self.head
                 report = self.reports[index]
-                found.setdefault(report.provider, []).append(Identifier(identifier, report.path, self.files[index]))
+                found.setdefault(report.provider, []).append(Identifier(identifier, report.path, self.files[index], index))
                 self.advance()
             if not found:
                 raise ValueError(f"the source of {name} is missing, or is in the wrong place")

@@ -59,6 +59,26 @@ class Compared(ToolTest):
             self.assertEqual(list(pair.values()), [*map(str, wanted)])
             self.assertIn(f"<bdi>{one}</bdi> and <bdi>{other}</bdi><td data-name=\"Rows\">{shared}<td", content(self.page))
 
+        summary = json.loads(content(os.path.join(self.output, "summary.json")))
+        self.assertEqual((summary["format"], summary["status"], summary["findings"]["contradictions"]), (1, 1, 5))
+        self.assertEqual(summary["rows"], {"all": 10, "contradiction": 5, "one_provider": 2, "exact": 2, "rounding": 1})
+        self.assertEqual([[pair["shared"], pair["contradicting"]] for pair in summary["pairs"]],
+                         [[int(pair["shared"]), int(pair["contradict"])] for pair in self.read("providers.csv")])
+        self.assertEqual(len(summary["files"]), 4)
+
+    def test_the_night_after(self):
+        one, two, three = ("1", 0), ("3", 0), ("5", 0)
+        nights = [([one], [two]), ([one], [two]), ([one], [two]), ([one], [one]), ([one], [two])], [([one], [two]), ([one], [three]), ([one], [one]), ([one], [two])]
+        for rows, more in zip(nights, ([], ["--since", self.output])):
+            self.assertEqual(in_process.run(contradictions, *self.inputs(rows), "--names", "a,b", *more)[0], 1)
+        found = [(each["change"], each["row"], each["now"]) for each in self.read("since.csv")]
+        self.assertEqual(found, [("new", "4", "contradiction"), ("changed", "2", "contradiction"), ("open", "1", "contradiction"),
+                                 ("gone", "3", "agree exactly"), ("gone", "", "not reported")])
+        for text in ("[]", '{"format":2}', "{", ""):
+            self.write("out/summary.json", text)
+            status, errors = in_process.run(contradictions, *self.inputs(nights[0]), "--names", "a,b", "--since", self.output)
+            self.assertEqual((status, len(errors.splitlines())), (3, 1), errors)
+
     def test_without_providers_only_contradictions_are_told_from_others(self):
         words = self.inputs([([("1", 0)], [("3", 0)]), ([("1", 0)], [])])
         out = in_process.run_whole(contradictions, *words[:2], *words[4:])[2].decode()
