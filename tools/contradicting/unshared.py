@@ -70,7 +70,7 @@ class Cause(NamedTuple):
             old, new = max(((count, old, new) for old, found in self.replaced[aspect].items() for new, count in found.items() if old != new),
                            key=lambda each: each[0])[1:]
             examples.append(f"{ASPECTS[aspect][0]}: {shown(old)}, not {shown(new)}")
-        return f"{counted(self.rows, 'row')} equal those of {self.other} except for {' and '.join(examples)}"
+        return f"{counted(self.rows, 'row equals', 'rows equal')} those of {self.other} except for {' and '.join(examples)}"
 
     def map(self) -> Optional[dict[str, object]]:
         """Returns the map that would join the rows, if a map can."""

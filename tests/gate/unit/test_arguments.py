@@ -39,7 +39,8 @@ class OddNames(Stubbed):
         self.put(*names, "B.json")
         before = {*os.listdir(".")}
         words = ["--program", self.program, "--sheet", os.path.abspath(SHEET), "-o", "out", "--", *names]
-        self.assertEqual(in_process.run(contradictions, *words), (1, ""))
+        status, errors = in_process.run(contradictions, *words)
+        self.assertEqual((status, self.other_lines(errors)), (1, []))
         self.assertEqual(self.log()[0][1], [os.path.realpath(name) for name in names])
         self.assertEqual({*os.listdir(".")} - before, {"out"})
         self.assertEqual(content(self.path_of("bin/sheet")), content(SHEET))

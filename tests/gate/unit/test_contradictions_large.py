@@ -101,7 +101,7 @@ class Nearby(test_contradictions.ToolTest):
         sheet = self.write("sheet.json", json.dumps(self.SHEET))
         words = ["--near", path, "--from", merged, sheet, lines, "-o", self.output, *own]
         done = subprocess.run([sys.executable, test_contradictions.TOOL, *words], capture_output=True)
-        self.assertEqual((done.returncode, done.stderr), (0, b""))
+        self.assertEqual((done.returncode, self.other_lines(done.stderr.decode())), (int(not others), []))  # without `others`, the two share no row
         with open(path, encoding="utf-8-sig", newline="") as file:
             return list(csv.DictReader(file))
 
