@@ -8,7 +8,6 @@ from decimal import Decimal
 from typing import Iterator, NamedTuple, Sequence
 
 from contradicting.agreement import Agreement, agreement_of
-from contradicting.facts import Fact
 from contradicting.findings import counted
 from contradicting.hints import Hint, exact_scale
 from contradicting.provider_counts import ProviderCounts
