@@ -303,6 +303,10 @@ def concepts(n):
     return merging(sheet({"eg:C": "text", **{f"eg:C{place:07}": "numeric" for place in range(n)}}), report(numbered([fact()])))
 
 
+def concepts_in_no_order(n):
+    return merging(sheet({"eg:C": "text", **{f"eg:C{place:07}": "numeric" for place in shuffled(range(n))}}), report(numbered([fact()])))
+
+
 def dimensions_of_a_sheet(n):
     return merging(sheet(dimensions={f"eg:D{place:07}": "typed" for place in range(n)}), report(numbered([fact()])))
 
@@ -360,6 +364,14 @@ def verdicts_on_one_dimension_set(n):
 
 def check_of_one_dimension_set(n):
     words, files = numbers_of_one_dimension_set(n)
+    return ["check", *words[1:]], files
+
+
+def check_of_a_merged_text(n):
+    """A report of n facts that is its own canonical text, so `check` compares the whole text."""
+    facts = {f"f{place + 1:0{len(str(n))}}": {"dimensions": {"concept": "n1:N", "period": period(place)}, "value": str(place)} for place in range(n)}
+    head = {"documentType": DOCUMENT_TYPE, "features": {"xbrl:allowedDuplicates": "none"}, "namespaces": {"n1": URI, "xbrl": "https://xbrl.org/2021"}, "taxonomy": []}
+    words, files = merging(sheet(), {"documentInfo": head, "facts": facts})
     return ["check", *words[1:]], files
 
 
@@ -481,6 +493,10 @@ def takes_of_different_reports(n):
     return replaying(1, (f"take 1 {place}" for place in range(1, n + 1)), *tiny_reports(n))
 
 
+def takes_of_reports_in_no_order(n):
+    return replaying(1, (f"take 1 {place}" for place in shuffled(range(1, n + 1))), *tiny_reports(n))
+
+
 def events_of_eight_replicas(n):
     """n drawn events on replicas of at most 1,000 facts. Each report leaves out an eighth of the facts."""
     chance = random.Random(1)
@@ -532,6 +548,7 @@ SHAPES = {
     objects_behind_dimensions: 5_000,
     nested_objects_behind_dimensions: 5_000,
     concepts: 5_000,
+    concepts_in_no_order: 5_000,
     dimensions_of_a_sheet: 5_000,
     facts: 5_000,
     facts_on_lines_of_their_own: 5_000,
@@ -544,6 +561,7 @@ SHAPES = {
     numbers_of_one_dimension_set: 5_000,
     verdicts_on_one_dimension_set: 5_000,
     check_of_one_dimension_set: 5_000,
+    check_of_a_merged_text: 5_000,
     reports_of_one_dimension_set: 500,
     sources_of_one_dimension_set: 5_000,
     sources_of_one_fact: 5_000,
@@ -561,6 +579,7 @@ SHAPES = {
     sends_without_a_change: 1_000,
     joins_that_add_nothing: 100,
     takes_of_different_reports: 500,
+    takes_of_reports_in_no_order: 500,
     events_of_eight_replicas: 500,
 }
 

@@ -27,7 +27,7 @@ use Rattle.fact_base.specs.code.Entries.{AreEntriesOf, AreStored}
 use Rattle.fact_base.specs.Fits.{Fits}
 use Rattle.fact_base.specs.Sets.{set_of}
 use Rattle.fact_base.proofs.Members.{each_by_there, in_one_of_both}
-use Rattle.fact_base.proofs.Sets.{is_set_of, same_sets, set_of-both, set_of_is_set}
+use Rattle.fact_base.proofs.Sets.{all_there, is_set_of, same_sets, set_of-both, set_of_is_set}
 use Rattle.fact_base.proofs.TextOrder.{text_cmp_exact, text_cmp_total}
 use Rattle.fact_base.proofs.EntryFacts.{rises}
 
@@ -125,7 +125,7 @@ with_nothing b rises = λ i. record {
 }
 
 -- the facts and the references of a body are in order, each once
-gathered_body : (b : Body) → IsBody b → gathered b.facts b.references ≡ b
+pub gathered_body : (b : Body) → IsBody b → gathered b.facts b.references ≡ b
 gathered_body b rises = sym (λ i. record {
   facts = is_set_of fact_cmp_total fact_cmp_exact b.facts b.facts rises.facts (λ f. (λ h. h, λ h. h)) i;
   references = is_set_of text_cmp_total text_cmp_exact b.references b.references rises.references (λ r. (λ h. h, λ h. h)) i;
@@ -134,6 +134,17 @@ gathered_body b rises = sym (λ i. record {
 pub gathered_with_body : (b : Body) (facts listed : List Fact) (references texts : List (List ℕ)) → IsBody b → listed ≡ facts ++ b.facts → texts ≡ references ++ b.references → gathered listed texts ≡ union (gathered facts references) b
 gathered_with_body b facts listed references texts rises p q =
     (λ i. gathered (p i) (q i)) ∙ gathered_both facts b.facts references b.references ∙ ap (union (gathered facts references)) (gathered_body b rises)
+
+-- ---- unions with what is there
+
+pub union_of_known : (b more : Body) → IsBody b → All (Contains b.facts) more.facts → All (Contains b.references) more.references → b ≡ union b more
+union_of_known b more rises facts references = λ i. record {
+  facts = all_there fact_cmp_total fact_cmp_exact b.facts more.facts rises.facts facts i;
+  references = all_there text_cmp_total text_cmp_exact b.references more.references rises.references references i;
+}
+
+pub union_itself : (b : Body) → IsBody b → b ≡ union b b
+union_itself b rises = union_of_known b b rises (each_by_there (Contains b.facts) b.facts (λ f h. h)) (each_by_there (Contains b.references) b.references (λ r h. h))
 
 -- ---- unions in another order
 
@@ -151,6 +162,10 @@ union_associates a b c = λ i. record {
 
 pub union_swaps : (a b c : Body) → union (union a b) c ≡ union (union a c) b
 union_swaps a b c = sym (union_associates a b c) ∙ ap (union a) (union_commutes b c) ∙ union_associates a c b
+
+-- if a base has all of a body, so has its union with others
+pub adds_nothing : (base others more : Body) → base ≡ union base more → union base others ≡ union (union base others) more
+adds_nothing base others more is = ap (λ b. union b others) is ∙ union_swaps base more others
 
 -- ---- the base of the collected facts
 

@@ -86,6 +86,21 @@ tells_fact es f rise =
         ((map_tells_entry dimensions_cmp_total dimensions_cmp_exact (λ p q. p) es f.dimensions kept rise).0 is)
         (in_facts_with f.dimensions kept.0 f.value h)
 
+-- ---- entries that have all facts of others
+
+abbrev pub HasRow : List Entry → Entry → Type 0
+HasRow es e = All (Contains (facts_of_entries es)) (facts_of_entry e)
+
+pub row_there : (es : List Entry) (e : Entry) (kept : Summed) → IsRising dimensions_cmp entry_key es → value_at dimensions_cmp e.0 es ≡ Some kept → All (Contains kept.0) e.1.0 → HasRow es e
+row_there es e kept rise is all = each_by_there (Contains (facts_of_entries es)) (facts_of_entry e) (λ f at.
+    let found = from_facts_with e.0 e.1.0 f at in
+    (tells_fact es f rise).1 (subst (λ a. Holds a f.value) (sym is ∙ ap (λ s. value_at dimensions_cmp s es) found.0) (All-contains (Contains kept.0) e.1.0 f.value all found.1)))
+
+pub rows_there : (es ds : List Entry) → All (HasRow es) ds → All (Contains (facts_of_entries es)) (facts_of_entries ds)
+rows_there es ds each = each_by_there (Contains (facts_of_entries es)) (facts_of_entries ds) (λ f at.
+    let some = (in_flat_map facts_of_entry ds f).0 at in
+    All-contains (Contains (facts_of_entries es)) (facts_of_entry some.1) f (All-contains (HasRow es) ds some.1 each (some.0, some.2, some.3)) some.4)
+
 -- ---- the facts of ascending entries ascend
 
 pub less_than_later : (e : Entry) (es : List Entry) → AllByRecursion (λ d. dimensions_cmp e.0 d.0 ≡ Less) es → (f g : Fact) → Contains (facts_of_entry e) f → Contains (facts_of_entries es) g → dimensions_cmp f.dimensions g.dimensions ≡ Less

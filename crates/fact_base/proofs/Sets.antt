@@ -2,6 +2,8 @@
 use Rattle.std.proofs.Common.{◌≡◌, List, [], ◌∷◌, ◌++◌, subst, inl, inr, ⊎_elim}
 use Rattle.std.specs.Prelude.{◌↔◌, Contains}
 use Rattle.std.specs.Cmp.{IsTotalOrder}
+use Rattle.std.specs.List.{All}
+use Rattle.std.proofs.lemmas.List.Elements.{All-contains}
 use Rattle.std.specs.declared.cmp.Ordering.{Ordering}
 use Rattle.std.specs.declared.cmp.Ordering.TheVariants.{Equal}
 use Rattle.merge_laws.specs.Members.{SameMembers}
@@ -40,6 +42,12 @@ module _ {K : Type 0} {R : K → K → Ordering} (o : IsTotalOrder R) (exact : (
   same_sets xs ys same =
       let all = set_of_is_set xs in
       is_set_of (set_of R xs) ys all.rises (λ x. (λ h. (same x).0 ((all.members x).0 h), λ h. (all.members x).1 ((same x).1 h)))
+
+  pub all_there : (xs ys : List K) → IsSet R xs → All (Contains xs) ys → xs ≡ set_of R (xs ++ ys)
+  all_there xs ys rise all = is_set_of xs (xs ++ ys) rise (λ x. (
+    λ h. (in_one_of_both xs ys x).1 (inl h),
+    λ h. ⊎_elim (λ l. l) (All-contains (Contains xs) ys x all) ((in_one_of_both xs ys x).0 h),
+  ))
 
   pub set_of-both : (xs ys : List K) → set_of R (xs ++ ys) ≡ set_of R (set_of R xs ++ set_of R ys)
   set_of-both xs ys =

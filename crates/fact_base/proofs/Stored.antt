@@ -4,6 +4,7 @@ use Rattle.std.specs.List.{All, AllByRecursion, HoldsAt}
 use Rattle.std.specs.List.Sorted.{IsSorted, IsStrictlySortedBy, IsSearchInRange}
 use Rattle.std.proofs.lemmas.Cmp.{tied_itself, upto}
 use Rattle.std.specs.Ordering.{is_eq, is_gt, is_lt, match_ordering, ordering_reverse}
+use Rattle.std.specs.declared.cmp.Ordering.{Ordering}
 use Rattle.std.specs.declared.cmp.Ordering.TheVariants.{Less, Equal, Greater}
 use Rattle.std.proofs.lemmas.List.{get_or_default, append_assoc, get_or_at, length-append, reverse-append}
 use Rattle.merge_laws.specs.Sorted.{IsRising, entry_key, IsSet, itself, value_at}
@@ -229,12 +230,6 @@ stored_fits sheet es references stored = record {
 
 -- ---- references that are added to others
 
-pub all_there : (references others : List (List ℕ)) → IsSet text_cmp references → All (Contains references) others → references ≡ set_of text_cmp (references ++ others)
-all_there references others rise all = is_set_of text_cmp_total text_cmp_exact references (references ++ others) rise (λ r. (
-  λ h. (in_one_of_both references others r).1 (inl h),
-  λ h. ⊎_elim (λ l. l) (All-contains (Contains references) others r all) ((in_one_of_both references others r).0 h),
-))
-
 pub set_among : (references others : List (List ℕ)) → IsSet text_cmp references → set_union text_cmp references (set_of text_cmp others) ≡ set_of text_cmp (references ++ others)
 set_among references others rise =
     let set = set_of_is_set text_cmp_total text_cmp_exact others in
@@ -244,11 +239,11 @@ set_among references others rise =
       λ h. (both.members r).1 (⊎_elim inl (λ o. inr ((set.members r).1 o)) ((in_one_of_both references others r).0 h)),
     ))
 
--- ---- a reference that a search finds
+-- ---- an item that a search finds
 
-pub found_there : (texts : List (List ℕ)) (text : List ℕ) (r : Result ℕ ℕ) → is_err r ≡ false → IsSearchInRange r (length texts) → IfOk r (HoldsAt (λ y. text_cmp y text ≡ Equal) texts) → Contains texts text
-found_there texts text (Ok i) found within holds = (i, within, text_cmp_exact (get_or texts i text) text (holds text))
-found_there texts text (Err i) found within holds = absurd (true≢false found)
+pub found_there : {K : Type 0} {R : K → K → Ordering} (exact : (x y : K) → R x y ≡ Equal → x ≡ y) (xs : List K) (x : K) (r : Result ℕ ℕ) → is_err r ≡ false → IsSearchInRange r (length xs) → IfOk r (HoldsAt (λ y. R y x ≡ Equal) xs) → Contains xs x
+found_there exact xs x (Ok i) found within holds = (i, within, exact (get_or xs i x) x (holds x))
+found_there exact xs x (Err i) found within holds = absurd (true≢false found)
 
 -- ---- the state after a call
 

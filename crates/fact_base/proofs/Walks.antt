@@ -1,7 +1,7 @@
 -- Loops over entries.
 use Rattle.std.proofs.Common.{◌≡◌, ◌≢◌, ℕ, suc, ◌<◌, ◌≤◌, ◌+◌, length, get_or, Bool, true, false, List, [], ◌∷◌, ◌++◌, map, take, drop, Option, Some, None, refl, sym, ap, ◌∙◌, ⊎_elim, arith, ◌*◌, ◌-◌, subst}
 use mathlib.Core.Bool.{true≢false}
-use Rattle.std.specs.Prelude.{slice_get, IsTrue, ◌↔◌}
+use Rattle.std.specs.Prelude.{slice_get, IfSome, IsTrue, ◌↔◌}
 use Rattle.std.specs.List.{All, flat_map, HoldsAt}
 use Rattle.std.specs.Str.{bytes_eq}
 use Rattle.std.specs.Cmp.Lexicographic.{bytes_decides}
@@ -10,7 +10,7 @@ use Rattle.std.specs.Cmp.{Equal-is, tied_itself}
 use Rattle.std.specs.Ordering.{is_eq, ord_max, is_gt}
 use Rattle.std.specs.Bool.{Decides, OnTrue}
 use Rattle.std.proofs.lemmas.List.{append_assoc, drop_all, drop_more, length-append, length-map, take_all, take_more, get_or-drop, get_or-map, get_or-take, length-drop, length-take-le}
-use Rattle.std.proofs.lemmas.List.Elements.{All-contains}
+use Rattle.std.proofs.lemmas.List.Elements.{All-contains, All-more}
 use Rattle.std.proofs.lemmas.Slice.Eq.{slice_eq-Decides}
 use Rattle.std.proofs.lemmas.Option.{get_or_from_slice_get, slice_get-get_or, slice_get-map, slice_get_cases, slice_get_within, unwrap_or-slice_get}
 use lib.Pointwise.{pointwise}
@@ -115,6 +115,11 @@ index_within xs i within = ⊎_elim (λ there. there.0) (λ past. absurd (omega 
 
 pub no_entry : {A P : Type 0} (xs : List A) (i : ℕ) → i < length xs → slice_get xs i ≡ None → P
 no_entry xs i within none = let some = slice_get-get_or xs i (index_within xs i within) within in absurd (cc)
+
+pub row_passed : (P : Entry → Type 0) (es : List Entry) (i : ℕ) → i < length es → IfSome (slice_get es i) P → All P (take i es) → All P (take (i + 1) es)
+row_passed P es i within here before =
+    let d = index_within es i within in
+    All-more P es i d within before (subst (λ o. IfSome o P) (slice_get-get_or es i d within) here)
 
 taken_further : {A : Type 0} (xs ys : List A) (i : ℕ) → length xs ≡ length ys → i < length xs → slice_get xs i ≡ slice_get ys i → take i xs ≡ take i ys → take (i + 1) xs ≡ take (i + 1) ys
 taken_further xs ys i same within is known =

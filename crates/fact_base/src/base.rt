@@ -6,9 +6,11 @@ ghost use Rattle.fact_base.specs.Shown.{rows_left};
 ghost use Rattle.fact_base.specs.Verdict.{IsEvidence, verdict};
 ghost use Rattle.oim_report.specs.Duplicates.{level_of};
 
-use crate::entries::{Entries, copied_facts, count_of, entries_in_order, level_of, same_rows};
+use crate::entries::{
+    Entries, copied_facts, count_of, entries_in_order, has_all_rows, level_of, same_rows,
+};
 use crate::evidence::Evidence;
-use crate::ordering::{in_order, put_in_order, replace, sort, with_all};
+use crate::ordering::{has_all, in_order, put_in_order, replace, sort, with_all};
 use crate::rows::{Row, Rows};
 use crate::verdict::Verdict;
 use merge_laws::{Merge, SortedMap, SortedSet};
@@ -228,6 +230,18 @@ impl<'s> Base<'s> {
         ensures { IsTrue result ↔ (self.now.body ≡ other.now.body) }
     {
         same_rows(&self.entries, &other.entries) && self.taxonomy() == other.taxonomy()
+    }
+
+    // Returns true only if joining the other base would change nothing. A base with fewer than half
+    // as many rows is looked up row by row; any other must be the same.
+    pub(crate) fn has_all(&self, other: &Base<'_>) -> bool
+        ensures { IsTrue result → self.now.body ≡ union self.now.body other.now.body }
+    {
+        if self.entries.len() / 2 > other.entries.len() {
+            return has_all_rows(&self.entries, &other.entries)
+                && has_all(self.taxonomy(), other.taxonomy());
+        }
+        self.same_as(other)
     }
 
     /// Returns the verdict on the facts with these dimensions, or None if no fact has them.

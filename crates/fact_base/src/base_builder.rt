@@ -1,4 +1,4 @@
-ghost use Rattle.std.specs.Prelude.{◌≡◌, [], ◌∷◌, IfOk, OnOk, OnErr};
+ghost use Rattle.std.specs.Prelude.{◌≡◌, [], ◌∷◌, IfOk, IsTrue, OnOk, OnErr};
 ghost use Rattle.fact_base.specs.Body.{body, gathered, union};
 ghost use Rattle.fact_base.specs.Fits.{Fits};
 
@@ -9,6 +9,7 @@ use oim_names::{Text, copies_of};
 use oim_report::{Report, Sheet};
 use std::alloc::{AllocError, Global};
 use std::marker::Model;
+use std::mem::replace;
 
 /// Collects reports that are read under one sheet, and returns them as one base. A builder
 /// borrows its sheet.
@@ -70,10 +71,19 @@ impl<'s> BaseBuilder<'s> {
     pub fn new(alloc: Global, sheet: &'s Sheet) -> BaseBuilder<'s>
         ensures { result ≡ record { sheet = sheet.now; body = body [] } }
     {
+        BaseBuilder::of(alloc, Base::new(alloc, sheet))
+    }
+
+    /// Returns a builder with the facts and references of a base. Later calls allocate from `alloc`.
+    pub fn of(alloc: Global, base: Base<'s>) -> BaseBuilder<'s>
+        ensures { result ≡ base.entry }
+    {
+        // the contract of `sheet` states that facts and references ascend
+        let _sheet = base.sheet();
         BaseBuilder {
             alloc,
-            base: Base::new(alloc, sheet),
-            size: 0,
+            size: size_of(&base),
+            base,
             facts: Vec::new(alloc),
             settled_facts: 0,
             references: Vec::new(alloc),
@@ -104,9 +114,72 @@ impl<'s> BaseBuilder<'s> {
             return self.gather(report);
         }
         self.base.absorb_report(report)?;
-        let references = self.base.taxonomy().len() as u128;
-        self.size = self.base.fact_count().saturating_add(references);
+        self.size = size_of(&self.base);
         Ok(())
+    }
+
+    /// Adds the facts and references of a base with an equal sheet.
+    ///
+    /// Errors: out of memory; the builder is then lost.
+    pub fn join(&mut self, other: &Base<'_>) -> Result<(), AllocError>
+        requires { other.now.sheet ≡ self.old.sheet }
+        ensures { OnOk result (self.new ≡ record self.old { body = union self.old.body other.now.body }) }
+    {
+        if self.base.has_all(other) {
+            return Ok(());
+        }
+        if self.size / 2 > size_of(other) {
+            return self.join_small(other);
+        }
+        self.base.join(other)?;
+        self.size = size_of(&self.base);
+        Ok(())
+    }
+
+    fn join_small(&mut self, other: &Base<'_>) -> Result<(), AllocError>
+        requires { other.now.sheet ≡ self.old.sheet }
+        ensures { OnOk result (self.new ≡ record self.old { body = union self.old.body other.now.body }) }
+    {
+        // the contract of `sheet` states that the other base fits the sheet
+        let _sheet = other.sheet();
+        self.empty_lists()?;
+        let (mut facts, mut references) = (Vec::new(self.alloc), Vec::new(self.alloc));
+        other.append_to(&mut facts, &mut references)?;
+        self.append(facts, references)
+    }
+
+    // If a list has more than the base, the base absorbs both lists, so that it has what may be added
+    // again.
+    fn empty_lists(&mut self) -> Result<(), AllocError>
+        ensures { OnOk result (self.new ≡ self.old) }
+    {
+        if self.size < self.facts.len() as u128 || self.size < self.references.len() as u128 {
+            *self = BaseBuilder::of(self.alloc, self.take_base()?);
+        }
+        Ok(())
+    }
+
+    /// Returns true only if the builder's facts and references are those of the base. Returns false
+    /// if some are in the lists.
+    pub fn surely_same_as(&self, other: &Base<'_>) -> bool
+        ensures { IsTrue result → self.now.body ≡ other.now.body }
+    {
+        if self.facts.is_empty() && self.references.is_empty() {
+            // the contract of `sheet` states that facts and references ascend
+            let _sheet = self.base.sheet();
+            return self.base.same_as(other);
+        }
+        false
+    }
+
+    /// Returns the base of all reports and bases that were added. The builder is then empty.
+    ///
+    /// Errors: out of memory; what was added is then lost.
+    pub fn take_base(&mut self) -> Result<Base<'s>, AllocError>
+        ensures { IfOk result (λ base. base ≡ self.old) }
+    {
+        let empty = BaseBuilder::new(self.alloc, self.base.sheet());
+        replace(self, empty).into_base()
     }
 
     fn gather(&mut self, report: Report<'_>) -> Result<(), AllocError>
@@ -170,4 +243,10 @@ impl<'s> BaseBuilder<'s> {
         base.absorb(Base::of(alloc, sheet, facts, references)?)?;
         Ok(base)
     }
+}
+
+// The number of facts and references.
+fn size_of(base: &Base<'_>) -> u128 {
+    base.fact_count()
+        .saturating_add(base.taxonomy().len() as u128)
 }

@@ -1,8 +1,8 @@
-ghost use Rattle.std.specs.Prelude.{map, ◌≡◌, ◌↔◌, ◌++◌, length, IsTrue, IfOk, OnOk, slice_get};
+ghost use Rattle.std.specs.Prelude.{map, ◌≡◌, ◌↔◌, ◌++◌, length, Contains, IsTrue, IfOk, IfSome, OnOk, slice_get};
 ghost use Rattle.std.specs.List.{All};
 ghost use Rattle.std.specs.List.Sorted.{IsSorted};
 ghost use Rattle.std.specs.Option.{option_map};
-ghost use Rattle.fact_base.specs.Entries.{facts_of_entries, facts_with};
+ghost use Rattle.fact_base.specs.Entries.{facts_of_entries, facts_of_entry, facts_with};
 ghost use Rattle.fact_base.specs.code.Entries.{AreEntriesOf, NoneAbove, with_fact, with_value};
 ghost use Rattle.fact_base.specs.code.Judged.{AreSummarised, level_at};
 ghost use Rattle.fact_base.specs.Shown.{row_of};
@@ -10,6 +10,7 @@ ghost use Rattle.merge_laws.specs.Sorted.{IsRising, entry_key};
 ghost use Rattle.oim_dims.specs.FactOrder.{dimensions_cmp, fact_cmp};
 ghost use Rattle.oim_report.specs.Duplicates.{level_of};
 
+use crate::ordering::has_all;
 use crate::verdict::{Verdict, verdict_of};
 use merge_laws::{Merge, SortedMap, SortedSet, Summary};
 use oim_dims::{Dimensions, Fact};
@@ -139,6 +140,34 @@ pub(crate) fn same_rows(one: &Entries, other: &Entries) -> bool
         }
     }
     true
+}
+
+/// Returns true only if the entries have each fact of the others. Stops at the first row with a fact
+/// that they lack.
+pub(crate) fn has_all_rows(entries: &Entries, others: &Entries) -> bool
+    requires { IsRising dimensions_cmp entry_key entries.now }
+    ensures { IsTrue result → All (Contains (facts_of_entries entries.now)) (facts_of_entries others.now) }
+{
+    for index in 0..others.len() {
+        if !has_row_at(entries, others, index) {
+            return false;
+        }
+    }
+    true
+}
+
+fn has_row_at(entries: &Entries, others: &Entries, index: usize) -> bool
+    requires { IsRising dimensions_cmp entry_key entries.now }
+    ensures { IsTrue result → IfSome (slice_get others.now index)
+        (λ row. All (Contains (facts_of_entries entries.now)) (facts_of_entry row)) }
+{
+    let Some((dimensions, (values, _summary))) = others.at(index) else {
+        return true;
+    };
+    match entries.get(dimensions) {
+        Some((known, _summary)) => has_all(known.as_slice(), values.as_slice()),
+        None => false,
+    }
 }
 
 fn same_at(one: &Entries, other: &Entries, index: usize) -> bool

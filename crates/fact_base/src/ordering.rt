@@ -102,11 +102,12 @@ pub(crate) fn with_all(
     Ok(Some(wider))
 }
 
-fn has_all(references: &[Text], others: &[Text]) -> bool
-    ensures { IsTrue result → All (Contains references.now) others.now }
+/// Returns true only if the items, which should be in order, include all of the others.
+pub(crate) fn has_all<T: Key>(items: &[T], others: &[T]) -> bool
+    ensures { IsTrue result → All (Contains items.now) others.now }
 {
     for other in others {
-        if references.binary_search(other).is_err() {
+        if items.binary_search(other).is_err() {
             return false;
         }
     }

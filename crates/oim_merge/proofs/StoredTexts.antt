@@ -1,18 +1,13 @@
 -- How one event changes a list of bases, cached readings, and sent texts that are stored once.
-use Rattle.std.proofs.Common.{◌≡◌, ◌≢◌, ℕ, zero, suc, ◌-◌, ◌<◌, ◌≤◌, ◌||◌, false, inl, ⊎_elim, List, [], ◌++◌, length, get_or, set, Some, sym, ap, ◌∙◌, arith, ◌∷◌, length-append, replicate, Bor, Option, None, MatchOption, HoldsAt, option_map, Result, Ok, Err, refl, subst}
+use Rattle.std.proofs.Common.{◌≡◌, ◌≢◌, ℕ, zero, suc, ◌-◌, ◌<◌, ◌≤◌, ◌||◌, false, List, [], ◌++◌, length, get_or, set, Some, sym, ap, ◌∙◌, arith, ◌∷◌, length-append, replicate, Bor, Option, None, MatchOption, HoldsAt, option_map, Result, Ok, Err, refl, subst}
 use mathlib.Core.Bool.{true≢false}
 use Rattle.std.proofs.Math.Seq.{set-set, get_or-append_seam}
 use Rattle.std.proofs.lemmas.Bool.{or_parts}
 use Rattle.std.proofs.lemmas.Bool.Decides.{nat_tests}
-use Rattle.std.proofs.lemmas.List.{get_or_default, get_or-set_other, length-set, set-get_or, get_or_append_left}
-use Rattle.oim_dims.proofs.Orders.{fact_cmp_exact, fact_cmp_total}
-use Rattle.merge_laws.specs.Members.{SameMembers}
-use Rattle.fact_base.specs.Body.{Body, union}
+use Rattle.std.proofs.lemmas.List.{get_or_default, get_or-set_other, length-set, set_comm, set-get_or, get_or_append_left}
 use Rattle.fact_base.specs.BodyLaws.{IsBody}
 use Rattle.fact_base.specs.Contents.{Contents}
-use Rattle.fact_base.proofs.Members.{in_one_of_both}
-use Rattle.fact_base.proofs.Sets.{is_set_of}
-use Rattle.fact_base.proofs.TextOrder.{text_cmp_exact, text_cmp_total}
+use Rattle.fact_base.proofs.BuilderLaws.{union_itself}
 use Rattle.oim_report.specs.Outcome.{outcome}
 use Rattle.oim_report.specs.Sheet.{Sheet}
 use Rattle.oim_merge.specs.Bases.{base_of}
@@ -35,23 +30,14 @@ use Rattle.std.proofs.lemmas.Slice.Zip.{all_zipped_more, AllZip-long}
 
 -- ---- joins
 
-same_twice : {A : Type 0} (xs : List A) → SameMembers xs (xs ++ xs)
-same_twice xs x = (λ h. (in_one_of_both xs xs x).1 (inl h), λ h. ⊎_elim (λ l. l) (λ r. r) ((in_one_of_both xs xs x).0 h))
-
-union_itself : (b : Body) → IsBody b → b ≡ union b b
-union_itself b rises =
-    let facts = is_set_of fact_cmp_total fact_cmp_exact b.facts (b.facts ++ b.facts) rises.facts (same_twice b.facts) in
-    let references = is_set_of text_cmp_total text_cmp_exact b.references (b.references ++ b.references) rises.references (same_twice b.references) in
-    λ i. record { facts = facts i; references = references i }
-
 joined_itself : (base : Contents) → IsBody base.body → base ≡ joined_with base base
 joined_itself base rises = λ i. record { sheet = base.sheet; body = union_itself base.body rises i }
 
-pub joins_same : (base other : Contents) → base.body ≡ other.body → IsBody base.body → base ≡ joined_with base other
-joins_same base other same rises = joined_itself base rises ∙ (λ i. record { sheet = base.sheet; body = union base.body (same i) })
-
 pub read_default : {A : Type 0} (xs : List A) (i : ℕ) (x d : A) → i < length xs → x ≡ get_or xs i x → x ≡ get_or xs i d
 read_default xs i x d within is = is ∙ get_or_default xs i x d within
+
+pub set_itself : (bases : List Contents) (i : ℕ) (base new : Contents) → i < length bases → base ≡ get_or bases i base → new ≡ base → set bases i new ≡ bases
+set_itself bases i base new within read same = ap (set bases i) (same ∙ read) ∙ set-get_or bases i base
 
 pub joins_itself : (bases : List Contents) (i j : ℕ) (base fresh : Contents) → i ≡ j → i < length bases → base ≡ get_or bases i base → IsBody base.body →
     bases ≡ set bases i (joined_with (get_or bases i fresh) (get_or bases j fresh))
@@ -60,14 +46,19 @@ joins_itself bases i j base fresh is within read rises =
     sym (set-get_or bases i fresh)
     ∙ ap (set bases i) (sym there ∙ joined_itself base rises ∙ (λ t. joined_with (there t) ((there ∙ ap (λ k. get_or bases k fresh) is) t)))
 
--- if a base leaves the list, joins another base and returns, the list is the same as after a join in place
-pub joins_other : (bases : List Contents) (i j : ℕ) (left base other joined fresh : Contents) → i ≢ j → j < length bases →
-    base ≡ get_or bases i fresh → other ≡ get_or (set bases i left) j other → joined ≡ joined_with base other →
-    set (set bases i left) i joined ≡ set bases i (joined_with (get_or bases i fresh) (get_or bases j fresh))
-joins_other bases i j left base other joined fresh apart also there read is =
-    let long : length (set bases i left) ≡ length bases = length-set bases i left in
-    let others = read_default (set bases i left) j other fresh (omega (arith, long, also)) read ∙ get_or-set_other bases i j left fresh (λ e. apart (sym e)) in
-    set-set bases i left joined ∙ ap (set bases i) (is ∙ (λ t. joined_with (there t) (others t)))
+-- if another base leaves the list, is joined and returns, the list is the same as after a join in place
+pub joins_other : (bases : List Contents) (i j : ℕ) (left base other joined fresh : Contents) → i ≢ j → i < length bases →
+    other ≡ get_or bases j fresh → base ≡ get_or (set bases j left) i base → joined ≡ joined_with base other →
+    set (set (set bases j left) i joined) j other ≡ set bases i (joined_with (get_or bases i fresh) (get_or bases j fresh))
+joins_other bases i j left base other joined fresh apart within there read is =
+    let long : length (set bases j left) ≡ length bases = length-set bases j left in
+    let mine = read_default (set bases j left) i base fresh (omega (arith, long, within)) read ∙ get_or-set_other bases j i left fresh apart in
+    let more = set bases i joined in
+    ap (λ bs. set bs j other) (set_comm bases j i left joined (λ e. apart (sym e)))
+    ∙ set-set more j left other
+    ∙ ap (set more j) (there ∙ sym (get_or-set_other bases i j joined fresh (λ e. apart (sym e))))
+    ∙ set-get_or more j fresh
+    ∙ ap (set bases i) (is ∙ (λ t. joined_with (mine t) (there t)))
 
 -- ---- sends and receives
 
@@ -91,6 +82,15 @@ numbered_there xs (suc index) d inside =
     let within = number_within (length xs) (suc index) inside in
     let before : index ≡ suc index - 1 = omega arith in
     slice_get-get_or xs index d (omega (arith, within)) ∙ ap (λ k. Some (get_or xs k d)) before
+
+-- a send keeps each base and adds the text of the sender's base
+pub sends_text : (sheet : Sheet) (reports : List (List ℕ)) (bases : List Contents) (sent : List (List ℕ)) (i : ℕ) (base new : Contents) (after : List (List ℕ)) →
+    i - 1 < length bases → base ≡ get_or bases (i - 1) base → new ≡ base → after ≡ sent ++ canonical base.body ∷ [] →
+    world_of (set bases (i - 1) new) after ≡ happens (wire sheet [] reports) (world_of bases sent) (Send i)
+sends_text sheet reports bases sent i base new after within read same is =
+    let fresh = base_of sheet [] in
+    let there : base ≡ get_or bases (i - 1) fresh = read_default bases (i - 1) base fresh within read in
+    λ t. world_of (set_itself bases (i - 1) base new within read same t) ((is ∙ ap (λ (b : Contents). sent ++ canonical b.body ∷ []) there) t)
 
 -- putting back a base that received a text gives the world after the event `Receive`
 pub receives_text : (sheet : Sheet) (reports : List (List ℕ)) (bases : List Contents) (sent : List (List ℕ)) (i k : ℕ) (base given : Contents) (more : List Contents) (after : List (List ℕ)) →

@@ -7,7 +7,7 @@ ghost use Rattle.oim_merge.specs.Replicas.{with_outcome};
 ghost use Rattle.oim_write.specs.Bytes.{canonical};
 
 use crate::readings::{Reading, none_read, take_at};
-use fact_base::Base;
+use fact_base::BaseBuilder;
 use oim_names::Encoded;
 use oim_report::Sheet;
 use oim_write::text;
@@ -56,14 +56,15 @@ impl<'s> Messages<'s> {
     pub(crate) fn send(
         &mut self,
         alloc: Global,
-        base: &Base<'_>,
+        base: &mut BaseBuilder<'_>,
         current: &mut Option<usize>,
     ) -> Result<(), AllocError>
-        requires held { AreHeld base.now.sheet self.old }
-        requires current { IsCurrent self.old.texts.items base.now current.old }
-        ensures sent { OnOk result (sent_texts self.new ≡ sent_texts self.old ++ canonical base.now.body ∷ []) }
-        ensures held { OnOk result (AreHeld base.now.sheet self.new) }
-        ensures current { OnOk result (IsCurrent self.new.texts.items base.now current.new) }
+        requires held { AreHeld base.old.sheet self.old }
+        requires current { IsCurrent self.old.texts.items base.old current.old }
+        ensures base { OnOk result (base.new ≡ base.old) }
+        ensures sent { OnOk result (sent_texts self.new ≡ sent_texts self.old ++ canonical base.old.body ∷ []) }
+        ensures held { OnOk result (AreHeld base.old.sheet self.new) }
+        ensures current { OnOk result (IsCurrent self.new.texts.items base.old current.new) }
         ensures stay { OnOk result (Stay self.old.texts.items self.new.texts.items) }
     {
         let index = self.intern(alloc, base, *current)?;
@@ -76,20 +77,21 @@ impl<'s> Messages<'s> {
     fn intern(
         &mut self,
         alloc: Global,
-        base: &Base<'_>,
+        base: &mut BaseBuilder<'_>,
         current: Option<usize>,
     ) -> Result<usize, AllocError>
-        requires held { AreHeld base.now.sheet self.old }
-        requires current { IsCurrent self.old.texts.items base.now current }
-        ensures index { IfOk result (IsTextAt self.new.texts.items (canonical base.now.body)) }
+        requires held { AreHeld base.old.sheet self.old }
+        requires current { IsCurrent self.old.texts.items base.old current }
+        ensures base { OnOk result (base.new ≡ base.old) }
+        ensures index { IfOk result (IsTextAt self.new.texts.items (canonical base.old.body)) }
         ensures sent { OnOk result (sent_texts self.new ≡ sent_texts self.old) }
-        ensures held { OnOk result (AreHeld base.now.sheet self.new) }
+        ensures held { OnOk result (AreHeld base.old.sheet self.new) }
         ensures stay { OnOk result (Stay self.old.texts.items self.new.texts.items) }
     {
         if let Some(index) = current {
             return Ok(index);
         }
-        let text = exact_text(alloc, base)?;
+        let text = text_of(alloc, base)?;
         // the contract of `sheet` states that the base fits the sheet, as `AreHeld` requires of a new
         // text
         let _sheet = base.sheet();
@@ -171,7 +173,7 @@ impl<'s> Messages<'s> {
         alloc: Global,
         sheet: &'s Sheet,
         sent_index: usize,
-        base: &mut Base<'s>,
+        base: &mut BaseBuilder<'s>,
     ) -> Result<(), AllocError>
         requires index { sent_index < length self.old.sent.items }
         requires held { AreHeld sheet.now self.old }
@@ -197,24 +199,27 @@ impl<'s> Messages<'s> {
 
     /// Returns the index of the text at `sent_index` in `sent` if it is the text of this base, as far
     /// as its cached reading shows.
-    pub(crate) fn index_if_of(&self, sent_index: usize, base: &Base<'_>) -> Option<usize>
+    pub(crate) fn index_if_of(&self, sent_index: usize, base: &BaseBuilder<'_>) -> Option<usize>
         requires index { sent_index < length self.now.sent.items }
         requires held { AreHeld base.now.sheet self.now }
         ensures { IsCurrent self.now.texts.items base.now result }
     {
         let index = self.sent[sent_index];
         match self.kept.get(index) {
-            Some(Some(Ok(read))) if base.same_as(read) => Some(index),
+            Some(Some(Ok(read))) if base.surely_same_as(read) => Some(index),
             _ => None,
         }
     }
 }
 
-// Returns the canonical text of a base in no more memory than its bytes take. `text` may reserve
-// twice as much.
-fn exact_text(alloc: Global, base: &Base<'_>) -> Result<Encoded, AllocError>
-    ensures { IfOk result (λ text. text ≡ canonical base.now.body) }
+// Returns the canonical text of a replica's base in no more memory than its bytes take. `text` may
+// reserve twice as much.
+fn text_of(alloc: Global, base: &mut BaseBuilder<'_>) -> Result<Encoded, AllocError>
+    ensures base { OnOk result (base.new ≡ base.old) }
+    ensures text { IfOk result (λ text. text ≡ canonical base.old.body) }
 {
-    let written = text(alloc, base)?;
+    let whole = base.take_base()?;
+    let written = text(alloc, &whole)?;
+    *base = BaseBuilder::of(alloc, whole);
     Encoded::new(alloc, written.as_bytes())
 }

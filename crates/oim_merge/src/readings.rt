@@ -4,10 +4,10 @@ ghost use Rattle.std.specs.Result.{result_err};
 ghost use Rattle.oim_report.specs.Outcome.{outcome};
 ghost use Rattle.oim_merge.specs.Bases.{base_of};
 ghost use Rattle.oim_merge.specs.code.Readings.{AreReadings, read_as, with_read};
-ghost use Rattle.oim_merge.specs.Replicas.{joined_with, with_outcome};
+ghost use Rattle.oim_merge.specs.Replicas.{with_outcome};
 
 use crate::consolidation::read;
-use fact_base::Base;
+use fact_base::{Base, BaseBuilder};
 use oim_names::Encoded;
 use oim_report::{Refusal, Report, ReportReader, Sheet};
 use std::alloc::{AllocError, Global};
@@ -38,7 +38,7 @@ pub(crate) fn take_at<'s>(
     texts: &[Encoded],
     kept: &mut [Reading<'s>],
     index: usize,
-    base: &mut Base<'s>,
+    base: &mut BaseBuilder<'s>,
 ) -> Result<Option<Refusal>, AllocError>
     requires index { index < length texts.now }
     requires kept { AreReadings sheet.now texts.now kept.old }
@@ -81,7 +81,7 @@ fn base_of<'s>(alloc: Global, sheet: &'s Sheet, report: Report<'_>) -> Result<Ba
 }
 
 fn take_read(
-    base: &mut Base<'_>,
+    base: &mut BaseBuilder<'_>,
     read: &Result<Base<'_>, Refusal>,
 ) -> Result<Option<Refusal>, AllocError>
     requires { IfOk read.now (λ other. other.sheet ≡ base.old.sheet) }
@@ -90,24 +90,9 @@ fn take_read(
 {
     match read {
         Ok(other) => {
-            join_new(base, other)?;
+            base.join(other)?;
             Ok(None)
         }
         Err(refusal) => Ok(Some(*refusal)),
     }
-}
-
-/// Joins another base. If the bases are equal, each row is compared once, and no memory is
-/// requested.
-pub(crate) fn join_new(base: &mut Base<'_>, other: &Base<'_>) -> Result<(), AllocError>
-    requires { other.now.sheet ≡ base.old.sheet }
-    ensures { OnOk result (base.new ≡ joined_with base.old other.now) }
-{
-    if base.same_as(other) {
-        // the contract of `sheet` states that facts and references ascend, so an equal base adds
-        // nothing
-        let _sheet = base.sheet();
-        return Ok(());
-    }
-    base.join(other)
 }

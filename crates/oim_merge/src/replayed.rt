@@ -6,10 +6,10 @@ use crate::events::{Events, ReplayFault};
 use crate::messages::Messages;
 use crate::refusals::Refusals;
 use crate::replicas::Replicas;
-use fact_base::Base;
+use fact_base::{Base, BaseBuilder};
 use oim_names::Encoded;
 use oim_report::Sheet;
-use std::alloc::Global;
+use std::alloc::{AllocError, Global};
 use std::marker::Model;
 
 /// Runs a schedule on `n` replicas that begin empty. Replicas, reports and sent texts have numbers
@@ -51,11 +51,21 @@ pub fn replay<'s>(
     } = replicas;
     let Messages { texts, sent, .. } = messages;
     Ok(Replayed {
-        bases,
+        bases: bases_of(alloc, bases)?,
         texts,
         sent,
         refused,
     })
+}
+
+fn bases_of<'s>(alloc: Global, builders: Vec<BaseBuilder<'s>>) -> Result<Vec<Base<'s>>, AllocError>
+    ensures { IfOk result (λ bases. bases.items ≡ builders.entry.items) }
+{
+    let mut bases = Vec::new(alloc);
+    for builder in builders {
+        bases.push(builder.into_base()?)?;
+    }
+    Ok(bases)
 }
 
 /// Replicas after a schedule, with the texts that they sent and the takes that were refused.

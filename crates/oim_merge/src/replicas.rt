@@ -8,18 +8,19 @@ ghost use Rattle.oim_merge.specs.Schedule.{happens, is_outside, names_none, star
 
 use crate::event::Event;
 use crate::messages::Messages;
-use crate::readings::{Reading, join_new, none_read, take_at};
+use crate::readings::{Reading, none_read, take_at};
 use crate::refusals::Refusals;
-use fact_base::Base;
+use fact_base::BaseBuilder;
 use oim_names::Encoded;
 use oim_report::Sheet;
 use std::alloc::{AllocError, Global};
+use std::mem::replace;
 
 /// Replicas while a schedule runs, with the texts that they sent, the refused takes, and the
 /// reports read so far.
 #[derive(Drop)]
 pub(crate) struct Replicas<'s> {
-    pub bases: Vec<Base<'s>>,
+    pub bases: Vec<BaseBuilder<'s>>,
     /// For each replica, the index in `messages.texts` of its base's text, or None if the index is
     /// not known.
     pub current: Vec<Option<usize>>,
@@ -42,7 +43,7 @@ impl<'s> Replicas<'s> {
         let mut bases = Vec::new(alloc);
         let mut current = Vec::new(alloc);
         for _made in 0..n {
-            bases.push(Base::new(alloc, sheet))?;
+            bases.push(BaseBuilder::new(alloc, sheet))?;
             current.push(None)?;
         }
         Ok(Replicas {
@@ -103,7 +104,7 @@ impl<'s> Replicas<'s> {
             Event::Send(i) => {
                 let index = i as usize - 1;
                 let current = &mut self.current[index];
-                self.messages.send(alloc, &self.bases[index], current)?;
+                self.messages.send(alloc, &mut self.bases[index], current)?;
             }
             Event::Receive(i, k) => {
                 let index = i as usize - 1;
@@ -117,7 +118,7 @@ impl<'s> Replicas<'s> {
             Event::Restart(i) => {
                 let index = i as usize - 1;
                 forget(&mut self.current, index);
-                self.bases[index] = Base::new(alloc, sheet);
+                self.bases[index] = BaseBuilder::new(alloc, sheet);
             }
         }
         Ok(())
@@ -148,7 +149,7 @@ fn set_current(current: &mut Vec<Option<usize>>, index: usize, text: Option<usiz
 fn join_at<'s>(
     alloc: Global,
     sheet: &'s Sheet,
-    bases: &mut Vec<Base<'s>>,
+    bases: &mut Vec<BaseBuilder<'s>>,
     index: usize,
     other: usize,
 ) -> Result<(), AllocError>
@@ -164,8 +165,8 @@ fn join_at<'s>(
         let _sheet = bases[index].sheet();
         return Ok(());
     }
-    let mut base = std::mem::replace(&mut bases[index], Base::new(alloc, sheet));
-    join_new(&mut base, &bases[other])?;
-    bases[index] = base;
+    let whole = replace(&mut bases[other], BaseBuilder::new(alloc, sheet)).into_base()?;
+    bases[index].join(&whole)?;
+    bases[other] = BaseBuilder::of(alloc, whole);
     Ok(())
 }

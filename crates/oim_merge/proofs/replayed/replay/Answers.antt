@@ -1,4 +1,5 @@
-use Rattle.std.proofs.Common.{◌≡◌, ◌+◌, true, false, length, sym, ap, subst, refl}
+use Rattle.std.proofs.Common.{◌≡◌, ◌+◌, true, false, List, length, sym, ap, subst, refl}
+use Rattle.fact_base.specs.Contents.{Contents}
 use Rattle.oim_merge.specs.code.Held.{sent_texts}
 use Rattle.oim_merge.specs.Replay.{IsReplayOf, Replay, world_of}
 use Rattle.oim_merge.specs.Schedule.{IsFirstBad}
@@ -35,7 +36,9 @@ loop-event-preserved c =
 pub returns-clause-ok : goal.returns-clause-ok
 returns-clause-ok c =
     let l = c.loop-event in
-    let replay : Replay = record { world = world_of l.replicas.bases.items (sent_texts l.replicas.messages); refused = l.replicas.refused } in
-    subst (λ events. IsReplayOf c.args.sheet.now c.args.n c.args.reports.now events replay) c.as_slice-event-items.ensures
+    let replay : List Contents → Replay = λ bases. record { world = world_of bases (sent_texts l.replicas.messages); refused = l.replicas.refused } in
+    let is = IsReplayOf c.args.sheet.now c.args.n c.args.reports.now in
+    subst (λ events. is events (replay c.in_ok-bases_of.field-0.items)) c.as_slice-event-items.ensures
+    (subst (λ bases. is c.as_slice-event-items.result.now (replay bases)) (sym c.in_ok-bases_of.ensures)
     (run_whole c.args.sheet.now c.args.n c.args.reports.now c.as_slice-event-items.result.now l.event-index l.replicas.bases.items (sent_texts l.replicas.messages) l.replicas.refused l.invariant.run
-    replay c.loop-event-test.false refl refl)
+    (replay l.replicas.bases.items) c.loop-event-test.false refl refl))

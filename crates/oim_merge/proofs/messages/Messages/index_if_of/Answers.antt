@@ -17,4 +17,4 @@ returns-in-Some-Some-Ok c =
     let found : get_or kept index w.field-0.now ≡ Some (Ok w.read) = sym w.ensures.lookup.1 ∙ w.field-0-is ∙ ap Some w.field-0-0-is in
     is_its_text base.sheet texts index w.read base within held.written
     (kept_is base.sheet texts kept each index within w.field-0.now (Ok w.read) found)
-    (c.same_as.ensures.0 c.if-same_as.true)
+    (c.surely_same_as.ensures c.if-surely_same_as.true)

@@ -1,6 +1,8 @@
 use Rattle.std.proofs.Common.{◌≡◌, [], ◌∷◌, ◌++◌, length, sym, ap, subst, ◌∙◌}
 use Rattle.std.specs.List.{All}
 use Rattle.std.proofs.lemmas.List.Elements.{All-push}
+use Rattle.fact_base.specs.Contents.{Contents}
+use Rattle.fact_base.specs.Fits.{Fits}
 use Rattle.oim_write.specs.Bytes.{canonical}
 use Rattle.oim_merge.specs.code.Held.{AreWithin, IsTextAt, IsWritten, Stay}
 use Rattle.oim_merge.specs.Replay.{texts_at}
@@ -14,7 +16,7 @@ returns-in_ok-push-in-Err-2-clause-index c =
     let text = c.in_ok-text.text in
     let index_is : c.len-index.result ≡ length texts = c.len-index.ensures ∙ c.args.self.now.texts.ok.0 in
     subst (λ ts. IsTextAt ts (canonical c.args.base.now.body) c.len-index.result) (sym c.in_ok-push-in-Err.ensures.items)
-    (subst (λ t. IsTextAt (texts ++ text ∷ []) t c.len-index.result) c.in_ok-text.ensures
+    (subst (λ t. IsTextAt (texts ++ text ∷ []) t c.len-index.result) c.in_ok-text.ensures.text
     (subst (IsTextAt (texts ++ text ∷ []) text) (sym index_is) (stands_last texts c.args.self.now.sent.items text)))
 
 pub returns-in_ok-push-in-Err-2-clause-sent : goal.returns-in_ok-push-in-Err-2-clause-sent
@@ -34,7 +36,7 @@ returns-in_ok-push-in-Err-2-clause-held c =
       kept = subst (λ ts. AreReadings sheet ts c.push-in-Err.new.self.items) (sym longer)
           (subst (AreReadings sheet (texts ++ text ∷ [])) (sym c.in_ok-push-in-Err-2.ensures.items) (kept_new sheet texts c.args.self.now.kept.items text c.requires.held.kept));
       written = subst (λ ts. All (IsWritten sheet) ts) (sym longer)
-          (All-push (IsWritten sheet) texts text c.requires.held.written (record { body = c.args.base.now.body; fits = c.sheet-sheet.ensures.fits; written = c.in_ok-text.ensures }));
+          (All-push (IsWritten sheet) texts text c.requires.held.written (record { body = c.args.base.now.body; fits = subst (λ (b : Contents). Fits b.sheet b.body) c.in_ok-text.ensures.base c.sheet-sheet.ensures.fits; written = c.in_ok-text.ensures.text }));
     }
 
 pub returns-in_ok-push-in-Err-2-clause-stay : goal.returns-in_ok-push-in-Err-2-clause-stay

@@ -5,7 +5,7 @@ use Rattle.oim_merge.specs.code.Held.{AreHeld, IsCurrent, sent_texts, world_in}
 use Rattle.oim_merge.specs.Replicas.{wire}
 use Rattle.oim_merge.specs.Schedule.{happens}
 use Rattle.oim_merge.specs.declared.event.Event.TheVariants.{Receive}
-use Rattle.oim_merge.proofs.StoredTexts.{current_after_change, current_after_receive, current_after_send, current_at, kept_long, names_good, receiver_within, receives_text, sender_within}
+use Rattle.oim_merge.proofs.StoredTexts.{current_after_change, current_after_receive, current_after_send, current_at, kept_long, names_good, receiver_within, receives_text, sender_within, sends_text, set_itself}
 use Rattle.std.proofs.lemmas.Slice.Zip.{AllZip-long}
 use Rattle.std.proofs.lemmas.List.{get_or-set_same, with_items_is}
 use Rattle.oim_merge.specs.code.Readings.{AreReadings}
@@ -54,19 +54,33 @@ pub send-requires-clause-current : goal.send-requires-clause-current
 send-requires-clause-current c =
     let old = c.args.self.now in
     let within = sender_within (length old.bases.items) (length c.args.reports.now) (length (sent_texts old.messages)) c.args.event c.in-Send.i c.in-Send.is c.requires.there in
-    current_at old.messages.texts.items old.bases.items old.current.items c.requires.kept.current (c.in-Send.i - 1) c.index.result.now c.index_mut-current.result.now within c.index.ensures c.index_mut-current.ensures.value
+    current_at old.messages.texts.items old.bases.items old.current.items c.requires.kept.current (c.in-Send.i - 1) c.index_mut.result.now c.index_mut-current.result.now within c.index_mut.ensures.value c.index_mut-current.ensures.value
+
+pub returns-in_ok-send-in-Send-clause-world : goal.returns-in_ok-send-in-Send-clause-world
+returns-in_ok-send-in-Send-clause-world c =
+    let old = c.args.self.now in
+    let sheet = c.args.sheet.now in
+    let reports = c.args.reports.now in
+    let sent = c.in_ok-send-in-Send.ensures in
+    let within = sender_within (length old.bases.items) (length reports) (length (sent_texts old.messages)) c.args.event c.in-Send.i c.in-Send.is c.requires.there in
+    sends_text sheet reports old.bases.items (sent_texts old.messages) c.in-Send.i c.index_mut.result.now c.send.new.base (sent_texts c.send.new.self) within c.index_mut.ensures.value sent.base sent.sent
+    ∙ ap (happens (wire sheet [] reports) (world_in old)) (sym c.in-Send.is)
 
 pub returns-in_ok-send-in-Send-clause-kept : goal.returns-in_ok-send-in-Send-clause-kept
 returns-in_ok-send-in-Send-clause-kept c =
     let old = c.args.self.now in
-    let base = c.index.result.now in
+    let base = c.index_mut.result.now in
+    let index = c.in-Send.i - 1 in
+    let read = c.index_mut.ensures.value in
+    let sent = c.in_ok-send-in-Send.ensures in
+    let texts = c.send.new.self.texts.items in
     let within = sender_within (length old.bases.items) (length c.args.reports.now) (length (sent_texts old.messages)) c.args.event c.in-Send.i c.in-Send.is c.requires.there in
-    let of_sheet : base.sheet ≡ c.args.sheet.now = subst (λ (b : Contents). b.sheet ≡ c.args.sheet.now) (sym c.index.ensures) (c.requires.sheets (c.in-Send.i - 1) base within) in
+    let of_sheet : base.sheet ≡ c.args.sheet.now = subst (λ (b : Contents). b.sheet ≡ c.args.sheet.now) (sym read) (c.requires.sheets index base within) in
     record {
       taken = c.requires.kept.taken;
-      held = subst (λ s. AreHeld s c.send.new.self) of_sheet c.in_ok-send-in-Send.ensures.held;
-      current = current_after_send old.messages.texts.items c.send.new.self.texts.items old.bases.items old.current.items c.requires.kept.current c.in_ok-send-in-Send.ensures.stay
-          (c.in-Send.i - 1) base c.send.new.current c.index.ensures c.in_ok-send-in-Send.ensures.current;
+      held = subst (λ s. AreHeld s c.send.new.self) of_sheet sent.held;
+      current = subst (λ bs. AllZip (IsCurrent texts) bs (set old.current.items index c.send.new.current)) (sym (set_itself old.bases.items index base c.send.new.base within read sent.base))
+          (current_after_send old.messages.texts.items texts old.bases.items old.current.items c.requires.kept.current sent.stay index base c.send.new.current read sent.current);
     }
 
 pub returns-in_ok-join_at-in-Join-clause-kept : goal.returns-in_ok-join_at-in-Join-clause-kept

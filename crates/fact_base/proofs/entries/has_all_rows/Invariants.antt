@@ -1,0 +1,7 @@
+use Rattle.std.proofs.Common.{take}
+use Rattle.std.specs.List.{All}
+use Rattle.fact_base.proofs.EntryFacts.{HasRow}
+use Rattle.fact_base.proofs.entries.has_all_rows.Given as goal
+
+abbrev pub invariant-loop-index : goal.invariant-loop-index
+invariant-loop-index l = All (HasRow l.entries) (take l.index l.others)
