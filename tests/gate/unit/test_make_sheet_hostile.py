@@ -1,4 +1,4 @@
-"""Tests of tools/make_sheet, and of `read_labels` of tools/contradictions, on files designed to take long, to make a tool read
+"""Tests of tools/make_sheet, and of the labels of tools/contradictions, on files designed to take long, to make a tool read
 other files, or to make it fail."""
 import json
 import os
@@ -17,7 +17,7 @@ import make_sheet
 import process
 from test_make_sheet import ITEM, SCHEMA, TOOL, ToolTest, run
 
-from contradicting.labels import read_labels
+from contradicting.labels import Labelled, Labels
 from sheet_making import files, packages
 from sheet_making.limits import Limits
 from sheet_making.taxonomy import Taxonomy
@@ -35,6 +35,11 @@ LINKBASE = """<link:linkbase xmlns:link="http://www.xbrl.org/2003/linkbase" xmln
 LOC = '<link:loc xlink:href="a.xsd#made_{0}" xlink:label="{0}"/>'
 LABEL = '<link:label xlink:label="{}" xml:lang="en">{}</link:label>'
 ARC = '<link:labelArc xlink:from="{}" xlink:to="{}"/>'
+
+
+def labels_of(path: str) -> Labels:
+    """Returns the English labels in a package."""
+    return Labelled(files.Files([path], Limits()), "en").read_labels()
 
 
 def each(form, size, *more):
@@ -144,9 +149,9 @@ class Long(HostileTest):
             return self.pack({"a.xsd": SCHEMA % items, "a.xml": linkbase}, f"labels{size}.zip")
 
         packages = {size: packed(size) for size in (600, 2_400)}
-        labels = read_labels([packages[600]], "en")
+        labels = labels_of(packages[600])
         self.assertEqual(labels["http://made.example", "C599"], "x" * 50 + "0")
-        self.assertLess(in_process.growth(lambda size: read_labels([packages[size]], "en"), 600), 9)
+        self.assertLess(in_process.growth(lambda size: labels_of(packages[size]), 600), 9)
 
     def test_one_schema_in_many_namespaces(self):
         def made(size):
@@ -177,7 +182,7 @@ class Long(HostileTest):
         several = self.pack({f"{number}.xsd": SCHEMA % tags[:200_000] for number in range(3)})
         self.refused("2.xsd: with it, the package has more than", several)
         with self.assertRaisesRegex(process.NotDone, "more than 100000 tags"):
-            read_labels([self.pack({"a.xsd": SCHEMA % "", "a.xml": LINKBASE % tags})], "en")
+            labels_of(self.pack({"a.xsd": SCHEMA % "", "a.xml": LINKBASE % tags}))
 
     def test_a_long_tag_or_comment(self):
         for text in (f"<!--{'x' * 9_000_000}-->", f'<a b="{"x" * 9_000_000}"/>'):
@@ -295,7 +300,7 @@ class Packages(HostileTest):
                 data[at] |= 1
             file.seek(0)
             file.write(data)
-        self.refused("a.xsd: RuntimeError: File", package)
+        self.refused("a.xsd: it is encrypted", package)
 
     def test_a_document_type_in_any_encoding(self):
         for encoding in ("utf-8", "utf-16", "latin-1", "cp1252"):
