@@ -43,11 +43,11 @@ reports_more : (rs : List Report) (r : Report) → reports_text (rs ++ r ∷ [])
 reports_more rs r = flat_map-append (λ (r : Report). string_bytes r.explained.text) rs (r ∷ []) ∙ ap (λ t. reports_text rs ++ t) (append-nil (string_bytes r.explained.text))
 
 pub explained_report : (gives : List ℕ → List ℕ → Type 0) (format : Format) (sheet : Sheet) (name : Bor (List ℕ)) (bytes same : List ℕ) (e : Explained) (m n : ℕ) → gives name.now bytes → m ≡ n → same ≡ bytes
-    → Explains (record { report = Some m; name = name; format = format }) (printed_faults sheet same) e → IsExplained gives format sheet n (record { name = name; bytes = bytes; explained = e })
+    → Explains (record { report = Some m; name = name; format = format }) same (printed_faults sheet same) e → IsExplained gives format sheet n (record { name = name; bytes = bytes; explained = e })
 explained_report gives format sheet name bytes same e m n gave number is explains = record {
   gave = gave;
-  explains = subst (λ k. Explains (record { report = Some k; name = name; format = format }) (printed_faults sheet bytes) e) number
-      (subst (λ bs. Explains (record { report = Some m; name = name; format = format }) (printed_faults sheet bs) e) is explains);
+  explains = subst (λ k. Explains (record { report = Some k; name = name; format = format }) bytes (printed_faults sheet bytes) e) number
+      (subst (λ bs. Explains (record { report = Some m; name = name; format = format }) bs (printed_faults sheet bs) e) is explains);
 }
 
 module _ (gives : List ℕ → List ℕ → Type 0) (format : Format) (sheet : Sheet) where
@@ -108,7 +108,7 @@ pub nothing_explained : (gives : List ℕ → List ℕ → Type 0) (names : List
 nothing_explained gives names name format old e not_loose = record { not_loose = not_loose; front = []; rest = names; whole = refl; cut_off = inl (Appends-nil old) }
 
 module _ (gives : List ℕ → List ℕ → Type 0) (format : Format) (name : Bor (List ℕ)) (names : List (Bor (List ℕ))) (bytes : List ℕ) (sheet : Sheet) (read : sheet_outcome bytes ≡ Ok sheet)
-    (of_sheet : Explained) (repeated : Explains (record { report = None; name = name; format = format }) [] of_sheet) where
+    (of_sheet : Explained) (repeated : Explains (record { report = None; name = name; format = format }) bytes [] of_sheet) where
   -- the end of the reports as the end of all lines
   pub under_ends : (old mid new : Option (List ℕ)) → Appends old mid (string_bytes of_sheet.text) → (done : Result Counts Error) → ReportsEnd gives format sheet names mid new of_sheet.faults done
       → UnderEnds gives format name bytes names old new done
@@ -127,7 +127,7 @@ module _ (gives : List ℕ → List ℕ → Type 0) (format : Format) (name : Bo
   abbrev all_of : Explained → List Report → List (Bor (List ℕ)) → List ℕ
   all_of of_sheet reports ns = string_bytes of_sheet.text ++ (reports_text reports ++ line_of of_sheet reports ns)
 
-  module _ (sheet : Sheet) (read : sheet_outcome bytes ≡ Ok sheet) (of_sheet : Explained) (repeated : Explains (record { report = None; name = name; format = format }) [] of_sheet) where
+  module _ (sheet : Sheet) (read : sheet_outcome bytes ≡ Ok sheet) (of_sheet : Explained) (repeated : Explains (record { report = None; name = name; format = format }) bytes [] of_sheet) where
     given : (ns : List (Bor (List ℕ))) (reports : List Report) → names_of reports ≡ ns → AreExplained gives format sheet 1 reports → ExplainGives gives format name ns (all_of of_sheet reports ns) (all_faults of_sheet.faults reports)
     given ns reports named are = record {
       bytes = bytes;

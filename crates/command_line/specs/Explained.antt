@@ -36,7 +36,7 @@ counts_line Text reports faulty faults =
 module _ (gives : List ℕ → List ℕ → Type 0) (format : Format) where
   pub record IsExplained (sheet : Sheet) (n : ℕ) (r : Report) : Type 0 where
     pub gave : gives r.name.now r.bytes
-    pub explains : Explains (record { report = Some n; name = r.name; format = format }) (printed_faults sheet r.bytes) r.explained
+    pub explains : Explains (record { report = Some n; name = r.name; format = format }) r.bytes (printed_faults sheet r.bytes) r.explained
 
   -- the reports are numbered from n
   abbrev pub AreExplained : Sheet → ℕ → List Report → Type 0
@@ -51,7 +51,7 @@ module _ (gives : List ℕ → List ℕ → Type 0) (format : Format) where
     pub gave : gives name.now bytes
     pub read : sheet_outcome bytes ≡ Ok sheet
     pub of_sheet : Explained
-    pub repeated : Explains (record { report = None; name = name; format = format }) [] of_sheet
+    pub repeated : Explains (record { report = None; name = name; format = format }) bytes [] of_sheet
     pub reports : List Report
     pub named : names_of reports ≡ names
     pub are : AreExplained sheet 1 reports

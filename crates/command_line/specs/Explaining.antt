@@ -41,7 +41,7 @@ module _ (gives : List ℕ → List ℕ → Type 0) (format : Format) where
       pub sheet : Sheet
       pub read : sheet_outcome bytes ≡ Ok sheet
       pub of_sheet : Explained
-      pub repeated : Explains (record { report = None; name = name; format = format }) [] of_sheet
+      pub repeated : Explains (record { report = None; name = name; format = format }) bytes [] of_sheet
       pub has : P sheet of_sheet
 
     -- the lines of `of_sheet` were appended first, and then `P` holds of the bytes after them

@@ -1,14 +1,14 @@
 -- Lines and tokens that are appended one after another.
 use Rattle.std.proofs.Common.{◌≡◌, ℕ, ◌+◌, ◌<◌, List, [], ◌∷◌, ◌++◌, length, map, take, get_or, replicate, refl, sym, ap, subst, ◌∙◌, append-nil, append_assoc, arith, length-append, String, Global, string_bytes}
-use Rattle.std.proofs.lemmas.List.{length-replicate, map-append, take_more, replicate-append-replicate}
+use Rattle.std.proofs.lemmas.List.{length-replicate, map-append, nil_from_length, take_more, replicate-append-replicate}
 use Rattle.json.specs.Token.{Token}
 use Rattle.json.specs.Written.{Writes, Written}
 use Rattle.std.specs.Prelude.{OnOk, Result, Ok, Err}
 use Rattle.oim_report.specs.declared.refusal.Refusal.{Refusal}
 use Rattle.oim_explain.specs.Escaped.{escaped}
-use Rattle.oim_explain.specs.Explained.{Explains, counted}
+use Rattle.oim_explain.specs.Explained.{Explains, RepeatsKeys, counted}
 use Rattle.oim_explain.specs.Lines.{AreLines, IsLineIn, Printed, repeated_member}
-use Rattle.oim_explain.specs.code.Added.{AddsLines, AddsRepeated, AddsTokens}
+use Rattle.oim_explain.specs.code.Added.{AddsAll, AddsLines, AddsRepeated, AddsTokens}
 use Rattle.oim_explain.specs.declared.lines.Input.{Input}
 use Rattle.oim_explain.specs.declared.lines.Lines.{Lines}
 
@@ -75,16 +75,35 @@ repeated_then a b c first second = (
       (adds_then a b c (replicate first.0 repeated_member) (replicate second.0 repeated_member) first.1 second.1),
 )
 
+empty_lines : (input : Input) (ps : List Printed) → AreLines input ps [] → length ps ≡ 0
+empty_lines input [] lines = refl
+empty_lines input (p ∷ ps) (line, rest, is, more, whole) =
+    let longer : 0 ≡ length (escaped line ++ 10 ∷ rest) = ap length whole in omega (arith, length-append (escaped line) (10 ∷ rest), longer)
+
+-- no line was appended, so there was none
+pub unrepeated : (a b : Lines) (n : ℕ) → AddsLines a b (replicate n repeated_member) → b ≡ a → n ≡ 0
+unrepeated a b n adds same =
+    let before = string_bytes a.explained.text in
+    let all : length (string_bytes b.explained.text) ≡ length (before ++ adds.text) = ap length adds.appended in
+    let kept : length (string_bytes b.explained.text) ≡ length before = ap (λ (l : Lines). length (string_bytes l.explained.text)) same in
+    let none : length adds.text ≡ 0 = omega (arith, length-append before adds.text, all, kept) in
+    sym (length-replicate n repeated_member)
+    ∙ empty_lines a.input (replicate n repeated_member) (subst (AreLines a.input (replicate n repeated_member)) (nil_from_length adds.text none) adds.lines)
+
+pub repeated_in : {E : Type 0} (r : Result (Unit {0}) E) (bytes : List ℕ) (a b : Lines) → OnOk r (AddsRepeated a b) → (¬ (RepeatsKeys bytes) → OnOk r (b ≡ a)) → OnOk r (AddsAll bytes [] a b)
+repeated_in (Ok done) bytes a b adds same = (adds.0, adds.1, λ unique. unrepeated a b adds.0 adds.1 (same unique))
+repeated_in (Err e) bytes a b adds same = tt
+
 -- ---- the lines of a file
 
 -- the lines of the faults that were found, and then those of repeated members
-pub found_then_repeated : (a b c : Lines) (found : List Printed) → AddsLines a b found → AddsRepeated b c → (n : ℕ) × AddsLines a c (found ++ replicate n repeated_member)
-found_then_repeated a b c found first second = (second.0, adds_then a b c found (replicate second.0 repeated_member) first second.1)
+pub found_then_repeated : (bytes : List ℕ) (a b c : Lines) (found : List Printed) → AddsLines a b found → AddsAll bytes [] b c → AddsAll bytes found a c
+found_then_repeated bytes a b c found first second = (second.0, adds_then a b c found (replicate second.0 repeated_member) first second.1, second.2)
 
 -- all lines, if there were none before
-pub explained : (input : Input) (a b : Lines) (found : List Printed) (n : ℕ) → a.input ≡ input → string_bytes a.explained.text ≡ [] → a.explained.faults ≡ 0
-    → AddsLines a b (found ++ replicate n repeated_member) → Explains input found b.explained
-explained input a b found n same none zero adds =
+pub explained : (input : Input) (bytes : List ℕ) (a b : Lines) (found : List Printed) (n : ℕ) → a.input ≡ input → string_bytes a.explained.text ≡ [] → a.explained.faults ≡ 0
+    → AddsLines a b (found ++ replicate n repeated_member) → (¬ (RepeatsKeys bytes) → n ≡ 0) → Explains input bytes found b.explained
+explained input bytes a b found n same none zero adds unique =
     let printed = found ++ replicate n repeated_member in
     let sum : 0 + length printed ≡ length found + n = omega (arith, length-append found (replicate n repeated_member), length-replicate n repeated_member) in
     record {
@@ -92,6 +111,7 @@ explained input a b found n same none zero adds =
       lines = subst (λ i. AreLines i printed (string_bytes b.explained.text)) same
           (subst (AreLines a.input printed) (sym (adds.appended ∙ ap (λ t. t ++ adds.text) none)) adds.lines);
       count = adds.count 0 zero ∙ ap counted sum;
+      unique = unique;
     }
 
 -- one fault more

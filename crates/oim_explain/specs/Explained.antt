@@ -1,8 +1,11 @@
 -- What `explain` returns for a report (own).
-use Rattle.std.specs.Prelude.{◌≡◌, ℕ, ◌+◌, ◌-◌, ◌^◌, min, List, [], ◌++◌, get_or, length, map, replicate, Option, None, Some, string_bytes}
+use Rattle.std.specs.Prelude.{◌≡◌, ℕ, ◌+◌, ◌-◌, ◌^◌, min, List, [], ◌++◌, get_or, length, map, replicate, Option, None, Some, IsSomeAnd, string_bytes}
 use Rattle.std.specs.Option.{unwrap_or}
+use Rattle.json.specs.Json.{document}
+use Rattle.json.specs.Strict.{HasUniqueKeys}
 use Rattle.oim_report.specs.Faults.{faults}
 use Rattle.oim_report.specs.Identifiers.{identifiers}
+use Rattle.oim_report.specs.Json.{without_mark}
 use Rattle.oim_report.specs.Sheet.{Sheet}
 use Rattle.oim_report.specs.declared.place.Place.{Place}
 use Rattle.oim_report.specs.declared.place.Place.TheVariants.{Document, Fact}
@@ -23,12 +26,17 @@ printed_fault is refusal = record { refusal = Some refusal; identifier = identif
 abbrev pub printed_faults : Sheet → List ℕ → List Printed
 printed_faults sheet bytes = map (printed_fault (unwrap_or (identifiers bytes) [])) (faults sheet bytes)
 
+-- the bytes are JSON in which an object repeats a key
+abbrev pub RepeatsKeys : List ℕ → Type 0
+RepeatsKeys bytes = IsSomeAnd (document (without_mark bytes)) (λ tree. ¬ (HasUniqueKeys tree))
+
 -- the number of lines, as far as 64 bits hold it
 abbrev pub counted : ℕ → ℕ
 counted n = min n (2 ^ 64 - 1)
 
-pub record Explains (input : Input) (found : List Printed) (e : Explained) : Type 0 where
+pub record Explains (input : Input) (bytes : List ℕ) (found : List Printed) (e : Explained) : Type 0 where
   pub repeated : ℕ
   -- the lines of the faults that were found come before those of repeated members
   pub lines : AreLines input (found ++ replicate repeated repeated_member) (string_bytes e.text)
   pub count : e.faults ≡ counted (length found + repeated)
+  pub unique : ¬ (RepeatsKeys bytes) → repeated ≡ 0

@@ -6,8 +6,7 @@ ghost use Rattle.oim_report.specs.Identifiers.{tree_identifiers};
 ghost use Rattle.oim_report.specs.Json.{json, object_at};
 ghost use Rattle.oim_explain.specs.Escaped.{escaped};
 ghost use Rattle.oim_explain.specs.Explained.{Explains, printed_fault, printed_faults};
-ghost use Rattle.oim_explain.specs.Lines.{repeated_member};
-ghost use Rattle.oim_explain.specs.code.Added.{AddsLines, texts_of};
+ghost use Rattle.oim_explain.specs.code.Added.{AddsAll, AddsLines, texts_of};
 
 use super::escaped::Escaped;
 use super::file_kind::{kind_of_sheet, kind_of_tree, kind_of_unread};
@@ -48,7 +47,7 @@ pub fn explain(
     input: Input<'_>,
     bytes: &[u8],
 ) -> Result<Explained, AllocError>
-    ensures { IfOk result (Explains input.entry (printed_faults names.now.sheet.now bytes.now)) }
+    ensures { IfOk result (Explains input.entry bytes.now (printed_faults names.now.sheet.now bytes.now)) }
 {
     let mut lines = Lines::new(alloc, input);
     push_all(&mut lines, names, bytes)?;
@@ -56,8 +55,7 @@ pub fn explain(
 }
 
 fn push_all(lines: &mut Lines<'_>, names: &SheetNames<'_>, bytes: &[u8]) -> Result<(), AllocError>
-    ensures { let found = printed_faults names.now.sheet.now bytes.now in
-        OnOk result ((n : ℕ) × AddsLines lines.old lines.new (found ++ replicate n repeated_member)) }
+    ensures { OnOk result (AddsAll bytes.now (printed_faults names.now.sheet.now bytes.now) lines.old lines.new) }
 {
     let alloc = lines.alloc;
     // an accepted report has no faults, and reading it in pieces needs less memory than a tree
@@ -290,7 +288,7 @@ pub fn explain_repeated(
     input: Input<'_>,
     bytes: &[u8],
 ) -> Result<Explained, AllocError>
-    ensures { IfOk result (Explains input.entry []) }
+    ensures { IfOk result (Explains input.entry bytes.now []) }
 {
     let mut lines = Lines::new(alloc, input);
     push_repeated(&mut lines, Subject::Sheet, bytes)?;

@@ -1,4 +1,5 @@
-ghost use Rattle.std.specs.Prelude.{OnOk};
+ghost use Rattle.std.specs.Prelude.{◌≡◌, OnOk};
+ghost use Rattle.oim_explain.specs.Explained.{RepeatsKeys};
 ghost use Rattle.oim_explain.specs.code.Added.{AddsRepeated};
 
 use super::lines::Lines;
@@ -16,7 +17,8 @@ pub(crate) fn push_repeated(
     subject: Subject<'_>,
     bytes: &[u8],
 ) -> Result<(), AllocError>
-    ensures { OnOk result (AddsRepeated lines.old lines.new) }
+    ensures adds { OnOk result (AddsRepeated lines.old lines.new) }
+    ensures unique { ¬ (RepeatsKeys bytes.now) → OnOk result (lines.new ≡ lines.old) }
 {
     let Ok(text) = str::from_utf8(after_mark(bytes)) else {
         return Ok(());

@@ -7,7 +7,7 @@ use Rattle.oim_report.specs.Outcome.{at}
 use Rattle.oim_report.specs.declared.place.Place.{Place}
 use Rattle.oim_report.specs.declared.place.Place.TheVariants.{Document, Fact}
 use Rattle.oim_names.specs.declared.reason.Reason.{Reason}
-use Rattle.oim_explain.specs.Explained.{counted}
+use Rattle.oim_explain.specs.Explained.{RepeatsKeys, counted}
 use Rattle.oim_explain.specs.Lines.{AreLines, Printed, repeated_member}
 use Rattle.oim_explain.specs.declared.finding.Finding.{Finding}
 use Rattle.oim_explain.specs.declared.lines.PrintedFault.{PrintedFault}
@@ -46,6 +46,10 @@ pub record AddsLines (old new : Lines) (printed : List Printed) : Type 0 where
 -- lines of repeated members were appended
 abbrev pub AddsRepeated : Lines → Lines → Type 0
 AddsRepeated old new = (n : ℕ) × AddsLines old new (replicate n repeated_member)
+
+-- the lines that were found were appended, and then those of repeated members, if a key is repeated
+abbrev pub AddsAll : List ℕ → List Printed → Lines → Lines → Type 0
+AddsAll bytes found old new = (n : ℕ) × AddsLines old new (found ++ replicate n repeated_member) × (¬ (RepeatsKeys bytes) → n ≡ 0)
 
 -- these tokens were appended; the bytes before the first token did not change
 pub record AddsTokens (old new : Written) (further : List Token) : Type 0 where
