@@ -5,7 +5,7 @@ use Rattle.std.specs.Io.KnownBytes.{Appends, Keeps}
 use Rattle.std.proofs.KnownBytes.{Appends-kept, Appends-nil}
 use Rattle.oim_write.specs.Sink.{AppendsFront}
 use Rattle.command_line.specs.Endings.{AppendsPart, Ends, IsCutOff, Prints, Puts, Stops}
-use Rattle.command_line.specs.Faults.{IsEventError, IsOutputFault, IsReadError, IsSheetError}
+use Rattle.command_line.specs.Faults.{IsOutputFault}
 use Rattle.command_line.specs.Outputs.{NumberedRefusals}
 use Rattle.command_line.specs.declared.error.Error.{Error}
 use Rattle.command_line.specs.declared.error.Error.TheVariants as error
@@ -14,23 +14,6 @@ use Rattle.command_line.specs.declared.error.Error.TheVariants as error
 pub of_error : {T E : Type 0} (P : Result T E → Type 0) (r : Result T E) (e : E) → IsErrAnd r (λ x. x ≡ e) → P (Err e) → P r
 of_error P (Ok x) e is p = absurd is
 of_error P (Err x) e is p = subst (λ y. P (Err y)) (sym is) p
-
-module _ {T : Type 0} (Gives : List ℕ → T → Type 0) (Loose : ℕ → NumberedRefusals → Type 0) (old new : Option (List ℕ)) where
-  -- errors that come before anything is printed
-  pub read_stops : (e : Error) → IsReadError e → Appends old new [] → Stops Gives old new Loose e
-  read_stops (error.TooLoose row returned) is none = absurd is
-  read_stops (error.Device written) is none = absurd is
-  read_stops (error.TooMuch most) is none = absurd is
-  read_stops error.OutOfMemory is none = inl none
-  read_stops _ is none = none
-
-  pub sheet_stops : (e : Error) → IsSheetError e → Appends old new [] → Stops Gives old new Loose e
-  sheet_stops (error.Sheet reason explained kind) is none = none
-  sheet_stops e is none = read_stops e is none
-
-  pub event_stops : (e : Error) → IsEventError e → Appends old new [] → Stops Gives old new Loose e
-  event_stops (error.Event line) is none = none
-  event_stops e is none = read_stops e is none
 
 -- nothing was appended yet
 pub no_part : (old : Option (List ℕ)) (text : List ℕ) → AppendsPart old old text

@@ -12,7 +12,7 @@ use Rattle.oim_explain.specs.declared.lines.Format.{Format}
 use Rattle.command_line.specs.Endings.{AppendsPart, IsCutOff, Prints, Puts}
 use Rattle.command_line.specs.Explained.{AreExplained, ExplainGives, IsExplained, Report, all_faults, counts_line, faulty_reports, names_of, reports_text}
 use Rattle.command_line.specs.Explaining.{ListsReports, ReportsEnd, StopsAmong, UnderEnds}
-use Rattle.command_line.specs.Faults.{IsNotLoose, IsReadError}
+use Rattle.command_line.specs.Faults.{IsNotLoose}
 use Rattle.command_line.specs.Runs.{ExplainStops}
 use Rattle.command_line.specs.declared.commands.explain.Counts.{Counts}
 use Rattle.command_line.specs.declared.error.Error.{Error}
@@ -27,10 +27,6 @@ longer_part : (old new : Option (List ℕ)) (text more : List ℕ) → AppendsPa
 longer_part old new text more part = record { front = part.front; rest = part.rest ++ more; whole = ap (λ t. t ++ more) part.whole ∙ append_assoc part.front part.rest more; appended = part.appended }
 
 -- ---- errors
-
-pub read_not_loose : (e : Error) → IsReadError e → IsNotLoose e
-read_not_loose (error.TooLoose row returned) is = is
-read_not_loose _ is = tt
 
 pub put_stops : (text : List ℕ) (old new : Option (List ℕ)) (e : Error) → Puts text old new (Err e) → IsNotLoose e × AppendsPart old new text
 put_stops text old new (error.Device written) part = (tt, part)

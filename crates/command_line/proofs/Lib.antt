@@ -1,4 +1,5 @@
 pub mod Readings
+pub mod Why
 pub mod Ends
 pub mod Faults
 pub mod Replicas

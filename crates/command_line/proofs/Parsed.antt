@@ -1,7 +1,6 @@
 -- What the matches and the errors of a parse say of the words.
-use Rattle.std.proofs.Common.{◌∙◌, ◌≡◌, ◌⊎◌, ◌∷◌, [], List, Option, Some, None, true, false, ap, if◌then◌else◌, inl, inr, length, refl, subst}
-use Rattle.std.proofs.Math.Dec.{eqb-suc-zero}
-use Rattle.std.specs.Prelude.{⊤}
+use Rattle.std.proofs.Common.{◌∙◌, ◌≡◌, ◌⊎◌, ◌∷◌, [], List, Option, Some, None, true, false, ap, if◌then◌else◌, inl, inr, refl, subst}
+use Rattle.std.specs.Prelude.{◌≢◌, ⊤}
 use Rattle.std.specs.Option.{option_map, unwrap_or}
 use Rattle.clap.specs.Walk.{is_empty}
 use Rattle.clap.specs.Words.{HasKind, IsAmong, Kinds, Text, fault_of, is_simple, is_simple_and_free, kind_of, subcommand_of}
@@ -10,7 +9,7 @@ use Rattle.clap.specs.declared.error.kind.ErrorKind.{ErrorKind}
 use Rattle.clap.specs.declared.error.kind.ErrorKind.TheVariants as kind
 use Rattle.clap.proofs.OnLiterals.{clap_on_literals}
 use Rattle.command_line.specs.Arguments.{AreTables, Tables, check_app, explain_app, merge_app, program_app, replay_app, rows_app, top_app, with_output_of, with_reports_of}
-use Rattle.command_line.specs.Words.{AreRefused, AskFor, Asked, CallForHelp, asked, asked_of, asked_with}
+use Rattle.command_line.specs.Words.{AreRefused, AskFor, AskForNothing, Asked, CallForHelp, HasFault, asked, asked_of, asked_with}
 use Rattle.command_line.specs.declared.request.Args.{Args}
 
 -- what a proof unfolds to compute at words
@@ -44,23 +43,25 @@ module _ (t : Tables) (are : AreTables t) (words : List Text) where
       go None is e = cc
       go (Some a) is e = (t, are, a, ap (λ o. unwrap_or o None) e, asked_is (Some a) none is)
 
-  pub none_asked : faults ≡ [] → None ≡ option_map Some found → AreRefused words
+  pub none_asked : faults ≡ [] → None ≡ option_map Some found → AskForNothing words
   none_asked none same = go found refl same
     where
-      go : (x : Option Asked) → found ≡ x → None ≡ option_map Some x → AreRefused words
-      go None is e = (t, are, asked_is None none is)
+      go : (x : Option Asked) → found ≡ x → None ≡ option_map Some x → AskForNothing words
+      go None is e = (t, are, none, is)
       go (Some a) is e = cc
 
-  has_fault : (k : ErrorKind) (ks : Kinds) → IsAmong k ks → is_empty ks ≡ false
-  has_fault k [] among = elim among [ ]
-  has_fault k (x ∷ xs) among = eqb-suc-zero (length xs)
-
-  pub refused : (e : Error) → HasKind faults e → (kind_of e ≡ kind.OutOfMemory) ⊎ AreRefused words
+  pub refused : (e : Error) → HasKind faults e → (kind_of e ≡ kind.OutOfMemory) ⊎ HasFault words (kind_of e) ⊎ AskForNothing words
   refused e (inl h) = inl h
-  refused e (inr h) = inr (t, are, ap (λ b. if b then found else None) (has_fault (kind_of e) faults h))
+  refused e (inr h) = inr (inl (t, are, h))
 
   pub helped : (e : Error) → HasKind faults e → (kind_of e ≡ kind.DisplayHelp) ⊎ (kind_of e ≡ kind.DisplayVersion) → CallForHelp words
   helped e (inl h) (inl k) = cc
   helped e (inl h) (inr k) = cc
-  helped e (inr h) (inl k) = (t, are, inl (subst (λ x. IsAmong x faults) k h))
-  helped e (inr h) (inr k) = (t, are, inr (subst (λ x. IsAmong x faults) k h))
+  helped e (inr h) (inl k) = inl (t, are, subst (λ x. IsAmong x faults) k h)
+  helped e (inr h) (inr k) = inr (t, are, subst (λ x. IsAmong x faults) k h)
+
+-- a fault that is neither a call for help nor for the version
+pub other_fault : (words : List Text) (k : ErrorKind) → k ≢ kind.OutOfMemory → k ≢ kind.DisplayHelp → k ≢ kind.DisplayVersion → (k ≡ kind.OutOfMemory) ⊎ HasFault words k ⊎ AskForNothing words → AreRefused words
+other_fault words k memory help version (inl is) = absurd (memory is)
+other_fault words k memory help version (inr (inl has)) = inl (k, help, version, has)
+other_fault words k memory help version (inr (inr nothing)) = inr nothing

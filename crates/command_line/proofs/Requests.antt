@@ -71,17 +71,17 @@ module _ (gives : List ℕ → List ℕ → Type 0) (bundle : List ℕ) (names :
       ends_settled (RequestGives gives bundle names request) (RequestIsLoose gives bundle names request) old mid new keeps done result is ends
 
   -- the output of a run that could not put its file in place does not count
-  pub unwritten : (e : Error) → IsWriteError e → (request : Request) → RequestEnds gives bundle names request old old (Err e)
-  unwritten (error.Unwritten name why) is (Explain sheet format) = nothing_explained gives names sheet format old (error.Unwritten name why) tt
-  unwritten (error.Unwritten name why) is request = Appends-nil old
-  unwritten error.OutOfMemory is (Explain sheet format) = nothing_explained gives names sheet format old error.OutOfMemory tt
-  unwritten error.OutOfMemory is request = inl (Appends-nil old)
-  unwritten _ is request = absurd is
+  pub unwritten : (out : List ℕ) (e : Error) → IsWriteError out e → (request : Request) → RequestEnds gives bundle names request old old (Err e)
+  unwritten out (error.Unwritten name why) is (Explain sheet format) = nothing_explained gives names sheet format old (error.Unwritten name why) tt
+  unwritten out (error.Unwritten name why) is request = Appends-nil old
+  unwritten out error.OutOfMemory is (Explain sheet format) = nothing_explained gives names sheet format old error.OutOfMemory tt
+  unwritten out error.OutOfMemory is request = inl (Appends-nil old)
+  unwritten out _ is request = absurd is
 
-  pub done_or_unwritten : (mid placed_old placed_new : Option (List ℕ)) (request : Request) (done result : Result Success Error) → IsDoneOrUnwritten done result → RequestEnds gives bundle names request old mid done
+  pub done_or_unwritten : (out : List ℕ) (mid placed_old placed_new : Option (List ℕ)) (request : Request) (done result : Result Success Error) → IsDoneOrUnwritten out done result → RequestEnds gives bundle names request old mid done
       → IsPlaced mid placed_old placed_new result → Replaces (RequestEnds gives bundle names request) old placed_old placed_new result
-  done_or_unwritten mid placed_old placed_new request done result (inl is) ends placed =
+  done_or_unwritten out mid placed_old placed_new request done result (inl is) ends placed =
       record { written = mid; ends = subst (RequestEnds gives bundle names request old mid) (sym is) ends; placed = placed }
-  done_or_unwritten mid placed_old placed_new request done (Err e) (inr fault) ends placed =
-      record { written = old; ends = unwritten e fault request; placed = placed }
-  done_or_unwritten mid placed_old placed_new request done (Ok success) (inr fault) ends placed = absurd fault
+  done_or_unwritten out mid placed_old placed_new request done (Err e) (inr fault) ends placed =
+      record { written = old; ends = unwritten out e fault request; placed = placed }
+  done_or_unwritten out mid placed_old placed_new request done (Ok success) (inr fault) ends placed = absurd fault

@@ -1,5 +1,5 @@
--- The errors of reading a file, and the faults of the libraries as errors of the command line (own).
-use Rattle.std.specs.Prelude.{◌≡◌, ◌⊎◌, None, Result, IsErrAnd, ⊤}
+-- The errors of writing a file, and the faults of the libraries as errors of the command line (own).
+use Rattle.std.specs.Prelude.{◌≡◌, ◌⊎◌, ℕ, List, None, Result, IsErrAnd, ⊤}
 use Rattle.oim_merge.specs.declared.events.ReplayFault.{ReplayFault}
 use Rattle.oim_merge.specs.declared.events.ReplayFault.TheVariants as schedule
 use Rattle.oim_merge.specs.declared.fault.Fault.{Fault}
@@ -8,33 +8,16 @@ use Rattle.command_line.specs.declared.error.Error.{Error}
 use Rattle.command_line.specs.declared.error.Error.TheVariants as error
 use Rattle.command_line.specs.declared.error.Success.{Success}
 
--- a file was not read
-abbrev pub IsReadError : Error → Type 0
-IsReadError (error.Unread name why) = ⊤
-IsReadError (error.TooLong name) = ⊤
-IsReadError error.OutOfMemory = ⊤
-IsReadError _ = ⊥
-
--- a file was not read, or it is no sheet
-abbrev pub IsSheetError : Error → Type 0
-IsSheetError (error.Sheet reason explained kind) = ⊤
-IsSheetError e = IsReadError e
-
--- a file was not read, or a line of the schedule is refused
-abbrev pub IsEventError : Error → Type 0
-IsEventError (error.Event line) = ⊤
-IsEventError e = IsReadError e
-
 -- no row is too loose
 abbrev pub IsNotLoose : Error → Type 0
 IsNotLoose (error.TooLoose row refused) = ⊥
 IsNotLoose _ = ⊤
 
--- a file was not written
-abbrev pub IsWriteError : Error → Type 0
-IsWriteError (error.Unwritten name why) = ⊤
-IsWriteError error.OutOfMemory = ⊤
-IsWriteError _ = ⊥
+-- the file with this name was not written
+abbrev pub IsWriteError : List ℕ → Error → Type 0
+IsWriteError name (error.Unwritten file why) = file.now ≡ name
+IsWriteError name error.OutOfMemory = ⊤
+IsWriteError name _ = ⊥
 
 -- the words are no request
 abbrev pub IsUsageError : Error → Type 0
@@ -53,8 +36,8 @@ abbrev pub IsDoneOrFault : Result Success Error → Result Success Error → Typ
 IsDoneOrFault done result = (result ≡ done) ⊎ IsErrAnd result IsOutputFault
 
 -- the result of a run, or that its file was not written
-abbrev pub IsDoneOrUnwritten : Result Success Error → Result Success Error → Type 0
-IsDoneOrUnwritten done result = (result ≡ done) ⊎ IsErrAnd result IsWriteError
+abbrev pub IsDoneOrUnwritten : List ℕ → Result Success Error → Result Success Error → Type 0
+IsDoneOrUnwritten name done result = (result ≡ done) ⊎ IsErrAnd result (IsWriteError name)
 
 -- ---- faults of the libraries
 

@@ -5,6 +5,7 @@ pub mod Endings
 pub mod Explained
 pub mod Explaining
 pub mod Runs
+pub mod Why
 pub mod Printed
 pub mod Arguments
 pub mod Words

@@ -4,6 +4,7 @@ use Rattle.std.specs.Fmt.{decimal}
 use Rattle.oim_names.specs.Reasons.{entry_of}
 use Rattle.oim_names.specs.declared.reason.Reason.{Reason}
 use Rattle.oim_report.specs.declared.refusal.Refusal.{Refusal}
+use Rattle.oim_explain.specs.Escaped.{escaped}
 use Rattle.oim_explain.specs.Lines.{place_text}
 use Rattle.command_line.specs.declared.error.Error.{Error}
 use Rattle.command_line.specs.declared.error.Error.TheVariants as error
@@ -44,9 +45,15 @@ refusal_line numbered =
 abbrev pub refusal_lines : List (ℕ × Refusal) → List ℕ
 refusal_lines refusals = flat_map refusal_line refusals
 
--- ---- the lines of errors, without names of files and the text of clap
+-- ---- the lines of errors, without the text of clap
+
+-- the line of a file that was not read or not written
+abbrev pub file_line : List ℕ → List ℕ → List ℕ
+file_line file fault = codes "file " ++ (escaped file ++ (codes ": " ++ (fault ++ 10 ∷ [])))
 
 abbrev pub error_line : Error → Option (List ℕ)
+error_line (error.TooLong file) = Some (file_line file.now (codes "too long"))
+error_line (error.NoNames file) = Some (file_line file.now (codes "names no report"))
 error_line (error.Event line) = Some (codes "event " ++ (decimal line ++ codes ": refused\n"))
 error_line (error.Device written) = Some (codes "device: " ++ (decimal written ++ codes " bytes written\n"))
 error_line (error.TooMuch most) = Some (codes "output: more than " ++ (decimal most ++ codes " bytes; --most-output BYTES sets the bound\n"))
@@ -64,9 +71,11 @@ explained_lines (Some lines) = string_bytes lines
 abbrev pub error_lines : Error → Option (List ℕ)
 error_lines (error.TooLoose row refused) = Some (refusal_lines refused ++ (codes "too loose: row " ++ (decimal row ++ 10 ∷ [])))
 error_lines (error.Sheet reason explained kind) = Some (sheet_line reason ++ explained_lines explained)
+error_lines (error.Unread file why) = Some (file_line file.now (codes "cannot be read"))
+error_lines (error.Unwritten file why) = Some (file_line file.now (codes "cannot be written"))
 error_lines e = error_line e
 
--- what standard error gets at the end of a plain run; None if that includes a file name or the text of clap
+-- what standard error gets at the end of a plain run; None for the text of clap
 abbrev pub lines_of : Result Success Error → Option (List ℕ)
 lines_of (Ok (success.Refusals refusals)) = Some (refusal_lines refusals)
 lines_of (Ok (success.Faults faults)) = Some []

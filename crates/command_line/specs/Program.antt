@@ -1,13 +1,14 @@
 -- A run of the program, from its words to its output, status and printed lines (own).
-use Rattle.std.specs.Prelude.{◌≡◌, ◌⊎◌, ℕ, Bool, true, false, List, [], Option, Some, None, Result, IfSome, IsErrAnd, IsTrue, codes, option_map}
+use Rattle.std.specs.Prelude.{◌≡◌, ◌⊎◌, ℕ, Bool, true, false, List, [], Option, Some, None, Result, IfErr, IfSome, IsErrAnd, IsTrue, codes, option_map}
 use Rattle.std.specs.Borrow.{Bor}
 use Rattle.std.specs.Io.KnownBytes.{Appends}
 use Rattle.std.specs.Str.{bytes_eq}
 use Rattle.clap.specs.Words.{Text}
-use Rattle.command_line.specs.Faults.{IsReadError, IsUsageError}
+use Rattle.command_line.specs.Faults.{IsUsageError}
 use Rattle.command_line.specs.Printed.{lines_of, status_of}
 use Rattle.command_line.specs.ReportNames.{AreReportNames, IsNameError}
-use Rattle.command_line.specs.Runs.{OutputEnds, RequestEnds}
+use Rattle.command_line.specs.Runs.{OutputEnds, RequestEnds, Spares}
+use Rattle.command_line.specs.Why.{IsCutInput, IsUnread, RequestWhy}
 use Rattle.command_line.specs.Words.{AreRefused, Mean}
 use Rattle.command_line.specs.declared.error.Error.{Error}
 use Rattle.command_line.specs.declared.error.Error.TheVariants.{OutOfMemory}
@@ -40,9 +41,14 @@ module _ (gives : List ℕ → List ℕ → Type 0) (input : Option (List ℕ)) 
   IsInput None bytes = bytes ≡ []
   IsInput (Some name) bytes = IsFrom (bytes_eq name (codes "-")) name bytes
 
-abbrev pub IsInputError : Option Text → Error → Type 0
-IsInputError None e = ⊥
-IsInputError (Some name) e = IsReadError e
+module _ (fails : List ℕ → Type 0) (input : Option (List ℕ)) where
+  abbrev pub IsNotFrom : Bool → Text → Error → Type 0
+  IsNotFrom true name = IsCutInput input name
+  IsNotFrom false name = IsUnread fails name
+
+  abbrev pub IsInputError : Option Text → Error → Type 0
+  IsInputError None e = ⊥
+  IsInputError (Some name) e = IsNotFrom (bytes_eq name (codes "-")) name e
 
 -- ---- the whole run
 
@@ -55,14 +61,18 @@ module _ (out_old out_new : Option (List ℕ)) (old new : List ℕ → Option (L
   abbrev pub GoesOn : {T : Type 0} → (T → Type 0) → (Error → Type 0) → (T → Result Success Error → Type 0) → Result Success Error → Type 0
   GoesOn {T} Gives Fails Rest done = ((x : T) × Gives x × Rest x done) ⊎ (IsErrAnd done Fails × WritesNothing)
 
-module _ (gives : List ℕ → List ℕ → Type 0) (out_old out_new empty : Option (List ℕ)) (old new : List ℕ → Option (List ℕ)) where
+module _ (gives : List ℕ → List ℕ → Type 0) (fails : List ℕ → Type 0) (out_old out_new empty : Option (List ℕ)) (free : List ℕ → Type 0) (old new : List ℕ → Option (List ℕ)) where
+  -- the request runs
+  abbrev pub RunEnds : Args → List ℕ → List (Bor Text) → Result Success Error → Type 0
+  RunEnds args bytes names done = OutputEnds (RequestEnds gives bytes names args.request) args.output out_old out_new empty old new done
+      × IfErr done (RequestWhy gives fails bytes names args.output args.request) × Spares free args.output old new
+
   -- the reports are named, and then the request runs
   abbrev pub NamesEnd : Args → List ℕ → Result Success Error → Type 0
-  NamesEnd args bytes = GoesOn out_old out_new old new (AreReportNames args bytes) (IsNameError args bytes)
-      (λ names. OutputEnds (RequestEnds gives bytes names args.request) args.output out_old out_new empty old new)
+  NamesEnd args bytes = GoesOn out_old out_new old new (AreReportNames args bytes) (IsNameError args bytes) (RunEnds args bytes)
 
   abbrev pub InputEnd : Option (List ℕ) → Args → Result Success Error → Type 0
-  InputEnd input args = GoesOn out_old out_new old new (IsInput gives input (input_of args)) (IsInputError (input_of args)) (NamesEnd args)
+  InputEnd input args = GoesOn out_old out_new old new (IsInput gives input (input_of args)) (IsInputError fails input (input_of args)) (NamesEnd args)
 
   -- the words mean a request, given the bytes of standard input, if contracts can see them
   abbrev pub WordsEnd : Option (List ℕ) → List Text → Result Success Error → Type 0

@@ -1,5 +1,5 @@
 -- The names of the reports: those among the words, then those in a file of names (own).
-use Rattle.std.specs.Prelude.{◌≡◌, ◌≢◌, ◌==◌, ℕ, Bool, true, false, List, [], ◌∷◌, ◌++◌, IfSome, IsSome, map, filter, if◌then◌else◌, ⊤}
+use Rattle.std.specs.Prelude.{◌≡◌, ◌≢◌, ◌==◌, ℕ, Bool, true, false, List, [], ◌∷◌, ◌++◌, IfSome, Some, map, filter, if◌then◌else◌, ⊤}
 use Rattle.std.specs.Option.{option_map_or}
 use Rattle.std.specs.Borrow.{Bor}
 use Rattle.std.specs.List.{slice_split}
@@ -38,7 +38,7 @@ AreReportNames args bytes names = (name_texts names ≡ report_names args bytes)
 
 -- why the names were not read
 abbrev pub IsNameError : Args → List ℕ → Error → Type 0
-IsNameError args bytes (Unread file why) = IsSome args.list × ¬ (IsUtf8 bytes)
-IsNameError args bytes (NoNames file) = IsSome args.list × (report_names args bytes ≡ [])
+IsNameError args bytes (Unread file why) = (args.list ≡ Some file) × ¬ (IsUtf8 bytes)
+IsNameError args bytes (NoNames file) = (args.list ≡ Some file) × (report_names args bytes ≡ [])
 IsNameError args bytes OutOfMemory = ⊤
 IsNameError args bytes _ = ⊥

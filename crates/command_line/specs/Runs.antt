@@ -1,5 +1,5 @@
 -- The text of a request, its result, and what was printed when it ended (own).
-use Rattle.std.specs.Prelude.{◌≡◌, ℕ, Option, Some, None, List, [], ◌++◌, Result, Ok, Err, MatchResult}
+use Rattle.std.specs.Prelude.{◌≡◌, ◌≢◌, ◌⊎◌, ℕ, Option, Some, None, List, [], ◌++◌, Result, Ok, Err, MatchResult}
 use Rattle.std.specs.Borrow.{Bor}
 use Rattle.std.specs.Io.KnownBytes.{Keeps}
 use Rattle.oim_value.specs.declared.level.Level.TheVariants.{All}
@@ -92,3 +92,12 @@ pub record Replaces (Ends : Option (List ℕ) → Option (List ℕ) → Result S
 abbrev pub OutputEnds : (Option (List ℕ) → Option (List ℕ) → Result Success Error → Type 0) → Option (Bor (List ℕ)) → Option (List ℕ) → Option (List ℕ) → Option (List ℕ) → (List ℕ → Option (List ℕ)) → (List ℕ → Option (List ℕ)) → Result Success Error → Type 0
 OutputEnds Ends None out_old out_new empty old new done = Ends out_old out_new done × ((name : List ℕ) → new name ≡ old name)
 OutputEnds Ends (Some name) out_old out_new empty old new done = Replaces Ends empty (old name.now) (new name.now) done × (out_new ≡ out_old)
+
+-- every file stays as it is, but the one with this name, and a new one beside it, whose name was free
+abbrev pub SparesOthers : (List ℕ → Type 0) → List ℕ → (List ℕ → Option (List ℕ)) → (List ℕ → Option (List ℕ)) → Type 0
+SparesOthers free name old new = ((other : List ℕ) → other ≢ name → new other ≡ old other)
+    ⊎ ((beside : List ℕ) × free beside × ((other : List ℕ) → other ≢ name → other ≢ beside → new other ≡ old other))
+
+abbrev pub Spares : (List ℕ → Type 0) → Option (Bor (List ℕ)) → (List ℕ → Option (List ℕ)) → (List ℕ → Option (List ℕ)) → Type 0
+Spares free None old new = (other : List ℕ) → new other ≡ old other
+Spares free (Some name) old new = SparesOthers free name.now old new

@@ -1,5 +1,5 @@
 -- What the words on the command line ask for (own).
-use Rattle.std.specs.Prelude.{◌≡◌, ◌&&◌, ◌||◌, not, ℕ, List, [], map, Bool, true, false, Option, Some, None, codes, if◌then◌else◌, ◌⊎◌}
+use Rattle.std.specs.Prelude.{◌≡◌, ◌≢◌, ◌&&◌, ◌||◌, not, ℕ, List, [], map, Bool, true, false, Option, Some, None, codes, if◌then◌else◌, ◌⊎◌}
 use Rattle.std.specs.Prelude.{find, option_map, option_and_then, unwrap_or}
 use Rattle.std.specs.Option.{option_map_or}
 use Rattle.std.specs.Str.{bytes_eq}
@@ -8,6 +8,7 @@ use Rattle.clap.specs.ValueTests.{is_unsigned_in}
 use Rattle.clap.specs.Walk.{Row, all_of, first_of, is_empty}
 use Rattle.clap.specs.Words.{IsAmong, Text, fault_of, subcommand_of}
 use Rattle.clap.specs.declared.error.Error.{Error}
+use Rattle.clap.specs.declared.error.kind.ErrorKind.{ErrorKind}
 use Rattle.clap.specs.declared.error.kind.ErrorKind.TheVariants as kind
 use Rattle.clap.specs.declared.parser.matches.ValueSource.{ValueSource}
 use Rattle.clap.specs.declared.parser.matches.ValueSource.TheVariants.{CommandLine}
@@ -172,12 +173,19 @@ abbrev pub asked_with : Tables → List Text → Option Asked
 asked_with t words =
     if is_empty (fault_of (program_app false t) words) then asked (subcommand_of (program_app false t) words) else None
 
-abbrev pub AreRefused : List Text → Type 0
-AreRefused words = (t : Tables) × AreTables t × (asked_with t words ≡ None)
+-- clap finds a fault of this kind in the words
+abbrev pub HasFault : List Text → ErrorKind → Type 0
+HasFault words k = (t : Tables) × AreTables t × IsAmong k (fault_of (program_app false t) words)
 
 abbrev pub CallForHelp : List Text → Type 0
-CallForHelp words = (t : Tables) × AreTables t
-    × (IsAmong kind.DisplayHelp (fault_of (program_app false t) words) ⊎ IsAmong kind.DisplayVersion (fault_of (program_app false t) words))
+CallForHelp words = HasFault words kind.DisplayHelp ⊎ HasFault words kind.DisplayVersion
+
+-- clap finds no fault, but the words ask for no command
+abbrev pub AskForNothing : List Text → Type 0
+AskForNothing words = (t : Tables) × AreTables t × (fault_of (program_app false t) words ≡ []) × (asked (subcommand_of (program_app false t) words) ≡ None)
+
+abbrev pub AreRefused : List Text → Type 0
+AreRefused words = ((k : ErrorKind) × (k ≢ kind.DisplayHelp) × (k ≢ kind.DisplayVersion) × HasFault words k) ⊎ AskForNothing words
 
 -- the arguments and clap's matches of the words give the same command
 abbrev pub AskFor : List Text → Args → Type 0

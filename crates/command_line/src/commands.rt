@@ -1,9 +1,10 @@
 //! Runs the commands. The files of the folder `commands` have their help and their own parts.
 
-ghost use Rattle.std.specs.Prelude.{◌≡◌, ◌-◌, ◌^◌, ◌<◌, false, OnOk};
+ghost use Rattle.std.specs.Prelude.{◌≡◌, ◌-◌, ◌^◌, ◌<◌, false, IfErr, None, OnOk};
 ghost use Rattle.oim_write.specs.BoundedSink.{bounded_failures};
 ghost use Rattle.command_line.specs.Endings.{Ends, Never, Puts};
 ghost use Rattle.command_line.specs.Runs.{CommandEnds, PrintsHelp, RequestEnds};
+ghost use Rattle.command_line.specs.Why.{IsOutputError, RequestWhy, WhyUnder};
 ghost use Rattle.command_line.specs.declared.request.Subcommand.TheVariants.{Merge, Verdicts, Sources};
 
 pub(crate) mod check;
@@ -34,6 +35,7 @@ pub(crate) fn execute<'n, F: Folder, E: Write, S: Sink>(
     requires { bounded_failures (S.failures out.old.sink) out.old.overruns < 2 ^ 64 - 1 }
     ensures ends { RequestEnds (F.gives inputs.old.files.now) inputs.old.bundle.now inputs.old.names.now request.now
         (S.told out.old.sink) (S.told out.new.sink) result }
+    ensures why { IfErr result (RequestWhy (F.gives inputs.old.files.now) (F.fails inputs.old.files.now) inputs.old.bundle.now inputs.old.names.now None request.now) }
     ensures console { inputs.old.console.is_terminal ≡ false → inputs.new.console ≡ inputs.old.console }
 {
     match request {
@@ -55,7 +57,8 @@ fn put_help<'n, S: Sink>(
     out: &mut S,
 ) -> Result<Success, Error<'n>>
     requires { S.failures out.old < 2 ^ 64 - 1 }
-    ensures { Ends PrintsHelp (S.told out.old) (S.told out.new) Never result }
+    ensures ends { Ends PrintsHelp (S.told out.old) (S.told out.new) Never result }
+    ensures why { IfErr result IsOutputError }
 {
     let text = format!(in alloc; "{text}")?;
     put_text(out, text.as_str())?;
@@ -73,6 +76,7 @@ fn execute_under<'n, F: Folder, E: Write, S: Sink>(
     requires { bounded_failures (S.failures out.old.sink) out.old.overruns < 2 ^ 64 - 1 }
     ensures ends { CommandEnds (F.gives inputs.old.files.now) inputs.old.names.now sheet.now subcommand.entry
         (S.told out.old.sink) (S.told out.new.sink) result }
+    ensures why { IfErr result (WhyUnder (F.gives inputs.old.files.now) (F.fails inputs.old.files.now) inputs.old.names.now subcommand.entry) }
     ensures console { inputs.old.console.is_terminal ≡ false → inputs.new.console ≡ inputs.old.console }
 {
     match subcommand {
@@ -94,6 +98,7 @@ fn run_merge<'n, F: Folder, E: Write, S: Sink>(
     requires { S.failures out.old < 2 ^ 64 - 1 }
     ensures ends { CommandEnds (F.gives inputs.old.files.now) inputs.old.names.now sheet.now (Merge allow)
         (S.told out.old) (S.told out.new) result }
+    ensures why { IfErr result (WhyUnder (F.gives inputs.old.files.now) (F.fails inputs.old.files.now) inputs.old.names.now (Merge allow)) }
     ensures console { inputs.old.console.is_terminal ≡ false → inputs.new.console ≡ inputs.old.console }
 {
     let Merged { base, refusals } = inputs.consolidate(sheet)?.into_merged()?;
@@ -113,6 +118,7 @@ fn run_verdicts<'n, F: Folder, E: Write, S: Sink>(
     requires { bounded_failures (S.failures out.old.sink) out.old.overruns < 2 ^ 64 - 1 }
     ensures ends { CommandEnds (F.gives inputs.old.files.now) inputs.old.names.now sheet.now (Verdicts format)
         (S.told out.old.sink) (S.told out.new.sink) result }
+    ensures why { IfErr result (WhyUnder (F.gives inputs.old.files.now) (F.fails inputs.old.files.now) inputs.old.names.now (Verdicts format)) }
     ensures console { inputs.old.console.is_terminal ≡ false → inputs.new.console ≡ inputs.old.console }
 {
     let consolidation = inputs.consolidate(sheet)?;
@@ -130,6 +136,7 @@ fn run_sources<'n, F: Folder, E: Write, S: Sink>(
     requires { bounded_failures (S.failures out.old.sink) out.old.overruns < 2 ^ 64 - 1 }
     ensures ends { CommandEnds (F.gives inputs.old.files.now) inputs.old.names.now sheet.now (Sources format)
         (S.told out.old.sink) (S.told out.new.sink) result }
+    ensures why { IfErr result (WhyUnder (F.gives inputs.old.files.now) (F.fails inputs.old.files.now) inputs.old.names.now (Sources format)) }
     ensures console { inputs.old.console.is_terminal ≡ false → inputs.new.console ≡ inputs.old.console }
 {
     let names = inputs.names;

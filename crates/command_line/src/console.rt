@@ -1,6 +1,6 @@
 ghost use Rattle.std.specs.Prelude.{◌≡◌, false, true, IfSome, IsTrue, OnOk};
 ghost use Rattle.std.specs.Io.KnownBytes.{Appends};
-ghost use Rattle.command_line.specs.Printed.{error_line, error_lines, explained_lines, lines_of, refusal_line, refusal_lines, sheet_line, status_of};
+ghost use Rattle.command_line.specs.Printed.{error_line, error_lines, explained_lines, file_line, lines_of, refusal_line, refusal_lines, sheet_line, status_of};
 
 use crate::error::{Error, Success};
 use oim_explain::Escaped;
@@ -235,7 +235,9 @@ fn print_line<E: Write>(err: &mut E, error: &Error<'_>) -> io::Result<()>
     }
 }
 
-fn print_file<E: Write>(err: &mut E, file: &str, fault: &str) -> io::Result<()> {
+fn print_file<E: Write>(err: &mut E, file: &str, fault: &str) -> io::Result<()>
+    ensures { OnOk result (Appends (E.contents err.old) (E.contents err.new) (file_line file.now fault.now)) }
+{
     writeln!(err, "file {}: {fault}", Escaped(file))
 }
 
@@ -245,7 +247,10 @@ fn print_fault<E: Write>(
     file: &str,
     fault: &str,
     why: Option<&'static str>,
-) -> bool {
+) -> bool
+    ensures { is_verbose ≡ false → IsTrue result →
+        Appends (E.contents err.old) (E.contents err.new) (file_line file.now fault.now) }
+{
     let is_printed = print_file(err, file, fault).is_ok();
     match why {
         Some(why) if is_verbose => writeln!(err, "{why}").is_ok() && is_printed,

@@ -1,4 +1,4 @@
-ghost use Rattle.std.specs.Prelude.{◌≡◌, ◌≢◌, ℕ, List, Option, None, IfOk, IfErr, OnOk, OnErr, string_bytes};
+ghost use Rattle.std.specs.Prelude.{◌≡◌, ◌≢◌, ℕ, List, Option, None, IfOk, IfErr, OnOk, OnErr, string_bytes, ⊤};
 ghost use Rattle.std.specs.Io.KnownBytes.{Keeps};
 ghost use Rattle.command_line.specs.Faults.{IsWriteError};
 
@@ -31,6 +31,9 @@ pub(crate) trait Disk {
     /// The bytes of the file with this name, if contracts can see them.
     ghost file: { Self → List ℕ → Option (List ℕ) };
 
+    /// Whether no file has this name.
+    ghost free: { Self → List ℕ → Type 0 };
+
     /// The bytes of a new file.
     ghost empty: { Self → Option (List ℕ) };
 
@@ -44,13 +47,17 @@ pub(crate) trait Disk {
     ) -> Result<Named<Self::New>, Error<'n>>
         ensures empty { IfOk result (λ new. Self.New.contents new.file ≡ empty self.old) }
         ensures beside { IfOk result (λ new. string_bytes new.name ≢ name.now) }
-        ensures err { IfErr result IsWriteError }
+        ensures err { IfErr result (IsWriteError name.now) }
+        ensures free { IfOk result (λ new. free self.old (string_bytes new.name)) }
+        ensures others { IfOk result (λ new. (other : List ℕ) → other ≢ string_bytes new.name → file self.new other ≡ file self.old other) }
+        ensures none { OnErr result ((other : List ℕ) → file self.new other ≡ file self.old other) }
         ensures old { file self.new name.now ≡ file self.old name.now };
 
     /// Renames the new file, which has the name `beside`, to `name`.
     fn put_in_place(&mut self, new: Self::New, beside: &str, name: &str) -> io::Result<()>
         ensures ok { OnOk result (Keeps (Self.New.contents new) (file self.new name.now)) }
-        ensures err { OnErr result (file self.new name.now ≡ file self.old name.now) };
+        ensures err { OnErr result (file self.new name.now ≡ file self.old name.now) }
+        ensures others { (other : List ℕ) → other ≢ name.now → other ≢ beside.now → file self.new other ≡ file self.old other };
 
     /// Removes the file with this name, if that is possible.
     fn remove(&mut self, beside: &str)
@@ -80,6 +87,8 @@ impl<F: Files> Disk for System<'_, F> {
     type New = Unseen<F::File>;
 
     ghost file = { λ _ _. None };
+
+    ghost free = { λ _ _. ⊤ };
 
     ghost empty = { λ _. None };
 
@@ -117,7 +126,7 @@ fn new_beside<'w, F: Files>(
     name: &'w str,
 ) -> Result<Named<F::File>, Error<'w>>
     ensures beside { IfOk result (λ new. string_bytes new.name ≢ name.now) }
-    ensures err { IfErr result IsWriteError }
+    ensures err { IfErr result (IsWriteError name.now) }
 {
     let kept = old_mode(files, name)?;
     let mut how = OpenOptions::new();
@@ -140,7 +149,7 @@ fn new_beside<'w, F: Files>(
 /// Errors: `Unwritten` if the name is empty, cannot be looked up, or belongs to a symbolic link or
 /// anything else that is not a regular file.
 fn old_mode<'w, F: Files>(files: &F, name: &'w str) -> Result<Option<Permissions>, Error<'w>>
-    ensures { IfErr result IsWriteError }
+    ensures { IfErr result (IsWriteError name.now) }
 {
     match fs::symlink_metadata(files, name) {
         Ok(old) if old.is_file() => {
@@ -164,7 +173,7 @@ fn first_new<'w, F: Files>(
     name: &'w str,
 ) -> Result<Named<F::File>, Error<'w>>
     ensures beside { IfOk result (λ new. string_bytes new.name ≢ name.now) }
-    ensures err { IfErr result IsWriteError }
+    ensures err { IfErr result (IsWriteError name.now) }
 {
     for number in 0..u32::MAX {
         let beside = name_beside(alloc, name, number)?;

@@ -1,5 +1,5 @@
 ghost use Rattle.std.specs.Prelude.{◌≡◌, ℕ, List, IfOk, IfErr, IfSome, ⊤};
-ghost use Rattle.command_line.specs.Faults.{IsReadError};
+ghost use Rattle.command_line.specs.Why.{IsCutInput, IsUnread};
 
 use crate::causes::why_unread;
 use crate::error::Error;
@@ -18,17 +18,22 @@ pub(crate) trait Folder {
     /// Whether a read of the file with this name may give these bytes.
     ghost gives: { Self → List ℕ → List ℕ → Type 0 };
 
+    /// Whether a read of the file with this name may fail, also because the file is too long.
+    ghost fails: { Self → List ℕ → Type 0 };
+
     /// Reads the file with this name to its end.
     ///
     /// Errors: `Unread`, `TooLong`, and out of memory.
     fn read_named<'n>(&self, alloc: Global, name: &'n str) -> Result<Encoded, Error<'n>>
         ensures ok { IfOk result (gives self.now name.now) }
-        ensures err { IfErr result IsReadError };
+        ensures why { IfErr result (IsUnread (fails self.now) name.now) };
 }
 
 // The contracts of std do not describe the bytes of a file.
 impl<F: Files> Folder for F {
     ghost gives = { λ _ _ _. ⊤ };
+
+    ghost fails = { λ _ _. ⊤ };
 
     fn read_named<'n>(&self, alloc: Global, name: &'n str) -> Result<Encoded, Error<'n>> {
         read_file(alloc, self, name)
@@ -36,7 +41,7 @@ impl<F: Files> Folder for F {
 }
 
 fn read_file<'n, F: Files>(alloc: Global, files: &F, name: &'n str) -> Result<Encoded, Error<'n>>
-    ensures { IfErr result IsReadError }
+    ensures { IfErr result (IsUnread (λ _. ⊤) name.now) }
 {
     let read = match File::open(files, name) {
         Ok(file) => read_bytes(alloc, file, name),
@@ -55,7 +60,7 @@ pub(crate) fn read_bytes<'n, R: Read + Drop>(
     name: &'n str,
 ) -> Result<Encoded, Error<'n>>
     ensures ok { IfOk result (λ bytes. IfSome (R.remaining reader) (λ all. bytes ≡ all)) }
-    ensures err { IfErr result IsReadError }
+    ensures why { IfErr result (IsCutInput (R.remaining reader) name.now) }
 {
     match read_all(alloc, &mut StdSource::new(reader), MOST_BYTES) {
         Ok(bytes) => Ok(bytes),

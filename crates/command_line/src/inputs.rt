@@ -2,8 +2,8 @@ ghost use Rattle.std.specs.Prelude.{◌≡◌, false, Ok, IfOk, IfErr, ℕ, List
 ghost use Rattle.oim_report.specs.Sheet.{sheet_outcome};
 ghost use Rattle.oim_merge.specs.Added.{added};
 ghost use Rattle.oim_merge.specs.Traced.{traced};
-ghost use Rattle.command_line.specs.Faults.{IsReadError, IsSheetError};
 ghost use Rattle.command_line.specs.Reading.{AreRead, WithRead};
+ghost use Rattle.command_line.specs.Why.{AreUnread, IsLost, IsNoSheet, IsRefusedIn, IsUnread, NoFailure, NoLine, Why};
 
 use crate::console::{Console, Progress};
 use crate::error::Error;
@@ -40,7 +40,7 @@ impl<'n, F: Folder, E: Write> Inputs<'n, F, E> {
     /// Reads the file with this name, and allows output for its bytes.
     pub(crate) fn read(&mut self, name: &'n str) -> Result<Encoded, Error<'n>>
         ensures ok { IfOk result (F.gives self.old.files.now name.now) }
-        ensures err { IfErr result IsReadError }
+        ensures why { IfErr result (IsUnread (F.fails self.old.files.now) name.now) }
         ensures files { self.new.files ≡ self.old.files }
         ensures names { self.new.names ≡ self.old.names }
         ensures console { self.old.console.is_terminal ≡ false → self.new.console ≡ self.old.console }
@@ -65,7 +65,7 @@ impl<'n, F: Folder, E: Write> Inputs<'n, F, E> {
     pub(crate) fn read_sheet(&mut self, name: &'n str) -> Result<Sheet, Error<'n>>
         ensures ok { IfOk result (λ sheet. (bytes : List ℕ)
             × F.gives self.old.files.now name.now bytes × (sheet_outcome bytes ≡ Ok sheet)) }
-        ensures err { IfErr result IsSheetError }
+        ensures why { IfErr result (Why (IsLost (F.fails self.old.files.now) name.now) (IsRefusedIn (F.gives self.old.files.now) name.entry) NoLine NoFailure) }
         ensures files { self.new.files ≡ self.old.files }
         ensures names { self.new.names ≡ self.old.names }
         ensures console { self.old.console.is_terminal ≡ false → self.new.console ≡ self.old.console }
@@ -78,7 +78,7 @@ impl<'n, F: Folder, E: Write> Inputs<'n, F, E> {
     /// and counts it.
     pub(crate) fn read_report(&mut self, name: &'n str) -> Result<Encoded, Error<'n>>
         ensures ok { IfOk result (F.gives self.old.files.now name.now) }
-        ensures err { IfErr result IsReadError }
+        ensures why { IfErr result (IsUnread (F.fails self.old.files.now) name.now) }
         ensures files { self.new.files ≡ self.old.files }
         ensures names { self.new.names ≡ self.old.names }
         ensures console { self.old.console.is_terminal ≡ false → self.new.console ≡ self.old.console }
@@ -97,7 +97,7 @@ impl<'n, F: Folder, E: Write> Inputs<'n, F, E> {
     /// Returns the bytes of all reports, in order. Stops at the first report that cannot be read.
     pub(crate) fn read_reports(&mut self) -> Result<Vec<Encoded>, Error<'n>>
         ensures ok { IfOk result (λ all. AreRead (F.gives self.old.files.now) self.old.names.now all.items) }
-        ensures err { IfErr result IsReadError }
+        ensures why { IfErr result (AreUnread (F.gives self.old.files.now) (F.fails self.old.files.now) self.old.names.now) }
         ensures console { self.old.console.is_terminal ≡ false → self.new.console ≡ self.old.console }
     {
         let names = self.names;
@@ -117,7 +117,7 @@ impl<'n, F: Folder, E: Write> Inputs<'n, F, E> {
     ) -> Result<Consolidation<'s>, Error<'n>>
         ensures ok { IfOk result (λ consolidation. WithRead (F.gives self.old.files.now) self.old.names.now
             (λ reports. consolidation ≡ added sheet.now reports)) }
-        ensures err { IfErr result IsReadError }
+        ensures why { IfErr result (AreUnread (F.gives self.old.files.now) (F.fails self.old.files.now) self.old.names.now) }
         ensures console { self.old.console.is_terminal ≡ false → self.new.console ≡ self.old.console }
     {
         let mut consolidation = Consolidation::new(self.alloc, sheet);
@@ -133,7 +133,7 @@ impl<'n, F: Folder, E: Write> Inputs<'n, F, E> {
     pub(crate) fn trace<'s>(&mut self, sheet: &'s Sheet) -> Result<TracedMerge<'s>, Error<'n>>
         ensures ok { IfOk result (λ merge. WithRead (F.gives self.old.files.now) self.old.names.now
             (λ reports. merge ≡ traced sheet.now reports)) }
-        ensures err { IfErr result IsReadError }
+        ensures why { IfErr result (AreUnread (F.gives self.old.files.now) (F.fails self.old.files.now) self.old.names.now) }
         ensures console { self.old.console.is_terminal ≡ false → self.new.console ≡ self.old.console }
     {
         let mut merge = TracedMerge::new(self.alloc, sheet);
@@ -148,7 +148,7 @@ impl<'n, F: Folder, E: Write> Inputs<'n, F, E> {
 
 pub(crate) fn sheet_of<'n>(alloc: Global, bytes: &[u8]) -> Result<Sheet, Error<'n>>
     ensures ok { IfOk result (λ sheet. sheet_outcome bytes.now ≡ Ok sheet) }
-    ensures err { IfErr result IsSheetError }
+    ensures why { IfErr result (IsNoSheet bytes.now) }
 {
     match Sheet::read(alloc, bytes) {
         Ok(sheet) => Ok(sheet),

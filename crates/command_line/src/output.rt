@@ -1,7 +1,8 @@
-ghost use Rattle.std.specs.Prelude.{◌≡◌, false};
+ghost use Rattle.std.specs.Prelude.{◌≡◌, ◌≢◌, ℕ, List, false, None, Some, IfErr};
 ghost use Rattle.std.specs.Io.KnownBytes.{Keeps};
 ghost use Rattle.command_line.specs.Faults.{IsDoneOrFault, IsDoneOrUnwritten};
-ghost use Rattle.command_line.specs.Runs.{IsPlaced, OutputEnds, Replaces, RequestEnds};
+ghost use Rattle.command_line.specs.Runs.{IsPlaced, OutputEnds, Replaces, RequestEnds, Spares, SparesOthers};
+ghost use Rattle.command_line.specs.Why.{RequestWhy};
 
 use crate::commands::execute;
 use crate::disk::{Disk, Named};
@@ -22,6 +23,8 @@ pub(crate) fn write<'n, F: Folder, D: Disk, E: Write, O: Write + Drop>(
 ) -> (Result<Success, Error<'n>>, O)
     ensures ends { let ends = RequestEnds (F.gives inputs.old.files.now) inputs.old.bundle.now inputs.old.names.now args.now.request in
         OutputEnds ends args.now.output (O.contents out) (O.contents result.1) (D.empty disk.old) (D.file disk.old) (D.file disk.new) result.0 }
+    ensures why { IfErr result.0 (RequestWhy (F.gives inputs.old.files.now) (F.fails inputs.old.files.now) inputs.old.bundle.now inputs.old.names.now args.now.output args.now.request) }
+    ensures others { Spares (D.free disk.old) args.now.output (D.file disk.old) (D.file disk.new) }
     ensures console { inputs.old.console.is_terminal ≡ false → inputs.new.console ≡ inputs.old.console }
 {
     match args.output {
@@ -39,6 +42,7 @@ fn write_out<'n, F: Folder, E: Write, O: Write + Drop>(
 ) -> (Result<Success, Error<'n>>, O)
     ensures ends { RequestEnds (F.gives inputs.old.files.now) inputs.old.bundle.now inputs.old.names.now args.now.request
         (O.contents out) (O.contents result.1) result.0 }
+    ensures why { IfErr result.0 (RequestWhy (F.gives inputs.old.files.now) (F.fails inputs.old.files.now) inputs.old.bundle.now inputs.old.names.now None args.now.request) }
     ensures console { inputs.old.console.is_terminal ≡ false → inputs.new.console ≡ inputs.old.console }
 {
     let mut sink = BoundedSink::new(StdSink::new(out), args.first_bound());
@@ -97,6 +101,8 @@ fn write_file<'n, F: Folder, D: Disk, E: Write>(
 ) -> Result<Success, Error<'n>>
     ensures ends { Replaces (RequestEnds (F.gives inputs.old.files.now) inputs.old.bundle.now inputs.old.names.now args.now.request)
         (D.empty disk.old) (D.file disk.old name.now) (D.file disk.new name.now) result }
+    ensures why { IfErr result (RequestWhy (F.gives inputs.old.files.now) (F.fails inputs.old.files.now) inputs.old.bundle.now inputs.old.names.now (Some name.entry) args.now.request) }
+    ensures others { SparesOthers (D.free disk.old) name.now (D.file disk.old) (D.file disk.new) }
     ensures console { inputs.old.console.is_terminal ≡ false → inputs.new.console ≡ inputs.old.console }
 {
     let Named { name: beside, file } = disk.create_beside(inputs.alloc, name)?;
@@ -120,7 +126,8 @@ fn settle<'n, D: Disk>(
     beside: &str,
     name: &'n str,
 ) -> Result<Success, Error<'n>>
-    ensures done { IsDoneOrUnwritten done.entry result }
+    ensures done { IsDoneOrUnwritten name.now done.entry result }
+    ensures others { (other : List ℕ) → other ≢ name.now → other ≢ beside.now → D.file disk.new other ≡ D.file disk.old other }
     ensures placed { IsPlaced (D.New.contents file) (D.file disk.old name.now) (D.file disk.new name.now) result }
 {
     match done {

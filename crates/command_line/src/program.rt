@@ -1,6 +1,5 @@
 ghost use Rattle.std.specs.Prelude.{◌≡◌, None, map, ⊤};
-ghost use Rattle.command_line.specs.Program.{InputEnd, IsPlain, IsPlainRun, NamesEnd, Tells, WordsEnd};
-ghost use Rattle.command_line.specs.Runs.{OutputEnds, RequestEnds};
+ghost use Rattle.command_line.specs.Program.{InputEnd, IsPlain, IsPlainRun, NamesEnd, RunEnds, Tells, WordsEnd};
 
 use crate::console::Console;
 use crate::disk::{Disk, System};
@@ -55,7 +54,7 @@ where
     O: Write + Drop,
     E: Write + Drop,
     ensures { let texts = map W.text words.entry.now in
-        let ends = WordsEnd (λ name bytes. ⊤) (O.contents streams.out) (O.contents result.out) None (λ name. None) (λ name. None) in
+        let ends = WordsEnd (λ name bytes. ⊤) (λ name. ⊤) (O.contents streams.out) (O.contents result.out) None (λ name. ⊤) (λ name. None) (λ name. None) in
         Tells (ends (R.remaining streams.input) texts) result.status (IsPlainRun texts streams.is_input_terminal streams.is_err_terminal result.console.is_whole) (E.contents streams.err) (E.contents result.console.err) }
 {
     run_words(alloc, files, &mut System(files), words, streams)
@@ -74,7 +73,7 @@ fn run_words<F: Folder, D: Disk, W: AsStr, R: Read + Drop, O: Write + Drop, E: W
     streams: Streams<R, O, E>,
 ) -> Ran<O, E>
     ensures { let texts = map W.text words.entry.now in
-        let ends = WordsEnd (F.gives folder.now) (O.contents streams.out) (O.contents result.out) (D.empty disk.old) (D.file disk.old) (D.file disk.new) in
+        let ends = WordsEnd (F.gives folder.now) (F.fails folder.now) (O.contents streams.out) (O.contents result.out) (D.empty disk.old) (D.free disk.old) (D.file disk.old) (D.file disk.new) in
         Tells (ends (R.remaining streams.input) texts) result.status (IsPlainRun texts streams.is_input_terminal streams.is_err_terminal result.console.is_whole) (E.contents streams.err) (E.contents result.console.err) }
 {
     let (input, out) = (streams.input, streams.out);
@@ -117,7 +116,7 @@ fn run_args<F: Folder, D: Disk, R: Read + Drop, O: Write + Drop, E: Write + Drop
     out: O,
     console: Console<E>,
 ) -> Ran<O, E>
-    ensures { let ends = InputEnd (F.gives folder.now) (O.contents out) (O.contents result.out) (D.empty disk.old) (D.file disk.old) (D.file disk.new) in
+    ensures { let ends = InputEnd (F.gives folder.now) (F.fails folder.now) (O.contents out) (O.contents result.out) (D.empty disk.old) (D.free disk.old) (D.file disk.old) (D.file disk.new) in
         Tells (ends (R.remaining input) args.now) result.status (IsPlain console.is_terminal console.is_verbose result.console.is_whole) (E.contents console.err) (E.contents result.console.err) }
 {
     match args.read_input(alloc, folder, input) {
@@ -136,7 +135,7 @@ fn run_named<'n, F: Folder, D: Disk, O: Write + Drop, E: Write + Drop>(
     out: O,
     console: Console<E>,
 ) -> Ran<O, E>
-    ensures { let ends = NamesEnd (F.gives folder.now) (O.contents out) (O.contents result.out) (D.empty disk.old) (D.file disk.old) (D.file disk.new) in
+    ensures { let ends = NamesEnd (F.gives folder.now) (F.fails folder.now) (O.contents out) (O.contents result.out) (D.empty disk.old) (D.free disk.old) (D.file disk.old) (D.file disk.new) in
         Tells (ends args.now bytes.now) result.status (IsPlain console.is_terminal console.is_verbose result.console.is_whole) (E.contents console.err) (E.contents result.console.err) }
 {
     match args.names(alloc, bytes) {
@@ -166,8 +165,8 @@ fn run_request<'n, F: Folder, D: Disk, O: Write + Drop, E: Write + Drop>(
     disk: &mut D,
     out: O,
 ) -> Ran<O, E>
-    ensures { let ends = RequestEnds (F.gives inputs.entry.files.now) inputs.entry.bundle.now inputs.entry.names.now args.now.request in
-        Tells (OutputEnds ends args.now.output (O.contents out) (O.contents result.out) (D.empty disk.old) (D.file disk.old) (D.file disk.new))
+    ensures { let ends = RunEnds (F.gives inputs.entry.files.now) (F.fails inputs.entry.files.now) (O.contents out) (O.contents result.out) (D.empty disk.old) (D.free disk.old) (D.file disk.old) (D.file disk.new) in
+        Tells (ends args.now inputs.entry.bundle.now inputs.entry.names.now)
         result.status (IsPlain inputs.entry.console.is_terminal inputs.entry.console.is_verbose result.console.is_whole) (E.contents inputs.entry.console.err) (E.contents result.console.err) }
 {
     let names = inputs.names;

@@ -61,7 +61,7 @@ impl<'w> Args<'w> {
         input: R,
     ) -> Result<Encoded, Error<'w>>
         ensures ok { IfOk result (IsInput (F.gives folder.now) (R.remaining input) (input_of self.now)) }
-        ensures err { IfErr result (IsInputError (input_of self.now)) }
+        ensures err { IfErr result (IsInputError (F.fails folder.now) (R.remaining input) (input_of self.now)) }
     {
         let Some(name) = self.input_name() else {
             return Ok(Encoded::from_vec(Vec::new(alloc)));

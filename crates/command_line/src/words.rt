@@ -3,7 +3,7 @@ ghost use Rattle.clap.specs.Words.{App, kind_of, subcommand_rows_of, with_subcom
 ghost use Rattle.clap.specs.declared.error.kind.ErrorKind.TheVariants as kind;
 ghost use Rattle.command_line.specs.Arguments.{AreTables, IsApp, Tables, program_app, top_app};
 ghost use Rattle.command_line.specs.Program.{IsWordsError};
-ghost use Rattle.command_line.specs.Words.{AreRefused, AskFor, CallForHelp, IsAlone, Mean, asked, asked_of};
+ghost use Rattle.command_line.specs.Words.{AskFor, AskForNothing, CallForHelp, HasFault, IsAlone, Mean, asked, asked_of};
 
 use crate::arguments::{Building, command};
 use crate::commands::rows;
@@ -113,7 +113,8 @@ fn alone(alloc: Global, request: Request<'_>) -> Args<'_>
 
 fn parse<W: AsStr>(alloc: Global, words: &[W]) -> Result<Args<'_>, clap::Error>
     ensures ok { IfOk result (AskFor (map W.text words.entry.now)) }
-    ensures err { IfErr result (λ e. (kind_of e ≡ kind.OutOfMemory) ⊎ AreRefused (map W.text words.entry.now)) }
+    ensures err { IfErr result (λ e. (kind_of e ≡ kind.OutOfMemory)
+        ⊎ HasFault (map W.text words.entry.now) (kind_of e) ⊎ AskForNothing (map W.text words.entry.now)) }
     ensures help { IfErr result (λ e. (kind_of e ≡ kind.DisplayHelp) ⊎ (kind_of e ≡ kind.DisplayVersion) → CallForHelp (map W.text words.entry.now)) }
 {
     let matches = program(alloc, false)?.try_get_matches_from(words)?;

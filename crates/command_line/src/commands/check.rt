@@ -1,9 +1,10 @@
-ghost use Rattle.std.specs.Prelude.{◌≡◌, ◌-◌, ◌^◌, ◌<◌, false, Err, IfOk, MatchResult};
+ghost use Rattle.std.specs.Prelude.{◌≡◌, ◌-◌, ◌^◌, ◌<◌, false, Err, IfErr, IfOk, MatchResult};
 ghost use Rattle.oim_report.specs.Outcome.{outcome};
 ghost use Rattle.oim_merge.specs.Checked.{IsChecked};
 ghost use Rattle.command_line.specs.Endings.{Ends, Never, Puts};
 ghost use Rattle.command_line.specs.Outputs.{Checks, accepted_line};
 ghost use Rattle.command_line.specs.Runs.{CommandEnds};
+ghost use Rattle.command_line.specs.Why.{IsOutputError, WhyUnder};
 ghost use Rattle.command_line.specs.declared.request.Subcommand.TheVariants.{Check};
 
 use crate::commands::put_text;
@@ -57,6 +58,7 @@ pub(crate) fn run<'n, F: Folder, E: Write, S: Sink>(
     requires { S.failures out.old < 2 ^ 64 - 1 }
     ensures ends { CommandEnds (F.gives inputs.old.files.now) inputs.old.names.now sheet.now (Check report.entry)
         (S.told out.old) (S.told out.new) result }
+    ensures why { IfErr result (WhyUnder (F.gives inputs.old.files.now) (F.fails inputs.old.files.now) inputs.old.names.now (Check report.entry)) }
     ensures console { inputs.old.console.is_terminal ≡ false → inputs.new.console ≡ inputs.old.console }
 {
     let bytes = inputs.read(report)?;
@@ -70,7 +72,8 @@ fn put_checked<'n, S: Sink>(
     out: &mut S,
 ) -> Result<Refusals, Error<'n>>
     requires { S.failures out.old < 2 ^ 64 - 1 }
-    ensures { Ends (Checks sheet.now bytes.now) (S.told out.old) (S.told out.new) Never result }
+    ensures ends { Ends (Checks sheet.now bytes.now) (S.told out.old) (S.told out.new) Never result }
+    ensures why { IfErr result IsOutputError }
 {
     match check(alloc, sheet, bytes)? {
         Ok(checked) => {

@@ -1,12 +1,14 @@
-ghost use Rattle.std.specs.Prelude.{◌≡◌, ◌+◌, ◌-◌, ◌^◌, ◌<◌, false, nat_lt, if◌then◌else◌, IfErr, IfOk, Ok, OnOk};
+ghost use Rattle.std.specs.Prelude.{◌≡◌, ◌+◌, ◌-◌, ◌^◌, ◌<◌, false, nat_lt, if◌then◌else◌, IfErr, IfOk, None, Ok, OnOk};
 ghost use Rattle.oim_report.specs.Sheet.{sheet_outcome};
 ghost use Rattle.oim_write.specs.BoundedSink.{bounded_failures};
 ghost use Rattle.oim_explain.specs.Explained.{counted};
 ghost use Rattle.command_line.specs.Endings.{Puts};
 ghost use Rattle.command_line.specs.Explained.{counts_line};
 ghost use Rattle.command_line.specs.Explaining.{ReportsEnd, UnderEnds};
-ghost use Rattle.command_line.specs.Faults.{IsNotLoose};
+ghost use Rattle.command_line.specs.Faults.{IsOutputFault};
 ghost use Rattle.command_line.specs.Runs.{ExplainEnds};
+ghost use Rattle.command_line.specs.Why.{IsFirstLost, IsNoSheet, NoLine, NoReason, RequestWhy, Why, WhyExplained};
+ghost use Rattle.command_line.specs.declared.request.Request.TheVariants.{Explain};
 
 use crate::commands::put_text;
 use crate::error::{Error, Success};
@@ -78,6 +80,7 @@ pub(crate) fn run<'n, F: Folder, E: Write, S: Sink>(
     requires { bounded_failures (S.failures out.old.sink) out.old.overruns < 2 ^ 64 - 1 }
     ensures ends { ExplainEnds (F.gives inputs.old.files.now) inputs.old.names.now name.entry format
         (S.told out.old.sink) (S.told out.new.sink) result }
+    ensures why { IfErr result (RequestWhy (F.gives inputs.old.files.now) (F.fails inputs.old.files.now) inputs.old.bundle.now inputs.old.names.now None (Explain name.entry format)) }
     ensures console { inputs.old.console.is_terminal ≡ false → inputs.new.console ≡ inputs.old.console }
 {
     let bytes = inputs.read(name)?;
@@ -122,6 +125,7 @@ fn put_under<'n, F: Folder, E: Write, S: Sink>(
         (S.told out.old.sink) (S.told out.new.sink) result }
     ensures failures { OnOk result (bounded_failures (S.failures out.new.sink) out.new.overruns ≡ bounded_failures (S.failures out.old.sink) out.old.overruns) }
     ensures names { inputs.new.names ≡ inputs.old.names }
+    ensures why { IfErr result (WhyExplained (F.gives inputs.old.files.now) (F.fails inputs.old.files.now) inputs.old.names.now bytes.now) }
     ensures console { inputs.old.console.is_terminal ≡ false → inputs.new.console ≡ inputs.old.console }
 {
     let sheet = read_sheet(inputs.alloc, name, bytes)?;
@@ -140,7 +144,7 @@ fn put_under<'n, F: Folder, E: Write, S: Sink>(
 /// Errors: `Sheet` with the line that describes the fault of the sheet; out of memory.
 fn read_sheet<'n>(alloc: Global, name: &str, bytes: &[u8]) -> Result<Sheet, Error<'n>>
     ensures ok { IfOk result (λ sheet. sheet_outcome bytes.now ≡ Ok sheet) }
-    ensures err { IfErr result IsNotLoose }
+    ensures why { IfErr result (IsNoSheet bytes.now) }
 {
     match sheet_of(alloc, bytes) {
         Err(Error::Sheet { reason, .. }) => Err(Error::Sheet {
@@ -184,6 +188,7 @@ fn put_each<'n, F: Folder, E: Write, S: Sink>(
         (S.told out.old.sink) (S.told out.new.sink) faults result }
     ensures failures { OnOk result (bounded_failures (S.failures out.new.sink) out.new.overruns ≡ bounded_failures (S.failures out.old.sink) out.old.overruns) }
     ensures names { inputs.new.names ≡ inputs.old.names }
+    ensures why { IfErr result (Why (IsFirstLost (F.gives inputs.old.files.now) (F.fails inputs.old.files.now) inputs.old.names.now) NoReason NoLine IsOutputFault) }
     ensures console { inputs.old.console.is_terminal ≡ false → inputs.new.console ≡ inputs.old.console }
 {
     let (alloc, names) = (inputs.alloc, inputs.names);

@@ -1,10 +1,11 @@
-ghost use Rattle.std.specs.Prelude.{◌≡◌, ◌-◌, ◌^◌, ◌<◌, false, IfOk, IfErr};
+ghost use Rattle.std.specs.Prelude.{◌≡◌, ◌-◌, ◌^◌, ◌<◌, false, length, IfOk, IfErr};
 ghost use Rattle.oim_merge.specs.Replay.{IsReplayOf};
+ghost use Rattle.oim_merge.specs.Schedule.{IsFirstBad};
 ghost use Rattle.command_line.specs.Endings.{Ends, Never, Puts};
-ghost use Rattle.command_line.specs.Faults.{IsEventError};
 ghost use Rattle.command_line.specs.Outputs.{PrintsReplay, replica_lines};
 ghost use Rattle.command_line.specs.Reading.{WithRead};
 ghost use Rattle.command_line.specs.Runs.{CommandEnds};
+ghost use Rattle.command_line.specs.Why.{IsFirstLost, IsOutputError, NoFailure, NoReason, Why, WhyUnder};
 ghost use Rattle.command_line.specs.declared.request.Subcommand.TheVariants.{Replay};
 
 use crate::commands::put_text;
@@ -64,6 +65,7 @@ pub(crate) fn run<'n, F: Folder, E: Write, S: Sink>(
     requires { S.failures out.old < 2 ^ 64 - 1 }
     ensures ends { CommandEnds (F.gives inputs.old.files.now) inputs.old.names.now sheet.now (Replay replicas schedule.entry)
         (S.told out.old) (S.told out.new) result }
+    ensures why { IfErr result (WhyUnder (F.gives inputs.old.files.now) (F.fails inputs.old.files.now) inputs.old.names.now (Replay replicas schedule.entry)) }
     ensures console { inputs.old.console.is_terminal ≡ false → inputs.new.console ≡ inputs.old.console }
 {
     let lines = inputs.read(schedule)?;
@@ -80,7 +82,7 @@ fn replay_reports<'n, 's, F: Folder, E: Write>(
 ) -> Result<Replayed<'s>, Error<'n>>
     ensures ok { IfOk result (λ replayed. WithRead (F.gives inputs.old.files.now) inputs.old.names.now
         (λ reports. IsReplayOf sheet.now replicas reports events.now replayed)) }
-    ensures err { IfErr result IsEventError }
+    ensures why { IfErr result (Why (IsFirstLost (F.gives inputs.old.files.now) (F.fails inputs.old.files.now) inputs.old.names.now) NoReason (λ line. WithRead (F.gives inputs.old.files.now) inputs.old.names.now (λ reports. IsFirstBad replicas (length reports) events.now line)) NoFailure) }
     ensures console { inputs.old.console.is_terminal ≡ false → inputs.new.console ≡ inputs.old.console }
 {
     let reports = inputs.read_reports()?;
@@ -93,7 +95,8 @@ fn put_replayed<'n, S: Sink>(
     replayed: Replayed<'_>,
 ) -> Result<Refusals, Error<'n>>
     requires { S.failures out.old < 2 ^ 64 - 1 }
-    ensures { Ends (PrintsReplay replayed.entry) (S.told out.old) (S.told out.new) Never result }
+    ensures ends { Ends (PrintsReplay replayed.entry) (S.told out.old) (S.told out.new) Never result }
+    ensures why { IfErr result IsOutputError }
 {
     let put = put_replicas(alloc, out, replayed.replicas());
     let refused = replayed.into_refused();

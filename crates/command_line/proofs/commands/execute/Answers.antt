@@ -1,12 +1,15 @@
-use Rattle.std.proofs.Common.{Ok, Err, subst, sym}
+use Rattle.std.proofs.Common.{None, Ok, Err, subst, sym}
+use Rattle.std.specs.Prelude.{IfErr}
 use Rattle.command_line.specs.Endings.{Never}
 use Rattle.command_line.specs.Faults.{error_of}
 use Rattle.command_line.specs.Runs.{CommandEnds, MergesBundle, RequestEnds, RequestGives, RequestIsLoose}
 use Rattle.command_line.specs.declared.error.Success.TheVariants.{Refusals}
 use Rattle.command_line.specs.declared.request.Request.TheVariants.{Bundle}
+use Rattle.command_line.specs.Why.{RequestWhy, WhyUnder}
 use Rattle.command_line.proofs.Ends.{of_error, prints_whole, stops_whole}
 use Rattle.command_line.proofs.Faults.{bundle_prints, bundle_stops}
 use Rattle.command_line.proofs.Requests.{under_prints, under_stops}
+use Rattle.command_line.proofs.Why.{under_why}
 use Rattle.command_line.proofs.commands.execute.Goals as goal
 
 pub returns-in_err-consolidate_bundle-in-Bundle-clause-ends : goal.returns-in_err-consolidate_bundle-in-Bundle-clause-ends
@@ -68,3 +71,18 @@ returns-in_ok-execute_under-in-Under-clause-ends g c =
     (subst (λ ns. CommandEnds (g.F.Folder.gives later.files.now) ns.now sheet command old new (Ok returned)) c.read_sheet.ensures.names c.in_ok-execute_under-in-Under.ensures.ends) in
     subst (λ request. RequestEnds gives bundle names request old new (Ok (Refusals returned))) (sym c.in-Under.is)
     (under_prints gives bundle names old new c.in-Under.sheet command read.0 sheet read.1 read.2 returned prints)
+
+pub returns-in_err-execute_under-in-Under-clause-why : goal.returns-in_err-execute_under-in-Under-clause-why
+returns-in_err-execute_under-in-Under-clause-why g c =
+    let gives = g.F.Folder.gives c.args.inputs.now.files.now in
+    let fails = g.F.Folder.fails c.args.inputs.now.files.now in
+    let bundle = c.args.inputs.now.bundle.now in
+    let names = c.args.inputs.now.names.now in
+    let command = c.in-Under.subcommand in
+    let later = c.read_sheet.new.self in
+    let read = c.in_ok-sheet-in-Under.ensures.ok in
+    let e = c.in_err-execute_under-in-Under.field-0.0 in
+    let why = subst (λ files. WhyUnder (g.F.Folder.gives files.now) (g.F.Folder.fails files.now) names command e) c.read_sheet.ensures.files
+    (subst (λ ns. WhyUnder (g.F.Folder.gives later.files.now) (g.F.Folder.fails later.files.now) ns.now command e) c.read_sheet.ensures.names c.in_err-execute_under-in-Under.ensures.why) in
+    of_error (λ r. IfErr r (RequestWhy gives fails bundle names None c.args.request.now)) c.from_residual-in_err-execute_under-in-Under.result e c.from_residual-in_err-execute_under-in-Under.ensures.1
+    (subst (λ request. RequestWhy gives fails bundle names None request e) (sym c.in-Under.is) (under_why gives fails names bundle c.in-Under.sheet read.0 read.1 c.in_ok-sheet-in-Under.sheet read.2 command e why))

@@ -1,11 +1,14 @@
 use Rattle.std.proofs.Common.{Ok, Err, ap, subst}
+use Rattle.std.specs.Prelude.{IfErr}
 use Rattle.fact_base.specs.Contents.{Contents}
 use Rattle.oim_merge.specs.Run.{Stops, Writes}
 use Rattle.command_line.specs.Faults.{error_of}
 use Rattle.command_line.specs.Runs.{CommandEnds}
 use Rattle.command_line.specs.declared.request.Subcommand.TheVariants.{Merge}
+use Rattle.command_line.specs.Why.{IsBadUnder, IsLostUnder, NoReason, WhyUnder}
 use Rattle.command_line.proofs.Ends.{of_error}
 use Rattle.command_line.proofs.Faults.{merge_ends, merge_prints, merge_stops}
+use Rattle.command_line.proofs.Why.{merge_why}
 use Rattle.command_line.proofs.commands.run_merge.Goals as goal
 
 pub returns-in_err-written-clause-ends : goal.returns-in_err-written-clause-ends
@@ -36,3 +39,12 @@ returns-clause-ends g c =
     let writes = subst (λ b. Writes level b merged.refusals old new returned) (ap (λ (b : Contents). b.body) c.in_ok-base.ensures.base) c.in_ok-written.ensures.ok in
     merge_ends gives names c.args.sheet.now old new level a c.in_ok-consolidate.ensures.ok (Ok returned)
     (merge_prints old new level a.body a.refusals returned (subst (λ rs. Writes level a.body rs old new returned) c.in_ok-base.ensures.refusals writes))
+
+pub returns-in_err-written-clause-why : goal.returns-in_err-written-clause-why
+returns-in_err-written-clause-why g c =
+    let gives = g.F.Folder.gives c.args.inputs.now.files.now in
+    let fails = g.F.Folder.fails c.args.inputs.now.files.now in
+    let names = c.args.inputs.now.names.now in
+    let f = c.in_err-written.field-0.0 in
+    of_error (λ r. IfErr r (WhyUnder gives fails names (Merge c.args.allow))) c.from_residual-in_err-written.result (error_of f) c.from_residual-in_err-written.ensures.1
+    (merge_why (IsLostUnder gives fails names (Merge c.args.allow)) NoReason (IsBadUnder gives names (Merge c.args.allow)) _ _ _ _ _ f c.in_err-written.ensures.err)

@@ -12,4 +12,4 @@ returns-clause-ends g c =
     let new = told c.put_sources.new.out.sink in
     sources_end (g.F.Folder.gives c.args.inputs.now.files.now) names c.args.sheet.now (told c.args.out.now.sink) new
     c.args.format t c.in_ok-merge.ensures.ok c.put_sources.result
-    (subst (λ sink. Ends (AreSources c.args.format names t) (told sink) new Never c.put_sources.result) c.raise.ensures.sink c.put_sources.ensures)
+    (subst (λ sink. Ends (AreSources c.args.format names t) (told sink) new Never c.put_sources.result) c.raise.ensures.sink c.put_sources.ensures.ends)

@@ -11,4 +11,4 @@ returns-clause-ends g c =
     let new = told c.put_verdicts.new.out.sink in
     verdicts_end (g.F.Folder.gives c.args.inputs.now.files.now) c.args.inputs.now.names.now c.args.sheet.now (told c.args.out.now.sink) new
     c.args.format a c.in_ok-consolidation.ensures.ok c.put_verdicts.result
-    (subst (λ sink. Ends (AreVerdicts c.args.format a.body a.refusals) (told sink) new Never c.put_verdicts.result) c.raise.ensures.sink c.put_verdicts.ensures)
+    (subst (λ sink. Ends (AreVerdicts c.args.format a.body a.refusals) (told sink) new Never c.put_verdicts.result) c.raise.ensures.sink c.put_verdicts.ensures.ends)

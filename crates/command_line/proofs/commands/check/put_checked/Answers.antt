@@ -8,8 +8,8 @@ use Rattle.command_line.specs.Outputs.{Checks, accepted_line}
 use Rattle.command_line.proofs.Ends.{of_error, put_stops}
 use Rattle.command_line.proofs.commands.check.put_checked.Goals as goal
 
-pub returns-in_err-put_accepted-in-Ok : goal.returns-in_err-put_accepted-in-Ok
-returns-in_err-put_accepted-in-Ok g c =
+pub returns-in_err-put_accepted-in-Ok-clause-ends : goal.returns-in_err-put_accepted-in-Ok-clause-ends
+returns-in_err-put_accepted-in-Ok-clause-ends g c =
     let old = g.S.Sink.told c.args.out.now in
     let new = g.S.Sink.told c.put_accepted.new.out in
     let sheet = c.args.sheet.now in
@@ -20,8 +20,8 @@ returns-in_err-put_accepted-in-Ok g c =
     of_error (Ends (Checks sheet bytes) old new Never) c.from_residual-in_err-put_accepted-in-Ok.result e c.from_residual-in_err-put_accepted-in-Ok.ensures.1
     (put_stops (Checks sheet bytes) old new [] (accepted_line checked) (inl (record { checked = checked; is = is; text_is = refl; refusals_are = refl })) Never e c.in_err-put_accepted-in-Ok.ensures)
 
-pub returns-in_ok-push-in-Err : goal.returns-in_ok-push-in-Err
-returns-in_ok-push-in-Err g c =
+pub returns-in_ok-push-in-Err-clause-ends : goal.returns-in_ok-push-in-Err-clause-ends
+returns-in_ok-push-in-Err-clause-ends g c =
     let old = g.S.Sink.told c.args.out.now in
     let sheet = c.args.sheet.now in
     let bytes = c.args.bytes.now in

@@ -1,12 +1,17 @@
 use Rattle.std.proofs.Common.{◌≡◌, ◌+◌, Err, get_or, take, string_bytes, subst, sym, ap, refl, ◌∙◌, arith}
-use Rattle.oim_write.specs.BoundedSink.{bounded_failures}
+use Rattle.std.specs.Prelude.{IfErr}
 use Rattle.std.specs.Io.KnownBytes.{Appends}
+use Rattle.oim_write.specs.BoundedSink.{bounded_failures}
 use Rattle.command_line.specs.Endings.{Puts}
 use Rattle.command_line.specs.Explaining.{ListsReports, ReportsEnd}
+use Rattle.command_line.specs.Faults.{IsOutputFault}
+use Rattle.command_line.specs.Reading.{AreRead}
+use Rattle.command_line.specs.Why.{IsFirstLost, IsLost, IsUnread, NoLine, NoReason, Why}
 use Rattle.command_line.specs.declared.error.Error.TheVariants.{OutOfMemory}
 use Rattle.command_line.proofs.Ends.{of_error}
-use Rattle.command_line.proofs.Explained.{explained_report, lists_more, put_stops, read_not_loose, stops_before, stops_within}
+use Rattle.command_line.proofs.Explained.{explained_report, lists_more, put_stops, stops_before, stops_within}
 use Rattle.command_line.proofs.Readings.{no_name}
+use Rattle.command_line.proofs.Why.{bytes_of, explained_read, read_not_loose, stops_at}
 use Rattle.command_line.proofs.commands.explain.put_each.Goals as goal
 
 pub returns-in_err-report-clause-ends : goal.returns-in_err-report-clause-ends
@@ -19,7 +24,7 @@ returns-in_err-report-clause-ends g c =
     let new = g.S.Sink.told l.out.sink in
     let e = c.in_err-report.field-0.0 in
     of_error (ReportsEnd gives c.args.format sheet names old new c.args.faults) c.from_residual.result e c.from_residual.ensures.1
-    (read_not_loose e c.in_err-report.ensures.err, stops_before gives c.args.format sheet names l.index old new c.args.faults l.counts l.invariant.lists)
+    (read_not_loose (IsLost (g.F.Folder.fails l.inputs.files.now) (get_or names l.index no_name).now) e c.in_err-report.ensures.why, stops_before gives c.args.format sheet names l.index old new c.args.faults l.counts l.invariant.lists)
 
 pub returns-in_err-explained-clause-ends : goal.returns-in_err-explained-clause-ends
 returns-in_err-explained-clause-ends g c =
@@ -55,6 +60,20 @@ returns-in_err-put_text-clause-ends g c =
     let part = put_stops text mid new e (subst (λ t. Puts t mid new (Err e)) c.as_str.ensures.value c.in_err-put_text.ensures.put) in
     of_error (ReportsEnd gives format sheet names old new c.args.faults) c.from_residual-in_err-put_text.result e c.from_residual-in_err-put_text.ensures.1
     (part.0, stops_within gives format sheet names l.index c.loop-index-test.true (record { name = name; bytes = c.in_ok-report.report; explained = found }) refl old mid new c.args.faults l.counts lists is part.1)
+
+pub returns-in_err-report-clause-why : goal.returns-in_err-report-clause-why
+returns-in_err-report-clause-why g c =
+    let gives = g.F.Folder.gives c.args.inputs.now.files.now in
+    let fails = g.F.Folder.fails c.args.inputs.now.files.now in
+    let names = c.args.inputs.now.names.now in
+    let l = c.loop-index in
+    let lists = l.invariant.lists in
+    let bytes = bytes_of lists.reports in
+    let e = c.in_err-report.field-0.0 in
+    let read = subst (λ ns. AreRead gives ns bytes) lists.named (explained_read gives c.args.format c.args.names_of_sheet.now.sheet.now 1 lists.reports lists.are) in
+    let why = subst (λ files. IsUnread (g.F.Folder.fails files.now) (get_or names l.index no_name).now e) l.invariant.files c.in_err-report.ensures.why in
+    of_error (λ r. IfErr r (Why (IsFirstLost gives fails names) NoReason NoLine IsOutputFault)) c.from_residual.result e c.from_residual.ensures.1
+    (stops_at gives fails names l.index c.loop-index-test.true bytes read IsOutputFault e why)
 
 pub loop-index-preserved : goal.loop-index-preserved
 loop-index-preserved g c =

@@ -1,10 +1,14 @@
 use Rattle.std.proofs.Common.{Err, string_bytes, subst}
+use Rattle.std.specs.Prelude.{IfErr}
 use Rattle.std.specs.Io.KnownBytes.{Appends}
 use Rattle.command_line.specs.Endings.{Puts}
 use Rattle.command_line.specs.Explaining.{ReportsEnd, UnderEnds}
+use Rattle.command_line.specs.Faults.{IsOutputFault}
+use Rattle.command_line.specs.Why.{IsFirstLost, NoLine, NoReason, Why}
 use Rattle.command_line.specs.declared.error.Error.TheVariants.{OutOfMemory}
 use Rattle.command_line.proofs.Ends.{of_error}
 use Rattle.command_line.proofs.Explained.{put_stops, sheet_stops, under_ends, whole_part}
+use Rattle.command_line.proofs.Why.{each_why}
 use Rattle.command_line.proofs.commands.explain.put_under.Goals as goal
 
 pub returns-in_err-put_text-clause-ends : goal.returns-in_err-put_text-clause-ends
@@ -49,3 +53,13 @@ returns-clause-ends g c =
     let of_files = subst (λ files. ReportsEnd (g.F.Folder.gives files.now) c.args.format c.in_ok-sheet.sheet later.names.now mid new found.faults c.put_each.result) c.take_allowance.ensures.files of_sheet in
     let ends = subst (λ ns. ReportsEnd (g.F.Folder.gives c.args.inputs.now.files.now) c.args.format c.in_ok-sheet.sheet ns.now mid new found.faults c.put_each.result) c.take_allowance.ensures.names of_files in
     under_ends (g.F.Folder.gives c.args.inputs.now.files.now) c.args.format c.args.name names c.args.bytes.now c.in_ok-sheet.sheet c.in_ok-sheet.ensures.ok found c.in_ok-repeated.ensures old mid new first c.put_each.result ends
+
+pub returns-clause-why : goal.returns-clause-why
+returns-clause-why g c =
+    let gives = g.F.Folder.gives c.args.inputs.now.files.now in
+    let fails = g.F.Folder.fails c.args.inputs.now.files.now in
+    let names = c.args.inputs.now.names.now in
+    let later = c.take_allowance.new.self in
+    let of_files = subst (λ files. IfErr c.put_each.result (Why (IsFirstLost (g.F.Folder.gives files.now) (g.F.Folder.fails files.now) later.names.now) NoReason NoLine IsOutputFault)) c.take_allowance.ensures.files c.put_each.ensures.why in
+    let why = subst (λ ns. IfErr c.put_each.result (Why (IsFirstLost gives fails ns.now) NoReason NoLine IsOutputFault)) c.take_allowance.ensures.names of_files in
+    each_why gives fails names c.args.bytes.now c.in_ok-sheet.sheet c.in_ok-sheet.ensures.ok c.put_each.result why

@@ -1,6 +1,10 @@
 use Rattle.std.proofs.Common.{◌+◌, ap, ◌∙◌, subst, get_or}
+use Rattle.std.specs.Prelude.{IfErr}
 use Rattle.oim_merge.specs.Added.{Added}
+use Rattle.command_line.specs.Why.{AreUnread, IsUnread, NoFailure}
 use Rattle.command_line.proofs.Readings.{no_name, added_step}
+use Rattle.command_line.proofs.Ends.{of_error}
+use Rattle.command_line.proofs.Why.{stops_at}
 use Rattle.command_line.proofs.inputs.Inputs.consolidate.Goals as goal
 
 pub loop-index-preserved : goal.loop-index-preserved
@@ -16,3 +20,14 @@ loop-index-preserved g c =
       read = added_step (gives c.args.self.now.files.now) names l.index bytes c.loop-index-test.true gave c.args.sheet.now l.consolidation c.add_owned.new.self c.in_ok-add_owned.ensures.ok l.invariant.read;
       count = ap (λ (a : Added). a.reports) c.in_ok-add_owned.ensures.ok ∙ ap (λ n. n + 1) l.invariant.count;
     }
+
+pub returns-in_err-read_report-clause-why : goal.returns-in_err-read_report-clause-why
+returns-in_err-read_report-clause-why g c =
+    let gives = g.F.Folder.gives c.args.self.now.files.now in
+    let fails = g.F.Folder.fails c.args.self.now.files.now in
+    let names = c.args.self.now.names.now in
+    let l = c.loop-index in
+    let e = c.in_err-read_report.field-0.0 in
+    let why = subst (λ files. IsUnread (g.F.Folder.fails files.now) (get_or names l.index no_name).now e) l.invariant.files c.in_err-read_report.ensures.why in
+    of_error (λ r. IfErr r (AreUnread gives fails names)) c.from_residual.result e c.from_residual.ensures.1
+    (stops_at gives fails names l.index c.loop-index-test.true l.invariant.read.0 l.invariant.read.1 NoFailure e why)

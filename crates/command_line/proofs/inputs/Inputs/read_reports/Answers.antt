@@ -1,6 +1,10 @@
 use Rattle.std.proofs.Common.{◌∙◌, ap, ◌+◌, subst, sym, get_or, take}
+use Rattle.std.specs.Prelude.{IfErr}
 use Rattle.command_line.specs.Reading.{AreRead}
+use Rattle.command_line.specs.Why.{AreUnread, IsUnread, NoFailure}
 use Rattle.command_line.proofs.Readings.{no_name, read_more}
+use Rattle.command_line.proofs.Ends.{of_error}
+use Rattle.command_line.proofs.Why.{stops_at}
 use Rattle.command_line.proofs.inputs.Inputs.read_reports.Goals as goal
 
 pub loop-name-preserved : goal.loop-name-preserved
@@ -16,3 +20,14 @@ loop-name-preserved g c =
       read = subst (AreRead (gives c.args.self.now.files.now) (take (l.name-index + 1) names)) (sym c.in_ok-push.ensures.items)
           (read_more (gives c.args.self.now.files.now) names l.name-index bytes c.loop-name-test.true gave l.all.items l.invariant.read);
     }
+
+pub returns-in_err-read_report-clause-why : goal.returns-in_err-read_report-clause-why
+returns-in_err-read_report-clause-why g c =
+    let gives = g.F.Folder.gives c.args.self.now.files.now in
+    let fails = g.F.Folder.fails c.args.self.now.files.now in
+    let names = c.args.self.now.names.now in
+    let l = c.loop-name in
+    let e = c.in_err-read_report.field-0.0 in
+    let why = subst (λ files. IsUnread (g.F.Folder.fails files.now) (get_or names l.name-index no_name).now e) l.invariant.files c.in_err-read_report.ensures.why in
+    of_error (λ r. IfErr r (AreUnread gives fails names)) c.from_residual.result e c.from_residual.ensures.1
+    (stops_at gives fails names l.name-index c.loop-name-test.true l.all.items l.invariant.read NoFailure e why)

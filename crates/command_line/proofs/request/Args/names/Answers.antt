@@ -1,5 +1,5 @@
-use Rattle.std.proofs.Common.{◌≡◌, ◌≢◌, ◌++◌, ◌∷◌, ◌∙◌, [], refl, length, ap, map, subst, sym, true}
-use Rattle.std.specs.Prelude.{IfSome, IsSome}
+use Rattle.std.proofs.Common.{◌≡◌, ◌≢◌, ◌++◌, ◌∷◌, ◌∙◌, [], length, ap, map, subst, sym, true}
+use Rattle.std.specs.Prelude.{IfSome}
 use Rattle.std.specs.Borrow.{Bor}
 use Rattle.std.specs.List.{filter}
 use Rattle.std.specs.Str.{IsUtf8}
@@ -31,7 +31,7 @@ returns-then-is_empty-2-clause-err c =
     let pieces = YieldsList-end road c.loop-name.yielded _ c.loop-name.yielded_by _ _ c.in-None.is c.next.ensures.steps in
     let none : c.loop-name.all.items ≡ [] =
     sym c.as_slice-2.ensures.value ∙ nil_from_length _ (eqb-true _ 0 (sym c.is_empty-2.ensures ∙ c.if-is_empty-2.true)) in (
-      subst IsSome (sym c.in-Some.is) refl,
+      c.in-Some.is,
       sym (names_read c.args.self.now c.in-Some.list _ _ c.in-Ok.text.now c.args.bytes.now c.in-Some.is c.in-Ok.ensures.cases.0 pieces.0 c.loop-name.invariant) ∙ ap name_texts none,
     )
 
