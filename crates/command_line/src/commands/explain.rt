@@ -32,6 +32,8 @@ document. If the document has none, it lists the faults of every fact. If the fa
 lists the fault of the duplicates. If several names or members in one place share a fault, only the
 first is shown. Some faults appear only after others are corrected.
 
+Accepted does not mean valid: a report without a fault may still break rules of its taxonomy.
+
 It also lists repeated members of a report or of the sheet, such as two facts with the same
 identifier. Only the last one is read. A line for a repeated member has no number or name of a
 refusal. The other commands do not refuse a file for such members, so run `explain` first on files
