@@ -17,9 +17,9 @@ no merged.json:
     merged.json         the merged report
     report.json         with --respell: the merged report for other processors, as tools/respell writes it
 
-The first two forms also write verdicts.txt, sources.txt, refusals.txt, the faults of refused reports as refusals.csv and, with
---normalise, the normalised reports as reports/NUMBER.json. The foot of the page has a command that checks the run with these
-files and tools/recheck.
+The first two forms also write verdicts.txt, sources.txt, refusals.txt, the faults of refused reports as refusals.csv, and each
+report that was changed as reports/NUMBER.json. The foot of the page has a command that checks the run with these files and
+tools/recheck.
 
 The facts of a contradiction form groups: again and again, the largest set of facts that a common number fits. A fact counts
 once for each provider that reports it. The largest group comes first; the page shows the facts outside it in red, or all facts
@@ -54,6 +54,10 @@ options of tools/normalise that lose something, such as --drop-notes. A report t
 Without --normalise, only sets of names are respelled. A report with a set that cannot be respelled is not used.
 --map PROVIDER=MAP applies a map of tools/normalise to the reports of a provider; repeat it for each provider.
 
+--latest drops restated facts: in each row, only the last of a provider's reports that has the row counts, in the order given.
+changes.csv lists each other fact of the provider there, with both files, as a loss by the rule `superseded`. Without --latest,
+the hint at a contradiction between two reports of one provider is "restated: FILE after FILE".
+
 --near NEAR.csv writes a table of pairs of rows that differ in one dimension only, perhaps by mistake: the same name or
 identifier in another namespace or scheme, other letter case or white space, dates at most a day apart, another unit or
 language, or a dimension that one row lacks. Pairs are left out if one provider reports both rows. Rows that are similar in one
@@ -71,7 +75,7 @@ and --names lists the providers in the order of the reports. Instead of --source
 provider and the merged report of its own reports; repeat it for each provider.
 
 The inputs are copied to DIR until the run ends, and the program and the tool read the copies. A file that changes later changes
-nothing; the SHA-256 on the page are of the copies, and of the normalised reports. One run at a time writes to DIR.
+nothing; the SHA-256 on the page are of the copies, and of the changed reports. One run at a time writes to DIR.
 
 The page and changes.csv show at most 80 characters of an identifier, a URI or a text; the other tables contain them whole.
 In the tables, a ' precedes anything that a spreadsheet might read as a formula.
@@ -80,7 +84,7 @@ Status 0: the files are written, and there is nothing to look at. 1: the files a
 --fail-on names the kinds of findings that give status 1, by default all; --exit-zero is for none:
     contradictions  rows that are contradictions
     refusals        refused reports
-    losses          changes of --normalise that lose something
+    losses          changes of --normalise that lose something, and facts that --latest drops
     omissions       parts that --taxonomy leaves out
     uncompared      pairs that --near did not compare
     unshared        providers that share almost no row with others
@@ -130,6 +134,7 @@ def read_options() -> argparse.Namespace:
     parser.add_argument("-o", "--output", required=True, metavar="DIR", help="the folder for the output; it is created if needed")
     add_program(parser)
     parser.add_argument("--normalise", action="store_true", help="normalise the reports first")
+    parser.add_argument("--latest", action="store_true", help="drop facts that a later report of the same provider supersedes")
     parser.add_argument("--respell", action="store_true", help="also write the merged report for other processors")
     parser.add_argument("--labels", action="append", default=[], metavar="TAXONOMY",
                         help="show the standard labels of this package or folder; may be repeated; by default, those of --taxonomy")
@@ -166,8 +171,8 @@ def share(text: str) -> Decimal:
 def check(parser: Parser, options: argparse.Namespace) -> None:
     """Exits with a usage error if an option or a report's name is invalid, an output is an input, or two outputs are one file."""
     if options.texts:
-        if options.normalise or options.program or options.respell:
-            parser.error("--from takes neither --normalise nor --program nor --respell")
+        if options.normalise or options.program or options.respell or options.latest:
+            parser.error("--from takes none of --normalise, --latest, --program and --respell")
         if bool(options.sources) != bool(options.names) or options.sources and (options.words or options.files):
             parser.error("use --sources and --names together, and without PROVIDER=MERGED")
         if options.names and not all(options.names.split(",")):

@@ -4,13 +4,14 @@ from __future__ import annotations
 import argparse
 import os
 from dataclasses import dataclass, field
-from typing import Any, Iterator, Optional
+from typing import Any, Iterator, Mapping, Optional
 
 from commands import with_commands
 from contradicting.checking import LINES, command, report_file
 from contradicting.findings import Findings, counted
 from contradicting.labels import Labelled, Labels
-from contradicting.normalised import Normalised, pieces_of_file
+from contradicting.latest import drop, superseded_in
+from contradicting.normalised import ChangeTable, Normalised, pieces_of_file
 from contradicting.progress import Progress
 from contradicting.refusals import Refusals, line_of
 from contradicting.remedies import FaultGroup
@@ -51,6 +52,7 @@ class Inputs:
     earlier: Optional[Earlier] = None  # the run of --since
     check: str = ""  # the command that checks the run, for a shell
     version: str = ""  # of the program, if it was run
+    superseded: Mapping[str, int] = field(default_factory=dict)  # the number of superseded facts, by the path of the report
 
 
 def snapshot_of(options: argparse.Namespace, folder: str) -> Snapshot:
@@ -97,24 +99,28 @@ class Run:
         self.findings = Findings()
         self.notes: list[str] = []
         self.uncompared: list[tuple[Report, list[dict[str, Any]]]] = []  # reports with sets that cannot be respelled
+        self.changes = ChangeTable(folder)
+        self.superseded: dict[str, int] = {}
         self.labels = labels_in(options.labels, options.language, snapshot)
         self.program = Program(program, self.sheet(), folder)
 
     def inputs(self) -> Inputs:
         given = [self.snapshot.of(report.path) for report in self.reports]
-        paths = self.normalised() if self.options.normalise or sheet_at(self.program.sheet).sets else given
-        found = [self.read(command, paths) for command in ("merge", "verdicts", "sources")]
-        if found[1:] != found[:-1]:
-            raise NotDone("a report or the sheet changed while it was read")
+        whole = self.normalised() if self.options.normalise or sheet_at(self.program.sheet).sets else given
+        paths = self.latest(whole) if self.options.latest else whole
+        if self.options.normalise or self.changes.rules:
+            self.files.append(("changes.csv", self.changes.pieces()))
+        self.findings.add("losses", self.changes.losses, "loss in changes.csv", "losses in changes.csv")
+        found = self.read(paths, "merge", "verdicts", "sources")
         merged, verdicts, sources = map(self.program.path_of, ("merge", "verdicts", "sources"))
-        check, refused = self.check(paths), (f"report {number}: {refusal}\n" for number, refusal in sorted(found[0].items()))
+        check, refused = self.check(paths), (f"report {number}: {refusal}\n" for number, refusal in sorted(found.items()))
         lines = zip((f"{name}.txt" for name in LINES), (pieces_of_file(verdicts), pieces_of_file(sources), refused))
-        refusals = self.refusals(found[0], paths)
+        refusals = self.refusals(found, paths)
         files = [("merged.json", pieces_of_file(merged)), *self.respelled(merged), *self.files, *lines]
-        self.note_repeated(found[0], paths)
-        return Inputs(Text(merged), sheet_at(self.program.sheet), verdicts, Sources(sources, self.reports, found[0]),
+        self.note_repeated(found, whole)
+        return Inputs(Text(merged), sheet_at(self.program.sheet), verdicts, Sources(sources, self.reports, found),
                       self.labels, refusals, files, self.findings, self.notes, input_file("", self.program.sheet).digest, None, check,
-                      self.program.version())
+                      self.program.version(), self.superseded)
 
     def respelled(self, merged: str) -> list[File]:
         """Returns the merged report for other processors, if --respell is given. Errors: NotDone."""
@@ -157,20 +163,29 @@ class Run:
         self.snapshot.note(taxonomy.files.digests)
 
     def normalised(self) -> list[str]:
-        made = Normalised(self.program, self.options, self.folder, self.snapshot)
+        made = Normalised(self.program, self.options, self.snapshot, self.changes)
         for number, report in enumerate(self.reports, 1):
             self.progress.show(f"normalising {report.path} ({number} of {len(self.reports)})")
             made.add(report)
-        if self.options.normalise or made.sets:
-            self.files.append(("changes.csv", made.pieces()))
         if made.faults and not made.paths:
             raise NotDone(*(f"{report.path}: {line_of(fault)}" for report, faults in made.faults for fault in faults))
         self.reports, self.uncompared = made.reports, made.faults
-        said = f"{counted(made.sets, 'set')} of names respelled as URI#LOCAL in changes.csv, which loses nothing"
-        self.notes += [*made.notes, *[said] * bool(made.sets)]
+        sets = self.changes.rules["set"]
+        self.notes += [*made.notes, *[f"{counted(sets, 'set')} of names respelled as URI#LOCAL in changes.csv, which loses nothing"] * bool(sets)]
         self.findings.add("warnings", len(made.notes), "report not normalised", "reports not normalised")
-        self.findings.add("losses", made.losses, "loss in changes.csv", "losses in changes.csv")
         return made.paths
+
+    def latest(self, paths: list[str]) -> list[str]:
+        """Returns the paths of the reports without the facts that a later report of their provider supersedes. Errors: NotDone, OSError."""
+        refused = self.read(paths, "verdicts", "sources")
+        verdicts, sources = map(self.program.path_of, ("verdicts", "sources"))
+        made = [*paths]
+        for index, facts in sorted(superseded_in(verdicts, Sources(sources, self.reports, refused)).items()):
+            report, made[index] = self.reports[index], os.path.join(self.folder, f"latest{index}")
+            self.changes.add(report, drop(facts, paths[index], made[index], self.reports))
+            self.superseded[report.path] = len(facts)
+            self.notes.append(f"{report.path}: later reports of {report.provider} supersede {counted(len(facts), 'fact')}, listed in changes.csv")
+        return made
 
     def check(self, paths: list[str]) -> str:
         """Returns the command that checks the run. Each normalised report is also written beside the page."""
@@ -199,9 +214,15 @@ class Run:
         self.notes += [f"{self.reports[index].path}: {group.line_for(self.options)[0]}" for index, group in repeated.items()]
         self.findings.add("warnings", len(repeated), "report with repeated members", "reports with repeated members")
 
-    def read(self, command: str, paths: list[str]) -> dict[int, str]:
-        self.progress.show(f"running {command} on {counted(len(paths), 'report')}")
-        return self.program.read_reports(command, paths)
+    def read(self, paths: list[str], *commands: str) -> dict[int, str]:
+        """Runs commands on reports. Returns the refusals by the number of the report, from 1. Errors: NotDone, OSError."""
+        found = []
+        for each in commands:
+            self.progress.show(f"running {each} on {counted(len(paths), 'report')}")
+            found.append(self.program.read_reports(each, paths))
+        if found[1:] != found[:-1]:
+            raise NotDone("a report or the sheet changed while it was read")
+        return found[0]
 
     def refusals(self, found: dict[int, str], paths: list[str]) -> Refusals:
         concepts, table = sheet_at(self.program.sheet).concepts, os.path.join(self.folder, "refusals.csv")

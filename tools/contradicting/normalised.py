@@ -3,6 +3,7 @@ respelled, because the program would take two spellings of one set for two texts
 from __future__ import annotations
 
 import argparse
+import collections
 import itertools
 import json
 import os
@@ -23,19 +24,39 @@ VALUES = ("was", "now")  # JSON texts, so that 5 and "5" differ
 COLUMNS = ["provider", "report", *"fact number pointer rule loss".split(), *VALUES, *"moved why shortened".split()]
 
 
-class Normalised:
-    """Normalised reports in a folder, with a table of the changes. `reports` are those that can be compared, and `paths` their
-    files."""
+class ChangeTable:
+    """The changes of reports, in a temporary file."""
 
-    def __init__(self, program: Program, options: argparse.Namespace, folder: str, snapshot: Snapshot) -> None:
-        self.normaliser, self.folder, self.is_whole = Normaliser(sheet_at(program.sheet), options, program), folder, options.normalise
-        self.snapshot = snapshot
+    def __init__(self, folder: str) -> None:
+        self.path = os.path.join(folder, "changes")
+        self.rules: collections.Counter[str] = collections.Counter()
+        self.losses = 0
+
+    def add(self, report: Report, log: Log) -> None:
+        changes = [json.loads(line, parse_int=Number, parse_float=Number) for line in log.lines]
+        source = [cell(report.provider), cell(written(report.path))]
+        with open(self.path, "a", encoding="utf-8", newline="") as file:
+            table = ([*source, *(cell(shown(change, key)) for key in COLUMNS[2:])] for change in changes)
+            file.writelines(itertools.islice(lines_of(table), 1, None))  # without the byte order mark, which `lines_of` yields first
+        self.rules.update(change["rule"] for change in changes)
+        self.losses += sum(change["loss"] for change in changes)
+
+    def pieces(self) -> Iterator[str]:
+        yield from lines_of([COLUMNS])
+        if os.path.exists(self.path):
+            yield from pieces_of_file(self.path)
+
+
+class Normalised:
+    """Normalised reports in the folder of a snapshot. `reports` are those that can be compared, and `paths` their files."""
+
+    def __init__(self, program: Program, options: argparse.Namespace, snapshot: Snapshot, changes: ChangeTable) -> None:
+        self.normaliser, self.is_whole, self.most = Normaliser(sheet_at(program.sheet), options, program), options.normalise, options.most_output
+        self.snapshot, self.changes = snapshot, changes
         self.maps = {provider: read_map(snapshot.of(path)) for provider, path in maps_named(options)}
-        self.table, self.most = os.path.join(folder, "changes"), options.most_output
         self.reports: list[Report] = []
         self.paths: list[str] = []
         self.faults: list[tuple[Report, list[dict[str, Tree]]]] = []  # reports with sets that cannot be respelled
-        self.losses = self.sets = 0
         self.notes: list[str] = []  # messages about reports that are left as they are
 
     def add(self, report: Report) -> None:
@@ -57,12 +78,12 @@ class Normalised:
         if log.faults:
             self.faults.append((report, log.faults))
             return
-        path = os.path.join(self.folder, f"normalised{len(self.paths)}")
+        path = os.path.join(self.snapshot.folder, f"normalised{len(self.paths)}")
         self.keep(report, path if log.lines or self.is_whole else given)
         if self.paths[-1] == path:
             with open(path, "w", encoding="utf-8", newline="") as file:
                 file.writelines(pieces_of(tree, self.most))
-        self.losses += self.write_changes(report, log)
+        self.changes.add(report, log)
 
     def log_of(self, report: Report, tree: Tree, length: int) -> Log:
         if self.is_whole:
@@ -72,21 +93,6 @@ class Normalised:
     def keep(self, report: Report, path: str) -> None:
         self.reports.append(report)
         self.paths.append(path)
-
-    def write_changes(self, report: Report, log: Log) -> int:
-        """Adds the changes of a report to the table. Returns how many of them lose something."""
-        changes = [json.loads(line, parse_int=Number, parse_float=Number) for line in log.lines]
-        source = [cell(report.provider), cell(written(report.path))]
-        with open(self.table, "a", encoding="utf-8", newline="") as file:
-            table = ([*source, *(cell(shown(change, key)) for key in COLUMNS[2:])] for change in changes)
-            file.writelines(itertools.islice(lines_of(table), 1, None))  # without the byte order mark, which `lines_of` yields first
-        self.sets += sum(change["rule"] == "set" for change in changes)
-        return sum(change["loss"] for change in changes)
-
-    def pieces(self) -> Iterator[str]:
-        yield from lines_of([COLUMNS])
-        if os.path.exists(self.table):
-            yield from pieces_of_file(self.table)
 
 
 def shown(change: dict[str, Tree], key: str) -> str:

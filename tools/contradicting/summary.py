@@ -47,10 +47,11 @@ def providers(outcome: Outcome) -> Iterator[dict[str, Any]]:
 
 
 def reports(outcome: Outcome) -> Iterator[dict[str, Any]]:
-    """Yields the reports with their bytes, and those of their normalised texts."""
+    """Yields the reports with their bytes, those of the texts that were compared instead, and the number of superseded facts."""
     for provider, path in outcome.reports:
         normalised = outcome.snapshot.normalised.get(path)
-        yield {"provider": provider, **file_tree(outcome.snapshot.files[path]), "normalised": normalised and file_tree(normalised)}
+        yield {"provider": provider, **file_tree(outcome.snapshot.files[path]), "normalised": normalised and file_tree(normalised),
+               "superseded": outcome.inputs.superseded.get(path, 0)}
 
 
 def file_tree(file: InputFile) -> dict[str, Any]:
