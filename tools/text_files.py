@@ -4,6 +4,7 @@ from __future__ import annotations
 import functools
 import io
 import os
+from typing import Iterator
 
 STANDARD = "-"  # the name of standard input or standard output
 LONGEST = 1 << 31  # characters; `xbrlmerge` reads files of at most this many bytes
@@ -16,6 +17,11 @@ class NotUtf8(ValueError):
     def __init__(self, start: bytes) -> None:
         super().__init__("it is not UTF-8")
         self.start = start
+
+
+def pieces_of_file(path: str) -> Iterator[str]:
+    with open(path, encoding="utf-8", newline="") as file:
+        yield from iter(functools.partial(file.read, PIECE), "")
 
 
 def read_text(path: str) -> str:

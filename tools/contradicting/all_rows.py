@@ -18,7 +18,7 @@ from contradicting.sources import Holder
 from contradicting.tables import DIMENSIONS, LONGEST_ROW, cell, dimension_cells, length_of, line_of
 from names import Name
 from process import NotDone
-from text_files import PIECE
+from text_files import pieces_of_file
 from whole_files import OutputLimit
 
 COLUMNS = [DIMENSIONS[0], "label", *DIMENSIONS[1:], *"verdict agreement hint reported_by not_reported_by nil_by".split()]
@@ -160,8 +160,3 @@ def shown_given(row: Row, given: Given, start: int) -> str:
     decimals = given.fact.precision()[0]
     text = shown(given.fact.value, start) + (f"&nbsp;<small>({shown(decimals)})</small>" if decimals != "" else "")
     return f"<span class=odd>{text}</span>" if given.name in row.odd else text
-
-
-def pieces_of_file(path: str) -> Iterator[str]:
-    with open(path, encoding="utf-8", newline="") as file:
-        yield from iter(lambda: file.read(PIECE), "")

@@ -11,7 +11,7 @@ from contradicting.checking import LINES, command, report_file
 from contradicting.findings import Findings, counted
 from contradicting.labels import Labelled, Labels
 from contradicting.latest import drop, superseded_in
-from contradicting.normalised import ChangeTable, Normalised, pieces_of_file
+from contradicting.normalised import ChangeTable, Normalised
 from contradicting.progress import Progress
 from contradicting.refusals import Refusals, line_of
 from contradicting.remedies import FaultGroup
@@ -29,6 +29,7 @@ from sheet_making.limits import Limits
 from sheet_making.making import kinds_from
 from sheet_making.sheet_text import Texts
 from sheets import Sheet, types_path
+from text_files import pieces_of_file
 
 File = tuple[str, Iterator[str]]  # the name of a file beside the page, and its pieces
 

@@ -19,6 +19,7 @@ from normalising.rules import Normaliser
 from normalising.sheet_file import sheet_at
 from process import NotDone, sentence
 from program import Program
+from text_files import pieces_of_file
 
 VALUES = ("was", "now")  # JSON texts, so that 5 and "5" differ
 COLUMNS = ["provider", "report", *"fact number pointer rule loss".split(), *VALUES, *"moved why shortened".split()]
@@ -104,8 +105,3 @@ def shown(change: dict[str, Tree], key: str) -> str:
     if key in VALUES and key in change:
         return text_of(value)
     return "" if value is None else value if isinstance(value, str) else text_of(value)
-
-
-def pieces_of_file(path: str) -> Iterator[str]:
-    with open(path, encoding="utf-8", newline="") as file:
-        yield from iter(lambda: file.read(1 << 20), "")

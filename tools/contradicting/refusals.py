@@ -12,7 +12,7 @@ from contradicting.tables import cell, lines_of
 from contradicting.tables import line_of as line_of_table
 from names import Name
 from process import shortened
-from text_files import PIECE
+from text_files import pieces_of_file
 
 MOST_LINES = 20  # the most faults of one report that are shown
 MOST_NAMES, MOST_PRINTED = 1_000, 20  # the most missing names of one kind: on the page, and in the printed lines
@@ -91,8 +91,7 @@ class Refusals:
     def pieces(self) -> Iterator[str]:
         """Yields the text of the table."""
         self.table.flush()
-        with open(self.path, encoding="utf-8", newline="") as file:
-            yield from iter(lambda: file.read(PIECE), "")
+        yield from pieces_of_file(self.path)
 
     def lacking_lines(self, most: int = MOST_NAMES) -> Iterator[str]:
         """Yields a line with the concepts that the sheet lacks, and one with the dimensions. Each shows up to `most` names.

@@ -13,7 +13,7 @@ from names import Name
 from normalising.shapes import PURE
 from normalising.spellings import spelling
 from sheets import ITEMS, PERIODS, TYPES, Sheet
-from text_files import PIECE
+from text_files import pieces_of_file
 from whole_files import OutputLimit
 
 COLUMNS = "row fact concept period value nil warning providers identifiers".split()
@@ -77,8 +77,7 @@ class Warnings:
     def pieces(self) -> Iterator[str]:
         yield from lines_of([COLUMNS])
         self.table.close()
-        with open(self.path, encoding="utf-8", newline="") as file:
-            yield from iter(lambda: file.read(PIECE), "")
+        yield from pieces_of_file(self.path)
 
     def lines(self) -> list[str]:
         """Returns a line for each warning of each provider, with the number of facts."""
