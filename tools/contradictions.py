@@ -83,6 +83,7 @@ In the tables, a ' precedes anything that a spreadsheet might read as a formula.
 Status 0: the files are written, and there is nothing to look at. 1: the files are written, and there is something to look at.
 --fail-on names the kinds of findings that give status 1, by default all; --exit-zero is for none:
     contradictions  rows that are contradictions
+    new             contradictions that are new or changed, with --since
     refusals        refused reports
     losses          changes of --normalise that lose something, and facts that --latest drops
     omissions       parts that --taxonomy leaves out
@@ -181,6 +182,8 @@ def check(parser: Parser, options: argparse.Namespace) -> None:
             parser.error("--near needs the providers: --sources and --names, or PROVIDER=MERGED")
     elif not (options.words or options.files) or options.sources or options.names:
         parser.error("name the reports; --sources and --names need --from")
+    if options.fail_on is not KINDS and "new" in options.fail_on and not options.since:
+        parser.error("--fail-on new needs --since")
     if STANDARD in (options.output, options.near, options.xlsx):
         parser.error("standard output has the summary: write ./- for a folder or a file with the name -")
     if (loses(options) or options.map) and not options.normalise:

@@ -5,7 +5,7 @@ from typing import Container, Optional
 
 from process import Status
 
-KINDS = ("contradictions", "refusals", "losses", "omissions", "uncompared", "unshared", "warnings")
+KINDS = ("contradictions", "new", "refusals", "losses", "omissions", "uncompared", "unshared", "warnings")
 
 
 def counted(count: int, word: str, words: Optional[str] = None) -> str:

@@ -73,6 +73,7 @@ class Outcome:
     def count(self) -> None:
         add = self.findings.add
         add("contradictions", len(self.rows))
+        add("new", sum(self.since.counts()[change] for change in ("new", "changed")) if self.since else 0)
         add("refusals", len(self.inputs.refusals.reports), "report refused", "reports refused")
         add("uncompared", self.near.uncompared if self.near else 0)
         add("unshared", len(self.unshared), "provider shares almost no row", "providers share almost no row")

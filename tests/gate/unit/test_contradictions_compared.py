@@ -74,6 +74,10 @@ class Compared(ToolTest):
         found = [(each["change"], each["row"], each["now"]) for each in self.read("since.csv")]
         self.assertEqual(found, [("new", "4", "contradiction"), ("changed", "2", "contradiction"), ("open", "1", "contradiction"),
                                  ("gone", "3", "agree exactly"), ("gone", "", "not reported")])
+        for more, wanted in (([], 2), (["--since", self.output], 0)):
+            done = in_process.run(contradictions, *self.inputs(nights[1]), "--names", "a,b", "--fail-on", "new", *more)
+            self.assertEqual(done[0], wanted, done)
+        self.assertEqual(in_process.run(contradictions, *self.inputs(nights[0]), "--names", "a,b", "--since", self.output, "--fail-on", "new")[0], 1)
         for text in ("[]", '{"format":2}', "{", ""):
             self.write("out/summary.json", text)
             status, errors = in_process.run(contradictions, *self.inputs(nights[0]), "--names", "a,b", "--since", self.output)
