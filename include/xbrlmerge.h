@@ -30,6 +30,8 @@
 #ifndef XBRLMERGE_H
 #define XBRLMERGE_H
 
+#define XBRLMERGE_VERSION "0.3.0-dev"  /* as `xbrlmerge --version` prints it */
+
 #include <stddef.h>
 #include <stdint.h>
 

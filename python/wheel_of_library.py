@@ -24,12 +24,17 @@ MADE = ("__pycache__", "out")
 PLAIN, RUNS = stat.S_IFREG | 0o644, stat.S_IFREG | 0o755
 
 
-def _project(key: str) -> str:
+def _texts(key: str) -> List[str]:
+    """Returns the texts in the line of a key in pyproject.toml. Python 3.9 has no parser for it."""
     with open(os.path.join(HERE, "pyproject.toml"), encoding="utf-8") as file:
-        found = re.search(rf'^{key} = "(.*)"$', file.read(), re.MULTILINE)
+        found = re.search(rf"^{key} = (.*)$", file.read(), re.MULTILINE)
     if not found:
         raise ValueError(f"pyproject.toml has no {key}")
-    return found[1]
+    return re.findall('"(.*?)"', found[1])
+
+
+def _project(key: str) -> str:
+    return _texts(key)[0]
 
 
 def _read(path: str) -> bytes:
@@ -77,10 +82,12 @@ def _commands(program: str, info: str) -> Dict[str, bytes]:
 
 
 def _information(tag: str, info: str) -> Dict[str, bytes]:
-    fields = {"Metadata-Version": "2.1", "Name": _project("name"), "Version": _project("version"), "Summary": _project("description"),
-            "Requires-Python": _project("requires-python")}
+    fields = [("Metadata-Version", "2.1"), ("Name", _project("name")), ("Version", _project("version")), ("Summary", _project("description")),
+              ("Author", _project("authors")), ("License", _project("license")), ("Keywords", ",".join(_texts("keywords"))),
+              *(("Classifier", it) for it in _texts("classifiers")), ("Requires-Python", _project("requires-python")),
+              ("Provides-Extra", "xlsx"), *(("Requires-Dist", f'{it}; extra == "xlsx"') for it in _texts("xlsx"))]
     wheel = f"Wheel-Version: 1.0\nGenerator: {_project('name')}\nRoot-Is-Purelib: false\nTag: {tag}\n"
-    return {f"{info}/METADATA": "".join(f"{key}: {value}\n" for key, value in fields.items()).encode(), f"{info}/WHEEL": wheel.encode()}
+    return {f"{info}/METADATA": "".join(f"{key}: {value}\n" for key, value in fields).encode(), f"{info}/WHEEL": wheel.encode()}
 
 
 def _record(files: Dict[str, bytes], info: str) -> str:

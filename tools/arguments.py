@@ -6,7 +6,7 @@ import os
 import sys
 from typing import NoReturn, Optional
 
-from commands import command, with_commands
+from commands import VERSION, command, with_commands
 from process import Status, print_lines
 from text_files import as_file
 
@@ -21,6 +21,7 @@ class Parser(argparse.ArgumentParser):
     def __init__(self, tool: str, description: Optional[str], usage: str) -> None:
         super().__init__(prog=os.path.basename(command(tool)), description=with_commands(description or ""), usage=usage,
                          formatter_class=argparse.RawDescriptionHelpFormatter)
+        self.add_argument("--version", action="version", version=f"%(prog)s {VERSION}", help="print the version")
 
     def add_most_output(self) -> None:
         self.add_argument("--most-output", type=natural, metavar="BYTES", help="stop with status 3 if the output has more bytes;"

@@ -1,9 +1,10 @@
-"""The names of the tools' commands: tools/NAME in the repository, and xbrlmerge-NAME once the tools are installed."""
+"""The version of the tools, and the names of their commands: tools/NAME in the repository, and xbrlmerge-NAME once installed."""
 from __future__ import annotations
 
 import os
 import re
 
+VERSION = "0.3.0-dev"  # of xbrlmerge
 HERE = os.path.dirname(os.path.abspath(__file__))
 INSTALLED = "xbrlmerge_tools"  # the name of the folder with the installed tools
 PREFIX = "xbrlmerge-"

@@ -32,6 +32,11 @@ from pathlib import Path
 from typing import Any, Callable, Iterable, Iterator, Mapping, NamedTuple, NoReturn, Optional, Sequence
 from urllib.parse import quote
 
+try:
+    from commands import VERSION
+except ImportError:  # this file also runs alone
+    VERSION = "of an unknown version"
+
 Tree = Any  # a JSON value: a dict, list, str, int, float, bool or None
 Name = Any  # a URI and a local part, or a scheme and an identifier; for a text that denotes none, the condition 12, 13 or 14
 Sheet = Mapping[str, Mapping[Name, str]]  # the kinds of the concepts and of the dimensions
@@ -555,6 +560,7 @@ def parsed(words: Sequence[str]) -> tuple[Parser, argparse.Namespace]:
     for name, choices in {"status": [*"0123"], "allow": RANKS, "format": ["lines", "json", "csv"], "trust": ["references"]}.items():
         parser.add_argument(f"--{name}", choices=choices)
     parser.add_argument("--explain", type=int, metavar="ROW")
+    parser.add_argument("--version", action="version", version=f"%(prog)s {VERSION}", help="print the version")
     parser.add_argument("reports", nargs="*", metavar="REPORT")
     end = [*words, "--"].index("--")  # all words after -- are reports
     options = parser.parse_intermixed_args(words[:end])

@@ -25,6 +25,8 @@ from . import _library
 __all__ = ["Checked", "Columns", "Merged", "Refusal", "Row", "Rows", "SheetRefused", "Source", "Sources", "TooLoose", "TooMuch",
            "check", "merge", "source_columns", "sources", "verdict_columns", "verdicts"]
 
+__version__ = "0.3.0.dev0"
+
 Given = Union[bytes, bytearray, memoryview, str, "os.PathLike[str]"]
 
 #: The levels of duplicates that a row may have, the strictest first.

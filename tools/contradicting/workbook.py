@@ -26,7 +26,7 @@ def library() -> Any:
     try:
         return importlib.import_module("xlsxwriter")
     except ImportError:
-        raise NotDone("--xlsx needs the Python library XlsxWriter: install the package python3-xlsxwriter") from None
+        raise NotDone("--xlsx needs the Python library XlsxWriter: install the package python3-xlsxwriter, or xbrlmerge[xlsx] with pip") from None
 
 
 def write_workbook(path: str, tables: Sequence[tuple[str, Table]]) -> Iterator[str]:

@@ -1,4 +1,5 @@
 """Tests what ./build installs and packs, with stand-ins for the program and the libraries."""
+import email
 import hashlib
 import io
 import json
@@ -210,6 +211,11 @@ class Archives(Packages):
         self.assertEqual({it.partition("/")[0] for it in files if ".d" not in it.partition("/")[0]}, {"xbrlmerge", "xbrlmerge_tools"})
         packed = {it.target: it.content for it in contents.tool_package(TOP, "")}
         self.assertEqual({it: files.get(it) for it in packed}, packed)
+        (fields,) = [email.message_from_bytes(files[it]) for it in files if it.endswith("METADATA")]
+        wanted = {"Author": "Hendwysg maintainers", "Provides-Extra": "xlsx", "Requires-Dist": 'XlsxWriter; extra == "xlsx"', "Requires-Python": ">=3.9",
+                  "License": "No licence is granted yet"}
+        self.assertEqual({it: fields[it] for it in wanted}, wanted)
+        self.assertIn("Private :: Do Not Upload", fields.get_all("Classifier"))
         (points,) = [files[it].decode() for it in files if it.endswith("entry_points.txt")]
         for tool in contents.TOOLS:
             self.assertIn(f"\n{contents.command_of(tool)} = xbrlmerge_tools:{tool}\n", points)
