@@ -12,8 +12,6 @@ from packing.source import Source
 SOURCE, KIT = "source", "kit"
 # the crates of the kit that every program contains
 ALWAYS = ("std", "os", "libc")
-# crates that no package contains
-TESTS = re.compile(r"\w+_tests|test_helpers")
 NO_LICENCE = "No licence is granted yet: the owner has not chosen one."
 PORTED = "The package contains code of the Rattle kit. Parts of the kit were ported from others, under these licences:"
 COMMON = "On Debian, /usr/share/common-licenses/Apache-2.0 is the text of Apache-2.0."

@@ -22,7 +22,6 @@ TOOL = os.path.join(in_process.TOOLS, "contradictions.py")
 NORLAKE = os.path.join(in_process.HERE, "norlake")
 MERGED, SHEET, VERDICTS = (os.path.join(NORLAKE, name) for name in ("merged.json", "sheet.json", "verdicts.txt"))
 COMPARED = re.compile(r" reports no fact$| shares .* with another provider| of \d+ rows that others report| report exactly the same facts:")
-VOID = ("meta", "line", "rect", "circle")
 
 
 class Seen(html.parser.HTMLParser):
