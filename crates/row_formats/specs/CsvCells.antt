@@ -50,6 +50,6 @@ abbrev pub AreMarked : List ℕ → Type 0
 AreMarked [] = Unit {0}
 AreMarked (b ∷ t) = (is_separator b ≡ true → IsMarked t) × AreMarked t
 
--- wherever a spreadsheet may begin a cell, a formula follows only a `'`
+-- wherever a cell of text may begin, a formula follows only a `'`
 abbrev pub FormulasAreMarked : Type 0
 FormulasAreMarked = (t : List ℕ) → IsMarked (guarded t) × AreMarked (guarded t)

@@ -15,7 +15,7 @@ pub fn rows_tell_verdicts()
     ensures { RowsTellVerdicts }
 {}
 
-/// In CSV for a spreadsheet, wherever the spreadsheet may begin a cell, a formula follows only a `'`.
+/// In CSV for a spreadsheet, wherever a cell of text may begin, a formula follows only a `'`.
 pub fn formulas_are_marked()
     ensures { FormulasAreMarked }
 {}

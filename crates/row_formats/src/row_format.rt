@@ -15,8 +15,8 @@ pub enum RowFormat {
     Json,
     /// CSV (RFC 4180): a header, then a record for each fact (verdicts) or fact object (sources).
     Csv,
-    /// CSV for a spreadsheet: the text begins with a byte order mark, and in each cell a `'` precedes
-    /// everything that may be read as a formula, also behind a separator.
+    /// CSV for a spreadsheet: the text begins with a byte order mark, and in each cell of text a `'`
+    /// precedes everything that may be read as a formula, also behind a separator.
     SpreadsheetCsv,
 }
 
