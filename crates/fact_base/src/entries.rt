@@ -148,15 +148,17 @@ pub(crate) fn has_all_rows(entries: &Entries, others: &Entries) -> bool
     requires { IsRising dimensions_cmp entry_key entries.now }
     ensures { IsTrue result → All (Contains (facts_of_entries entries.now)) (facts_of_entries others.now) }
 {
+    let mut near = 0;
     for index in 0..others.len() {
-        if !has_row_at(entries, others, index) {
+        if !has_row_at(entries, others, index, &mut near) {
             return false;
         }
     }
     true
 }
 
-fn has_row_at(entries: &Entries, others: &Entries, index: usize) -> bool
+// The rows ascend, so each look-up begins at the last row found.
+fn has_row_at(entries: &Entries, others: &Entries, index: usize, near: &mut usize) -> bool
     requires { IsRising dimensions_cmp entry_key entries.now }
     ensures { IsTrue result → IfSome (slice_get others.now index)
         (λ row. All (Contains (facts_of_entries entries.now)) (facts_of_entry row)) }
@@ -164,7 +166,7 @@ fn has_row_at(entries: &Entries, others: &Entries, index: usize) -> bool
     let Some((dimensions, (values, _summary))) = others.at(index) else {
         return true;
     };
-    match entries.get(dimensions) {
+    match entries.get_near(dimensions, near) {
         Some((known, _summary)) => has_all(known.as_slice(), values.as_slice()),
         None => false,
     }

@@ -1,6 +1,7 @@
 ghost use Rattle.std.specs.Prelude.{◌≡◌, ◌<◌, ◌≤◌, ◌++◌, [], length, reverse, slice_get, vec_len, vec_capacity, IfOk, OnOk, OnErr};
 ghost use Rattle.std.specs.Option.{option_copied, option_map};
-ghost use Rattle.std.specs.List.{AllByRecursion};
+ghost use Rattle.std.specs.List.{AllByRecursion, AllWithin};
+ghost use Rattle.std.specs.declared.cmp.Ordering.TheVariants.{Less as Below};
 ghost use Rattle.merge_laws.specs.code.Insertions.{IsFirstLeast, inserted, new_items, new_values, with_values};
 ghost use Rattle.merge_laws.specs.Sorted.{IsMap, IsRising, entry_key, value_at};
 ghost use Rattle.merge_laws.specs.Union.{map_union, map_with};
@@ -94,6 +95,24 @@ impl<K: Key, V: Merge> SortedMap<K, V> {
         }
     }
 
+    /// Does the same as `get`, but searches from `near`, and sets `near` to the index after the key. So
+    /// each of several ascending keys is found in few steps. Any value of `near` is right.
+    pub fn get_near(&self, key: &K, near: &mut usize) -> Option<&V>
+        ensures { option_copied result ≡ value_at K.cmp key.now self.now }
+    {
+        let from = start_of(self.entries.as_slice(), key, *near);
+        match find_from(self.entries.as_slice(), key, from) {
+            Ok(index) => {
+                *near = index + 1;
+                Some(&self.entries[index].1)
+            }
+            Err(index) => {
+                *near = index;
+                None
+            }
+        }
+    }
+
     /// Returns the entry at an index, or None. Indices start at 0, in the order of the keys.
     pub fn at(&self, index: usize) -> Option<(&K, &V)>
         ensures { option_map (λ e. (e.0.now, e.1.now)) result ≡ slice_get self.now index }
@@ -119,6 +138,19 @@ impl<K: Key, V: Merge> Copied for SortedMap<K, V> {
         Ok(SortedMap {
             entries: copies_of(alloc, self.entries.as_slice(), 0)?,
         })
+    }
+}
+
+// Returns an index near `near` with only lesser keys before it, or 0.
+fn start_of<K: Key, V: Merge>(entries: &[(K, V)], key: &K, near: usize) -> usize
+    requires { IsRising K.cmp entry_key entries.now }
+    ensures within { result ≤ length entries.now }
+    ensures below { AllWithin (λ e. K.cmp e.0 key.now ≡ Below) entries.now 0 result }
+{
+    let before = near.saturating_sub(1);
+    match entries.get(before) {
+        Some(entry) if entry.0.cmp(key).is_lt() => before + 1,
+        _ => 0,
     }
 }
 
