@@ -1,4 +1,5 @@
 """Functions that the scripts of tests/ share: reading files, and finding the program."""
+import csv
 import importlib.machinery
 import importlib.util
 import os
@@ -20,6 +21,12 @@ def bytes_of(path):
     """Returns the bytes of a file. A relative path starts at the working folder."""
     with open(path, "rb") as file:
         return file.read()
+
+
+def table_in(path):
+    """Returns the lines of a table of tools/contradictions, each as a dict."""
+    with open(path, encoding="utf-8-sig", newline="") as file:
+        return list(csv.DictReader(file))
 
 
 def script(path):

@@ -1,12 +1,11 @@
 """A trial of tools/contradictions, which the script `examples` runs: three providers, a taxonomy with labels, planted differences."""
-import csv
 import json
 import os
 import subprocess
 import tempfile
 import zipfile
 
-from support import TOP
+from support import TOP, table_in
 
 NAMESPACE = "http://trial.example/t"
 SCALED = [f"Item{number:02}" for number in range(1, 21)]  # concepts that Beta reports 1,000 times smaller
@@ -42,11 +41,6 @@ def report(values):
     return json.dumps({"documentInfo": {"documentType": "https://xbrl.org/2021/xbrl-json", "namespaces": {"t": NAMESPACE}}, "facts": facts})
 
 
-def table(folder, name):
-    with open(os.path.join(folder, name), encoding="utf-8-sig", newline="") as file:
-        return list(csv.DictReader(file))
-
-
 def faults(program):
     """Runs the tool on the reports with their taxonomy. Returns what it does not find."""
     with tempfile.TemporaryDirectory() as scratch:
@@ -62,7 +56,7 @@ def faults(program):
         folder = os.path.join(scratch, "out")
         with open(os.path.join(folder, "page.html"), encoding="utf-8") as file:
             page = file.read()
-        return lacking(page, table(folder, "contradictions.csv"), table(folder, "table.csv"))
+        return lacking(page, *(table_in(os.path.join(folder, name)) for name in ("contradictions.csv", "table.csv")))
 
 
 def lacking(page, cells, rows):

@@ -1,6 +1,5 @@
 """Tests of tools/contradictions on small texts, and on the merged text in norlake/ with the lines of verdicts beside it."""
 import base64
-import csv
 import hashlib
 import html.parser
 import json
@@ -13,7 +12,7 @@ import unittest
 import in_process
 import lines_of_verdicts
 from names import Name
-from support import content
+from support import content, table_in
 
 from contradicting import tables
 from contradicting.facts import Dimensions
@@ -52,6 +51,9 @@ class ToolTest(in_process.RoomTest):
         self.output = folder
         self.page, self.table, self.listed = (os.path.join(folder, name) for name in ("page.html", "contradictions.csv", "table.csv"))
 
+    def cells(self, name):
+        return table_in(os.path.join(self.output, name))
+
     @staticmethod
     def other_lines(text):
         """Returns the lines on standard error, without those about what providers share."""
@@ -64,8 +66,7 @@ class ToolTest(in_process.RoomTest):
     def written(self, *inputs):
         done = self.run_tool(*inputs)
         page = content(self.page)
-        with open(self.table, encoding="utf-8-sig", newline="") as file:
-            cells = list(csv.DictReader(file))
+        cells = table_in(self.table)
         self.assertEqual((done.returncode, self.other_lines(done.stderr.decode())), (int(bool(cells or done.stderr)), []))
         self.assertTrue(done.stdout.decode().endswith(f"; page: {self.page}\n"), done.stdout)
         return page, cells
@@ -220,8 +221,7 @@ class Texts(ToolTest):
 
     def test_nil_facts_are_listed_without_providers(self):
         self.table_of(self.number("7", 0), self.number(None))
-        with open(self.listed, encoding="utf-8-sig", newline="") as file:
-            self.assertEqual([(row["values"], row["nil_by"]) for row in csv.DictReader(file)], [("7", "f2")])
+        self.assertEqual([(row["values"], row["nil_by"]) for row in self.cells("table.csv")], [("7", "f2")])
 
     def test_numbers_of_eighteen_digits_are_exact(self):
         cells = self.table_of(self.number("0.000000000000000001", 18), self.number("999999999999999999", -18))[1]

@@ -1,5 +1,4 @@
 """Tests of what tools/contradictions says was compared: counts of rows, the matrix of providers, and what gives status 1."""
-import csv
 import itertools
 import json
 import os
@@ -35,10 +34,6 @@ class Compared(ToolTest):
         paths = [self.write(name, text) for name, text in texts.items()]
         return ["-o", self.output, "--sources", paths[3], "--from", *paths[:3]]
 
-    def read(self, name):
-        with open(os.path.join(self.output, name), encoding="utf-8-sig", newline="") as file:
-            return list(csv.DictReader(file))
-
     def test_rows_and_pairs_are_counted(self):
         one, near, far, nil = ("100", 0), ("100.3", 1), ("105", 0), (None, 0)
         # the values of the providers a, b and c, and the pairs that contradict each other
@@ -50,9 +45,9 @@ class Compared(ToolTest):
         self.assertEqual((status, out.decode()), (1, "10 rows: 5 contradictions, 2 reported by one provider, 2 agree exactly,"
                                                      f" 1 agree within rounding; page: {self.page}\n"), errors)
         kinds = ["agree exactly", "agree within rounding", "reported by one provider", *["contradiction"] * 5, "agree exactly"]
-        self.assertEqual([row["agreement"] for row in self.read("table.csv")], [*kinds, "reported by one provider"])
+        self.assertEqual([row["agreement"] for row in self.cells("table.csv")], [*kinds, "reported by one provider"])
         own = [{name for name, given in zip("abc", row) if given} for row in rows]
-        for pair, (one, other) in zip(self.read("providers.csv"), itertools.combinations("abc", 2)):
+        for pair, (one, other) in zip(self.cells("providers.csv"), itertools.combinations("abc", 2)):
             shared = sum({one, other} <= names for names in own)
             apart = sum(one + other in row[3].split() for row in rows)
             wanted = [one, other, *(sum(name in names for names in own) for name in (one, other)), shared, shared - apart, apart]
@@ -63,7 +58,7 @@ class Compared(ToolTest):
         self.assertEqual((summary["format"], summary["status"], summary["findings"]["contradictions"]), (1, 1, 5))
         self.assertEqual(summary["rows"], {"all": 10, "contradiction": 5, "one_provider": 2, "exact": 2, "rounding": 1})
         self.assertEqual([[pair["shared"], pair["contradicting"]] for pair in summary["pairs"]],
-                         [[int(pair["shared"]), int(pair["contradict"])] for pair in self.read("providers.csv")])
+                         [[int(pair["shared"]), int(pair["contradict"])] for pair in self.cells("providers.csv")])
         self.assertEqual(len(summary["files"]), 4)
 
     def test_the_night_after(self):
@@ -71,7 +66,7 @@ class Compared(ToolTest):
         nights = [([one], [two]), ([one], [two]), ([one], [two]), ([one], [one]), ([one], [two])], [([one], [two]), ([one], [three]), ([one], [one]), ([one], [two])]
         for rows, more in zip(nights, ([], ["--since", self.output])):
             self.assertEqual(in_process.run(contradictions, *self.inputs(rows), "--names", "a,b", *more)[0], 1)
-        found = [(each["change"], each["row"], each["now"]) for each in self.read("since.csv")]
+        found = [(each["change"], each["row"], each["now"]) for each in self.cells("since.csv")]
         self.assertEqual(found, [("new", "4", "contradiction"), ("changed", "2", "contradiction"), ("open", "1", "contradiction"),
                                  ("gone", "3", "agree exactly"), ("gone", "", "not reported")])
         for more, wanted in (([], 2), (["--since", self.output], 0)):
@@ -87,8 +82,8 @@ class Compared(ToolTest):
         words = self.inputs([([("1", 0)], [("3", 0)]), ([("1", 0)], [])])
         out = in_process.run_whole(contradictions, *words[:2], *words[4:])[2].decode()
         self.assertTrue(out.startswith("2 rows: 1 contradiction, 1 no contradiction; page: "), out)
-        self.assertEqual([row["agreement"] for row in self.read("table.csv")], ["contradiction", "no contradiction"])
-        self.assertEqual(self.read("providers.csv"), [])
+        self.assertEqual([row["agreement"] for row in self.cells("table.csv")], ["contradiction", "no contradiction"])
+        self.assertEqual(self.cells("providers.csv"), [])
 
     def test_the_kinds_that_give_status_1(self):
         words = [*self.inputs([([("1", 0)], [("3", 0)])]), "--names", "a,b"]

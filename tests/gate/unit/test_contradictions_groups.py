@@ -1,7 +1,5 @@
 """Tests of the groups, the hints, the counts of providers and the files of tools/contradictions, on small merged reports."""
-import csv
 import json
-import os
 import re
 import subprocess
 import sys
@@ -118,10 +116,6 @@ class Reported(ToolTest):
         done = subprocess.run([sys.executable, TOOL, *words, "--names", ",".join(self.NAMES), "-o", self.output, *options], capture_output=True)
         self.assertEqual((done.returncode, self.other_lines(done.stderr.decode())), (1, []))
         return content(self.page), self.cells("contradictions.csv"), self.cells("table.csv")
-
-    def cells(self, name):
-        with open(os.path.join(self.output, name), encoding="utf-8-sig", newline="") as file:
-            return list(csv.DictReader(file))
 
     def test_groups_and_hints_are_in_the_tables_and_on_the_page(self):
         page, cells, rows = self.run_on([[(("4321", 0), (2,)), (("4321000", -3), (1, 4))], [(("5", 0), (1, 2)), (("7", 0), (4,))]])

@@ -12,7 +12,7 @@ import unittest
 
 import in_process
 import contradictions
-from support import content
+from support import content, table_in
 from test_contradictions import TOOL, ToolTest
 
 
@@ -75,10 +75,6 @@ class Hostile(ToolTest):
         path = self.write("sources", "".join(f"{line}\n" for line in sources))
         return ["--fail-on", LOOK, "--sources", path, "--names", ",".join(providers), *["--near", self.near] * is_near, "-o", self.output, "--from", *inputs]
 
-    def rows_near(self):
-        with open(self.near, encoding="utf-8-sig", newline="") as file:
-            return list(csv.DictReader(file))
-
     def test_the_time_of_no_text_grows_with_its_square(self):
         for name, (made, is_near) in LONG.items():
             with self.subTest(name):
@@ -113,7 +109,7 @@ class Hostile(ToolTest):
     def test_pairs_that_are_not_compared_are_reported(self):
         facts = [number(1, unit=f"e:u{each:04}") for each in range(100)]
         status, errors = in_process.run(contradictions, *self.words(facts, is_near=True))
-        pairs = {tuple(row["fact"] for row in pair) for pair in zip(*[iter(self.rows_near())] * 2)}
+        pairs = {tuple(row["fact"] for row in pair) for pair in zip(*[iter(table_in(self.near))] * 2)}
         self.assertEqual(status, 1)
         self.assertIn("contradictions: --near: 3950 pairs of rows were not compared", errors)  # of 4950; 1000 are compared
         distances = {int(two[1:]) - int(one[1:]) for one, two in pairs}
@@ -123,7 +119,7 @@ class Hostile(ToolTest):
     def test_as_many_pairs_as_are_compared_are_all_listed(self):
         facts = [number(1, unit=f"e:u{each:04}") for each in range(45)]
         status, errors = in_process.run(contradictions, *self.words(facts, is_near=True))
-        self.assertEqual((status, self.other_lines(errors), len(self.rows_near())), (0, [], 2 * 22 * 23))
+        self.assertEqual((status, self.other_lines(errors), len(table_in(self.near))), (0, [], 2 * 22 * 23))
 
     def test_the_page_has_eighty_characters_of_a_name_and_the_table_all(self):
         long = "z" * 5_000

@@ -1,5 +1,4 @@
 """Tests of tools/contradictions with labels, with --near, and on a large text."""
-import csv
 import json
 import os
 import re
@@ -11,7 +10,7 @@ import zipfile
 import lines_of_verdicts
 import test_contradictions
 import workload
-from support import content
+from support import content, table_in
 
 SCHEMA = """<xs:schema xmlns:xs="http://www.w3.org/2001/XMLSchema" xmlns:xbrli="http://www.xbrl.org/2003/instance"
     targetNamespace="https://norlake.example/2023">%s</xs:schema>"""
@@ -50,8 +49,7 @@ class Labels(test_contradictions.ToolTest):
         words = [*options, "--from", *INPUTS, "-o", self.output]
         done = subprocess.run([sys.executable, test_contradictions.TOOL, *words], capture_output=True)
         self.assertEqual((done.returncode, done.stderr), (1, b""))
-        with open(self.table, encoding="utf-8-sig", newline="") as file:
-            return content(self.page), list(csv.DictReader(file))
+        return content(self.page), table_in(self.table)
 
     def test_standard_labels_of_a_language(self):
         page, labels = self.labelled("--labels", self.package())
@@ -102,8 +100,7 @@ class Nearby(test_contradictions.ToolTest):
         words = ["--near", path, "--from", merged, sheet, lines, "-o", self.output, *own]
         done = subprocess.run([sys.executable, test_contradictions.TOOL, *words], capture_output=True)
         self.assertEqual((done.returncode, self.other_lines(done.stderr.decode())), (int(not others), []))  # without `others`, the two share no row
-        with open(path, encoding="utf-8-sig", newline="") as file:
-            return list(csv.DictReader(file))
+        return table_in(path)
 
     @staticmethod
     def order(dimensions):

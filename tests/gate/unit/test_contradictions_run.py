@@ -1,5 +1,4 @@
 """Tests of tools/contradictions on reports, with a program that prints prepared lines."""
-import csv
 import fcntl
 import hashlib
 import json
@@ -99,10 +98,6 @@ class Stubbed(ToolTest):
         for name in ("log", "sheet"):
             if os.path.exists(os.path.join(self.bin, name)):
                 os.unlink(os.path.join(self.bin, name))
-
-    def cells(self, name):
-        with open(os.path.join(self.output, name), encoding="utf-8-sig", newline="") as file:
-            return list(csv.DictReader(file))
 
 
 class Files(Stubbed):

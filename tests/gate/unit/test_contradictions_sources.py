@@ -1,5 +1,4 @@
 """Tests of tools/contradictions with the lines of `sources`, on the examples."""
-import csv
 import os
 import unittest
 
@@ -31,8 +30,7 @@ class Sources(ToolTest):
 
     def test_a_row_that_one_provider_reports_is_marked(self):
         self.written(*self.inputs, *self.words())
-        with open(self.listed, encoding="utf-8-sig", newline="") as file:
-            listed = {row["row"]: row for row in csv.DictReader(file)}
+        listed = {row["row"]: row for row in self.cells("table.csv")}
         self.assertEqual(len(listed), 64)
         self.assertEqual((listed["10"]["verdict"], listed["10"]["reported_by"]), ("complete", "2 of 3"))
         self.assertEqual((listed["11"]["verdict"], listed["11"]["reported_by"]), ("complete", "1 of 3"))
@@ -40,8 +38,7 @@ class Sources(ToolTest):
 
     def test_each_provider_has_columns_for_all_rows(self):
         page, _ = self.written(*self.inputs, *self.words())
-        with open(self.listed, encoding="utf-8-sig", newline="") as file:
-            listed = {row["row"]: row for row in csv.DictReader(file)}
+        listed = {row["row"]: row for row in self.cells("table.csv")}
         wanted = {"issuer": ("41260", "0"), "ledgerline": ("", ""), "statfeed": ("41906", "0")}
         for name, cells in wanted.items():
             self.assertEqual((listed["12"][f"provider: {name}"], listed["12"][f"decimals: {name}"]), cells)

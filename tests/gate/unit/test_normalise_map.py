@@ -1,5 +1,4 @@
 """Tests of --map of tools/normalise and tools/contradictions."""
-import csv
 import json
 import os
 import unittest
@@ -131,8 +130,7 @@ class OfProviders(Stubbed):
         words = ["--program", self.program, "--sheet", self.write("sheet.json", json.dumps(KINDS)), "-o", self.output, "--normalise"]
         status, errors = in_process.run(contradictions, *words, "--map", f"B={names}", *own)
         self.assertEqual((status, len(self.other_lines(errors))), (1, 1), errors)  # A and B have the same bytes
-        with open(os.path.join(self.output, "changes.csv"), encoding="utf-8-sig", newline="") as file:
-            found = [(change["provider"], change["pointer"], change["rule"], change["loss"]) for change in csv.DictReader(file)]
+        found = [(change["provider"], change["pointer"], change["rule"], change["loss"]) for change in self.cells("changes.csv")]
         self.assertEqual(found, [("B", "/documentInfo/namespaces", "map", "true")])
         for wrong in (["--map", "B"], ["--map", f"C={names}"], ["--map", f"B={names}", "--map", f"B={names}"], ["--map", f"={names}"]):
             self.assertEqual(in_process.run(contradictions, *words, *wrong, *own)[0], 2, wrong)
