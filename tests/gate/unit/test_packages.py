@@ -246,6 +246,7 @@ class Archives(Packages):
         targets = [it.target for package in debian.packages(self.source()) for it in package.files]
         self.assertEqual(len(targets), len(set(targets)))
         self.assertTrue(all(it.startswith("usr/") for it in targets))
+        self.assertEqual(debian.packages(self.source())[0].fields["Suggests"], "python3-xlsxwriter")
 
     def test_all_packages_appear_or_none(self):
         folder = self.path_of("out")
