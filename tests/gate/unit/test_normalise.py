@@ -92,7 +92,7 @@ class Reports(ToolTest):
                 stem = os.path.join(REPORTS, case["report"])
                 sheet = os.path.join(os.path.dirname(stem), "sheet.json")
                 wanted = content(f"{stem}.changes.jsonl")
-                # for --drop-unreadable, a stub replaces the program; the script tests/program/normalise/run runs the built program
+                # for --drop-unreadable, a stub replaces the program; tests/program/test_normalised.py runs the built program
                 dropped = [change for change in map(json.loads, wanted.splitlines()) if change["rule"] == "drop-unreadable"]
                 options = [word for word in case["options"] if word != "--drop-unreadable"]
                 if options != case["options"]:

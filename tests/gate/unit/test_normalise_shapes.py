@@ -58,7 +58,7 @@ class Shapes(in_process.RoomTest):
 
 
 class Pairs(in_process.RoomTest):
-    """Drawn pairs of facts. tests/program/normalise/run compares more of them with the program."""
+    """Drawn pairs of facts. tests/program/test_normalised.py compares more of them with the program."""
 
     def normalised(self, text):
         sheet = self.write("sheet.json", json.dumps(drawn_pairs.SHEET))

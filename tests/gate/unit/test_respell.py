@@ -84,7 +84,7 @@ class Respelled(ToolTest):
         self.assertIn('"(iso4217:EUR*xbrli:z)/xbrli:shares"', self.respelled(json.dumps(SHEET), merged(json.dumps(SHEET), [text]))[0])
 
     def test_round_trips(self):
-        """The examples, and drawn bases. tests/program/respell has more, with the program."""
+        """The examples, and drawn bases. tests/program/test_round_trips.py has more, with the program."""
         examples = [(in_process.content(f"{EXAMPLES}/sheet.json"), [in_process.content(f"{EXAMPLES}/merged.json")])]
         for sheet, reports in examples + [drawn_reports.for_others(random.Random(seed)) for seed in range(30)]:
             text = merged(sheet, reports)

@@ -1,36 +1,26 @@
-#!/usr/bin/env python3
-"""Compares the formats of `verdicts` and `sources` with the lines and the merged text. Not part of the gate.
+"""Compares the formats of `verdicts` and `sources` with the lines and the merged text.
 
-    [SETS=300] [SEED=1] tests/program/formats [PROGRAM]
-
-The script runs the program on the examples, on texts with quotes, line ends and formulas, and on SETS sets of drawn reports.
-It computes the output of `--format json` and `--format csv` from the lines and from the output of `merge`. The program's
-output must be the same, byte for byte. `--format lines` must print the same as no `--format`. `--spreadsheet` must begin with a
-byte order mark, and may only add a ' to cells. It must guard a text as tools/contradictions does: exactly so if the text is ASCII,
-otherwise at least so. SQLite joins the sources of the examples to their verdicts: each pair must have the concept and the value
-that the report's file has. Last, the script runs the program on reports whose output repeats a long URI, with and without
-`--most-output`.
-
-Status 0: all is as expected. 1: something is not. 2: there is no program.
+The program runs on the examples, on texts with quotes, line ends and formulas, and on drawn reports. This module computes the output
+of `--format json` and `--format csv` from the lines and from the output of `merge`. The program's output must be the same, byte for
+byte. `--format lines` must print the same as no `--format`. `--spreadsheet` must begin with a byte order mark, and may only add a ' to
+cells. It must guard a text as tools/contradictions does: exactly so if the text is ASCII, otherwise at least so. SQLite joins the
+sources of the examples to their verdicts: each pair must have the concept and the value that the report's file has. Last, the
+program runs on reports whose output repeats a long URI, with and without `--most-output`.
 """
 import csv
 import decimal
 import io
 import json
 import os
-import random
 import sqlite3
-import subprocess
-import sys
-import tempfile
 
-sys.path.append(f"{os.path.dirname(__file__)}/..")
-from support import TOP, built_program, content, script
+import pytest
+
+from running import TOP, cases, run, write
+from strategies import DOCUMENT_TYPE, simple_report, simple_sheet
+from support import bytes_of, content
 from contradicting.tables import safe
 
-fold = script("tests/program/fold")
-
-SETS, SEED = int(os.environ.get("SETS", 300)), os.environ.get("SEED", "1")
 EXAMPLES = [f"{TOP}/examples/{name}.json" for name in ("issuer", "ledgerline", "statfeed", "oldharbour")]
 CORE = ("concept", "entity", "period", "unit", "language")
 COLUMNS = ["row", "verdict", "fact", *CORE, "dimensions", "value", "nil", "decimals", "common_low", "common_high", "apart_first", "apart_second"]
@@ -39,11 +29,10 @@ TEXTS = ["=1+1", "-2", "+3", "@SUM(A1)", "plain", 'a "word", and more', "two\nli
          "\u00e9;\u00a0=1", "x;\uff1d1"]
 
 
-def printed(program, command, sheet, reports, *words):
-    done = subprocess.run([program, command, "--sheet", sheet, *words, "--", *reports], capture_output=True)
-    if done.returncode > 1:
-        raise RuntimeError(f"{command} {' '.join(words)}: {done.stderr.decode()}")
-    return done.stdout.decode()
+def printed(command, sheet, reports, *words):
+    status, out, lines = run(command, "--sheet", sheet, *words, "--", *reports)
+    assert status < 2, lines
+    return out.decode()
 
 
 def lines_of(text):
@@ -163,12 +152,11 @@ def is_guarded(plain, guarded, numbers):
     return guarded[0] == "\ufeff" and [len(cells) for cells in one] == [len(cells) for cells in two]
 
 
-def wrong_with(program, sheet, reports):
-    """Returns the names of the outputs that are not as expected."""
+def expect_formats(sheet, reports):
     def asked(command, *words):
-        return printed(program, command, sheet, reports, *words)
+        return printed(command, sheet, reports, *words)
 
-    merged = Merged(asked("merge"), json.loads(content(sheet)))
+    merged = Merged(asked("merge"), json.loads(bytes_of(sheet)))
     rows, sources = list(rows_of(lines_of(asked("verdicts")), merged)), list(sources_of(lines_of(asked("sources")), reports))
     facts = [cells for row in rows for cells in records_of(row)]
     wanted = {
@@ -177,13 +165,21 @@ def wrong_with(program, sheet, reports):
         ("sources", "json"): "".join(f"{compact(source)}\n" for source in sources),
         ("sources", "csv"): table([["report", "file", "identifier", "fact"], *(source.values() for source in sources)]),
     }
-    wrong = [words for words, text in wanted.items() if asked(words[0], "--format", words[1]) != text]
+    for (command, form), text in wanted.items():
+        assert asked(command, "--format", form) == text, (command, form)
     for command in ("verdicts", "sources"):
-        if asked(command, "--format", "lines") != asked(command):
-            wrong.append((command, "lines"))
-        if not is_guarded(wanted[command, "csv"], asked(command, "--format", "csv", "--spreadsheet"), merged.numbers()):
-            wrong.append((command, "--spreadsheet"))
-    return wrong
+        assert asked(command, "--format", "lines") == asked(command)
+        assert is_guarded(wanted[command, "csv"], asked(command, "--format", "csv", "--spreadsheet"), merged.numbers()), command
+
+
+@cases(300)
+def test_drawn_reports(chance):
+    names = [write(f"{index}.json", simple_report(chance, chance.choice([0, 0, 0, 0, 1, 2, 3]))) for index in range(chance.randint(0, 6))]
+    expect_formats(write("sheet.json", json.dumps(simple_sheet())), names)
+
+
+def test_examples():
+    expect_formats(f"{TOP}/examples/sheet.json", EXAMPLES)
 
 
 def odd_report(prefix):
@@ -195,9 +191,16 @@ def odd_report(prefix):
     return json.dumps({"documentInfo": info, "facts": facts})
 
 
-def tables_of(program, kind):
+def test_odd_texts(tmp_path):
+    sheet = {"namespaces": {"eg": "http://example.org/t"}, "concepts": {"eg:T": "text"}, "dimensions": {"eg:Sku": "typed"}}
+    files = (("odd", json.dumps(sheet)), ("one", odd_report("")), ("two", odd_report("x")))
+    sheet, *reports = (write(f"{tmp_path}/{name}.json", text) for name, text in files)
+    expect_formats(sheet, reports)
+
+
+def tables_of(kind):
     """Returns the tables of verdicts and sources of the examples, each a list of objects. Those of verdicts have a fact each."""
-    texts = [printed(program, command, f"{TOP}/examples/sheet.json", EXAMPLES, "--format", kind) for command in ("verdicts", "sources")]
+    texts = [printed(command, f"{TOP}/examples/sheet.json", EXAMPLES, "--format", kind) for command in ("verdicts", "sources")]
     if kind == "csv":
         verdicts, sources = (list(csv.DictReader(io.StringIO(text, newline=""))) for text in texts)
         return [{**it, "value": None if it["nil"] else it["value"]} for it in verdicts], sources
@@ -229,14 +232,13 @@ def is_pair(own, concept, value):
         return own["value"] == value or own["value"].split(":")[-1] == value.split("}")[-1]
 
 
-def wrong_pairs(program):
-    """Yields the formats in which a join of sources to verdicts does not give each fact object of the examples its value."""
+@pytest.mark.parametrize("kind", ("json", "csv"))
+def test_pairs_in_sqlite(kind):
+    """A join of sources to verdicts gives each fact object of the examples its value."""
     reports = {path: json.loads(content(path))["facts"] for path in EXAMPLES[:3]}  # the fourth is refused
-    wanted = sorted((path, identifier) for path, facts in reports.items() for identifier in facts)
-    for kind in ("json", "csv"):
-        pairs = joined(*tables_of(program, kind))
-        if sorted(pair[:2] for pair in pairs) != wanted or not all(is_pair(reports[path][it], *more) for path, it, *more in pairs):
-            yield kind
+    pairs = joined(*tables_of(kind))
+    assert sorted(pair[:2] for pair in pairs) == sorted((path, identifier) for path, facts in reports.items() for identifier in facts)
+    assert all(is_pair(reports[path][it], *more) for path, it, *more in pairs)
 
 
 def generous(scratch, shape):
@@ -258,74 +260,22 @@ def generous(scratch, shape):
     return paths, sum(map(os.path.getsize, paths))
 
 
-def wrong_bounds(program, scratch):
-    """Yields the outputs above a bound that are not as expected."""
-    old = f"{scratch}/old"
-    for shape in ("rows", "values", "members"):
-        (sheet, report), size = generous(scratch, shape)
-        for kind in ("json", "csv"):
-            words = [program, "verdicts", "--sheet", sheet, "--format", kind, report]
+@pytest.mark.parametrize("shape", ("rows", "values", "members"))
+@pytest.mark.parametrize("kind", ("json", "csv"))
+def test_bounds(shape, kind, tmp_path):
+    """Checks outputs above a bound: the given one, and the default one."""
+    (sheet, report), size = generous(tmp_path, shape)
+    old, bound = write(f"{tmp_path}/old", "old"), 2**20 + 16 * size
 
-            def ran(*more):
-                done = subprocess.run([*words, *more], capture_output=True)
-                return done.returncode, done.stdout, done.stderr.decode()
+    def ran(*more):
+        return run("verdicts", "--sheet", sheet, "--format", kind, report, *more)
 
-            bound = 2**20 + 16 * size
-            whole = ran("--most-output", str(2**40))[1]
-            with open(old, "wb") as file:
-                file.write(b"old")
-            expected = [("whole", whole, len(whole), ran("--most-output", str(len(whole)))),
-                        ("shorter", whole, len(whole) - 1, ran("--most-output", str(len(whole) - 1))),
-                        ("default", whole, bound, ran()), ("-o", b"", bound, ran("-o", old))]
-            for name, text, most, (status, out, errors) in expected:
-                line = f"output: more than {most} bytes; --most-output BYTES sets the bound\n"
-                fits = len(whole) <= most
-                # a row whose URIs exceed the bound is not made, so nothing is printed
-                is_long = name == "default" and shape != "rows"
-                if (status, errors) != ((0, "") if fits else (3, line)) or out != (b"" if is_long else text[:most]):
-                    yield shape, kind, name
-            if len(whole) <= bound or content(old) != "old":
-                yield shape, kind, "default"
-
-
-def cases(scratch):
-    """Writes the files of each case, and yields the path of its sheet and the paths of its reports."""
-    yield f"{TOP}/examples/sheet.json", EXAMPLES
-    sheet = {"namespaces": {"eg": "http://example.org/t"}, "concepts": {"eg:T": "text"}, "dimensions": {"eg:Sku": "typed"}}
-    files = {"odd": json.dumps(sheet), "one": odd_report(""), "two": odd_report("x"), "drawn": json.dumps(fold.sheet())}
-    for name, text in files.items():
-        with open(f"{scratch}/{name}.json", "w", encoding="utf-8") as file:
-            file.write(text)
-    yield f"{scratch}/odd.json", [f"{scratch}/one.json", f"{scratch}/two.json"]
-    for number in range(SETS):
-        chance, names = random.Random(f"{SEED} {number}"), []
-        for index in range(chance.randint(0, 6)):
-            names.append(f"{scratch}/{index}.json")
-            with open(names[-1], "w", encoding="utf-8") as file:
-                file.write(fold.report(chance, chance.choice([0, 0, 0, 0, 1, 2, 3])))
-        yield f"{scratch}/drawn.json", names
-
-
-def main(words):
-    if words in (["-h"], ["--help"]):
-        print(__doc__, end="")
-        return 0
-    program = built_program(*words[:1])
-    faults, ran = 0, 0
-    with tempfile.TemporaryDirectory(prefix="formats-") as scratch:
-        for ran, (sheet, reports) in enumerate(cases(scratch), 1):
-            for fault in wrong_with(program, sheet, reports):
-                faults += 1
-                print(f"case {ran}: {' '.join(fault)}")
-        for kind in wrong_pairs(program):
-            faults += 1
-            print(f"pairs in SQLite: {kind}")
-        for fault in wrong_bounds(program, scratch):
-            faults += 1
-            print(f"bound: {' '.join(fault)}")
-    print(f"tests/program/formats: {ran} cases" + (", all as expected" if not faults else f", {faults} faults"))
-    return 1 if faults else 0
-
-
-if __name__ == "__main__":
-    sys.exit(main(sys.argv[1:]))
+    whole = ran("--most-output", str(2**40))[1]
+    assert len(whole) > bound
+    # a row whose URIs exceed the bound is not made, so nothing is printed
+    shown = whole[:bound] if shape == "rows" else b""
+    for text, most, found in ((whole, len(whole), ran("--most-output", str(len(whole)))), (whole[:-1], len(whole) - 1, ran("--most-output", str(len(whole) - 1))),
+                              (shown, bound, ran()), (b"", bound, ran("-o", old))):
+        line = "" if most == len(whole) else f"output: more than {most} bytes; --most-output BYTES sets the bound\n"
+        assert found == (3 if line else 0, text, line)
+    assert bytes_of(old) == b"old"

@@ -1,16 +1,9 @@
-#!/usr/bin/env python3
-"""Runs the program on failing devices, and on files that cannot be read or are not regular. Not part of the gate.
+"""Runs the program on failing devices, and on files that cannot be read or are not regular.
 
-    tests/program/devices [PROGRAM]
-
-By default, PROGRAM is $XBRLMERGE or, if that is not set, the built program. The tables below list the expected status and line
-for most cases; the functions contain the rest. If the line contains a number of bytes, standard output must have accepted
-exactly that many bytes from the start of the text. Otherwise standard output must contain all of the text or nothing. No input
-file may change.
-
-Status 0: all cases are as expected. 1: some are not; each is printed. 2: there is no program.
+The tables below list the expected status and line for most cases. If the line contains a number of bytes, standard output must have
+accepted exactly that many bytes from the start of the text. Otherwise standard output must contain all of the text or nothing. No
+input file may change.
 """
-import argparse
 import collections
 import fcntl
 import json
@@ -24,8 +17,10 @@ import tempfile
 import termios
 import time
 
-sys.path.append(f"{os.path.dirname(__file__)}/..")
-from support import built_program, bytes_of
+import pytest
+
+from running import PROGRAM, write
+from support import bytes_of
 
 NOBODY, LIMIT, ENDLESS_LIMIT = 65534, 20, 180
 # the fcntl command that returns the size of a pipe; Python has a name for it since 3.10
@@ -129,15 +124,14 @@ def contents():
 
 
 class Scratch:
-    """A folder with the program and its input files. No input file may change."""
+    """A folder with the program and its input files."""
 
-    def __init__(self, program, folder):
-        self.folder, self.contents, self.count, self.wrong, self.left_out = folder, contents(), 0, [], []
+    def __init__(self, folder):
+        self.folder, self.contents = folder, contents()
         os.chmod(folder, 0o755)
-        self.program = shutil.copy(program, f"{folder}/xbrlmerge")
+        self.program = shutil.copy(PROGRAM, f"{folder}/xbrlmerge")
         for name, content in self.contents.items():
-            with open(f"{folder}/{name}", "wb") as file:
-                file.write(content)
+            write(f"{folder}/{name}", content)
         self.whole = {words: self.run(words) for words in WORDS}
 
     def command(self, words, redirection):
@@ -147,49 +141,49 @@ class Scratch:
 
     def run(self, words, redirection="", around=(), limit=LIMIT, **how):
         command = [*around, *self.command(words, redirection)]
-        try:
-            done = subprocess.run(command, cwd=self.folder, stdin=subprocess.DEVNULL, capture_output=True, timeout=limit, **how)
-        except subprocess.TimeoutExpired:
-            return Ran(f"none after {limit} seconds", b"", "")
+        done = subprocess.run(command, cwd=self.folder, stdin=subprocess.DEVNULL, capture_output=True, timeout=limit, **how)
         return Ran(done.returncode, done.stdout, done.stderr.decode(errors="replace"))
 
-    def expect(self, holds, case, words, ran):
-        """Counts a case and records its faults."""
-        self.count += 1
-        changed = [it for it, content in self.contents.items() if content != bytes_of(f"{self.folder}/{it}")]
-        line = f"{case}: xbrlmerge {words}: status {ran.status}, {ran.err[:200] or 'no line'}, {len(ran.out):,} bytes"
-        self.wrong += [] if holds else [line.replace("\n", " ")]
-        self.wrong += [f"{line}: {it} was changed" for it in changed]
+
+@pytest.fixture(scope="module")
+def folder():
+    with tempfile.TemporaryDirectory(prefix="devices-") as made:
+        yield Scratch(made)
 
 
-def compare_wholes(scratch):
-    for words, (ends, _) in WORDS.items():
-        ran = scratch.whole[words]
-        is_long = len(ran.out) >= 500_000
-        scratch.expect((ran.status, ran.err) == ends and is_long == (words in LONG), "good devices", words, ran)
+@pytest.fixture
+def scratch(folder):
+    """The folder of all tests. No input file may change."""
+    yield folder
+    assert not [it for it, content in folder.contents.items() if content != bytes_of(f"{folder.folder}/{it}")]
 
 
-def compare_outputs(scratch):
-    """Makes standard output fail, then standard error, then both."""
-    for words, (ends, stopped) in WORDS.items():
-        whole = scratch.whole[words]
-        for case, redirection in STOPS_OUTPUT.items():
-            ran = scratch.run(words, redirection)
-            scratch.expect(ran == (stopped[0], b"", stopped[1]), case, words, ran)
-        for case, redirection in STOPS_ERRORS.items():
-            ran = scratch.run(words, redirection)
-            scratch.expect(ran == (ends[0], whole.out, ""), case, words, ran)
-        for case, redirection in STOPS_BOTH.items():
-            ran = scratch.run(words, redirection)
-            scratch.expect(ran == (stopped[0], b"", ""), case, words, ran)
+each_words = pytest.mark.parametrize("words", WORDS)
 
 
-def compare_inputs(scratch):
-    """Makes standard input fail. Only the command line without arguments reads standard input."""
-    for words, (ends, _) in WORDS.items():
-        for case, redirection in STOPS_INPUT.items():
-            ran, expected = scratch.run(words, redirection), (ends[0], scratch.whole[words].out, ends[1])
-            scratch.expect(ran == (expected if words else (3, b"", "file -: cannot be read\n")), case, words, ran)
+@each_words
+def test_good_devices(scratch, words):
+    ran = scratch.whole[words]
+    assert (ran.status, ran.err) == WORDS[words][0] and (len(ran.out) >= 500_000) == (words in LONG)
+
+
+@each_words
+@pytest.mark.parametrize("case", (*STOPS_OUTPUT, *STOPS_ERRORS, *STOPS_BOTH))
+def test_outputs_fail(scratch, words, case):
+    ends, stopped = WORDS[words]
+    ran = scratch.run(words, {**STOPS_OUTPUT, **STOPS_ERRORS, **STOPS_BOTH}[case])
+    if case in STOPS_ERRORS:
+        assert ran == (ends[0], scratch.whole[words].out, "")
+    else:
+        assert ran == (stopped[0], b"", stopped[1] if case in STOPS_OUTPUT else "")
+
+
+@each_words
+@pytest.mark.parametrize("case", STOPS_INPUT)
+def test_input_fails(scratch, words, case):
+    """Only the command line without arguments reads standard input."""
+    ran, ends = scratch.run(words, STOPS_INPUT[case]), WORDS[words][0]
+    assert ran == ((ends[0], scratch.whole[words].out, ends[1]) if words else (3, b"", "file -: cannot be read\n"))
 
 
 def waiting(pipe):
@@ -231,28 +225,23 @@ def run_with_pipe(scratch, words, take, waits):
     with tempfile.TemporaryFile() as lines:
         child = subprocess.Popen(scratch.command(words, ""), cwd=scratch.folder, stdin=subprocess.DEVNULL, stdout=writer, stderr=lines)
         os.close(writer)
-        try:
-            front, taken = take(child, reader) if take else (b"", 0)
-            status = child.wait(LIMIT)
-        except subprocess.TimeoutExpired:
-            child.kill()
-            front, taken, status = b"", 0, f"none after {LIMIT} seconds"
+        front, taken = take(child, reader) if take else (b"", 0)
+        status = child.wait(LIMIT)
         lines.seek(0)
         return Ran(status, front, lines.read().decode(errors="replace")), taken
 
 
-def compare_pipes(scratch):
-    """Tests three pipes: one is closed at the start, one is closed after 5 bytes, and one that does not block is read only after
-    the program ends."""
-    for words, (ends, stopped) in WORDS.items():
-        whole = scratch.whole[words].out
-        ran, _ = run_with_pipe(scratch, words, None, True)
-        scratch.expect((ran.status, ran.err) == stopped, "a pipe closed at the start", words, ran)
-        for case, take, waits in (("a pipe closed after 5 bytes", take_five, True), ("a full pipe", take_late, False)):
-            ran, taken = run_with_pipe(scratch, words, take, waits)
-            expected = (3, f"device: {taken} bytes written\n") if words in LONG else ends
-            is_front = whole.startswith(ran.out) and (0 < taken < len(whole) if words in LONG else taken == len(whole))
-            scratch.expect((ran.status, ran.err) == expected and is_front, case, words, ran)
+@each_words
+def test_pipes(scratch, words):
+    """One pipe is closed at the start, one after 5 bytes, and one that does not block is read only after the program ends."""
+    ends, stopped = WORDS[words]
+    whole = scratch.whole[words].out
+    ran, _ = run_with_pipe(scratch, words, None, True)
+    assert (ran.status, ran.err) == stopped
+    for take, waits in ((take_five, True), (take_late, False)):
+        ran, taken = run_with_pipe(scratch, words, take, waits)
+        assert (ran.status, ran.err) == ((3, f"device: {taken} bytes written\n") if words in LONG else ends), take
+        assert whole.startswith(ran.out) and (0 < taken < len(whole) if words in LONG else taken == len(whole)), take
 
 
 def make(scratch, kind, name):
@@ -302,54 +291,55 @@ def run_strange(scratch, kind, words):
     return scratch.run(words)
 
 
-def compare_file(scratch, kind, name, words, ends):
-    """Runs the program on a file of this kind. If status 3 is expected, the output must be empty. Otherwise it must equal
-    the output for a regular file of the same content. Half a report is compared with an empty report, since the program
-    refuses both."""
-    writer = make(scratch, kind, name)
+@pytest.mark.parametrize("name, words", [(name, words) for name, listed in PLACES.items() for words in listed])
+@pytest.mark.parametrize("kind", FILES)
+def test_files(scratch, kind, name, words):
+    """The sheet, the events or a report is a file of this kind. If status 3 is expected, the output must be empty. Otherwise it must
+    equal the output for a regular file of the same content. Half a report is compared with an empty report, since the program refuses
+    both."""
+    if kind == "endless" and (free_memory() < MUCH or words != PLACES[name][0]):
+        pytest.skip(f"endless files without a limit on memory need {MUCH:,} kB, and are read by one command each")
+    writer, ends = make(scratch, kind, name), FILES[kind][[*PLACES].index(name)]
     try:
         ran = run_strange(scratch, kind, words)
     finally:
         remove(scratch, writer)
     plain = "empty" if kind in ("/dev/null", "a FIFO of nothing", "a FIFO of one half") else name
     out = b"" if ends[0] == 3 else scratch.run(words.replace("strange", plain)).out
-    scratch.expect(ran == (ends[0], out, ends[1]), f"{name} is {kind}", words, ran)
+    assert ran == (ends[0], out, ends[1])
 
 
-def compare_files(scratch):
-    """Replaces the sheet, the events or a report by each kind of file, and standard input by an endless file."""
-    for kind, all_ends in FILES.items():
-        if kind == "endless" and free_memory() < MUCH:
-            scratch.left_out.append(f"endless files without a limit on memory, since less than {MUCH:,} kB is free")
-            continue
-        for (name, all_words), ends in zip(PLACES.items(), all_ends):
-            for words in all_words[:1] if kind == "endless" else all_words:
-                compare_file(scratch, kind, name, words, ends)
-        if kind.startswith("endless"):
-            ran = run_strange(scratch, kind, "")
-            scratch.expect(ran == (3, b"", ends[1].replace("strange", "-")), f"standard input is {kind}", "", ran)
+@pytest.mark.parametrize("kind", [kind for kind in FILES if kind.startswith("endless")])
+def test_endless_input(scratch, kind):
+    if kind == "endless" and free_memory() < MUCH:
+        pytest.skip(f"it needs {MUCH:,} kB of memory")
+    ends = FILES[kind][0]
+    assert run_strange(scratch, kind, "") == (3, b"", ends[1].replace("strange", "-"))
 
 
-def expect_second(scratch, case, words, ran, cause):
+def expect_second(ran, cause):
     """Expects status 3 or 1 with a first line, which is tested elsewhere, and this second line."""
-    lines = ran.err.splitlines()
-    scratch.expect(ran.status in (1, 3) and ran.out == b"" and lines[1:] == [cause], case, words, ran)
+    assert ran.status in (1, 3) and ran.out == b"" and ran.err.splitlines()[1:] == [cause], ran
 
 
-def compare_causes(scratch):
-    """Makes reading, writing and checking fail with --verbose, and on a terminal. A second line must state why."""
-    for kind, causes in CAUSES.items():
-        for words, cause in zip(("check --verbose --sheet sheet strange", "check --verbose --sheet sheet report -o strange"), causes):
-            if cause:
-                make(scratch, kind, "report")
-                try:
-                    ran = run_strange(scratch, kind, words)
-                finally:
-                    remove(scratch, None)
-                expect_second(scratch, f"strange is {kind}", words, ran, cause)
-    for words, cause in VERBOSE.items():
-        expect_second(scratch, "--verbose", f"{words} --verbose", scratch.run(f"{words} --verbose"), cause)
-        expect_second(scratch, "on a terminal", words, run_on_terminal(scratch, words), cause)
+@pytest.mark.parametrize("words, place", (("check --verbose --sheet sheet strange", 0), ("check --verbose --sheet sheet report -o strange", 1)))
+@pytest.mark.parametrize("kind", CAUSES)
+def test_causes(scratch, kind, words, place):
+    """Reading or writing fails with --verbose. A second line must state why."""
+    if not CAUSES[kind][place]:
+        pytest.skip("such an output can be written")
+    make(scratch, kind, "report")
+    try:
+        ran = run_strange(scratch, kind, words)
+    finally:
+        remove(scratch, None)
+    expect_second(ran, CAUSES[kind][place])
+
+
+@pytest.mark.parametrize("words", VERBOSE)
+def test_causes_with_verbose_and_on_a_terminal(scratch, words):
+    expect_second(scratch.run(f"{words} --verbose"), VERBOSE[words])
+    expect_second(run_on_terminal(scratch, words), VERBOSE[words])
 
 
 def run_on_terminal(scratch, words):
@@ -368,35 +358,11 @@ def run_on_terminal(scratch, words):
     return Ran(done.returncode, done.stdout, lines.decode(errors="replace").replace("\r\n", "\n"))
 
 
-def compare_terminals(scratch):
-    """Passes a part of a taxonomy as the sheet. On a terminal, a second line says how to make a sheet from it."""
-    for content, kind in TAXONOMIES.items():
-        with open(f"{scratch.folder}/taxonomy", "wb") as file:
-            file.write(content)
-        words = "merge --sheet taxonomy report"
-        hint = f"The file looks like {kind}: run `tools/make_sheet FILE >sheet.json`.\n"
-        ran = scratch.run(words)
-        scratch.expect(ran == (3, b"", BAD_SHEET[1]), "a taxonomy as the sheet", words, ran)
-        ran = run_on_terminal(scratch, words)
-        scratch.expect(ran == (3, b"", BAD_SHEET[1] + hint), "a taxonomy as the sheet, on a terminal", words, ran)
-
-
-def main():
-    parser = argparse.ArgumentParser(description=__doc__, formatter_class=argparse.RawDescriptionHelpFormatter)
-    parser.add_argument("PROGRAM", nargs="?")
-    program = built_program(parser.parse_args().PROGRAM)
-    started, counts = time.monotonic(), []
-    with tempfile.TemporaryDirectory(prefix="devices-") as folder:
-        scratch = Scratch(program, folder)
-        for compare in (compare_wholes, compare_outputs, compare_pipes, compare_inputs, compare_files, compare_causes, compare_terminals):
-            before = scratch.count
-            compare(scratch)
-            counts.append(f"{scratch.count - before} of {compare.__name__.removeprefix('compare_')}")
-    seconds = time.monotonic() - started
-    summary = f"{scratch.count} cases, {len(scratch.wrong)} not as expected, in {seconds:.0f} seconds: {', '.join(counts)}"
-    print(*scratch.wrong, f"tests/program/devices: {summary}", *(f"skipped: {it}" for it in scratch.left_out), sep="\n")
-    return 1 if scratch.wrong else 0
-
-
-if __name__ == "__main__":
-    sys.exit(main())
+@pytest.mark.parametrize("content, kind", TAXONOMIES.items())
+def test_a_taxonomy_as_the_sheet(scratch, content, kind):
+    """On a terminal, a second line says how to make a sheet from it."""
+    write(f"{scratch.folder}/taxonomy", content)
+    words = "merge --sheet taxonomy report"
+    assert scratch.run(words) == (3, b"", BAD_SHEET[1])
+    hint = f"The file looks like {kind}: run `tools/make_sheet FILE >sheet.json`.\n"
+    assert run_on_terminal(scratch, words) == (3, b"", BAD_SHEET[1] + hint)
