@@ -109,7 +109,7 @@ class Run:
         given = [self.snapshot.of(report.path) for report in self.reports]
         whole = self.normalised() if self.options.normalise or sheet_at(self.program.sheet).sets else given
         paths = self.latest(whole) if self.options.latest else whole
-        if self.options.normalise or self.changes.rules:
+        if self.options.normalise or self.options.latest or self.changes.rules:
             self.files.append(("changes.csv", self.changes.pieces()))
         self.findings.add("losses", self.changes.losses, "loss in changes.csv", "losses in changes.csv")
         found = self.read(paths, "merge", "verdicts", "sources")
@@ -178,6 +178,8 @@ class Run:
 
     def latest(self, paths: list[str]) -> list[str]:
         """Returns the paths of the reports without the facts that a later report of their provider supersedes. Errors: NotDone, OSError."""
+        if len({report.provider for report in self.reports}) == len(self.reports):
+            return paths
         refused = self.read(paths, "verdicts", "sources")
         verdicts, sources = map(self.program.path_of, ("verdicts", "sources"))
         made = [*paths]

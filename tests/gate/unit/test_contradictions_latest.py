@@ -70,6 +70,14 @@ class Latest(Stubbed):
         self.assertFalse(os.path.exists(os.path.join(self.output, "changes.csv")))
         self.assertIn("A: restated: restated.json after annual {}.json", self.cells("table.csv")[1]["hint"])
 
+    def test_if_nothing_is_superseded_the_table_of_changes_is_empty(self):
+        os.mkdir(self.output)
+        self.write("out/changes.csv", "of another run")
+        self.words = [f"{name}={path}" for name, path in zip("ABC", self.paths)]
+        self.prints("sources", SOURCES.replace(" 4 ", " 2 "))
+        self.run_latest("--latest")
+        self.assertEqual((self.cells("changes.csv"), self.log()[0][0]), ([], "merge"))
+
     def test_a_report_that_repeats_a_member_stops_the_run(self):
         self.write("annual {}.json", FILES["annual {}.json"].replace('"facts"', '"facts": {}, "facts"'))
         done = self.run_on("--latest", *self.words, sheet=("--sheet", self.sheet))
