@@ -55,8 +55,9 @@ Without --normalise, only sets of names are respelled. A report with a set that 
 --map PROVIDER=MAP applies a map of tools/normalise to the reports of a provider; repeat it for each provider.
 
 --latest drops restated facts: in each row, only the last of a provider's reports that has the row counts, in the order given.
-changes.csv lists each other fact of the provider there, with both files, as a loss by the rule `superseded`. Without --latest,
-the hint at a contradiction between two reports of one provider is "restated: FILE after FILE".
+changes.csv lists each other fact of the provider there, with both files, as a loss by the rule `superseded`. A report with such
+facts must not repeat a member. Without --latest, the hint at a contradiction between two reports of one provider is "restated: FILE
+after FILE".
 
 --near NEAR.csv writes a table of pairs of rows that differ in one dimension only, perhaps by mistake: the same name or
 identifier in another namespace or scheme, other letter case or white space, dates at most a day apart, another unit or
