@@ -1,11 +1,13 @@
 -- What the program prints on standard error, and its exit status (own).
-use Rattle.std.specs.Prelude.{ℕ, zero, suc, List, [], ◌∷◌, ◌++◌, codes, flat_map, Option, Some, None, Result, Ok, Err, String, string_bytes}
+use Rattle.std.specs.Prelude.{◌≡◌, IfSome, IsTrue, ℕ, zero, suc, List, [], ◌∷◌, ◌++◌, codes, flat_map, Option, Some, None, Result, Ok, Err, String, string_bytes}
 use Rattle.std.specs.Fmt.{decimal}
+use Rattle.std.specs.Io.KnownBytes.{Appends}
 use Rattle.oim_names.specs.Reasons.{entry_of}
 use Rattle.oim_names.specs.declared.reason.Reason.{Reason}
 use Rattle.oim_report.specs.declared.refusal.Refusal.{Refusal}
 use Rattle.oim_explain.specs.Escaped.{escaped}
 use Rattle.oim_explain.specs.Lines.{place_text}
+use Rattle.command_line.specs.declared.console.Console.{Console}
 use Rattle.command_line.specs.declared.error.Error.{Error}
 use Rattle.command_line.specs.declared.error.Error.TheVariants as error
 use Rattle.command_line.specs.declared.error.Success.{Success}
@@ -51,15 +53,6 @@ refusal_lines refusals = flat_map refusal_line refusals
 abbrev pub file_line : List ℕ → List ℕ → List ℕ
 file_line file fault = codes "file " ++ (escaped file ++ (codes ": " ++ (fault ++ 10 ∷ [])))
 
-abbrev pub error_line : Error → Option (List ℕ)
-error_line (error.TooLong file) = Some (file_line file.now (codes "too long"))
-error_line (error.NoNames file) = Some (file_line file.now (codes "names no report"))
-error_line (error.Event line) = Some (codes "event " ++ (decimal line ++ codes ": refused\n"))
-error_line (error.Device written) = Some (codes "device: " ++ (decimal written ++ codes " bytes written\n"))
-error_line (error.TooMuch most) = Some (codes "output: more than " ++ (decimal most ++ codes " bytes; --most-output BYTES sets the bound\n"))
-error_line error.OutOfMemory = Some (codes "out of memory\n")
-error_line _ = None
-
 abbrev pub sheet_line : Reason → List ℕ
 sheet_line reason = codes "sheet: " ++ (decimal (entry_of reason).number ++ 32 ∷ ((entry_of reason).name ++ 10 ∷ []))
 
@@ -73,10 +66,20 @@ error_lines (error.TooLoose row refused) = Some (refusal_lines refused ++ (codes
 error_lines (error.Sheet reason explained kind) = Some (sheet_line reason ++ explained_lines explained)
 error_lines (error.Unread file why) = Some (file_line file.now (codes "cannot be read"))
 error_lines (error.Unwritten file why) = Some (file_line file.now (codes "cannot be written"))
-error_lines e = error_line e
+error_lines (error.TooLong file) = Some (file_line file.now (codes "too long"))
+error_lines (error.NoNames file) = Some (file_line file.now (codes "names no report"))
+error_lines (error.Event line) = Some (codes "event " ++ (decimal line ++ codes ": refused\n"))
+error_lines (error.Device written) = Some (codes "device: " ++ (decimal written ++ codes " bytes written\n"))
+error_lines (error.TooMuch most) = Some (codes "output: more than " ++ (decimal most ++ codes " bytes; --most-output BYTES sets the bound\n"))
+error_lines error.OutOfMemory = Some (codes "out of memory\n")
+error_lines _ = None
 
 -- what standard error gets at the end of a plain run; None for the text of clap
 abbrev pub lines_of : Result Success Error → Option (List ℕ)
 lines_of (Ok (success.Refusals refusals)) = Some (refusal_lines refusals)
 lines_of (Ok (success.Faults faults)) = Some []
 lines_of (Err e) = error_lines e
+
+-- the console got this text, unless a write failed; nothing is stated of a text that is None
+abbrev pub Shows : {E : Type 0} → (E → Option (List ℕ)) → Option (List ℕ) → Console E → Console E → Type 0
+Shows contents text old new = (new.is_verbose ≡ old.is_verbose) × (IsTrue new.is_whole → IsTrue old.is_whole × IfSome text (Appends (contents old.err) (contents new.err)))

@@ -7,6 +7,7 @@ mod causes;
 mod commands;
 mod console;
 mod disk;
+mod ending;
 mod error;
 mod folder;
 mod inputs;

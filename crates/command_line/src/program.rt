@@ -3,6 +3,7 @@ ghost use Rattle.command_line.specs.Program.{InputEnd, IsPlain, IsPlainRun, Name
 
 use crate::console::Console;
 use crate::disk::{Disk, System};
+use crate::ending::tell;
 use crate::error::{Error, Success};
 use crate::folder::Folder;
 use crate::inputs::Inputs;
@@ -100,7 +101,7 @@ fn ended<O, E: Write>(
     ensures tells { Tells (λ d. d ≡ done.now) result.status (IsPlain console.is_terminal console.is_verbose result.console.is_whole) (E.contents console.err) (E.contents result.console.err) }
 {
     Ran {
-        status: console.tell(done, names),
+        status: tell(&mut console, done, names),
         out,
         console,
     }
