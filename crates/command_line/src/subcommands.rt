@@ -45,7 +45,8 @@ pub(crate) fn rows_command<'w>(
     ensures { (a : App) → IfOk command.entry (IsApp a) → IfOk result (IsApp (rows_app is_strict a formats.entry)) }
 {
     let format = option(alloc, "format", "FORMAT", "The output format");
-    let help = "Write csv with a byte order mark, and with a ' before all that may be a formula";
+    let help =
+        "Write csv with a byte order mark, and with a ' before each text that may be a formula";
     let command = with(command, choice(format, formats, "lines"));
     let command = with_flag_of(
         command,
