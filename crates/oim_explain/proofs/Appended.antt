@@ -7,7 +7,7 @@ use Rattle.std.specs.Prelude.{OnOk, Result, Ok, Err}
 use Rattle.oim_report.specs.declared.refusal.Refusal.{Refusal}
 use Rattle.oim_explain.specs.Escaped.{escaped}
 use Rattle.oim_explain.specs.Explained.{Explains, RepeatsKeys, counted}
-use Rattle.oim_explain.specs.Lines.{AreLines, IsLineIn, Printed, repeated_member}
+use Rattle.oim_explain.specs.Lines.{AreLines, IsLine, Printed, repeated_member}
 use Rattle.oim_explain.specs.code.Added.{AddsAll, AddsLines, AddsRepeated, AddsTokens}
 use Rattle.oim_explain.specs.declared.lines.Input.{Input}
 use Rattle.oim_explain.specs.declared.lines.Lines.{Lines}
@@ -41,7 +41,7 @@ one_more : (n : ℕ) → counted (counted n + 1) ≡ counted (n + 1)
 one_more n = omega arith
 
 -- a line with its line end
-pub adds_line : (old : Lines) (text : String Global) (faults : ℕ) (p : Printed) (line : List ℕ) → faults ≡ counted (old.explained.faults + 1) → IsLineIn old.input.format old.input p line
+pub adds_line : (old : Lines) (text : String Global) (faults : ℕ) (p : Printed) (line : List ℕ) → faults ≡ counted (old.explained.faults + 1) → IsLine old.input p line
     → string_bytes text ≡ string_bytes old.explained.text ++ (escaped line ++ 10 ∷ []) → AddsLines old (record { alloc = old.alloc; input = old.input; explained = record { text = text; faults = faults } }) (p ∷ [])
 adds_line old text faults p line counts is appended = record {
   text = escaped line ++ 10 ∷ [];

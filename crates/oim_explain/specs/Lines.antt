@@ -1,8 +1,8 @@
 -- The line that `explain` prints for a fault, up to its sentence (own). In bytes, a line end is 10.
-use Rattle.std.specs.Prelude.{◌≡◌, ℕ, List, [], ◌∷◌, ◌++◌, codes, Option, Some, None, option_map}
+use Rattle.std.specs.Prelude.{◌≡◌, ℕ, List, [], ◌∷◌, ◌++◌, codes, Option, Some, None, option_map, ⊤}
 use Rattle.std.specs.Fmt.{decimal}
 use Rattle.json.specs.Print.{print}
-use Rattle.json.specs.Token.{Token, begin_object, key, number, string, null}
+use Rattle.json.specs.Token.{Token, begin_object, end_object, key, number, string, null}
 use Rattle.oim_names.specs.Reasons.{entry_of}
 use Rattle.oim_report.specs.declared.place.Place.{Place}
 use Rattle.oim_report.specs.declared.place.Place.TheVariants as place
@@ -21,6 +21,11 @@ pub record Printed : Type 0 where
 abbrev pub repeated_member : Printed
 repeated_member = record { refusal = None; identifier = None }
 
+-- the sentence about a repeated member contains ` is repeated`; nothing is stated of other sentences
+abbrev pub IsSentence : Option Refusal → List ℕ → Type 0
+IsSentence None sentence = (before : List ℕ) × (after : List ℕ) × (sentence ≡ before ++ (codes " is repeated" ++ after))
+IsSentence (Some refusal) sentence = ⊤
+
 -- ---- as text
 
 abbrev pub identifier_text : Option (List ℕ) → List ℕ
@@ -35,8 +40,8 @@ refusal_text (Some refusal) = decimal (entry_of refusal.reason).number ++ 32 ∷
 abbrev pub text_front : Input → Printed → List ℕ
 text_front input printed = input.name.now ++ (codes ": " ++ (identifier_text printed.identifier ++ refusal_text printed.refusal))
 
-abbrev pub IsTextLine : Input → Printed → List ℕ → Type 0
-IsTextLine input printed line = (sentence : List ℕ) × (line ≡ text_front input printed ++ sentence)
+abbrev pub IsTextLine : Input → Printed → List ℕ → List ℕ → Type 0
+IsTextLine input printed sentence line = line ≡ text_front input printed ++ sentence
 
 -- ---- as JSON
 
@@ -66,17 +71,26 @@ object_front input printed =
     begin_object ∷ key (codes "report") ∷ number_token input.report ∷ key (codes "file") ∷ string input.name.now
     ∷ (place_tokens printed.refusal ++ (reason_tokens printed.refusal ++ key (codes "identifier") ∷ text_token printed.identifier ∷ []))
 
-abbrev pub IsJsonLine : Input → Printed → List ℕ → Type 0
-IsJsonLine input printed line = (rest : List Token) × (line ≡ print (object_front input printed ++ rest))
+-- the members `part` and `sentence`
+abbrev pub object_end : List Token → List ℕ → List Token
+object_end part sentence = key (codes "part") ∷ (part ++ key (codes "sentence") ∷ string sentence ∷ end_object ∷ [])
+
+abbrev pub IsJsonLine : Input → Printed → List ℕ → List ℕ → Type 0
+IsJsonLine input printed sentence line = (part : List Token) × (line ≡ print (object_front input printed ++ object_end part sentence))
 
 -- ---- several lines
 
-abbrev pub IsLineIn : Format → Input → Printed → List ℕ → Type 0
+abbrev pub IsLineIn : Format → Input → Printed → List ℕ → List ℕ → Type 0
 IsLineIn Text = IsTextLine
 IsLineIn Json = IsJsonLine
+
+pub record IsLine (input : Input) (printed : Printed) (line : List ℕ) : Type 0 where
+  pub sentence : List ℕ
+  pub says : IsSentence printed.refusal sentence
+  pub is : IsLineIn input.format input printed sentence line
 
 -- a line for each of `printed`, in this order; each is escaped, so it has no other line end
 abbrev pub AreLines : Input → List Printed → List ℕ → Type 0
 AreLines input [] text = text ≡ []
 AreLines input (p ∷ ps) text =
-    (line : List ℕ) × (rest : List ℕ) × IsLineIn input.format input p line × AreLines input ps rest × (text ≡ escaped line ++ 10 ∷ rest)
+    (line : List ℕ) × (rest : List ℕ) × IsLine input p line × AreLines input ps rest × (text ≡ escaped line ++ 10 ∷ rest)

@@ -1,6 +1,6 @@
-ghost use Rattle.std.specs.Prelude.{◌≡◌, ◌∷◌, ◌++◌, [], IfOk, OnOk, option_map, string_bytes};
+ghost use Rattle.std.specs.Prelude.{◌≡◌, ◌∷◌, ◌++◌, [], IfOk, None, OnOk, option_map, string_bytes};
 ghost use Rattle.json.specs.Token.{key};
-ghost use Rattle.oim_explain.specs.Lines.{IsJsonLine, IsLineIn, IsTextLine, identifier_text, number_token, object_front, place_tokens, reason_tokens, refusal_text, repeated_member, text_token};
+ghost use Rattle.oim_explain.specs.Lines.{IsJsonLine, IsLineIn, IsSentence, IsTextLine, identifier_text, number_token, object_front, place_tokens, reason_tokens, refusal_text, repeated_member, text_token};
 ghost use Rattle.oim_explain.specs.code.Added.{AddsLines, AddsTokens, AddsSomeTokens, of_finding, of_fault};
 
 use super::escaped::Escaped;
@@ -79,6 +79,7 @@ impl<'n> Lines<'n> {
     /// the fact's identifier, cut to 80 characters. A fact may have many repeated members, and
     /// otherwise each JSON object would repeat the whole identifier.
     pub(crate) fn push_repeated(&mut self, key: &str, sentence: &str) -> Result<(), AllocError>
+        requires { IsSentence None sentence.now }
         ensures { OnOk result (AddsLines self.old self.new (repeated_member ∷ [])) }
     {
         self.put(&PrintedFault {
@@ -91,6 +92,7 @@ impl<'n> Lines<'n> {
 
     /// Adds the line of a fault. The whole line is escaped, so it is one line.
     fn put(&mut self, fault: &PrintedFault<'_, '_>) -> Result<(), AllocError>
+        requires { IsSentence fault.now.refusal fault.now.sentence.now }
         ensures { OnOk result (AddsLines self.old self.new (of_fault fault.now ∷ [])) }
     {
         let line = fault.line(self.alloc, &self.input)?;
@@ -112,7 +114,7 @@ struct PrintedFault<'f, 's> {
 
 impl PrintedFault<'_, '_> {
     fn line(&self, alloc: Global, input: &Input<'_>) -> Result<String, AllocError>
-        ensures { let is_line = IsLineIn input.now.format input.now (of_fault self.now) in
+        ensures { let is_line = IsLineIn input.now.format input.now (of_fault self.now) self.now.sentence.now in
             IfOk result (λ line. is_line (string_bytes line)) }
     {
         match input.format {
@@ -122,7 +124,7 @@ impl PrintedFault<'_, '_> {
     }
 
     fn text_line(&self, alloc: Global, input: &Input<'_>) -> Result<String, AllocError>
-        ensures { IfOk result (λ line. IsTextLine input.now (of_fault self.now) (string_bytes line)) }
+        ensures { IfOk result (λ line. IsTextLine input.now (of_fault self.now) self.now.sentence.now (string_bytes line)) }
     {
         let mut line = String::from_str(alloc, input.name)?;
         line.push_str(": ")?;
@@ -158,7 +160,7 @@ impl PrintedFault<'_, '_> {
 
     /// Returns the fault as a JSON object.
     fn json_line(&self, alloc: Global, input: &Input<'_>) -> Result<String, AllocError>
-        ensures { IfOk result (λ line. IsJsonLine input.now (of_fault self.now) (string_bytes line)) }
+        ensures { IfOk result (λ line. IsJsonLine input.now (of_fault self.now) self.now.sentence.now (string_bytes line)) }
     {
         let mut writer = Writer::new(Vec::new(alloc));
         self.put_front(alloc, &mut writer, input)?;

@@ -1,7 +1,6 @@
-use Rattle.std.proofs.Common.{[], ◌∷◌, ◌++◌, ap, ◌∙◌, codes}
+use Rattle.std.proofs.Common.{◌++◌, ap, ◌∙◌}
 use Rattle.json.specs.Print.{print}
-use Rattle.json.specs.Token.{end_object, key, string}
-use Rattle.oim_explain.specs.Lines.{object_front}
+use Rattle.oim_explain.specs.Lines.{object_end, object_front}
 use Rattle.oim_explain.specs.code.Added.{of_fault}
 use Rattle.oim_explain.proofs.Appended.{tokens_one, tokens_then}
 use Rattle.oim_explain.proofs.lines.PrintedFault.json_line.Goals as goal
@@ -14,8 +13,8 @@ written_text-requires c =
 pub returns : goal.returns
 returns c =
     let part = c.in_ok-put_part.ensures in
-    let rest = key (codes "part") ∷ (part.0 ++ key (codes "sentence") ∷ string c.args.self.now.sentence.now ∷ end_object ∷ []) in
+    let rest = object_end part.0 c.args.self.now.sentence.now in
     let front = object_front c.args.input.now (of_fault c.args.self.now) in
     let all = tokens_then c.in_ok-put_front.ensures
     (tokens_then (tokens_one c.in_ok-key.ensures) (tokens_then part.1 (tokens_then c.in_ok-put_text.ensures (tokens_one c.in_ok-end_object.ensures)))) in
-    (rest, c.written_text.ensures ∙ ap print (all.tokens ∙ ap (λ ts. ts ++ (front ++ rest)) c.new-writer.ensures.tokens))
+    (part.0, c.written_text.ensures ∙ ap print (all.tokens ∙ ap (λ ts. ts ++ (front ++ rest)) c.new-writer.ensures.tokens))
