@@ -191,7 +191,7 @@ class Hostile(ToolTest):
 
     def test_no_link_below_the_output_folder_is_followed(self):
         words, victim = self.words([number(1), number(2)]), self.write("victim", "own")
-        for name in ("page.html", "table.csv", "providers.csv"):
+        for name in ("page.html", "table.csv", "providers.csv", "contradictions.csv", "warnings.csv", "summary.json"):
             for target in (victim, "../victim", "nowhere", "."):
                 os.mkdir(self.output)
                 os.symlink(target, os.path.join(self.output, name))
