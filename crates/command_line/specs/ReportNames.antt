@@ -6,6 +6,7 @@ use Rattle.std.specs.List.{slice_split}
 use Rattle.std.specs.Str.{IsUtf8}
 use Rattle.std.specs.Str.Lines.{strip_carriage_return}
 use Rattle.clap.specs.Words.{Text}
+use Rattle.oim_report.specs.Json.{without_mark}
 use Rattle.command_line.specs.declared.error.Error.{Error}
 use Rattle.command_line.specs.declared.error.Error.TheVariants.{Unread, NoNames, OutOfMemory}
 use Rattle.command_line.specs.declared.request.Args.{Args}
@@ -21,9 +22,9 @@ abbrev pub has_text : Text → Bool
 has_text [] = false
 has_text (x ∷ xs) = true
 
--- empty names are skipped
+-- a byte order mark and empty names are skipped
 abbrev pub names_in_file : Bool → List ℕ → List Text
-names_in_file is_null bytes = filter has_text (map (without_return is_null) (slice_split (λ b. b == name_end is_null) bytes))
+names_in_file is_null bytes = filter has_text (map (without_return is_null) (slice_split (λ b. b == name_end is_null) (without_mark bytes)))
 
 abbrev pub name_texts : List (Bor Text) → List Text
 name_texts names = map (λ (name : Bor Text). name.now) names
@@ -34,11 +35,11 @@ report_names args bytes = name_texts args.reports.items ++ option_map_or (λ fil
 
 -- the file of names is UTF-8, and there is a name
 abbrev pub AreReportNames : Args → List ℕ → List (Bor Text) → Type 0
-AreReportNames args bytes names = (name_texts names ≡ report_names args bytes) × IfSome args.list (λ file. IsUtf8 bytes × (names ≢ []))
+AreReportNames args bytes names = (name_texts names ≡ report_names args bytes) × IfSome args.list (λ file. IsUtf8 (without_mark bytes) × (names ≢ []))
 
 -- why the names were not read
 abbrev pub IsNameError : Args → List ℕ → Error → Type 0
-IsNameError args bytes (Unread file why) = (args.list ≡ Some file) × ¬ (IsUtf8 bytes)
+IsNameError args bytes (Unread file why) = (args.list ≡ Some file) × ¬ (IsUtf8 (without_mark bytes))
 IsNameError args bytes (NoNames file) = (args.list ≡ Some file) × (report_names args bytes ≡ [])
 IsNameError args bytes OutOfMemory = ⊤
 IsNameError args bytes _ = ⊥

@@ -7,6 +7,7 @@ use crate::folder::{Folder, read_bytes};
 use crate::print_format::PrintFormat;
 use oim_explain::Format;
 use oim_names::Encoded;
+use oim_report::after_mark;
 use oim_value::Level;
 use oim_write::{BOUND_PER_BYTE, default_bound};
 use std::alloc::Global;
@@ -82,8 +83,8 @@ impl<'w> Args<'w> {
         }
     }
 
-    /// Returns the names of all reports, given the bytes of the file of names. Empty names in the
-    /// file are skipped.
+    /// Returns the names of all reports, given the bytes of the file of names. A byte order mark and
+    /// empty names in the file are skipped.
     ///
     /// Errors: `Unread` if the file is not UTF-8; `NoNames` if there is a file of names, but no
     /// report is named; out of memory.
@@ -99,7 +100,7 @@ impl<'w> Args<'w> {
         let Some(list) = self.list else {
             return Ok(all);
         };
-        let Ok(text) = str::from_utf8(bytes) else {
+        let Ok(text) = str::from_utf8(after_mark(bytes)) else {
             return Err(Error::Unread(list, Some("It is not UTF-8.")));
         };
         for name in text.split(self.end()) {
