@@ -5,7 +5,7 @@ use Rattle.std.specs.Io.KnownBytes.{Appends}
 use Rattle.oim_names.specs.Reasons.{entry_of}
 use Rattle.oim_names.specs.declared.reason.Reason.{Reason}
 use Rattle.oim_report.specs.declared.refusal.Refusal.{Refusal}
-use Rattle.oim_explain.specs.Escaped.{escaped}
+use Rattle.oim_explain.specs.Escaped.{escaped_name}
 use Rattle.oim_explain.specs.Lines.{place_text}
 use Rattle.command_line.specs.declared.console.Console.{Console}
 use Rattle.command_line.specs.declared.error.Error.{Error}
@@ -51,7 +51,7 @@ refusal_lines refusals = flat_map refusal_line refusals
 
 -- the line of a file that was not read or not written
 abbrev pub file_line : List ℕ → List ℕ → List ℕ
-file_line file fault = codes "file " ++ (escaped file ++ (codes ": " ++ (fault ++ 10 ∷ [])))
+file_line file fault = codes "file " ++ (escaped_name file ++ (codes ": " ++ (fault ++ 10 ∷ [])))
 
 abbrev pub sheet_line : Reason → List ℕ
 sheet_line reason = codes "sheet: " ++ (decimal (entry_of reason).number ++ 32 ∷ ((entry_of reason).name ++ 10 ∷ []))

@@ -6,7 +6,7 @@ ghost use Rattle.command_line.specs.Printed.{Shows, error_lines, explained_lines
 
 use crate::console::Console;
 use crate::error::{Error, Success};
-use oim_explain::Escaped;
+use oim_explain::EscapedName;
 use oim_merge::Refusals;
 use oim_report::{Place, Refusal};
 use std::io::Write;
@@ -86,7 +86,7 @@ fn print_refusal<E: Write>(console: &mut Console<E>, report: u64, refusal: &Refu
 
 fn print_name<E: Write>(console: &mut Console<E>, report: u64, files: &[&str]) {
     if let Some(file) = files.get(report.saturating_sub(1) as usize) {
-        console.print(format_args!("File: {}\n", Escaped(file)));
+        console.print(format_args!("File: {}\n", EscapedName(file)));
     }
 }
 
@@ -134,7 +134,7 @@ fn print_fault<E: Write>(
 )
     ensures { console.old.is_verbose ≡ false → Shows E.contents (Some (file_line file.now fault.now)) console.old console.new }
 {
-    console.print(format_args!("file {}: {fault}\n", Escaped(file)));
+    console.print(format_args!("file {}: {fault}\n", EscapedName(file)));
     match why {
         Some(why) if console.is_verbose => console.print(format_args!("{why}\n")),
         _ => {}

@@ -16,7 +16,7 @@ use crate::subcommands::{
 };
 use clap::error::ErrorKind;
 use clap::{ArgMatches, Command};
-use oim_explain::Escaped;
+use oim_explain::EscapedName;
 use std::alloc::{AllocError, Global};
 use std::convert::AsStr;
 
@@ -90,7 +90,7 @@ fn usage_error<W: AsStr>(alloc: Global, words: &[W]) -> Result<Option<clap::Erro
 fn escape_each<W: AsStr>(alloc: Global, words: &[W]) -> Result<Vec<String>, AllocError> {
     let mut escaped = Vec::with_capacity(alloc, words.len())?;
     for word in words {
-        let shown = Escaped(word.as_str());
+        let shown = EscapedName(word.as_str());
         escaped.push(format!(in alloc; "{shown}")?)?;
     }
     Ok(escaped)

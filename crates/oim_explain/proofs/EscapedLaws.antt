@@ -1,6 +1,6 @@
 -- The characters of an escaped text.
 use Rattle.std.proofs.Common.{◌≡◌, ℕ, ◌/◌, ◌%◌, ◌<◌, ◌≤◌, List, [], ◌∷◌, ◌++◌, Bool, not, ◌&&◌, ◌||◌, true, false, refl, sym, ap, ◌∙◌, append-nil, arith, encode_utf8_all, flat_map}
-use Rattle.std.specs.Prelude.{if◌then◌else◌, nat_le}
+use Rattle.std.specs.Prelude.{◌==◌, if◌then◌else◌, nat_le}
 use Rattle.std.specs.List.{list_all, list_any}
 use Rattle.std.specs.Char.{digit_char, encode_utf8, is_control, IsScalar}
 use Rattle.std.specs.Char.Escape.{encode_utf16}
@@ -14,7 +14,7 @@ use Rattle.std.proofs.lemmas.List.Folds.{list_all-append}
 use Rattle.std.proofs.lemmas.Nat.{mod_below}
 use Rattle.std.proofs.lemmas.Str.{IsAscii-append, IsUtf8-append, IsUtf8-encode, IsUtf8-from_ascii, IsUtf8-nil, chars-IsAscii, chars-append, chars-encodes, chars-nil, chars_past_char, encodes-chars, scalars-chars}
 use Rattle.std.proofs.lemmas.Str.Ascii.{IsAscii-cons, IsAscii-nil}
-use Rattle.oim_explain.specs.Escaped.{EscapedIsShown, character_escape, escaped, escaped_character, hidden, is_shown, is_within, unit_escape}
+use Rattle.oim_explain.specs.Escaped.{EscapedIsShown, blank, character_escape, escaped, escaped_character, escaped_name, hidden, is_shown, is_within, name_character, name_characters, unit_escape}
 
 pub escaped_nil : escaped [] ≡ []
 unfolding escaped
@@ -61,7 +61,8 @@ none_hidden c (r ∷ ranges) low above =
 printable_shown : (c : ℕ) → 32 ≤ c → c < 127 → is_shown c ≡ true
 unfolding is_shown
 printable_shown c above low =
-    ap (λ b. not b && not (list_any (is_within c) hidden)) (no_control c above low) ∙ ap not (none_hidden c hidden low refl)
+    ap (λ b. not b && (not (list_any (is_within c) hidden) && not (list_any (is_within c) blank))) (no_control c above low)
+    ∙ ap (λ b. not b && not (list_any (is_within c) blank)) (none_hidden c hidden low refl) ∙ ap not (none_hidden c blank low refl)
 
 digit_bounds : (d : ℕ) → d < 16 → (48 ≤ digit_char d) × (digit_char d < 103)
 digit_bounds d small = grind (arith, nat_tests)
@@ -125,18 +126,37 @@ by_case : (c : ℕ) (shown : Bool) → is_shown c ≡ shown → IsScalar c → A
 by_case c true is fits = one_shown c fits is
 by_case c false is fits = escape_shown c
 
+none_shown : AllShown []
+none_shown = (IsUtf8-nil, ap (list_all is_shown) chars-nil)
+
+both_shown : (s t : List ℕ) → AllShown s → AllShown t → AllShown (s ++ t)
+both_shown s t one rest = (
+  IsUtf8-append s t one.0 rest.0,
+  ap (list_all is_shown) (chars-append s t one.0) ∙ list_all-append is_shown (chars s) (chars t) ∙ and_from (list_all is_shown (chars s)) (list_all is_shown (chars t)) one.1 rest.1,
+)
+
 all_shown : (cs : List ℕ) → all_scalars cs ≡ true → AllShown (flat_map escaped_character cs)
-all_shown [] scalars = (IsUtf8-nil, ap (list_all is_shown) chars-nil)
+all_shown [] scalars = none_shown
 all_shown (c ∷ cs) scalars =
     let both = and_parts (scalar c) (all_scalars cs) scalars in
-    let one = by_case c (is_shown c) refl both.0 in
-    let rest = all_shown cs both.1 in (
-      IsUtf8-append (escaped_character c) (flat_map escaped_character cs) one.0 rest.0,
-      ap (list_all is_shown) (chars-append (escaped_character c) (flat_map escaped_character cs) one.0)
-          ∙ list_all-append is_shown (chars (escaped_character c)) (chars (flat_map escaped_character cs))
-          ∙ and_from (list_all is_shown (chars (escaped_character c))) (list_all is_shown (chars (flat_map escaped_character cs))) one.1 rest.1,
-    )
+    both_shown (escaped_character c) (flat_map escaped_character cs) (by_case c (is_shown c) refl both.0) (all_shown cs both.1)
+
+-- ---- the characters of an escaped name
+
+in_name : (c : ℕ) (shown other : Bool) → is_shown c ≡ shown → IsScalar c → AllShown (if shown && other then encode_utf8 c else character_escape c)
+in_name c true true is fits = one_shown c fits is
+in_name c true false is fits = escape_shown c
+in_name c false other is fits = escape_shown c
+
+name_shown : (after : Bool) (cs : List ℕ) → all_scalars cs ≡ true → AllShown (name_characters after cs)
+name_shown after [] scalars = none_shown
+name_shown after (c ∷ cs) scalars =
+    let both = and_parts (scalar c) (all_scalars cs) scalars in
+    both_shown (name_character after c) (name_characters (c == 92) cs) (in_name c (is_shown c) (not (after && (c == 117))) refl both.0) (name_shown (c == 92) cs both.1)
 
 pub escaped_is_shown : EscapedIsShown
-unfolding escaped
-escaped_is_shown text utf8 = (all_shown (chars text) (scalars-chars text utf8)).1
+unfolding escaped escaped_name
+escaped_is_shown = (
+  λ text utf8. (all_shown (chars text) (scalars-chars text utf8)).1,
+  λ name utf8. (name_shown false (chars name) (scalars-chars name utf8)).1,
+)

@@ -1,5 +1,5 @@
 -- Text that is safe to print on a terminal (own).
-use Rattle.std.specs.Prelude.{◌≡◌, ℕ, List, [], ◌∷◌, flat_map, Bool, true, not, ◌&&◌, if◌then◌else◌}
+use Rattle.std.specs.Prelude.{◌≡◌, ◌==◌, ℕ, List, [], ◌∷◌, ◌++◌, flat_map, Bool, true, false, not, ◌&&◌, if◌then◌else◌}
 use Rattle.std.specs.Char.{encode_utf8, is_control}
 use Rattle.std.specs.Int.{is_in_range}
 use Rattle.std.specs.Char.Escape.{encode_utf16, hex_digit_at}
@@ -10,14 +10,20 @@ use Rattle.std.specs.Str.{IsUtf8, chars}
 abbrev pub hidden : List (ℕ × ℕ)
 hidden =
     (0xAD, 0xAD) ∷ (0x61C, 0x61C) ∷ (0x115F, 0x1160) ∷ (0x17B4, 0x17B5) ∷ (0x180B, 0x180F) ∷ (0x200B, 0x200F) ∷ (0x2028, 0x202E)
-    ∷ (0x2060, 0x206F) ∷ (0x3164, 0x3164) ∷ (0xFE00, 0xFE0F) ∷ (0xFEFF, 0xFEFF) ∷ (0xFFA0, 0xFFA0) ∷ (0xFFF9, 0xFFFB)
+    ∷ (0x2060, 0x206F) ∷ (0x3164, 0x3164) ∷ (0xFE00, 0xFE0F) ∷ (0xFEFF, 0xFEFF) ∷ (0xFFA0, 0xFFA0) ∷ (0xFFF0, 0xFFFB)
     ∷ (0xE_0000, 0xE_0FFF) ∷ []
+
+-- ranges of characters that look like a space, or like nothing between letters or notes
+abbrev pub blank : List (ℕ × ℕ)
+blank =
+    (0xA0, 0xA0) ∷ (0x34F, 0x34F) ∷ (0x1680, 0x1680) ∷ (0x2000, 0x200A) ∷ (0x202F, 0x202F) ∷ (0x205F, 0x205F) ∷ (0x2800, 0x2800)
+    ∷ (0x3000, 0x3000) ∷ (0x1_BCA0, 0x1_BCA3) ∷ (0x1_D173, 0x1_D17A) ∷ []
 
 abbrev pub is_within : ℕ → ℕ × ℕ → Bool
 is_within c range = is_in_range range.0 range.1 c
 
 unfoldable pub is_shown : ℕ → Bool
-is_shown c = not (is_control c) && not (list_any (is_within c) hidden)
+is_shown c = not (is_control c) && (not (list_any (is_within c) hidden) && not (list_any (is_within c) blank))
 
 -- the JSON escape of a unit of 16 bits (RFC 8259, section 7)
 abbrev pub unit_escape : ℕ → List ℕ
@@ -33,8 +39,23 @@ escaped_character c = if is_shown c then encode_utf8 c else character_escape c
 unfoldable pub escaped : List ℕ → List ℕ
 escaped text = flat_map escaped_character (chars text)
 
+-- ---- the name of a file
+
+-- A character of a name. A `u` (117) after a backslash (92) has an escape too, since a name with `\u` would look like the escape
+-- of another name.
+abbrev pub name_character : Bool → ℕ → List ℕ
+name_character after_backslash c = if is_shown c && not (after_backslash && (c == 117)) then encode_utf8 c else character_escape c
+
+abbrev pub name_characters : Bool → List ℕ → List ℕ
+name_characters after_backslash [] = []
+name_characters after_backslash (c ∷ cs) = name_character after_backslash c ++ name_characters (c == 92) cs
+
+unfoldable pub escaped_name : List ℕ → List ℕ
+escaped_name name = name_characters false (chars name)
+
 -- ---- law
 
--- each character of an escaped text is shown
+-- each character of an escaped text or name is shown
 abbrev pub EscapedIsShown : Type 0
-EscapedIsShown = (text : List ℕ) → IsUtf8 text → list_all is_shown (chars (escaped text)) ≡ true
+EscapedIsShown = ((text : List ℕ) → IsUtf8 text → list_all is_shown (chars (escaped text)) ≡ true)
+    × ((name : List ℕ) → IsUtf8 name → list_all is_shown (chars (escaped_name name)) ≡ true)

@@ -1,8 +1,8 @@
 ghost use Rattle.std.specs.Prelude.{◌≡◌, ◌%◌, ◌∷◌, [], IfOk, Some, chars, string_bytes};
 ghost use Rattle.std.specs.Char.{digit_char};
 ghost use Rattle.std.specs.Fmt.{WritesOnOk};
-ghost use Rattle.std.specs.List.{list_all};
-ghost use Rattle.oim_explain.specs.Escaped.{character_escape, escaped, is_shown, unit_escape};
+ghost use Rattle.std.specs.List.{list_all, list_any};
+ghost use Rattle.oim_explain.specs.Escaped.{blank, character_escape, escaped, escaped_name, hidden, is_shown, is_within, name_character, unit_escape};
 ghost use Rattle.oim_explain.specs.Quoted.{front_of};
 
 use std::alloc::{AllocError, Global};
@@ -10,9 +10,10 @@ use std::fmt;
 
 const MOST_CHARACTERS: usize = 80;
 
-/// A text to print safely on a terminal. Control characters, common invisible characters, and
-/// characters that end the line or change its direction are written as JSON escapes. Otherwise a
-/// name with invisible characters would look correct, and a file name could fake an output line.
+/// A text to print safely on a terminal. Control characters, common invisible characters, those that
+/// look like a space, and those that end the line or change its direction are written as JSON
+/// escapes. Otherwise a name with such characters would look correct, and a file name could fake an
+/// output line.
 #[derive(Clone, Copy)]
 pub struct Escaped<'t>(pub &'t str);
 
@@ -32,6 +33,38 @@ impl fmt::Display for Escaped<'_> {
             }
         }
         Ok(())
+    }
+}
+
+/// The name of a file to print as `Escaped` does. A `u` after a backslash is written as an escape too,
+/// so different names look different.
+#[derive(Clone, Copy)]
+pub struct EscapedName<'n>(pub &'n str);
+
+impl fmt::Display for EscapedName<'_> {
+    ghost output = { λ name. Some (escaped_name name.0.now) };
+
+    fn fmt<W: fmt::Write>(&self, f: &mut fmt::Formatter<W>) -> fmt::Result {
+        let mut is_after_backslash = false;
+        for character in self.0.chars() {
+            write_in_name(f, is_after_backslash, character)?;
+            is_after_backslash = character == '\\';
+        }
+        Ok(())
+    }
+}
+
+fn write_in_name<W: fmt::Write>(
+    f: &mut fmt::Formatter<W>,
+    is_after_backslash: bool,
+    character: char,
+) -> fmt::Result
+    ensures { WritesOnOk W.write_str_gives f.old result (name_character is_after_backslash character) f.new }
+{
+    if is_shown(character) && !(is_after_backslash && character == 'u') {
+        f.write_char(character)
+    } else {
+        write_escape(f, character)
     }
 }
 
@@ -74,14 +107,29 @@ fn are_shown(text: &str) -> bool
 fn is_shown(character: char) -> bool
     ensures { result ≡ is_shown character }
 {
-    !character.is_control()
-        && !matches!(
-            character,
-            '\u{ad}' | '\u{61c}' | '\u{115f}'..='\u{1160}' | '\u{17b4}'..='\u{17b5}'
-                | '\u{180b}'..='\u{180f}' | '\u{200b}'..='\u{200f}' | '\u{2028}'..='\u{202e}'
-                | '\u{2060}'..='\u{206f}' | '\u{3164}' | '\u{fe00}'..='\u{fe0f}' | '\u{feff}'
-                | '\u{ffa0}' | '\u{fff9}'..='\u{fffb}' | '\u{e0000}'..='\u{e0fff}'
-        )
+    !character.is_control() && !is_hidden(character) && !is_blank(character)
+}
+
+fn is_hidden(character: char) -> bool
+    ensures { result ≡ list_any (is_within character) hidden }
+{
+    matches!(
+        character,
+        '\u{ad}' | '\u{61c}' | '\u{115f}'..='\u{1160}' | '\u{17b4}'..='\u{17b5}'
+            | '\u{180b}'..='\u{180f}' | '\u{200b}'..='\u{200f}' | '\u{2028}'..='\u{202e}'
+            | '\u{2060}'..='\u{206f}' | '\u{3164}' | '\u{fe00}'..='\u{fe0f}' | '\u{feff}'
+            | '\u{ffa0}' | '\u{fff0}'..='\u{fffb}' | '\u{e0000}'..='\u{e0fff}'
+    )
+}
+
+fn is_blank(character: char) -> bool
+    ensures { result ≡ list_any (is_within character) blank }
+{
+    matches!(
+        character,
+        '\u{a0}' | '\u{34f}' | '\u{1680}' | '\u{2000}'..='\u{200a}' | '\u{202f}' | '\u{205f}'
+            | '\u{2800}' | '\u{3000}' | '\u{1bca0}'..='\u{1bca3}' | '\u{1d173}'..='\u{1d17a}'
+    )
 }
 
 /// Returns the end of a text: at most `MOST_CHARACTERS` bytes, from the start of a character.

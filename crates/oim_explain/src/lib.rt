@@ -23,7 +23,7 @@ mod sentence;
 mod sheet_names;
 mod subject;
 
-pub use escaped::Escaped;
+pub use escaped::{Escaped, EscapedName};
 pub use explained::{explain, explain_repeated, explain_sheet};
 pub use file_kind::kind_of_taxonomy;
 pub use lines::{Explained, Format, Input};

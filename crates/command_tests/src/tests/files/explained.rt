@@ -5,7 +5,7 @@ const UNBOUND: &[&str] = &[
     "reports: 2, with faults: 1, faults: 1\n",
 ];
 
-pub(super) const EXPLAINED: [Row; 13] = [
+pub(super) const EXPLAINED: [Row; 14] = [
     (
         "explain --sheet sheet",
         0,
@@ -19,6 +19,15 @@ pub(super) const EXPLAINED: [Row; 13] = [
         "",
     ),
     ("explain --sheet sheet unbound 100", 1, UNBOUND, ""),
+    (
+        "explain --sheet sheet blank",
+        1,
+        &[
+            "blank: fact \"a\\u00a0\\u3000b\": 2 MemberForm: the fact is not an object\n",
+            "reports: 1, with faults: 1, faults: 1\n",
+        ],
+        "",
+    ),
     (
         "explain --sheet sheet list list",
         1,

@@ -12,7 +12,7 @@ const OTHER_INFO: &str =
 
 /// The name of each file, and its text in two parts. The file `zz` has the same fact as the file
 /// `100`, with another prefix. The file `canonical` is the merged text without facts.
-const FILES: [(&str, &str, &str); 25] = [
+const FILES: [(&str, &str, &str); 27] = [
     ("sheet", "", SHEET),
     (
         "doubled",
@@ -23,6 +23,8 @@ const FILES: [(&str, &str, &str); 25] = [
     ("list", "", "[]"),
     ("names", "101\n", "\n100\n"),
     ("ended", "101\0", "100"),
+    ("blank", INFO, "\"a\u{a0}\u{3000}b\":7}}"),
+    ("marked", "\u{feff}101\n", "100"),
     (
         "mail",
         "take 1 1\nsend 1\ntake 2 2\n",

@@ -269,8 +269,9 @@ pub(super) const SHOWN: [(&str, &str); 3] = [
 ];
 
 /// A file lists reports, which follow the reports in the arguments.
-pub(super) const LISTED: [Row; 5] = [
+pub(super) const LISTED: [Row; 6] = [
     ("merge --sheet sheet --reports-from names", 0, BOTH, ""),
+    ("merge --sheet sheet --reports-from marked", 0, BOTH, ""),
     (
         "merge --sheet sheet --reports-from empty",
         3,
