@@ -147,3 +147,12 @@ def test_a_limit_on_files():
     empty(True)
     limited = ["sh", "-c", "trap '' XFSZ; ulimit -f 0; exec \"$0\" \"$@\"", PROGRAM, *COMMANDS["merge"], "-o", "new"]
     expect(subprocess.run(limited, capture_output=True, stdin=subprocess.DEVNULL), 3, UNWRITTEN, OLD)
+
+
+@pytest.mark.parametrize("link", (None, os.symlink, os.link), ids=("itself", "a symbolic link", "a hard link"))
+@pytest.mark.parametrize("command", ("merge", "sources", "explain"))
+def test_a_refused_report_stays(command, link):
+    empty(True)
+    if link:
+        link("new", "link")
+    expect(run([command, "--sheet", SHEET, TWO, "link" if link else "new", "-o", "new"]), 3, UNWRITTEN, OLD, 1)

@@ -5,6 +5,7 @@ pub mod Endings
 pub mod Explained
 pub mod Explaining
 pub mod Runs
+pub mod Refused
 pub mod Why
 pub mod Printed
 pub mod Arguments

@@ -1,4 +1,4 @@
-ghost use Rattle.std.specs.Prelude.{◌≡◌, ◌≢◌, ℕ, List, Option, None, IfOk, IfErr, OnOk, OnErr, string_bytes, ⊤};
+ghost use Rattle.std.specs.Prelude.{◌≡◌, ◌≢◌, ℕ, List, Option, None, IfOk, IfErr, OnOk, OnErr, false, string_bytes, ⊤};
 ghost use Rattle.std.specs.Io.KnownBytes.{Keeps};
 ghost use Rattle.command_line.specs.Faults.{IsWriteError};
 
@@ -7,7 +7,7 @@ use crate::error::Error;
 use std::alloc::{AllocError, Global};
 use std::fs::{self, OpenFile, OpenOptions, Permissions};
 use std::io::{self, ErrorKind, Write};
-use std::os::unix::fs::{OpenOptionsExt, PermissionsExt};
+use std::os::unix::fs::{MetadataExt, OpenOptionsExt, PermissionsExt};
 use std::rt::Files;
 
 /// The mode bits that the new file gets from the old one. The new file may have another owner, so
@@ -62,6 +62,10 @@ pub(crate) trait Disk {
     /// Removes the file with this name, if that is possible.
     fn remove(&mut self, beside: &str)
         ensures { (name : List ℕ) → name ≢ beside.now → file self.new name ≡ file self.old name };
+
+    /// Returns whether both names are those of one file.
+    fn is_same(&self, one: &str, other: &str) -> bool
+        ensures { result ≡ false → one.now ≢ other.now };
 }
 
 /// A file whose bytes contracts cannot see.
@@ -115,6 +119,21 @@ impl<F: Files> Disk for System<'_, F> {
 
     fn remove(&mut self, beside: &str) {
         let _ = fs::remove_file(self.0, beside);
+    }
+
+    /// Follows links, and compares devices and inodes.
+    fn is_same(&self, one: &str, other: &str) -> bool {
+        if one == other {
+            return true;
+        }
+        is_one_file(self.0, one, other)
+    }
+}
+
+fn is_one_file<F: Files>(files: &F, one: &str, other: &str) -> bool {
+    match (fs::metadata(files, one), fs::metadata(files, other)) {
+        (Ok(one), Ok(other)) => one.dev() == other.dev() && one.ino() == other.ino(),
+        _ => false,
     }
 }
 

@@ -1,6 +1,8 @@
-ghost use Rattle.std.specs.Prelude.{◌≡◌, ◌≢◌, ℕ, List, false, None, Some, IfErr};
+ghost use Rattle.std.specs.Prelude.{◌≡◌, ◌≢◌, ℕ, List, false, true, None, Ok, Some, IfErr, IfOk};
 ghost use Rattle.std.specs.Io.KnownBytes.{Keeps};
+ghost use Rattle.std.specs.List.{list_any};
 ghost use Rattle.command_line.specs.Faults.{IsDoneOrFault, IsDoneOrUnwritten};
+ghost use Rattle.command_line.specs.Refused.{SparesRefused, is_of, refuses};
 ghost use Rattle.command_line.specs.Runs.{IsPlaced, OutputEnds, Replaces, RequestEnds, Spares, SparesOthers};
 ghost use Rattle.command_line.specs.Why.{RequestWhy};
 
@@ -10,6 +12,7 @@ use crate::error::{Error, Success};
 use crate::folder::Folder;
 use crate::inputs::Inputs;
 use crate::request::Args;
+use oim_report::Refusal;
 use oim_write::{BoundedSink, StdSink};
 use std::io::Write;
 
@@ -111,16 +114,29 @@ fn write_file<'n, F: Folder, D: Disk, E: Write>(
     let is_too_much = sink.overruns() > 0;
     let sink = sink.into_inner();
     let done = stopped_by(done, is_too_much, sink.taken());
-    let done = settle(disk, done, sink.into_inner(), beside.as_str(), name);
+    let reports = inputs.names;
+    let done = settle(
+        disk,
+        reports,
+        done,
+        sink.into_inner(),
+        beside.as_str(),
+        name,
+    );
     if done.is_err() {
         disk.remove(beside.as_str());
     }
     done
 }
 
-/// Puts the new file in place after a success. A failed write of it is returned as `Unwritten`.
+/// Why a refused report is not replaced.
+const IS_REFUSED: &str = "It is a refused report; use another name for the output.";
+
+/// Puts the new file in place after a success. A failed write of it is returned as `Unwritten`, and
+/// so is a refused report with this name, since the output would replace it.
 fn settle<'n, D: Disk>(
     disk: &mut D,
+    reports: &[&str],
     done: Result<Success, Error<'n>>,
     file: D::New,
     beside: &str,
@@ -129,13 +145,80 @@ fn settle<'n, D: Disk>(
     ensures done { IsDoneOrUnwritten name.now done.entry result }
     ensures others { (other : List ℕ) → other ≢ name.now → other ≢ beside.now → D.file disk.new other ≡ D.file disk.old other }
     ensures placed { IsPlaced (D.New.contents file) (D.file disk.old name.now) (D.file disk.new name.now) result }
+    ensures spares { IfOk result (SparesRefused reports.now name.now) }
 {
     match done {
         Err(Error::Device(_)) => Err(Error::Unwritten(name, None)),
-        Ok(success) => match disk.put_in_place(file, beside, name) {
-            Ok(()) => Ok(success),
-            Err(_) => Err(Error::Unwritten(name, None)),
-        },
+        Ok(success) => place(disk, reports, success, file, beside, name),
         stopped => stopped,
     }
+}
+
+/// Puts the new file in place, but not in the place of a refused report.
+fn place<'n, D: Disk>(
+    disk: &mut D,
+    reports: &[&str],
+    success: Success,
+    file: D::New,
+    beside: &str,
+    name: &'n str,
+) -> Result<Success, Error<'n>>
+    ensures done { IsDoneOrUnwritten name.now (Ok success) result }
+    ensures others { (other : List ℕ) → other ≢ name.now → other ≢ beside.now → D.file disk.new other ≡ D.file disk.old other }
+    ensures placed { IsPlaced (D.New.contents file) (D.file disk.old name.now) (D.file disk.new name.now) result }
+    ensures spares { IfOk result (SparesRefused reports.now name.now) }
+{
+    if is_refused(disk, reports, &success, name) {
+        return Err(Error::Unwritten(name, Some(IS_REFUSED)));
+    }
+    match disk.put_in_place(file, beside, name) {
+        Ok(()) => Ok(success),
+        Err(_) => Err(Error::Unwritten(name, None)),
+    }
+}
+
+/// Returns whether the file with this name is a report that was refused in the run.
+fn is_refused<D: Disk>(disk: &D, reports: &[&str], success: &Success, name: &str) -> bool
+    ensures { result ≡ false → SparesRefused reports.now name.now success.now }
+{
+    for index in 0..reports.len() {
+        let number = (index as u64).saturating_add(1);
+        if is_refused_report(disk, reports[index], number, success, name) {
+            return true;
+        }
+    }
+    false
+}
+
+fn is_refused_report<D: Disk>(
+    disk: &D,
+    report: &str,
+    number: u64,
+    success: &Success,
+    name: &str,
+) -> bool
+    ensures { result ≡ false → refuses success.now number ≡ true → report.now ≢ name.now }
+{
+    disk.is_same(report, name) && refuses(success, number)
+}
+
+/// `explain` returns only how many faults there are, so after a fault each report counts as refused.
+fn refuses(success: &Success, number: u64) -> bool
+    ensures { result ≡ refuses success.now number }
+{
+    match success {
+        Success::Refusals(refusals) => is_listed(refusals.as_slice(), number),
+        Success::Faults(faults) => *faults > 0,
+    }
+}
+
+fn is_listed(refusals: &[(u64, Refusal)], number: u64) -> bool
+    ensures { result ≡ list_any (is_of number) refusals.now }
+{
+    for (report, _) in refusals {
+        if *report == number {
+            return true;
+        }
+    }
+    false
 }

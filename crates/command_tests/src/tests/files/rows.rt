@@ -206,7 +206,7 @@ pub(super) const CHECKED: [Row; 6] = [
 ];
 
 /// Each row names an output file, or `-` for standard output. Runs that end with status 2 or 3 leave the file `out` unchanged.
-pub(super) const WRITTEN: [Row; 7] = [
+pub(super) const WRITTEN: [Row; 12] = [
     ("merge --sheet sheet empty 100 -o out", 1, &[], NOT_JSON),
     (
         "merge --sheet sheet 100 101 --allow none -o out",
@@ -228,6 +228,37 @@ pub(super) const WRITTEN: [Row; 7] = [
         3,
         &[],
         "file none/out: cannot be written\n",
+    ),
+    // a refused report is not replaced, under another name either
+    (
+        "merge --sheet sheet 100 unbound -o unbound",
+        3,
+        &[],
+        "file unbound: cannot be written\n",
+    ),
+    (
+        "check --sheet sheet unbound -o ./unbound --verbose",
+        3,
+        &[],
+        "file ./unbound: cannot be written\nIt is a refused report; use another name for the output.\n",
+    ),
+    (
+        "explain --sheet sheet 100 ./unbound -o unbound",
+        3,
+        &[],
+        "file unbound: cannot be written\n",
+    ),
+    (
+        "check --sheet sheet unbound",
+        1,
+        &[],
+        "report 1: 13 UnboundPrefix at fact 1\n",
+    ),
+    (
+        "merge --sheet sheet unbound out -o out",
+        1,
+        &[],
+        "report 1: 13 UnboundPrefix at fact 1\n",
     ),
 ];
 
