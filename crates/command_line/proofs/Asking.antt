@@ -14,7 +14,7 @@ use Rattle.oim_explain.specs.declared.lines.Format.TheVariants as explained
 use Rattle.row_formats.specs.declared.row_format.RowFormat.TheVariants as rows
 use Rattle.command_line.specs.declared.print_format.PrintFormat.TheVariants as printed
 use Rattle.command_line.proofs.Parsed.{program_on_literals}
-use Rattle.command_line.proofs.Named.{Places, for_tables, tables}
+use Rattle.command_line.proofs.KnownNames.{Places, for_tables, tables}
 use Rattle.command_line.proofs.Reached.{Reaches, above, asked_after, at, command_named, ends_at, ends_with, ends_with_reports, joined, not_hyphen, positional_reached, reports_built, value_reached}
 
 abbrev shape : Places → ℕ → Shape

@@ -7,7 +7,7 @@ pub mod Explained
 pub mod Requests
 mod RowReads
 mod Parsed
-mod Named
+mod KnownNames
 mod Reached
 pub mod Asking
 pub mod ListedNames

@@ -17,15 +17,16 @@ const KEPT_BITS: u32 = 0o777;
 /// The mode of a new file until it gets the old one's, so that no other user can open it before.
 const PRIVATE: u32 = 0o600;
 
-/// A new file, and its name.
+/// A new file, and its name (own).
 #[derive(Drop)]
-pub(crate) struct Named<W> {
+pub struct Named<W> {
     pub name: String,
     pub file: W,
 }
 
-/// Files that a new file can replace.
-pub(crate) trait Disk {
+/// Files that a new file can replace: those of the system, or an embedder's own (own).
+pub trait Disk {
+    /// A new file that takes the output.
     type New: Write + Drop;
 
     /// The bytes of the file with this name, if contracts can see them.
@@ -54,6 +55,8 @@ pub(crate) trait Disk {
         ensures old { file self.new name.now ≡ file self.old name.now };
 
     /// Renames the new file, which has the name `beside`, to `name`.
+    ///
+    /// Errors: those of the device.
     fn put_in_place(&mut self, new: Self::New, beside: &str, name: &str) -> io::Result<()>
         ensures ok { OnOk result (Keeps (Self.New.contents new) (file self.new name.now)) }
         ensures err { OnErr result (file self.new name.now ≡ file self.old name.now) }

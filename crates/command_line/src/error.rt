@@ -21,9 +21,10 @@ pub(crate) enum Success {
     Faults(u64),
 }
 
-/// Why the program stops early.
+/// Why the program stops early (own). A `Folder` and a `Disk` return only the errors that their
+/// methods name.
 #[derive(Drop)]
-pub(crate) enum Error<'n> {
+pub enum Error<'n> {
     /// The arguments are not valid. The error has clap's message.
     Usage(clap::Error),
     /// The file with this name cannot be read, or is a list of names that is not UTF-8. Standard

@@ -13,8 +13,8 @@ use std::rt::Files;
 /// The most bytes that a file may have.
 const MOST_BYTES: u32 = 2_147_483_648;
 
-/// Files that are read by name.
-pub(crate) trait Folder {
+/// Files that are read by name: those of the system, or an embedder's own (own).
+pub trait Folder {
     /// Whether a read of the file with this name may give these bytes.
     ghost gives: { Self → List ℕ → List ℕ → Type 0 };
 

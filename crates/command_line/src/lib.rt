@@ -20,4 +20,7 @@ mod request;
 mod subcommands;
 mod words;
 
-pub use program::{Streams, run};
+pub use disk::{Disk, Named};
+pub use error::Error;
+pub use folder::Folder;
+pub use program::{Ran, Streams, run, run_words};

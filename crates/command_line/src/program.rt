@@ -65,8 +65,10 @@ where
 // many parameters. One function that owns all values would be slow to prove, because each value may
 // be alive at each exit.
 
-/// Does the work of `run` with any files and disk.
-fn run_words<F: Folder, D: Disk, W: AsStr, R: Read + Drop, O: Write + Drop, E: Write + Drop>(
+/// Does the same as `run`, but reads the files of `folder`, and `--output` writes to `disk`.
+///
+/// Errors: none. The status and standard error show why a run stopped, as for `run`.
+pub fn run_words<F: Folder, D: Disk, W: AsStr, R: Read + Drop, O: Write + Drop, E: Write + Drop>(
     alloc: Global,
     folder: &F,
     disk: &mut D,
