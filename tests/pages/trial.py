@@ -61,11 +61,12 @@ def faults(program):
 
 def lacking(page, cells, rows):
     found = {(cell["label"].split()[0], cell["value"]): (cell["group"], cell["identifiers"]) for cell in cells}
-    row = {row["label"]: row for row in rows}
+    row, data = {row["label"]: row for row in rows}, json.loads(page.split('id="data">')[1].split("</script>")[0])
+    scaled = data["texts"].index("Beta: 1,000 times smaller")
     checks = {
         "the restatement with its file": found.get(("Profit", "500000")) == ("2", f"Alpha: annual.json, i{len(USUAL)}")
         and found["Profit", "520000"][0] == "1" and row["Profit of the group"]["hint"] == "Alpha: restated: restated.json after annual.json",
-        "the scale error as one hint": page.count('<bdi>Beta</bdi></b>: 1,000 times smaller in 20 rows</summary>') == 1,
+        "the scale error as one hint": sum(scaled in (each[8:9] or [[]])[0] for each in data["rows"]) == 20,
         "the missing fact by its label": row["Equity of the group"]["not_reported_by"] == "Gamma",
         "the outlier's group": found.get(("Staff", "140"), " ")[0] == "2" and found.get(("Staff", "100"), " ")[0] == "1",
         "the nil": row["Inventories of the group"]["nil_by"] == "Beta" and row["Inventories of the group"]["hint"] == "Beta: nil",

@@ -13,6 +13,7 @@ from contradicting.inputs import File, Inputs
 from contradicting.made_from import MadeFrom
 from contradicting.near import Near
 from contradicting.page import Found, page
+from contradicting.page_data import PageData
 from contradicting.patterns import Patterns
 from contradicting.provider_counts import ProviderCounts
 from contradicting.normalised import COLUMNS as CHANGES
@@ -40,8 +41,9 @@ class Outcome:
         names = inputs.sources.names
         self.near, self.counts, self.patterns = Near(names) if options.near else None, ProviderCounts(names), Patterns()
         self.all_rows, finder = AllRows(folder, names, inputs.labels, options.most_output), UnsharedFinder(names)
+        self.data = PageData(folder, names, inputs.labels)
         self.warnings, self.subject = Warnings(folder, inputs.sheet, options.most_output), Subject()
-        observers: list[RowObserver] = [self.counts, self.all_rows, self.warnings, self.subject, self.patterns, finder]
+        observers: list[RowObserver] = [self.counts, self.all_rows, self.data, self.warnings, self.subject, self.patterns, finder]
         self.since = Since(inputs.earlier) if inputs.earlier else None
         observers += [*[self.near] * bool(self.near), *[self.since] * bool(self.since)]  # type: ignore[list-item]
         self.reader = Reader(inputs.text, inputs.sheet, inputs.sources, observers)
@@ -66,7 +68,7 @@ class Outcome:
         changes = itertools.chain([CHANGES], lines_in(self.changes) if os.path.exists(self.changes) else ())
         files = ([cell(written(file.path)), str(file.length), file.digest] for file in self.snapshot.files.values())
         tables: list[tuple[str, Table]] = [
-            ("contradictions", table(self.rows, self.inputs.labels, self.reader)), ("rows", lines_in(self.all_rows.paths[0])),
+            ("contradictions", table(self.rows, self.inputs.labels, self.reader)), ("rows", lines_in(self.all_rows.path)),
             ("providers", self.counts.table()), ("changes", changes), ("files", itertools.chain([["file", "bytes", "sha256"]], files))]
         return write_workbook(path, tables)
 
@@ -105,11 +107,11 @@ class Outcome:
         """Yields the names and the pieces of the files in the output folder."""
         inputs = self.inputs
         made_from = MadeFrom(inputs.version, tuple(self.snapshot.files.values()))
-        found = Found(self.rows, self.reader, inputs.labels, inputs.refusals, self.all_rows, self.counts, self.options.at_least,
+        found = Found(self.rows, self.reader, inputs.labels, inputs.refusals, self.data, self.counts, self.options.at_least,
                       inputs.check, made_from, self.warnings, self.subject, self.since)
         yield "page.html", page(found)
         yield "contradictions.csv", lines_of(table(self.rows, inputs.labels, self.reader))
-        yield "table.csv", self.all_rows.table_pieces()
+        yield "table.csv", self.all_rows.pieces()
         yield "providers.csv", lines_of(self.counts.table())
         yield "warnings.csv", self.warnings.pieces()
         yield from [("since.csv", lines_of(self.since.table()))] if self.since else []

@@ -1,7 +1,6 @@
-"""The page of contradictions: counts, providers, hints, refused reports, the first rows, an index by concept, and groups with the
-other rows.
+"""The page of contradictions: headline, counts, providers, refused reports, and one table of all rows.
 
-The page repeats identifiers, URIs and texts, so each one is cut to 80 characters. The tables contain them whole.
+The table has the first contradictions. The script of the page replaces them by rows that it draws from the page's data.
 """
 from __future__ import annotations
 
@@ -11,26 +10,30 @@ import html
 import os
 from dataclasses import dataclass, field
 from decimal import Decimal
-from typing import Iterable, Iterator, Optional
+from typing import Iterator, Optional, Sequence
 
-from contradicting.all_rows import AllRows
 from contradicting.labels import Labels
 from contradicting.made_from import MadeFrom
+from contradicting.page_data import PageData
 from contradicting.provider_counts import ProviderCounts
 from contradicting.refusals import Refusals
 from contradicting.rows import Reader, Row
-from contradicting.sections import heading, section, who
-from contradicting.shown import escaped, shown_label
+from contradicting.sections import StaticRows
+from contradicting.shown import escaped, shown_row
 from contradicting.since import Since
 from contradicting.subject import Subject
 from contradicting.warnings import Warnings
-from names import Name
 from process import MOST_CHARACTERS, printable
 
-FIRST = 100  # rows before the index; the browser paints these rows at once, and loads the others on request
-CHUNK = 100  # the most rows of one concept that are loaded together
+FIRST = 100  # contradictions that the page shows without its script
+MOST_COLUMNS = 6  # providers that have a column; the values of more are in one column
 HERE = os.path.dirname(os.path.abspath(__file__))
-NO_SCRIPT = "<noscript><p>These rows need JavaScript. contradictions.csv has them too.</p></noscript>"
+EXPLAINED = f"""<h2>Rows</h2>
+<p>A row has all facts with the same dimensions. A value with decimals, which are in brackets, represents all numbers within half of its
+last decimal place. The facts of a group agree. Facts in red are not in the largest group; if no group is the largest, all are red.
+The difference is that of the two facts that contradict each other, as a share of the larger; \u2013 if they are not both numbers. Long texts
+are cut to {MOST_CHARACTERS} characters near the first difference; table.csv has them whole.</p>
+"""
 
 
 @dataclass
@@ -41,7 +44,7 @@ class Found:
     reader: Reader
     labels: Labels
     refusals: Refusals
-    all_rows: AllRows
+    data: PageData
     counts: ProviderCounts
     at_least: Optional[Decimal] = None  # the least share of a difference that is shown
     check: str = ""  # the command that checks the run, if there is one
@@ -66,22 +69,13 @@ def page(found: Found) -> Iterator[str]:
     yield f"""<!DOCTYPE html><html lang="en"><head><meta charset="utf-8"><title>Contradictions</title>
 <meta http-equiv="Content-Security-Policy" content="{policy}">
 <meta name="viewport" content="width=device-width"><style>{part("page.css")}</style></head><body>{heading_of(found)}<p class="counts">{numbers}</p>
-<p>A value with decimals represents all numbers within half of its last decimal place. The facts of a group agree. Facts in red are
-not in the largest group; if no group is the largest, all are red. Long texts are cut to {MOST_CHARACTERS} characters near the
-first difference; contradictions.csv has them whole.</p>
 """
     yield from found.since.html() if found.since else ()
     yield from found.counts.html(found.refusals)
     yield from refused(found.refusals)
     yield from found.warnings.html() if found.warnings else ()
-    yield """<p class="filter" hidden><label>Rows with the words <input type="search"></label> <output></output></p>
-<div class="found"></div><div class="list">"""
-    yield from contradictions(found)
-    yield """<h2>All rows</h2>
-<p>Decimals are in brackets. Facts that are not in the largest group are red.</p>
-<noscript><p>These rows need JavaScript. table.csv has them too.</p></noscript><div class="every">"""
-    yield from found.all_rows.page_pieces()
-    yield "</div></div>"
+    yield EXPLAINED
+    yield from rows_of(found)
     yield from found.made_from.html()
     if found.check:
         yield '<details class="check"><summary>Check this run with a second program</summary>\n'
@@ -105,20 +99,35 @@ def refused(refusals: Refusals) -> Iterator[str]:
         yield "</section>\n"
 
 
-def contradictions(found: Found) -> Iterator[str]:
-    """Yields the contradictions: those with a common hint, the largest differences, an index, and the other rows."""
+def rows_of(found: Found) -> Iterator[str]:
+    """Yields the table with the first contradictions, and the data of all rows that the page holds."""
     rows = [row for row in sorted(found.rows, key=order) if not is_hidden(row, found.at_least)]
     if len(rows) < len(found.rows):
         yield f"<p>Not shown: {len(found.rows) - len(rows)} with smaller differences; contradictions.csv has them.</p>\n"
-    hinted = by_hint(rows)
-    ranks = {row.number: rank for rank, each in enumerate(hinted.values(), 1) for row in each}
-    yield from hint_groups(hinted, found)
-    largest = [row for row in rows if row.number not in ranks]
-    if len(largest) > FIRST:
-        yield f"<h2>The {FIRST} largest differences</h2>\n<p>Rows with a text, a name or a nil value come first.</p>"
-    for row in largest[:FIRST]:
-        yield from section(row, found.reader, found.labels)
-    yield from by_concept(rows, {row.number for row in largest[:FIRST]}, ranks, found)
+    names = found.counts.providers if len(found.counts.providers) <= MOST_COLUMNS else []
+    static = StaticRows(names or [""], found.reader, found.labels, len(found.subject.entities) != 1)
+    yield '<div class="controls" hidden></div><div class="all"><table class="rows" cellspacing="0"><thead><tr>'
+    yield from (f'<th scope="col" class="{key}">{name}' for key, name in headings(names, found.reader))
+    yield "\n<tbody>"
+    for index, row in enumerate(rows[:FIRST]):
+        yield from static.html(shown_row(row, found.labels), not index)
+    yield "</table></div>\n<noscript><p>"
+    yield f"These are the first {FIRST} of {len(rows)} contradictions. " if len(rows) > FIRST else ""
+    yield 'table.csv has all rows. With JavaScript, so has this page.</p></noscript>\n<script type="application/json" id="data">'
+    yield from found.data.pieces(rows, static.has_entities)
+    yield "</script>\n"
+    if found.data.left_out:
+        yield f"<p>Not on this page: {found.data.left_out} more rows; table.csv has them.</p>\n"
+
+
+def headings(names: Sequence[str], reader: Reader) -> Iterator[tuple[str, str]]:
+    """Yields the columns of the table, each with the key by which the script sorts it."""
+    yield from (("number", "Row"), ("concept", "Concept"), ("period", "Period"))
+    yield from [("value", escaped(name)) for name in names] or [("value", "Values")]
+    yield "difference", "Difference"
+    if reader.providers:
+        yield "reported", "Reported by"
+    yield from (("verdict", "Verdict"), ("hint", "Hint"))
 
 
 def order(row: Row) -> tuple[int, Decimal, int]:
@@ -130,56 +139,3 @@ def order(row: Row) -> tuple[int, Decimal, int]:
 def is_hidden(row: Row, at_least: Optional[Decimal]) -> bool:
     share = row.share()
     return at_least is not None and share is not None and share < at_least
-
-
-def by_hint(rows: list[Row]) -> dict[tuple[str, str], list[Row]]:
-    """Returns the rows that share a hint with others, by the providers and the phrase of the hint: the hint with most rows
-    first. A row is listed under its first such hint."""
-    found: dict[tuple[str, str], list[Row]] = {}
-    for row in rows:
-        for hint in row.hints[:1]:
-            found.setdefault((who(row, hint), hint.phrase), []).append(row)
-    several = [(key, each) for key, each in found.items() if len(each) > 1]
-    return dict(sorted(several, key=lambda item: (-len(item[1]), item[0])))
-
-
-def hint_groups(hinted: dict[tuple[str, str], list[Row]], found: Found) -> Iterator[str]:
-    if hinted:
-        yield "<h2>Rows with the same hint</h2>\n<p>A hint may explain a difference. It is not a verdict.</p>\n"
-        yield NO_SCRIPT
-    for rank, ((name, phrase), rows) in enumerate(hinted.items(), 1):
-        title = f"<b><bdi>{escaped(name)}</bdi></b>: {phrase} in"
-        yield from groups(title, rows, f"h{rank}", found)
-
-
-def by_concept(rows: Iterable[Row], shown: set[int], hinted: dict[int, int], found: Found) -> Iterator[str]:
-    """Yields the index, and then the groups with the rows that are neither shown yet nor in a group of rows with one hint."""
-    concepts: dict[Name, list[Row]] = {}
-    for row in rows:
-        concepts.setdefault(row.dimensions.concept, []).append(row)
-    rest = {concept: [row for row in each if row.number not in shown and row.number not in hinted] for concept, each in concepts.items()}
-    ranked = sorted(concepts, key=lambda concept: (-len(concepts[concept]), concept))
-    yield '<h2>By concept</h2><ul class="index">'
-    for rank, concept in enumerate(ranked, 1):
-        first = concepts[concept][0].number
-        anchor = f"c{rank}" if rest[concept] else f"h{hinted[first]}" if first in hinted else f"row{first}"
-        count, name = len(concepts[concept]), escaped(found.labels.get(concept, concept.local))
-        yield f'<li><a href="#{anchor}" aria-label="{count} of {name}"><b>{count}</b></a>{heading(concept, found.labels, "span")}'
-    yield "</ul>\n"
-    if any(rest.values()):
-        yield "<h2>The other rows</h2>\n" + NO_SCRIPT
-    for rank, concept in enumerate(ranked, 1):
-        yield from groups(f"<b>{shown_label(concept, found.labels)}</b>", rest[concept], f"c{rank}", found)
-
-
-def groups(title: str, rows: list[Row], anchor: str, found: Found) -> Iterator[str]:
-    """Yields the pieces for rows in groups of at most CHUNK. The rows are the text of a data block until the group is opened. The
-    first group has the anchor."""
-    for start in range(0, len(rows), CHUNK):
-        last = min(start + CHUNK, len(rows))
-        extent = f"{start + 1} to {last} of {len(rows)} rows" if len(rows) > CHUNK else f"{last} row{'s' * (last > 1)}"
-        identifier = f' id="{anchor}"' * (start == 0)
-        yield f'<details class="group"{identifier}><summary>{title} {extent}</summary><script type="text/html">'
-        for row in rows[start:last]:
-            yield from section(row, found.reader, found.labels)
-        yield "</script></details>\n"

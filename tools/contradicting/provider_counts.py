@@ -108,8 +108,8 @@ class ProviderCounts:
             yield '<table class="providers" cellspacing="0"><tr><th>Provider' + "".join(f"<th>{head}" for head in HEADS) + "\n"
         for name in names[:MOST_PROVIDERS]:
             lacks = self.count - self.rows[name]
-            cells = (f'<td data-name="{head}">{count}' for head, count in zip(HEADS, (self.facts[name], self.alone[name], lacks, refused[name])))
-            yield f"<tr><td><bdi>{escaped(name)}</bdi>{''.join(cells)}\n"
+            cells = (self.facts[name], self.alone[name], lacks, refused[name])
+            yield f"<tr><td><bdi>{escaped(name)}</bdi>" + "".join(f"<td>{count}" for count in cells) + "\n"
         if names:
             yield "</table>\n" + f"<p>and {len(names) - MOST_PROVIDERS} more providers</p>\n" * (len(names) > MOST_PROVIDERS)
         yield from self.matrix()
@@ -119,7 +119,6 @@ class ProviderCounts:
         if self.has_matrix:
             yield '<table class="providers" cellspacing="0"><tr><th>Both report<th>Rows<th>Agree<th>Contradict\n'
             for pair in self.pairs():
-                cells = zip(("Rows", "Agree", "Contradict"), (pair.shared, pair.agreeing, pair.contradicting))
-                names = f"<bdi>{escaped(pair.one)}</bdi> and <bdi>{escaped(pair.other)}</bdi>"
-                yield f"<tr><td>{names}" + "".join(f'<td data-name="{head}">{count}' for head, count in cells) + "\n"
+                cells = (pair.shared, pair.agreeing, pair.contradicting)
+                yield f"<tr><td><bdi>{escaped(pair.one)}</bdi> and <bdi>{escaped(pair.other)}</bdi>" + "".join(f"<td>{count}" for count in cells) + "\n"
             yield "</table>\n"

@@ -8,7 +8,7 @@ from contradicting.facts import day
 from contradicting.findings import counted
 from contradicting.provider_counts import ProviderCounts
 from contradicting.rows import Row
-from contradicting.shown import escaped, period, shown
+from contradicting.shown import Words, bdi, escaped, name_words, period
 from names import Name
 
 MOST_SHOWN = 10  # entities and periods that the page lists
@@ -33,7 +33,7 @@ class Subject:
     def headline(self, counts: ProviderCounts, contradictions: int) -> Iterator[str]:
         """Yields the parts of the headline as HTML."""
         if self.entities:
-            yield shown(self.entities.most_common(1)[0][0].local) + f" and {len(self.entities) - 1} more" * (len(self.entities) > 1)
+            yield bdi(Words(name_words(self.entities.most_common(1)[0][0]).text)) + f" and {len(self.entities) - 1} more" * (len(self.entities) > 1)
         years = sorted(self.years)
         if years:
             yield f", {joined(years)}" if len(years) <= MOST_YEARS else f", {years[0]} to {years[-1]}"
@@ -49,7 +49,7 @@ class Subject:
         """Yields the headline, and lists of the entities and periods if there are several."""
         text = "".join(self.headline(counts, contradictions)).lstrip(",: ")
         yield f"<h1>{text}</h1>\n"
-        entities = [(f"{shown(name)}", count) for name, count in self.entities.most_common(MOST_SHOWN)]
+        entities = [(bdi(name_words(name)), count) for name, count in self.entities.most_common(MOST_SHOWN)]
         for title, found, total in (("Entities", entities, len(self.entities)), ("Periods", self.periods.most_common(MOST_SHOWN), len(self.periods))):
             more = f"; and {total - len(found)} more" * (total > len(found))
             yield f'<p class="subject">{title}: ' + "; ".join(f"{text} ({counted(count, 'row')})" for text, count in found) + f"{more}</p>\n" if found else ""

@@ -42,6 +42,11 @@ class Seen(html.parser.HTMLParser):
         self.texts.append(text)
 
 
+def data_of(page):
+    """Returns the data of a page, which its script draws."""
+    return json.loads(page.split('<script type="application/json" id="data">')[1].split("</script>")[0])
+
+
 class ToolTest(in_process.RoomTest):
     def setUp(self):
         super().setUp()
@@ -109,7 +114,7 @@ class Pages(ToolTest):
 
     def test_only_numbers_have_a_line(self):
         self.assertEqual(self.seen.tags.count("svg"), 4 + 2 + 2 + 1)
-        self.assertEqual(self.text.count("not reported as a number"), 1)
+        self.assertEqual(self.text.count("<i>not reported as a number</i>"), 1)
         # on a line from 4.75 to 4.95, the gap from 4.815 to 4.93 extends from 32.5% to 90%
         self.assertEqual(self.text.count('style="--a:32.50%;--b:90.00%"'), 4)
         self.assertIn('<line x1="27.50%" x2="32.50%" y1="13" y2="13"/><circle cx="30.00%" cy="13" r="5"/>', self.text)
@@ -118,10 +123,15 @@ class Pages(ToolTest):
         self.assertIn("https://norlake.example/2023", self.seen.titles)
         self.assertIn("http://www.xbrl.org/2003/iso4217", self.seen.titles)
 
-    def test_the_namespace_of_a_concept_opens_without_a_pointer(self):
-        opened = re.findall(r"<details class=\"name\"><summary>(.*?)</summary><p>(.*?)</details>", self.text)
-        self.assertEqual({uri for _, uri in opened}, {"https://norlake.example/2023"})
-        self.assertEqual(len(opened), 6 + len({name for name, _ in opened if name.startswith("<span>")}))
+    def test_the_namespace_of_a_concept_is_in_its_opened_row(self):
+        self.assertEqual(re.findall(r"<dt>Concept<dd><bdi>(\S+) ", self.text), ["https://norlake.example/2023"] * 6)
+
+    def test_the_data_have_each_row_and_each_fact(self):
+        data, facts = data_of(self.text), json.loads(content(MERGED))["facts"]
+        self.assertEqual(sorted(row[0] for row in data["rows"]), [*range(1, 9)])
+        self.assertEqual(sorted(fact[0] for row in data["rows"] for fact in row[6]), sorted(facts))
+        found = {fact[0]: fact[1:3] for row in data["rows"] for fact in row[6]}
+        self.assertEqual((found["f06"], found["f09"], data["leftOut"]), (["4.81", 2], ["-1200", 0], 0))
 
     def test_strangers_texts_are_texts(self):
         self.assertIn("EY <script>alert(1)</script> AS", self.seen.texts)
@@ -134,7 +144,7 @@ class Pages(ToolTest):
         script = self.text.split("<script>")[1].split("</script>")[0]
         known = base64.b64encode(hashlib.sha256(script.encode()).digest()).decode()
         self.assertIn(f"script-src 'sha256-{known}'\"", self.text)
-        self.assertIn('<p class="filter" hidden>', self.text)
+        self.assertIn('<div class="controls" hidden>', self.text)
 
     def test_the_page_has_a_dark_look(self):
         self.assertIn("prefers-color-scheme: dark", self.text)

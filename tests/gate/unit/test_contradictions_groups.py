@@ -7,7 +7,7 @@ import unittest
 from decimal import Decimal
 
 import lines_of_verdicts
-from test_contradictions import TOOL, ToolTest
+from test_contradictions import TOOL, ToolTest, data_of
 from support import content
 
 from contradicting import groups, hints
@@ -133,18 +133,15 @@ class Reported(ToolTest):
     def test_long_texts_are_cut_near_their_difference(self):
         texts = ["The group recognises revenue when control of the goods passes to the customer, on delivery in " + place for place in ("Oslo", "Rome")]
         page, *_ = self.run_on([[(text, (number,)) for number, text in enumerate(texts, 1)]])
-        listed = page.split("<h2>All rows</h2>")[1]
-        self.assertEqual(re.findall(r"in (Oslo|Rome)</bdi>", listed), ["Oslo", "Rome"])
+        self.assertEqual([fact[1][-8:] for fact in data_of(page)["rows"][0][6]], [" in Oslo", " in Rome"])
 
-    def test_rows_with_the_same_hint_are_one_part(self):
+    def test_rows_with_the_same_hint_share_its_text(self):
         scaled = [[((f"{4321 + row}", 0), (2,)), ((f"{4321 + row}000", -3), (1, 4))] for row in range(20)]
         page, *_ = self.run_on([*scaled, [(("5", 0), (1,)), (("7", 0), (4,))]])
-        hints_shown, rest = page.split("<h2>By concept</h2>")
-        self.assertIn('<details class="group" id="h1"><summary><b><bdi>Beta</bdi></b>: 1,000 times smaller in 20 rows</summary>', hints_shown)
-        self.assertEqual(page.count('<section class="row'), 21)
-        self.assertIn('href="#h1"', rest)
-        block = hints_shown.split('<script type="text/html">')[1].split("</script>")[0]
-        self.assertEqual(block.count("<section"), 20)
+        data = data_of(page)
+        hint = data["texts"].index("Beta: 1,000 times smaller")
+        self.assertEqual(sorted(row[8] for row in data["rows"]), [[], *[[hint]] * 20])
+        self.assertEqual(page.count("<dt>Hint<dd><bdi>Beta: 1,000 times smaller</bdi>"), 20)
 
     def test_providers_are_counted(self):
         page, *_ = self.run_on([[(("1", 0), (1, 2)), (("9", 0), (4,))], [(("5", 0), (1,)), (("7", 0), (2, 3))], [("x", (2,))]])
@@ -171,7 +168,8 @@ class Reported(ToolTest):
         found = [(row["values"], row["decimals"], row["reported_by"]) for row in listed]
         self.assertEqual(found, [("1; 9", "0; 2", "2 of 103"), ("x", "", "1 of 103")])
         self.assertNotIn("provider: Alpha", listed[0])
-        self.assertIn("<th>Values\n<tr class=apart><td>1<td>", page)
+        self.assertIn('class="period">Period<th scope="col" class="value">Values<th scope="col" class="difference">', page)
+        self.assertIn("<td class=value><span class=odd>1 <small>(0)</small></span>; <span class=odd>9 <small>(2)</small></span><td", page)
 
     def test_a_heading_is_no_formula(self):
         names, self.NAMES = self.NAMES, ("Alpha;=1", *self.NAMES[1:])
@@ -183,7 +181,8 @@ class Reported(ToolTest):
         rows = [[(("1000", 0), (1,)), (("1002", 0), (2,))], [(("1000", 0), (1,)), (("2000", 0), (2,))], [("x", (1,)), ("y", (2,))]]
         for share, shown in (("0.3%", "23"), ("0.003", "23"), ("0.1%", "123"), ("60%", "3")):
             page, cells, listed = self.run_on(rows, "--at-least", share)
-            self.assertEqual("".join(sorted(re.findall(r'<section class="row \w+" id="row(\d)"', page))), shown)
+            self.assertEqual("".join(sorted(re.findall(r'<tr id="row(\d)"', page))), shown)
+            self.assertEqual("".join(sorted(str(row[0]) for row in data_of(page)["rows"])), shown)
             hidden = 3 - len(shown)
             self.assertEqual(f"<p>Not shown: {hidden} with smaller differences;" in page, hidden > 0)
             self.assertEqual((len(cells), len(listed)), (6, 3))

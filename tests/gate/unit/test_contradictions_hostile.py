@@ -13,7 +13,7 @@ import unittest
 import in_process
 import contradictions
 from support import content, table_in
-from test_contradictions import TOOL, ToolTest
+from test_contradictions import TOOL, ToolTest, data_of
 
 
 LONG_URI = "http://long.example/" + "u" * 5_000
@@ -131,7 +131,7 @@ class Hostile(ToolTest):
         status, errors = in_process.run(contradictions, *self.words(facts))
         page, table = content(self.page), content(self.table)
         self.assertEqual((status, self.other_lines(errors), long[:81] in page, LONG_URI[:81] in page), (1, [], False, False))
-        self.assertIn(f'<abbr title="{LONG_URI[:80]}.."><bdi>{long[:80]}..</bdi></abbr>', page)
+        self.assertIn(f'<bdi title="{LONG_URI[:80]}..">{long[:80]}..</bdi>', page)
         self.assertEqual((table.count(LONG_URI), table.count(long)), (40 * 5, 40 * 5))
 
     def test_long_texts_are_cut_near_the_first_that_differs(self):
@@ -144,13 +144,32 @@ class Hostile(ToolTest):
                 self.assertIn(f"<td><bdi>{'..' * bool(start)}{shown}{rest}", page)
             self.assertIn("s" * shared + "b" * 200, content(self.table))
 
-    def test_no_text_ends_the_block_that_its_row_waits_in(self):
+    def test_no_text_ends_the_block_of_the_data(self):
         facts = [text(f"</script><!--<script>{sign}", entity=f"e:{row:03}") for row in range(102) for sign in "ab"]
         status, errors = in_process.run(contradictions, *self.words(facts))
         self.assertEqual((status, self.other_lines(errors)), (1, []))
         page = content(self.page)
-        self.assertEqual([page.count(part) for part in ("<script", "</script>", "<!--", '<section class="row')], [3, 3, 0, 102])
-        self.assertIn("<b><abbr title=\"http://e.example/t\"><bdi>T</bdi></abbr></b> 2 rows</summary>", page)
+        self.assertEqual([page.count(part) for part in ("<script", "</script>", "<!--", '<tr id="row')], [2, 2, 0, 100])
+        rows = data_of(page)["rows"]
+        self.assertEqual([len(rows), *(fact[1] for fact in rows[101][6])], [102, *(f"</script><!--<script>{sign}" for sign in "ab")])
+
+    def test_rows_that_the_page_does_not_hold_are_counted(self):
+        facts = [number(value, entity=f"e:{row:03}") for row in range(100) for value in (1, 2)] + [number(1, entity=f"e:{row}") for row in range(100, 200)]
+        with in_process.mock.patch("contradicting.page_data.MOST", 8_000):
+            self.assertEqual(in_process.run(contradictions, *self.words(facts))[0], 1)
+        page = content(self.page)
+        data = data_of(page)
+        self.assertLess(sum(len(json.dumps(row)) for row in data["rows"]), 10_000)
+        self.assertEqual((len(data["rows"]) + data["leftOut"], {row[5] for row in data["rows"]}), (200, {0}))
+        self.assertIn(f"<p>Not on this page: {data['leftOut']} more rows; table.csv has them.</p>", page)
+
+    def test_a_row_of_many_facts_is_cut_on_the_page(self):
+        in_process.run(contradictions, *self.words([number(each) for each in range(200)]))
+        page = content(self.page)
+        row = data_of(page)["rows"][0]
+        pair = [row[6][index][0] for index in row[9]]
+        self.assertEqual((len(row[6]), row[10], pair), (50, 150, ["f001", "f200"]))
+        self.assertIn("<p>and 150 more facts in contradictions.csv</p>", page)
 
     def test_a_name_is_guarded_as_a_whole_text(self):
         from contradicting.tables import cell

@@ -155,8 +155,8 @@ class Files(Stubbed):
         found = {cell["fact"]: (cell["identifiers"], cell["reported_by"]) for cell in self.cells("contradictions.csv")}
         self.assertEqual((found["f066"], found["f065"][0][:6]), (("A: issuer.json, f33; A: statfeed.json, TS08474", "1 of 2"), "B; \u00e4: "))
         page, row = content(self.page), self.cells("table.csv")[36]
-        self.assertIn(f'<bdi>A: <bdi>issuer.json</bdi>, <span title="{REPORTS[0][:80]}', page)
-        self.assertIn(f'<bdi>B; \u00e4 <span title="{REPORTS[1][:80]}', page)
+        for text in ("<bdi>A issuer.json, f33; statfeed.json, TS08474</bdi>", "<bdi>B; \u00e4 ", f"<dt>Files<dd><bdi>{REPORTS[0]}</bdi>; <bdi>{REPORTS[2]}</bdi>"):
+            self.assertIn(text, page)
         self.assertEqual((row["provider: A"], row["files: A"]), ("212640000", "issuer.json, statfeed.json"))
 
     def test_a_path_may_have_an_equals_sign(self):
@@ -305,8 +305,7 @@ class Prepared(Stubbed):
             self.assertEqual((done.returncode, done.stderr), (1, ""))
             page = content(self.page)
             for name in ("Sales", "RegionAxis", "NorthMember"):
-                self.assertIn(f"<bdi{attribute}>{name} &amp; label</bdi>", page)
-            self.assertIn('<a href="#row1" aria-label="1 of Sales &amp; label">', page)
+                self.assertIn(f'"{attribute}>{name} &amp; label</bdi>', page)
             self.assertEqual(self.cells("table.csv")[0]["label"], "Sales & label")
         self.write("package/labels.xml", "no XML")
         done = self.run_on(*REPORTS, sheet=["--taxonomy", self.path_of("package")])
@@ -320,7 +319,7 @@ class Prepared(Stubbed):
         for location, role, is_found, line in (("labels.xml", "label", True, ""), ("no.xml", "label", False, lacks), ("no.xml", "reference", False, "")):
             named = self.write("package/t.xsd", schema.replace("<xs:element", REFERENCE.format(location, role) + "<xs:element", 1))
             done = self.run_on(*REPORTS, sheet=["--taxonomy", named])
-            self.assertEqual((done.returncode, done.stderr, "<bdi>Sales &amp; label</bdi>" in content(self.page)), (1, line, is_found))
+            self.assertEqual((done.returncode, done.stderr, ">Sales &amp; label</bdi>" in content(self.page)), (1, line, is_found))
         self.assertIn(f"<bdi>{named}</bdi><td data-name=\"Bytes\">{os.path.getsize(named)}<td", content(self.page))
 
     def test_the_page_lists_the_version_and_the_files(self):
