@@ -8,7 +8,7 @@
 The first two forms run `xbrlmerge` on the reports. Each form writes these files into the folder DIR, except that --from writes
 no merged.json:
 
-    page.html           the contradictions: texts, names and nil values first, then the largest relative differences
+    page.html           a table of all rows: contradictions first, of texts, names and nil values, then the largest relative differences
     contradictions.csv  the facts of the contradictions as a table
     table.csv           all rows, with the values of each provider in a column
     providers.csv       for each pair of providers, the rows that both report, that agree and that contradict each other
@@ -78,7 +78,8 @@ provider and the merged report of its own reports; repeat it for each provider.
 The inputs are copied to DIR until the run ends, and the program and the tool read the copies. A file that changes later changes
 nothing; the SHA-256 on the page are of the copies, and of the changed reports. One run at a time writes to DIR.
 
-The page and changes.csv show at most 80 characters of an identifier, a URI or a text; the other tables contain them whole.
+The page and changes.csv show at most 80 characters of an identifier, a URI or a text; the other tables contain them whole. The
+page holds about 8 MB of rows, contradictions first, and counts the other rows.
 In the tables, a ' precedes anything that a spreadsheet might read as a formula.
 
 Status 0: the files are written, and there is nothing to look at. 1: the files are written, and there is something to look at.

@@ -41,15 +41,20 @@ def report(values):
     return json.dumps({"documentInfo": {"documentType": "https://xbrl.org/2021/xbrl-json", "namespaces": {"t": NAMESPACE}}, "facts": facts})
 
 
+def run(program, scratch, files, *options):
+    """Writes the taxonomy and the reports, and runs the tool on them. Returns the process that ended."""
+    write_package(os.path.join(scratch, "taxonomy.zip"))
+    for name, (_, values) in files.items():
+        with open(os.path.join(scratch, name), "w", encoding="utf-8") as file:
+            file.write(report(values))
+    words = ["--program", program, "--taxonomy", "taxonomy.zip", *options, *(f"{provider}={name}" for name, (provider, _) in files.items())]
+    return subprocess.run([os.path.join(TOP, "tools", "contradictions"), *words], capture_output=True, text=True, cwd=scratch)
+
+
 def faults(program):
     """Runs the tool on the reports with their taxonomy. Returns what it does not find."""
     with tempfile.TemporaryDirectory() as scratch:
-        write_package(os.path.join(scratch, "taxonomy.zip"))
-        for name, (_, values) in FILES.items():
-            with open(os.path.join(scratch, name), "w", encoding="utf-8") as file:
-                file.write(report(values))
-        words = ["--program", program, "--taxonomy", "taxonomy.zip", "-o", "out", *(f"{provider}={name}" for name, (provider, _) in FILES.items())]
-        ran = subprocess.run([os.path.join(TOP, "tools", "contradictions"), *words], capture_output=True, text=True, cwd=scratch)
+        ran = run(program, scratch, FILES, "-o", "out")
         line = "contradictions: Beta: 1,000 times smaller in 20 of 23 rows that others report, too\n"
         if (ran.returncode, ran.stderr) != (1, line):
             return [f"the trial ends with {ran.returncode}: {ran.stderr}"]
