@@ -5,7 +5,7 @@ import os
 import resource
 import subprocess
 
-from shaped import COSTLY, MEGABYTES, expected
+from shaped import COSTLY, MEGABYTES, SENT, SHAPES, expected
 
 MEGABYTE = 1_000_000
 NEAR = 50_000
@@ -32,13 +32,13 @@ def bytes_of(files):
     return sum(len(text_of(content).encode()) for content in files.values())
 
 
-def megabyte_of(shape, start):
+def megabyte_of(name, shape):
     """The arguments and files of a shape, at a size at which the files have about a megabyte."""
-    if shape in MEGABYTES:
-        return shape(*MEGABYTES[shape])
-    (before, fewer), size = (0, bytes_of(shape(1)[1])), start
+    if name in MEGABYTES:
+        return shape.make(*MEGABYTES[name])
+    (before, fewer), size = (0, bytes_of(shape.make(1)[1])), shape.size
     for _ in range(TRIES):
-        words, files = shape(size)
+        words, files = shape.make(size)
         found = bytes_of(files)
         if abs(found - MEGABYTE) <= NEAR or found == fewer:
             break
@@ -48,16 +48,16 @@ def megabyte_of(shape, start):
     return words, files
 
 
-def make(shape, start, folder):
-    words, files = megabyte_of(shape, start)
+def make(name, folder):
+    words, files = megabyte_of(name, {**SHAPES, **SENT}[name])
     write_files(files, folder)
     return words, bytes_of(files)
 
 
-def made(shape, start, folder):
+def made(name, folder):
     """Makes the files in another process: a program's peak memory includes that of the process that starts it."""
     with multiprocessing.get_context("fork").Pool(1) as pool:
-        return pool.apply(make, (shape, start, folder))
+        return pool.apply(make, (name, folder))
 
 
 def limit():
@@ -78,9 +78,9 @@ def too_costly(shapes, program, folder):
     """Prints a table with the cost of each shape, and returns the names of those that cost too much without being listed."""
     print("| Shape | Bytes | Seconds | Memory | |\n|---|--:|--:|--:|---|", flush=True)
     costly = []
-    for shape, start in shapes.items():
-        name, place = shape.__name__.replace("_", " "), os.path.join(folder, shape.__name__)
-        words, size = made(shape, start, place)
+    for shape in shapes:
+        name, place = shape.replace("_", " "), os.path.join(folder, shape)
+        words, size = made(shape, place)
         seconds, kilobytes, done = measure([program, *words], place)
         is_costly = seconds > MOST_SECONDS or kilobytes > MOST_KILOBYTES or not done
         note = ("too much, listed" if shape in COSTLY else "too much") if is_costly else ""

@@ -1,7 +1,8 @@
-"""The shapes of input that bench/shapes measures. A shape is a function of the size. It returns the arguments of a command, and
-the content of each file that the command reads, by name."""
+"""The shapes of input that bench/shapes measures. A shape has the smaller of its two sizes, and a function of a size. The function
+returns the arguments of a command, and the content of each file that the command reads, by name."""
 import json
 import random
+from typing import Callable, NamedTuple
 
 DOCUMENT_TYPE = "https://xbrl.org/2021/xbrl-json"
 URI = "http://example.org/t"
@@ -80,110 +81,71 @@ def replaying(replicas, events, *reports):
     return words, {**files, "events.txt": "".join(f"{event}\n" for event in events)}
 
 
-# ---- the shapes; SHAPES lists each with the smaller of its two sizes
-
-def namespaces_of_a_report(n):
-    return merging(sheet(), report(numbered([fact()]), {"eg": URI, **prefixes(n)}))
+def one_report(facts, namespaces=None, **others):
+    return merging(sheet(), report(numbered(facts), namespaces, **others))
 
 
-def namespaces_of_a_sheet(n):
-    return merging(sheet(namespaces={"eg": URI, **prefixes(n)}), report(numbered([fact()])))
+def with_axis(facts, namespaces=None):
+    """A merge of one report whose facts have the explicit dimension eg:D."""
+    return merging(sheet(dimensions={"eg:D": "explicit"}), report(numbered(facts), namespaces))
 
 
-def namespaces_written(n):
-    names = prefixes(n)
-    concepts = {f"{prefix}:C": "text" for prefix in names}
-    return merging(sheet(concepts, namespaces=names), report(numbered(fact(concept=name) for name in concepts), names))
+def explaining(*files):
+    words, files = merging(sheet(), *files)
+    return ["explain", *words[1:]], files
 
 
-def namespaces_written_that_fall(n):
-    names = {"eg": URI, **falling(n)}
-    facts = [fact(period=period(place), **{"eg:D": f"p{place:07}:m"}) for place in range(n)]
-    return merging(sheet(dimensions={"eg:D": "explicit"}), report(numbered(facts), names))
+def by(command, make):
+    """The function of a shape with the files of another shape, for another command."""
+    def made(*sizes):
+        words, files = make(*sizes)
+        return [command, *words[1:]], files
+    return made
 
 
-def references(n):
-    return merging(sheet(), report(numbered([fact()]), taxonomy=[f"{URI}/{place:07}.xsd" for place in range(n)]))
-
-
-def references_that_fall(n):
-    return merging(sheet(), report(numbered([fact()]), taxonomy=[f"{URI}/{n - place:07}.xsd" for place in range(n)]))
-
-
-def references_beside_a_long_base(n, size=5_000):
-    """n references, each of which is stored as a URL of about `size` bytes."""
-    return merging(sheet(), report(numbered([fact()]), taxonomy=[str(place) for place in range(n)], baseURL=f"{URI}/{'b' * size}/"))
-
-
-def references_of_many_reports(n):
-    return merging(sheet(), *(report(numbered([fact()]), taxonomy=[f"{URI}/{place:07}.xsd"]) for place in range(n)))
-
-
-def features(n):
-    return merging(sheet(), report(numbered([fact()]), features={f"eg:f{place:07}": True for place in range(n)}))
-
-
-def dimensions_of_one_fact(n):
-    names = [f"eg:D{place:07}" for place in range(n)]
-    return merging(sheet(dimensions={name: "typed" for name in names}), report(numbered([fact(**{name: "m" for name in names})])))
-
-
-def dimensions_whose_names_fall(n):
-    names = falling(n)
-    dimensions = [f"{prefix}:D" for prefix in names]
-    bound = {"eg": URI, **names}
-    return merging(sheet(dimensions={name: "typed" for name in dimensions}, namespaces=bound), report(numbered([fact(**{name: "m" for name in dimensions})]), bound))
-
-
-def measures_of_a_unit(n):
-    return merging(sheet(), report(numbered([numeric("1", unit="*".join(f"eg:m{n - place:07}" for place in range(n)))])))
-
-
-def measures_beside_a_long_uri(n):
-    """A unit with n measures of one namespace, whose URI has about 5,000 bytes."""
-    names = {"eg": URI, "u": f"{URI}/{'u' * 5_000}"}
-    return merging(sheet(), report(numbered([numeric("1", unit="*".join(f"u:m{n - place:07}" for place in range(n)))]), names))
-
-
-def measures_in_no_order(n, size=5_000):
-    """A unit with n measures in no order, of one namespace whose URI has about `size` bytes."""
-    names = {"eg": URI, "u": f"{URI}/{'u' * size}"}
-    return merging(sheet(), report(numbered([numeric("1", unit="*".join(f"u:{place:05}" for place in shuffled(range(n))))]), names))
+def taken(make):
+    """The function of a shape in which a replica takes the only report of another shape."""
+    def made(*sizes):
+        words, files = make(*sizes)
+        return ["replay", "--replicas", "1", "--events", "events.txt", *words[1:]], {**files, "events.txt": "take 1 1\n"}
+    return made
 
 
 def shuffled(items):
     return random.Random(1).sample(list(items), len(items))
 
 
-def members_of_a_long_uri(n, size=50_000):
-    """n facts of one concept and one entity, in no order. The URI of the entity and of all members has about `size` bytes."""
-    bound = {"eg": URI, "u": f"{URI}/{'u' * size}"}
-    facts = (fact(entity="u:e", **{"eg:D": f"u:m{place:05}"}) for place in shuffled(range(n)))
-    return merging(sheet(dimensions={"eg:D": "explicit"}), report(numbered(facts), bound))
+def axes(n, given):
+    """n dimensions, each with the same kind or member."""
+    return {f"eg:D{place:07}": given for place in range(n)}
 
 
-def entities_of_a_long_uri(n, size=50_000):
-    """n facts of one concept, each of another entity with another member, in no order. One URI of about `size` bytes."""
-    bound = {"eg": URI, "u": f"{URI}/{'u' * size}"}
-    facts = (fact(entity=f"u:e{place:05}", **{"eg:D": f"u:m{place:05}"}) for place in shuffled(range(n)))
-    return merging(sheet(dimensions={"eg:D": "explicit"}), report(numbered(facts), bound))
+def beside_a_long_one(size):
+    """The usual namespace, and one whose URI has about `size` bytes."""
+    return {"eg": URI, "u": f"{URI}/{'u' * size}"}
 
 
-def entities_of_two_long_uris(n, size=25_000):
-    """n facts of one concept, in no order. The URIs of their entities have one length and differ in the last character."""
-    bound = {"eg": URI, **{prefix: f"{URI}/{'u' * size}{prefix}" for prefix in "uw"}}
-    facts = (fact(entity=f"{'uw'[place % 2]}:e{place:05}") for place in shuffled(range(n)))
-    return merging(sheet(), report(numbered(facts), bound))
+def references(places):
+    return [f"{URI}/{place:07}.xsd" for place in places]
 
 
-def sources_of_members_of_a_long_uri(n, size=50_000):
-    words, files = members_of_a_long_uri(n, size)
-    return ["sources", *words[1:]], files
+def measures(prefix, n):
+    """A unit with n measures in falling order."""
+    return "*".join(f"{prefix}:m{n - place:07}" for place in range(n))
 
 
-def take_of_members_of_a_long_uri(n, size=50_000):
-    words, files = members_of_a_long_uri(n, size)
-    return ["replay", "--replicas", "1", "--events", "events.txt", *words[1:]], {**files, "events.txt": "take 1 1\n"}
+def in_months(places):
+    """A number for each place, of different months."""
+    return [numeric(str(place), period=period(place)) for place in places]
+
+
+def apart(n):
+    """n facts of different months, by identifier."""
+    return numbered(in_months(range(n)))
+
+
+def tiny_reports(n):
+    return [report(numbered([one])) for one in in_months(range(n))]
 
 
 def long_uri(names, size):
@@ -193,12 +155,46 @@ def long_uri(names, size):
     return sheet(dict.fromkeys(concepts, "text"), namespaces=bound), report(numbered(fact(concept=name) for name in concepts), bound)
 
 
-def names_of_a_long_uri(n):
-    return merging(*long_uri(n, 50_000))
+ONE_FACT = report(numbered([fact()]))
+TWO_REPORTS = [report(numbered([numeric(value)])) for value in "12"]
 
 
-def bytes_of_a_uri_of_many_names(n):
-    return merging(*long_uri(2_000, n))
+# ---- the shapes that take several steps
+
+def namespaces_written(n):
+    names = prefixes(n)
+    concepts = {f"{prefix}:C": "text" for prefix in names}
+    return merging(sheet(concepts, namespaces=names), report(numbered(fact(concept=name) for name in concepts), names))
+
+
+def dimensions_whose_names_fall(n):
+    bound = {"eg": URI, **falling(n)}
+    axes = [f"{prefix}:D" for prefix in falling(n)]
+    listed = sheet(dimensions=dict.fromkeys(axes, "typed"), namespaces=bound)
+    return merging(listed, report(numbered([fact(**dict.fromkeys(axes, "m"))]), bound))
+
+
+def measures_in_no_order(n, size=5_000):
+    """A unit with n measures in no order, of one namespace whose URI has about `size` bytes."""
+    unit = "*".join(f"u:{place:05}" for place in shuffled(range(n)))
+    return one_report([numeric("1", unit=unit)], beside_a_long_one(size))
+
+
+def members_of_a_long_uri(n, size=50_000):
+    """n facts of one concept and one entity, in no order. The URI of the entity and of all members has about `size` bytes."""
+    return with_axis((fact(entity="u:e", **{"eg:D": f"u:m{place:05}"}) for place in shuffled(range(n))), beside_a_long_one(size))
+
+
+def entities_of_a_long_uri(n, size=50_000):
+    """n facts of one concept, each of another entity with another member, in no order. One URI of about `size` bytes."""
+    facts = (fact(entity=f"u:e{place:05}", **{"eg:D": f"u:m{place:05}"}) for place in shuffled(range(n)))
+    return with_axis(facts, beside_a_long_one(size))
+
+
+def entities_of_two_long_uris(n, size=25_000):
+    """n facts of one concept, in no order. The URIs of their entities have one length and differ in the last character."""
+    bound = {"eg": URI, **{prefix: f"{URI}/{'u' * size}{prefix}" for prefix in "uw"}}
+    return one_report((fact(entity=f"{'uw'[place % 2]}:e{place:05}") for place in shuffled(range(n))), bound)
 
 
 def names_and_bytes_of_a_uri(n):
@@ -215,117 +211,9 @@ def names_and_bytes_of_a_uri_in_no_order(n):
     return merging(a_sheet, {**a_report, "facts": dict(zip((identifier for identifier, _ in reversed(facts)), (one for _, one in facts)))})
 
 
-def check_of_names_and_bytes_of_a_uri(n):
-    words, files = names_and_bytes_of_a_uri(n)
-    return ["check", *words[1:]], files
-
-
-def sources_of_names_of_a_long_uri(n):
-    words, files = names_of_a_long_uri(n)
-    return ["sources", *words[1:]], files
-
-
-def sources_of_bytes_of_a_uri(n):
-    words, files = bytes_of_a_uri_of_many_names(n)
-    return ["sources", *words[1:]], files
-
-
-def take_of_names_and_bytes_of_a_uri(n):
-    a_sheet, a_report = long_uri(n, 20 * n)
-    words, files = replaying(1, ["take 1 1"], a_report)
-    return words, {**files, "sheet.json": a_sheet}
-
-
-def names_of_a_long_uri_in_a_sheet(n):
-    return merging(long_uri(n, 50_000)[0], report({}))
-
-
-def names_and_bytes_of_a_uri_in_a_sheet(n):
-    return merging(long_uri(n, 20 * n)[0], report({}))
-
-
-def text_of_one_value(n):
-    return merging(sheet(), report(numbered([fact("ab\"\\\u00e9\n" * n)])))
-
-
-def identifier_of_an_entity(n):
-    return merging(sheet(), report(numbered([fact(entity="lei:" + "e" * n)])))
-
-
-def name_of_a_member(n):
-    return merging(sheet(dimensions={"eg:D": "explicit"}), report(numbered([fact(**{"eg:D": "eg:" + "m" * n})])))
-
-
-def zeros_in_front_of_digits(n):
-    return merging(sheet(), report(numbered([numeric("0" * n + "1")])))
-
-
-def zeros_behind_a_point(n):
-    return merging(sheet(), report(numbered([numeric("1." + "0" * n)])))
-
-
-def extension_members_of_a_report(n):
-    extended = report(numbered([fact()]))
-    return merging(sheet(), {**extended, **{f"x:e{place:07}": place for place in range(n)}})
-
-
-def extension_members_of_a_fact(n):
-    return merging(sheet(), report(numbered([{**fact(), **{f"x:e{place:07}": [place] for place in range(n)}}])))
-
-
-def objects_in_an_extension(n):
-    """An extension with n objects of one member each. The program reads and ignores the objects."""
-    return merging(sheet(), {**report(numbered([fact()])), "x:e": [{"a": 1}] * n})
-
-
-def empty_keys_in_an_extension(n):
-    """An extension with n objects whose only key is empty."""
-    return merging(sheet(), {**report(numbered([fact()])), "x:e": [{"": 0}] * n})
-
-
-def empty_keys_before_and_behind_facts(n):
-    """The same objects, half of them in a member before the facts, and half behind."""
-    half = [{"": 0}] * (n // 2)
-    return merging(sheet(), {"x:a": half, **report(numbered([fact()])), "x:b": half})
-
-
 def objects_behind_dimensions(n, extension=None):
     """n facts of different lengths, each with an object as an extension. A piece may be cut before this object."""
-    extended = ({**fact("v" * (place % 50)), "x:e": extension or {"a": 1}} for place in range(n))
-    return merging(sheet(), report(numbered(extended)))
-
-
-def nested_objects_behind_dimensions(n):
-    return objects_behind_dimensions(n, {"x:a": {"b": 1}, "x:c": {"x:d": {"e": 1}}})
-
-
-def concepts(n):
-    return merging(sheet({"eg:C": "text", **{f"eg:C{place:07}": "numeric" for place in range(n)}}), report(numbered([fact()])))
-
-
-def concepts_in_no_order(n):
-    return merging(sheet({"eg:C": "text", **{f"eg:C{place:07}": "numeric" for place in shuffled(range(n))}}), report(numbered([fact()])))
-
-
-def dimensions_of_a_sheet(n):
-    return merging(sheet(dimensions={f"eg:D{place:07}": "typed" for place in range(n)}), report(numbered([fact()])))
-
-
-def apart(n):
-    """n facts of different months, by identifier."""
-    return numbered(numeric(str(place), period=period(place)) for place in range(n))
-
-
-def facts(n):
-    return merging(sheet(), report(apart(n)))
-
-
-def facts_on_lines_of_their_own(n):
-    return merging(sheet(), json.dumps(report(apart(n)), indent=2))
-
-
-def facts_before_document_info(n):
-    return merging(sheet(), dict(reversed(report(apart(n)).items())))
+    return one_report({**fact("v" * (place % 50)), "x:e": extension or {"a": 1}} for place in range(n))
 
 
 def facts_in_no_order(n):
@@ -345,67 +233,21 @@ def facts_with_the_last_refused(n):
     return [*words[:-1], REFUSED], files
 
 
-def reports(n):
-    return merging(sheet(), *tiny_reports(n))
-
-
-def facts_of_one_dimension_set(n):
-    return merging(sheet(), report(numbered(fact(f"v{n - place:07}") for place in range(n))))
-
-
 def numbers_of_one_dimension_set(n):
-    return merging(sheet(), report(numbered({**numeric(str(n - place)), "decimals": place % 37 - 18} for place in range(n))))
+    return one_report({**numeric(str(n - place)), "decimals": place % 37 - 18} for place in range(n))
 
 
-def verdicts_on_one_dimension_set(n):
-    words, files = numbers_of_one_dimension_set(n)
-    return ["verdicts", *words[1:]], files
-
-
-def check_of_one_dimension_set(n):
-    words, files = numbers_of_one_dimension_set(n)
-    return ["check", *words[1:]], files
-
-
-def check_of_a_merged_text(n):
+def merged_text(n):
     """A report of n facts that is its own canonical text, so `check` compares the whole text."""
     facts = {f"f{place + 1:0{len(str(n))}}": {"dimensions": {"concept": "n1:N", "period": period(place)}, "value": str(place)} for place in range(n)}
-    head = {"documentType": DOCUMENT_TYPE, "features": {"xbrl:allowedDuplicates": "none"}, "namespaces": {"n1": URI, "xbrl": "https://xbrl.org/2021"}, "taxonomy": []}
-    words, files = merging(sheet(), {"documentInfo": head, "facts": facts})
-    return ["check", *words[1:]], files
-
-
-def reports_of_one_dimension_set(n):
-    return merging(sheet(), *(report(numbered([numeric(str(n - place))])) for place in range(n)))
-
-
-def sources_of_one_dimension_set(n):
-    words, files = facts_of_one_dimension_set(n)
-    return ["sources", *words[1:]], files
-
-
-def sources_of_one_fact(n):
-    words, files = merging(sheet(), report(numbered(fact() for _ in range(n))))
-    return ["sources", *words[1:]], files
-
-
-def sources_of_small_reports(n):
-    words, files = reports(n)
-    return ["sources", *words[1:]], files
+    features, namespaces = {"xbrl:allowedDuplicates": "none"}, {"n1": URI, "xbrl": "https://xbrl.org/2021"}
+    head = {"documentType": DOCUMENT_TYPE, "features": features, "namespaces": namespaces, "taxonomy": []}
+    return merging(sheet(), {"documentInfo": head, "facts": facts})
 
 
 def sources_of_one_file_named_often(n):
-    words, files = merging(sheet(), report(numbered([fact()])))
+    words, files = merging(sheet(), ONE_FACT)
     return ["sources", *words[1:3], "--reports-from", "names.txt"], {**files, "names.txt": f"{words[3]}\n" * n}
-
-
-def explaining(*files):
-    words, files = merging(sheet(), *files)
-    return ["explain", *words[1:]], files
-
-
-def faults_of_facts(n):
-    return explaining(report(numbered(fact("1,5", concept=f"q{place}:N", unit=f"q{place}:u") for place in range(n))))
 
 
 def faults_of_names_of_a_long_uri(n, size=50_000):
@@ -414,10 +256,6 @@ def faults_of_names_of_a_long_uri(n, size=50_000):
     refused = {identifier: {**one, "decimals": "x"} for identifier, one in a_report["facts"].items()}
     words, files = merging(a_sheet, {**a_report, "facts": refused})
     return ["explain", *words[1:]], files
-
-
-def faults_of_one_fact(n):
-    return explaining(report(numbered([fact(**{f"eg:D{n - place:07}": 1 for place in range(n)}, unit="*".join(f"q{place}:u" for place in range(n)))])))
 
 
 def duplicates_that_are_denied(n):
@@ -440,20 +278,11 @@ def repeated_members_of_one_fact(n):
     return explaining(text.removesuffix("}}}") + f",{twice}}}}}}}")
 
 
-def lines_that_join(n):
-    events = ["take 1 1", "take 2 2", *(f"join {1 + place % 2} {2 - place % 2}" for place in range(n))]
-    return replaying(2, events, report(numbered([numeric("1")])), report(numbered([numeric("2")])))
-
-
-def lines_that_take(n):
-    return replaying(2, (f"take {1 + place % 2} {1 + place % 2}" for place in range(n)), report(numbered([numeric("1")])), report(numbered([numeric("2")])))
-
-
 def texts_sent_and_received(n):
     events = ["take 1 1", "take 2 2"]
     for place in range(1, n // 2 + 1):
         events += [f"send {1 + place % 2}", f"receive {2 - place % 2} {place}"]
-    return replaying(2, events, report(numbered([numeric("1")])), report(numbered([numeric("2")])))
+    return replaying(2, events, *TWO_REPORTS)
 
 
 def reports_sent_in_a_ring(n):
@@ -473,28 +302,10 @@ def reports_received_late(n):
     return replaying(2, events + [f"receive 2 {place}" for place in range(1, n + 1)], *tiny_reports(n))
 
 
-def tiny_reports(n):
-    return [report(numbered([numeric(str(place), period=period(place))])) for place in range(n)]
-
-
-def sends_without_a_change(n):
-    """n texts that one replica of 1,000 facts sends while its base does not change."""
-    facts = report(numbered(numeric(str(place), period=period(place)) for place in range(FACTS)))
-    return replaying(1, ["take 1 1", *["send 1"] * n], facts)
-
-
 def joins_that_add_nothing(n):
     """n joins: a replica of 1,000 facts joins a replica that has half of them."""
-    halves = [report(numbered(numeric(str(place), period=period(place)) for place in range(0, FACTS, step))) for step in (1, 2)]
+    halves = [report(numbered(in_months(range(0, FACTS, step)))) for step in (1, 2)]
     return replaying(2, ["take 1 1", "take 2 2", *["join 1 2"] * n], *halves)
-
-
-def takes_of_different_reports(n):
-    return replaying(1, (f"take 1 {place}" for place in range(1, n + 1)), *tiny_reports(n))
-
-
-def takes_of_reports_in_no_order(n):
-    return replaying(1, (f"take 1 {place}" for place in shuffled(range(1, n + 1))), *tiny_reports(n))
 
 
 def events_of_eight_replicas(n):
@@ -505,110 +316,118 @@ def events_of_eight_replicas(n):
     return replaying(REPLICAS, drawn_events(chance, n), *reports)
 
 
+# ---- the table of shapes
+
+class Shape(NamedTuple):
+    size: int
+    make: Callable
+
+
 SHAPES = {
-    namespaces_of_a_report: 5_000,
-    namespaces_of_a_sheet: 5_000,
-    namespaces_written: 5_000,
-    namespaces_written_that_fall: 5_000,
-    references: 5_000,
-    references_that_fall: 5_000,
-    references_beside_a_long_base: 500,
-    references_of_many_reports: 500,
-    features: 5_000,
-    dimensions_of_one_fact: 5_000,
-    dimensions_whose_names_fall: 5_000,
-    measures_of_a_unit: 5_000,
-    measures_beside_a_long_uri: 1_000,
-    measures_in_no_order: 1_000,
-    members_of_a_long_uri: 1_000,
-    entities_of_a_long_uri: 1_000,
-    entities_of_two_long_uris: 1_000,
-    sources_of_members_of_a_long_uri: 1_000,
-    take_of_members_of_a_long_uri: 1_000,
-    names_of_a_long_uri: 2_000,
-    bytes_of_a_uri_of_many_names: 50_000,
-    names_and_bytes_of_a_uri: 2_000,
-    names_and_bytes_of_a_uri_in_no_order: 2_000,
-    check_of_names_and_bytes_of_a_uri: 2_000,
-    sources_of_names_of_a_long_uri: 2_000,
-    sources_of_bytes_of_a_uri: 50_000,
-    take_of_names_and_bytes_of_a_uri: 2_000,
-    names_of_a_long_uri_in_a_sheet: 2_000,
-    names_and_bytes_of_a_uri_in_a_sheet: 2_000,
-    text_of_one_value: 100_000,
-    identifier_of_an_entity: 500_000,
-    name_of_a_member: 500_000,
-    zeros_in_front_of_digits: 500_000,
-    zeros_behind_a_point: 500_000,
-    extension_members_of_a_report: 5_000,
-    extension_members_of_a_fact: 5_000,
-    objects_in_an_extension: 50_000,
-    empty_keys_in_an_extension: 50_000,
-    empty_keys_before_and_behind_facts: 50_000,
-    objects_behind_dimensions: 5_000,
-    nested_objects_behind_dimensions: 5_000,
-    concepts: 5_000,
-    concepts_in_no_order: 5_000,
-    dimensions_of_a_sheet: 5_000,
-    facts: 5_000,
-    facts_on_lines_of_their_own: 5_000,
-    facts_before_document_info: 5_000,
-    facts_in_no_order: 5_000,
-    facts_with_one_repeated: 5_000,
-    facts_with_the_last_refused: 5_000,
-    reports: 500,
-    facts_of_one_dimension_set: 5_000,
-    numbers_of_one_dimension_set: 5_000,
-    verdicts_on_one_dimension_set: 5_000,
-    check_of_one_dimension_set: 5_000,
-    check_of_a_merged_text: 5_000,
-    reports_of_one_dimension_set: 500,
-    sources_of_one_dimension_set: 5_000,
-    sources_of_one_fact: 5_000,
-    sources_of_small_reports: 500,
-    sources_of_one_file_named_often: 2_000,
-    faults_of_facts: 5_000,
-    faults_of_names_of_a_long_uri: 500,
-    faults_of_one_fact: 10_000,
-    duplicates_that_are_denied: 5_000,
-    repeated_members: 5_000,
-    repeated_members_of_one_fact: 50_000,
-    lines_that_join: 5_000,
-    lines_that_take: 1_000,
-    texts_sent_and_received: 1_000,
-    sends_without_a_change: 1_000,
-    joins_that_add_nothing: 100,
-    takes_of_different_reports: 500,
-    takes_of_reports_in_no_order: 500,
-    events_of_eight_replicas: 500,
+    "namespaces_of_a_report": Shape(5_000, lambda n: one_report([fact()], {"eg": URI, **prefixes(n)})),
+    "namespaces_of_a_sheet": Shape(5_000, lambda n: merging(sheet(namespaces={"eg": URI, **prefixes(n)}), ONE_FACT)),
+    "namespaces_written": Shape(5_000, namespaces_written),
+    "namespaces_written_that_fall": Shape(5_000, lambda n: with_axis(
+        (fact(period=period(place), **{"eg:D": f"p{place:07}:m"}) for place in range(n)), {"eg": URI, **falling(n)})),
+    "references": Shape(5_000, lambda n: one_report([fact()], taxonomy=references(range(n)))),
+    "references_that_fall": Shape(5_000, lambda n: one_report([fact()], taxonomy=references(range(n, 0, -1)))),
+    # each reference is stored as a URL of about 5,000 bytes
+    "references_beside_a_long_base": Shape(500, lambda n: one_report(
+        [fact()], taxonomy=[str(place) for place in range(n)], baseURL=f"{URI}/{'b' * 5_000}/")),
+    "references_of_many_reports": Shape(500, lambda n: merging(
+        sheet(), *(report(numbered([fact()]), taxonomy=[reference]) for reference in references(range(n))))),
+    "features": Shape(5_000, lambda n: one_report([fact()], features={f"eg:f{place:07}": True for place in range(n)})),
+    "dimensions_of_one_fact": Shape(5_000, lambda n: merging(sheet(dimensions=axes(n, "typed")), report(numbered([fact(**axes(n, "m"))])))),
+    "dimensions_whose_names_fall": Shape(5_000, dimensions_whose_names_fall),
+    "measures_of_a_unit": Shape(5_000, lambda n: one_report([numeric("1", unit=measures("eg", n))])),
+    "measures_beside_a_long_uri": Shape(1_000, lambda n: one_report([numeric("1", unit=measures("u", n))], beside_a_long_one(5_000))),
+    "measures_in_no_order": Shape(1_000, measures_in_no_order),
+    "members_of_a_long_uri": Shape(1_000, members_of_a_long_uri),
+    "entities_of_a_long_uri": Shape(1_000, entities_of_a_long_uri),
+    "entities_of_two_long_uris": Shape(1_000, entities_of_two_long_uris),
+    "sources_of_members_of_a_long_uri": Shape(1_000, by("sources", members_of_a_long_uri)),
+    "take_of_members_of_a_long_uri": Shape(1_000, taken(members_of_a_long_uri)),
+    "names_of_a_long_uri": Shape(2_000, lambda n: merging(*long_uri(n, 50_000))),
+    "bytes_of_a_uri_of_many_names": Shape(50_000, lambda n: merging(*long_uri(2_000, n))),
+    "names_and_bytes_of_a_uri": Shape(2_000, names_and_bytes_of_a_uri),
+    "names_and_bytes_of_a_uri_in_no_order": Shape(2_000, names_and_bytes_of_a_uri_in_no_order),
+    "check_of_names_and_bytes_of_a_uri": Shape(2_000, by("check", names_and_bytes_of_a_uri)),
+    "sources_of_names_of_a_long_uri": Shape(2_000, by("sources", lambda n: merging(*long_uri(n, 50_000)))),
+    "sources_of_bytes_of_a_uri": Shape(50_000, by("sources", lambda n: merging(*long_uri(2_000, n)))),
+    "take_of_names_and_bytes_of_a_uri": Shape(2_000, taken(names_and_bytes_of_a_uri)),
+    "names_of_a_long_uri_in_a_sheet": Shape(2_000, lambda n: merging(long_uri(n, 50_000)[0], report({}))),
+    "names_and_bytes_of_a_uri_in_a_sheet": Shape(2_000, lambda n: merging(long_uri(n, 20 * n)[0], report({}))),
+    "text_of_one_value": Shape(100_000, lambda n: one_report([fact("ab\"\\\u00e9\n" * n)])),
+    "identifier_of_an_entity": Shape(500_000, lambda n: one_report([fact(entity="lei:" + "e" * n)])),
+    "name_of_a_member": Shape(500_000, lambda n: with_axis([fact(**{"eg:D": "eg:" + "m" * n})])),
+    "zeros_in_front_of_digits": Shape(500_000, lambda n: one_report([numeric("0" * n + "1")])),
+    "zeros_behind_a_point": Shape(500_000, lambda n: one_report([numeric("1." + "0" * n)])),
+    "extension_members_of_a_report": Shape(5_000, lambda n: merging(sheet(), {**ONE_FACT, **{f"x:e{place:07}": place for place in range(n)}})),
+    "extension_members_of_a_fact": Shape(5_000, lambda n: one_report([{**fact(), **{f"x:e{place:07}": [place] for place in range(n)}}])),
+    # the program reads and ignores the objects
+    "objects_in_an_extension": Shape(50_000, lambda n: merging(sheet(), {**ONE_FACT, "x:e": [{"a": 1}] * n})),
+    "empty_keys_in_an_extension": Shape(50_000, lambda n: merging(sheet(), {**ONE_FACT, "x:e": [{"": 0}] * n})),
+    "empty_keys_before_and_behind_facts": Shape(50_000, lambda n: merging(
+        sheet(), {"x:a": [{"": 0}] * (n // 2), **ONE_FACT, "x:b": [{"": 0}] * (n // 2)})),
+    "objects_behind_dimensions": Shape(5_000, objects_behind_dimensions),
+    "nested_objects_behind_dimensions": Shape(5_000, lambda n: objects_behind_dimensions(n, {"x:a": {"b": 1}, "x:c": {"x:d": {"e": 1}}})),
+    "concepts": Shape(5_000, lambda n: merging(sheet({"eg:C": "text", **{f"eg:C{place:07}": "numeric" for place in range(n)}}), ONE_FACT)),
+    "concepts_in_no_order": Shape(5_000, lambda n: merging(
+        sheet({"eg:C": "text", **{f"eg:C{place:07}": "numeric" for place in shuffled(range(n))}}), ONE_FACT)),
+    "dimensions_of_a_sheet": Shape(5_000, lambda n: merging(sheet(dimensions=axes(n, "typed")), ONE_FACT)),
+    "facts": Shape(5_000, lambda n: merging(sheet(), report(apart(n)))),
+    "facts_on_lines_of_their_own": Shape(5_000, lambda n: merging(sheet(), json.dumps(report(apart(n)), indent=2))),
+    "facts_before_document_info": Shape(5_000, lambda n: merging(sheet(), dict(reversed(report(apart(n)).items())))),
+    "facts_in_no_order": Shape(5_000, facts_in_no_order),
+    "facts_with_one_repeated": Shape(5_000, facts_with_one_repeated),
+    "facts_with_the_last_refused": Shape(5_000, facts_with_the_last_refused),
+    "reports": Shape(500, lambda n: merging(sheet(), *tiny_reports(n))),
+    "facts_of_one_dimension_set": Shape(5_000, lambda n: one_report(fact(f"v{n - place:07}") for place in range(n))),
+    "numbers_of_one_dimension_set": Shape(5_000, numbers_of_one_dimension_set),
+    "verdicts_on_one_dimension_set": Shape(5_000, by("verdicts", numbers_of_one_dimension_set)),
+    "check_of_one_dimension_set": Shape(5_000, by("check", numbers_of_one_dimension_set)),
+    "check_of_a_merged_text": Shape(5_000, by("check", merged_text)),
+    "reports_of_one_dimension_set": Shape(500, lambda n: merging(sheet(), *(report(numbered([numeric(str(n - place))])) for place in range(n)))),
+    "sources_of_one_dimension_set": Shape(5_000, by("sources", lambda n: one_report(fact(f"v{n - place:07}") for place in range(n)))),
+    "sources_of_one_fact": Shape(5_000, by("sources", lambda n: one_report(fact() for _ in range(n)))),
+    "sources_of_small_reports": Shape(500, by("sources", lambda n: merging(sheet(), *tiny_reports(n)))),
+    "sources_of_one_file_named_often": Shape(2_000, sources_of_one_file_named_often),
+    "faults_of_facts": Shape(5_000, lambda n: explaining(
+        report(numbered(fact("1,5", concept=f"q{place}:N", unit=f"q{place}:u") for place in range(n))))),
+    "faults_of_names_of_a_long_uri": Shape(500, faults_of_names_of_a_long_uri),
+    "faults_of_one_fact": Shape(10_000, lambda n: explaining(report(numbered(
+        [fact(**{f"eg:D{n - place:07}": 1 for place in range(n)}, unit="*".join(f"q{place}:u" for place in range(n)))])))),
+    "duplicates_that_are_denied": Shape(5_000, duplicates_that_are_denied),
+    "repeated_members": Shape(5_000, repeated_members),
+    "repeated_members_of_one_fact": Shape(50_000, repeated_members_of_one_fact),
+    "lines_that_join": Shape(5_000, lambda n: replaying(
+        2, ["take 1 1", "take 2 2", *(f"join {1 + place % 2} {2 - place % 2}" for place in range(n))], *TWO_REPORTS)),
+    "lines_that_take": Shape(1_000, lambda n: replaying(2, (f"take {1 + place % 2} {1 + place % 2}" for place in range(n)), *TWO_REPORTS)),
+    "texts_sent_and_received": Shape(1_000, texts_sent_and_received),
+    # a replica of 1,000 facts sends its base, which does not change
+    "sends_without_a_change": Shape(1_000, lambda n: replaying(1, ["take 1 1", *["send 1"] * n], report(apart(FACTS)))),
+    "joins_that_add_nothing": Shape(100, joins_that_add_nothing),
+    "takes_of_different_reports": Shape(500, lambda n: replaying(1, (f"take 1 {place}" for place in range(1, n + 1)), *tiny_reports(n))),
+    "takes_of_reports_in_no_order": Shape(500, lambda n: replaying(1, (f"take 1 {place}" for place in shuffled(range(1, n + 1))), *tiny_reports(n))),
+    "events_of_eight_replicas": Shape(500, events_of_eight_replicas),
 }
 
 # shapes that --megabyte measures besides, each with a size to begin at. Texts that are sent after each report contain the square of
 # their number, so these shapes cannot grow as slowly as the others.
-SENT = {
-    reports_sent_in_a_ring: 500,
-    reports_received_late: 500,
-}
+SENT = {"reports_sent_in_a_ring": Shape(500, reports_sent_in_a_ring), "reports_received_late": Shape(500, reports_received_late)}
 
 # the sizes with which some shapes cost most for a megabyte; the other shapes have one size
 MEGABYTES = {
-    measures_in_no_order: (54_000, 490_000),
-    members_of_a_long_uri: (5_200, 500_000),
-    entities_of_a_long_uri: (5_200, 500_000),
-    entities_of_two_long_uris: (5_900, 250_000),
-    sources_of_members_of_a_long_uri: (5_200, 500_000),
-    take_of_members_of_a_long_uri: (5_200, 500_000),
-    faults_of_names_of_a_long_uri: (3_400, 250_000),
-    reports_sent_in_a_ring: (2_000,),
-    reports_received_late: (2_000,),
+    "measures_in_no_order": (54_000, 490_000),
+    "members_of_a_long_uri": (5_200, 500_000),
+    "entities_of_a_long_uri": (5_200, 500_000),
+    "entities_of_two_long_uris": (5_900, 250_000),
+    "sources_of_members_of_a_long_uri": (5_200, 500_000),
+    "take_of_members_of_a_long_uri": (5_200, 500_000),
+    "faults_of_names_of_a_long_uri": (3_400, 250_000),
+    "reports_sent_in_a_ring": (2_000,),
+    "reports_received_late": (2_000,),
 }
 
 # shapes of which a megabyte may cost more than --megabyte allows; docs/COSTS.md lists them
-COSTLY = {
-    measures_in_no_order,
-    references_beside_a_long_base,
-    joins_that_add_nothing,
-    events_of_eight_replicas,
-    reports_sent_in_a_ring,
-    reports_received_late,
-}
+COSTLY = {"measures_in_no_order", "references_beside_a_long_base", "joins_that_add_nothing", "events_of_eight_replicas", *SENT}

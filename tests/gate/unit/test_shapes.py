@@ -26,21 +26,18 @@ class Megabytes(unittest.TestCase):
         return costly, printed.getvalue().splitlines()[-1].split(" | ")[-1]
 
     def test_the_files_have_about_a_megabyte(self):
-        for shape in (shaped.facts, shaped.bytes_of_a_uri_of_many_names, shaped.names_and_bytes_of_a_uri, shaped.measures_in_no_order):
-            _, files = megabyte.megabyte_of(shape, 100)
-            self.assertAlmostEqual(megabyte.bytes_of(files), 1_000_000, delta=100_000, msg=shape.__name__)
+        for name in ("facts", "bytes_of_a_uri_of_many_names", "names_and_bytes_of_a_uri", "measures_in_no_order"):
+            _, files = megabyte.megabyte_of(name, shaped.SHAPES[name]._replace(size=100))
+            self.assertAlmostEqual(megabyte.bytes_of(files), 1_000_000, delta=100_000, msg=name)
 
-    def test_a_cheap_run_passes(self):
-        self.assertEqual(self.costly({shaped.concepts: 100}, ""), ([], " |"))
-
-    def test_too_much_memory_fails(self):
-        self.assertEqual(self.costly({shaped.concepts: 100}, MEMORY), (["concepts"], "too much |"))
-
-    def test_a_listed_shape_may_take_more(self):
-        self.assertEqual(self.costly({shaped.references_beside_a_long_base: 100}, MEMORY), ([], "too much, listed |"))
-
-    def test_a_run_that_ends_early_fails(self):
-        self.assertEqual(self.costly({shaped.concepts: 100}, "raise SystemExit(3)"), (["concepts"], "ended early, too much |"))
+    def test_what_costs_too_much_or_ends_early_fails_if_it_is_not_listed(self):
+        for name, script, costly, note in (
+            ("concepts", "", [], " |"), ("concepts", MEMORY, ["concepts"], "too much |"),
+            ("references_beside_a_long_base", MEMORY, [], "too much, listed |"),
+            ("concepts", "raise SystemExit(3)", ["concepts"], "ended early, too much |"),
+        ):
+            with self.subTest(name=name, note=note):
+                self.assertEqual(self.costly([name], script), (costly, note))
 
 
 if __name__ == "__main__":
