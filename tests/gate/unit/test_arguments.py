@@ -5,7 +5,6 @@ import os
 import shutil
 import subprocess
 import sys
-import unittest
 import zipfile
 
 import in_process
@@ -131,7 +130,3 @@ class Messages(Stubbed):
             self.assertEqual(status, 2, errors)
             self.assertTrue(errors.replace("\n", "").isprintable(), errors)
             self.assertEqual([line for line in errors.splitlines() if "error: " in line], errors.splitlines()[-1:])
-
-
-if __name__ == "__main__":
-    unittest.main()

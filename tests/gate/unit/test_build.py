@@ -60,7 +60,3 @@ class Build(unittest.TestCase):
             self.leave(name)
         os.remove(self.build.result_of("low"))
         self.assertEqual(self.unbuilt("xbrlmerge"), ["low", "middle", "xbrlmerge"])
-
-
-if __name__ == "__main__":
-    unittest.main()

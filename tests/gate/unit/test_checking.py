@@ -75,7 +75,3 @@ class Words(unittest.TestCase):
         words = command("out put", "-s", ["-r", "a"]).split(" ", 1)[1]
         self.assertEqual(words, "--sheet=-s --merged='out put/merged.json' --verdicts='out put/verdicts.txt'"
                          " --sources='out put/sources.txt' --refusals='out put/refusals.txt' -- -r a")
-
-
-if __name__ == "__main__":
-    unittest.main()

@@ -2,7 +2,6 @@
 import itertools
 import json
 import os
-import unittest
 
 import in_process
 import lines_of_verdicts
@@ -90,7 +89,3 @@ class Compared(ToolTest):
         for options, wanted in (([], 1), (["--exit-zero"], 0), (["--fail-on", "refusals,losses"], 0), (["--fail-on", "losses,contradictions"], 1),
                                 (["--fail-on", "all"], 2), (["--fail-on", ""], 2), (["--fail-on", "losses", "--exit-zero"], 2)):
             self.assertEqual(in_process.run(contradictions, *words, *options)[0], wanted, options)
-
-
-if __name__ == "__main__":
-    unittest.main()

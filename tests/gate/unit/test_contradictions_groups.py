@@ -195,7 +195,3 @@ class Reported(ToolTest):
         self.assertEqual([(cell["value"], cell["nil"]) for cell in cells[::2]], [("", "true"), ("nil", "false"), ("", "false")])
         found = [(row["provider: Alpha"], row["nil_by"], row["not_reported_by"]) for row in rows]
         self.assertEqual(found, [("", "Alpha", "Gamma"), ("nil", "", "Gamma"), ("", "", "Gamma")])
-
-
-if __name__ == "__main__":
-    unittest.main()

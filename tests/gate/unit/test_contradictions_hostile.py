@@ -8,7 +8,6 @@ import shutil
 import subprocess
 import sys
 import tracemalloc
-import unittest
 
 import in_process
 import contradictions
@@ -256,7 +255,3 @@ class Hostile(ToolTest):
                               (3, [*apart[:-1], one[-1]]), (3, ["--exit-zero", *apart[2:-1], one[-1]])):
             done = subprocess.run([sys.executable, TOOL, *words], capture_output=True)
             self.assertEqual((done.returncode, b"Traceback" in done.stderr), (status, False), (words, done.stderr))
-
-
-if __name__ == "__main__":
-    unittest.main()

@@ -199,7 +199,3 @@ class Large(test_contradictions.ToolTest):
         _, cells = self.written(merged, *INPUTS[1:], f"A={merged}", f"B={INPUTS[0]}")
         self.assertEqual({cell["providers"] for cell in cells}, {"A, B"})
         self.assertEqual(lines_of_verdicts.lines(content(merged)), content(INPUTS[2]))
-
-
-if __name__ == "__main__":
-    test_contradictions.unittest.main()

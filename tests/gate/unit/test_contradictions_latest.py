@@ -1,7 +1,6 @@
 """Tests of tools/contradictions --latest, with a program that prints prepared lines."""
 import json
 import os
-import unittest
 
 from test_contradictions_run import Stubbed
 from contradicting.latest import superseded_in
@@ -101,7 +100,3 @@ class Latest(Stubbed):
             sources = Sources(path, reports)
             self.addCleanup(sources.file.close)
             self.assertRaises(NotDone, superseded_in, self.write("verdicts", lines) if lines else verdicts, sources)
-
-
-if __name__ == "__main__":
-    unittest.main()

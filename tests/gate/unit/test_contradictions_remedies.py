@@ -1,7 +1,6 @@
 """Tests of the options that tools/contradictions names for faults: each must mend its fault."""
 import argparse
 import json
-import unittest
 
 import in_process
 from contradicting.refusals import Refusals
@@ -107,7 +106,3 @@ class Remedies(in_process.RoomTest):
             self.assertEqual(refusals.reports[0].groups, (
                 '3 facts with a concept that the sheet has in another namespace, as in "o:A": --map PROVIDER=MAP.json',
                 f'3 facts with a concept that the sheet lacks, as in "o:Z": --drop-unknown{share}'))
-
-
-if __name__ == "__main__":
-    unittest.main()

@@ -10,7 +10,6 @@ import signal
 import subprocess
 import sys
 import time
-import unittest
 
 import in_process
 from support import content
@@ -451,7 +450,3 @@ class BadInputs(Stubbed):
             self.assertEqual((child.wait(30), child.communicate()), (-signal.SIGTERM, (b"", b"")))
         self.forget_log()
         self.assertEqual(sorted(os.walk(self.scratch)), before)
-
-
-if __name__ == "__main__":
-    unittest.main()

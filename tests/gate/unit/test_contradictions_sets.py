@@ -2,7 +2,6 @@
 that do not fit the types of the sheet."""
 import json
 import os
-import unittest
 
 from test_contradictions_run import Stubbed
 from support import content
@@ -98,7 +97,3 @@ class Warned(Stubbed):
         self.assertIn(f"; {len(wanted)} warnings in warnings.csv; page: ", done.stdout.decode())
         self.assertIn(f"<li><bdi>{VALUE} in 1 fact, such as f02 (warnings.csv)</bdi>", content(self.page))
         self.assertEqual([self.run_tool(*texts, "--fail-on", kind).returncode for kind in ("warnings", "losses")], [1, 0])
-
-
-if __name__ == "__main__":
-    unittest.main()

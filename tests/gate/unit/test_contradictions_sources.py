@@ -1,6 +1,5 @@
 """Tests of tools/contradictions with the lines of `sources`, on the examples."""
 import os
-import unittest
 
 from test_contradictions import ToolTest
 from support import TOP, content
@@ -79,7 +78,3 @@ class Sources(ToolTest):
     def test_usage(self):
         for words in (["--sources", "x"], ["--names", "a"], [f"a={self.inputs[0]}", *self.words()], self.words(names="a,,b")):
             self.assertEqual(self.run_tool(*self.inputs, *words).returncode, 2, words)
-
-
-if __name__ == "__main__":
-    unittest.main()

@@ -105,7 +105,3 @@ class Differences(unittest.TestCase):
                 found, rules = outcome(report), rules_of(report, LISTED if wanted <= {*RULES} else None)
                 self.assertIn(found, recheck.RANKS if is_accepted else wanted, (here, report))
                 self.assertTrue(rules & wanted if wanted <= {*RULES} else not rules, (here, rules, report))
-
-
-if __name__ == "__main__":
-    unittest.main()

@@ -301,7 +301,3 @@ class Doubt(unittest.TestCase):
         self.problems(names, 20, form=FORMAT.format(lines=3, entries=entries))
         self.assertEqual(self.tree.run("--quiet", "--write")[0], 0)
         self.assertEqual(self.page("FORMAT"), FORMAT.format(lines=6, entries=entries.replace("`AllArePaid`, ", "")))
-
-
-if __name__ == "__main__":
-    unittest.main()

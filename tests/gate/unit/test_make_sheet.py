@@ -3,7 +3,6 @@ import json
 import os
 import subprocess
 import sys
-import unittest
 import zipfile
 
 import in_process
@@ -369,7 +368,3 @@ class Unions(ToolTest):
         texts += ['{"namespaces":{"p":"u"},"concepts":{"%s":"%s"}}' % each for each in (("A", "text"), ("p:A", "explicit"))]
         for text in texts:
             self.check_refused(3, "a.json", "--union", self.write("a.json", text))
-
-
-if __name__ == "__main__":
-    unittest.main()

@@ -451,7 +451,3 @@ class Unions(HostileTest):
             self.assertLess(peak, 30 * len(text) + 1_000_000)
 
         self.assertLess(in_process.growth(run_at, 1_000), 9)
-
-
-if __name__ == "__main__":
-    unittest.main()

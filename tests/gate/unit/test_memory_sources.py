@@ -141,7 +141,3 @@ class MemorySources(unittest.TestCase):
         self.assertEqual(lines_of(other, line), [])
         self.assertEqual(lines_of(2 * other, line), [f"2 times, not once: {line}"])
         self.assertEqual(lines_of("", line), [f"0 times, not once: {line}"])
-
-
-if __name__ == "__main__":
-    unittest.main()

@@ -2,10 +2,8 @@
 import json
 import os
 import random
-import re
 import subprocess
 import sys
-import unittest
 from decimal import Decimal
 from unittest import mock
 
@@ -353,7 +351,3 @@ class BadInputs(ToolTest):
         text = '{"documentInfo":{},"facts":{%s}}' % ",".join(fact % (n, n) for n in range(10_000))
         status, _ = self.run_tool(self.write("large.json", text), self.out, self.changes, "--zones=utc")
         self.assertEqual((status, content(self.changes).count("\n")), (1, 40_000))
-
-
-if __name__ == "__main__":
-    unittest.main()

@@ -272,7 +272,3 @@ class Numbers(unittest.TestCase):
             self.assertEqual(plain is None, bool(value) and counting > 18, text)
             if plain is not None:
                 self.assertEqual((Decimal(plain), "e" in plain.lower()), (value, False), text)
-
-
-if __name__ == "__main__":
-    unittest.main()

@@ -1,7 +1,6 @@
 """Tests of --map of tools/normalise and tools/contradictions."""
 import json
 import os
-import unittest
 
 import in_process
 import contradictions
@@ -135,7 +134,3 @@ class OfProviders(Stubbed):
         for wrong in (["--map", "B"], ["--map", f"C={names}"], ["--map", f"B={names}", "--map", f"B={names}"], ["--map", f"={names}"]):
             self.assertEqual(in_process.run(contradictions, *words, *wrong, *own)[0], 2, wrong)
         self.assertEqual(in_process.run(contradictions, "--sheet", SHEET, "-o", self.output, "--map", f"issuer={names}", *REPORTS)[0], 2)
-
-
-if __name__ == "__main__":
-    unittest.main()

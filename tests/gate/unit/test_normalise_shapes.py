@@ -3,7 +3,6 @@ import collections
 import json
 import random
 import re
-import unittest
 from decimal import Decimal
 
 import in_process
@@ -89,7 +88,3 @@ class Pairs(in_process.RoomTest):
             self.assertEqual([first == second for first, second in zip(one, other)], are_equal)
             equal += sum(are_equal)
         self.assertTrue(400 < equal < 800, equal)
-
-
-if __name__ == "__main__":
-    unittest.main()

@@ -9,7 +9,6 @@ import stat
 import subprocess
 import sys
 import tarfile
-import unittest
 import zipfile
 from unittest import mock
 
@@ -338,7 +337,3 @@ class Files(Packages):
         os.mkdir(self.path_of("__pycache__"))
         self.write("__pycache__/program", "")
         self.assertEqual([it.target for it in read_below(self.scratch, "x", ("program",))], ["x/program"])
-
-
-if __name__ == "__main__":
-    unittest.main()

@@ -48,7 +48,3 @@ class Pages(unittest.TestCase):
     def test_the_pages_of_this_repository(self):
         ran = subprocess.run([f"{TOP}/tests/pages/lengths_and_links"], capture_output=True, encoding="utf-8", check=False)
         self.assertEqual((ran.returncode, ran.stderr), (0, ""))
-
-
-if __name__ == "__main__":
-    unittest.main()

@@ -6,7 +6,6 @@ import subprocess
 import sys
 import textwrap
 import time
-import unittest
 
 from in_process import TOOLS, TOP, RoomTest, heeding
 from support import content
@@ -136,7 +135,3 @@ class Signals(ProcessTest):
         body = "import os, signal; os.kill(os.getpid(), signal.SIGHUP); return Status.DONE"
         done = self.shell(body, preexec_fn=lambda: signal.signal(signal.SIGHUP, signal.SIG_IGN))
         self.assertEqual(done.returncode, 0)
-
-
-if __name__ == "__main__":
-    unittest.main()

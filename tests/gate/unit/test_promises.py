@@ -99,7 +99,3 @@ class Promises(unittest.TestCase):
     def test_a_cost_is_no_promise(self):
         self.tree.put("crates/shop/src/order.rt", ORDER.replace("cents.\n    ///\n    /// It takes no memory.", "cents. It does not allocate."))
         self.assertEqual(self.problems(PAGE)[:2], (1, ["the promise of `Order::price` says what it costs"]))
-
-
-if __name__ == "__main__":
-    unittest.main()

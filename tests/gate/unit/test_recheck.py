@@ -6,13 +6,11 @@ import os
 import subprocess
 import sys
 import time
-import unittest
 from unittest import mock
 
 import in_process
 import recheck
 from support import content
-from test_contradictions_sources import example
 
 TOOL = os.path.join(in_process.TOOLS, "recheck.py")
 REPORTS = ("issuer", "ledgerline", "statfeed", "oldharbour")
@@ -387,7 +385,3 @@ class Others(Examples):
                 status, printed = self.run_on(*self.words(), "--status=0")
                 self.files[name] = before
                 self.assertEqual((status, "defect" in printed), (1, False), (name, text[:40]))
-
-
-if __name__ == "__main__":
-    unittest.main()

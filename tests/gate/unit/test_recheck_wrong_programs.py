@@ -4,7 +4,6 @@ A wrong program is tools/recheck itself with a rule changed, or with other bytes
 """
 import json
 import re
-import unittest
 from fractions import Fraction
 from unittest import mock
 
@@ -188,7 +187,3 @@ class Trust(Judged):
         texts, status = self.with_reference("http://[::1]/", "baseURL")
         self.assertEqual(self.judged(texts, status)[1][-1:], ")")
         self.assertEqual(self.judged({**texts, "merged": re.sub(r'("taxonomy":\[)', rf'\1{PHANTOM},', texts["merged"])}, status)[1][-6:], "differ")
-
-
-if __name__ == "__main__":
-    unittest.main()

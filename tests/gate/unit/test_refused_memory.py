@@ -63,7 +63,3 @@ class Harmless(unittest.TestCase):
     def test_requests_of_two_kinds_are_named(self):
         self.assertEqual(self.ending("value_tests tests::names::texts_are_copied", smaller=True), refused_memory.SMALLER)
         self.assertEqual(self.ending("command_tests tests::words::usage_tells_what_is_wrong"), refused_memory.CLAP)
-
-
-if __name__ == "__main__":
-    unittest.main()

@@ -4,7 +4,6 @@ import copy
 import json
 import os
 import random
-import unittest
 
 import drawn_reports
 import in_process
@@ -226,7 +225,3 @@ class Checked(ToolTest):
         for text in ("", "{", "<x/>"):
             status, lines = in_process.run(respell, "--check", self.write("report.json", text))
             self.assertEqual((status, lines.count("\n")), (3, 1))
-
-
-if __name__ == "__main__":
-    unittest.main()

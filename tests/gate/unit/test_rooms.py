@@ -31,7 +31,3 @@ class Rooms(unittest.TestCase):
             "    cart uses price in cart.rt",
             "    order uses price in order/line.rt",
             "    price uses cart in price.rt, price/tax.rt"]))
-
-
-if __name__ == "__main__":
-    unittest.main()

@@ -38,7 +38,3 @@ class Megabytes(unittest.TestCase):
         ):
             with self.subTest(name=name, note=note):
                 self.assertEqual(self.costly([name], script), (costly, note))
-
-
-if __name__ == "__main__":
-    unittest.main()

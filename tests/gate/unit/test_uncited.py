@@ -36,7 +36,3 @@ class Uncited(unittest.TestCase):
     def test_all_lemmas_are_cited(self):
         self.tree.put("crates/shop/proofs/Totals.antt", "use Rattle.shop.proofs.Prices.{unused}\n")
         self.assertEqual(self.lines(), (0, ["uncited: each lemma is cited"]))
-
-
-if __name__ == "__main__":
-    unittest.main()

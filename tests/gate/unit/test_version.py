@@ -42,7 +42,3 @@ class Version(unittest.TestCase):
             self.assertGreater(numbers(self.program), numbers(others[0]))
         else:
             self.assertEqual(self.program, first)
-
-
-if __name__ == "__main__":
-    unittest.main()

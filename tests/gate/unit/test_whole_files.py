@@ -196,7 +196,3 @@ class WholeFiles(RoomTest):
         with mock.patch("shutil.rmtree", stopped_at_first), self.assertRaises(process.Stopped):
             write_files([(self.first, ["new"])])
         self.assertEqual(self.texts(), {"first": "new"})
-
-
-if __name__ == "__main__":
-    unittest.main()

@@ -152,7 +152,3 @@ class Edits(unittest.TestCase):
                 texts = {file: tried.read(folder, file) for file, _, _ in it.steps}
                 wrong += [] if it.steps and tried.made(texts, [it]) not in (None, texts) else [f"{crate}: {it.name} cannot be made"]
         self.assertEqual(wrong, [])
-
-
-if __name__ == "__main__":
-    unittest.main()
