@@ -302,6 +302,12 @@ def reports_received_late(n):
     return replaying(2, events + [f"receive 2 {place}" for place in range(1, n + 1)], *tiny_reports(n))
 
 
+def long_texts_sent_after_takes(n):
+    """A replica takes a report n / 2 times, and sends its text after each. The report has 512 references beside a base of 16,384 bytes."""
+    given = report(numbered([fact()]), taxonomy=[str(place) for place in range(512)], baseURL=f"{URI}/{'b' * 16_384}/")
+    return replaying(1, ["take 1 1", "send 1"] * (n // 2), given)
+
+
 def joins_that_add_nothing(n):
     """n joins: a replica of 1,000 facts joins a replica that has half of them."""
     halves = [report(numbered(in_months(range(0, FACTS, step)))) for step in (1, 2)]
@@ -414,7 +420,8 @@ SHAPES = {
 
 # shapes that --megabyte measures besides, each with a size to begin at. Texts that are sent after each report contain the square of
 # their number, so these shapes cannot grow as slowly as the others.
-SENT = {"reports_sent_in_a_ring": Shape(500, reports_sent_in_a_ring), "reports_received_late": Shape(500, reports_received_late)}
+SENT = {"reports_sent_in_a_ring": Shape(500, reports_sent_in_a_ring), "reports_received_late": Shape(500, reports_received_late),
+        "long_texts_sent_after_takes": Shape(100, long_texts_sent_after_takes)}
 
 # the sizes with which some shapes cost most for a megabyte; the other shapes have one size
 MEGABYTES = {
@@ -427,6 +434,7 @@ MEGABYTES = {
     "faults_of_names_of_a_long_uri": (3_400, 250_000),
     "reports_sent_in_a_ring": (2_000,),
     "reports_received_late": (2_000,),
+    "long_texts_sent_after_takes": (400,),
 }
 
 # shapes of which a megabyte may cost more than --megabyte allows; docs/COSTS.md lists them

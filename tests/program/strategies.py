@@ -306,7 +306,7 @@ def report_bytes(chance):
     tree, fault = report_tree(chance), chance.random()
     if fault < 0.12:
         tree = with_faults(chance, tree, DOCUMENT_FAULTS)
-    elif fault < 0.27 and tree["facts"]:
+    elif fault < 0.35 and tree["facts"]:
         own = chance.choice([*tree["facts"]])
         tree["facts"][own] = with_faults(chance, tree["facts"][own], FACT_FAULTS) if chance.random() < 0.9 else chance.choice(WRONG)
     content = json_bytes(chance, tree)

@@ -17,7 +17,7 @@ import sqlite3
 import pytest
 
 from running import TOP, cases, run, write
-from strategies import DOCUMENT_TYPE, simple_report, simple_sheet
+from strategies import simple_report, simple_sheet
 from support import bytes_of, content
 from contradicting.tables import safe
 
