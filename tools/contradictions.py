@@ -8,7 +8,7 @@
 The first two forms run `xbrlmerge` on the reports. Each form writes these files into the folder DIR, except that --from writes
 no merged.json:
 
-    page.html           a table of all rows: contradictions first, of texts, names and nil values, then the largest relative differences
+    page.html           all rows: first the contradictions, by relative difference, texts, names and nil values at the top
     contradictions.csv  the facts of the contradictions as a table
     table.csv           all rows, with the values of each provider in a column
     providers.csv       for each pair of providers, the rows that both report, that agree and that contradict each other

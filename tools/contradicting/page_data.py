@@ -42,7 +42,7 @@ class PageData:
     def add(self, row: Row) -> None:
         if agreement_of(row) is Agreement.CONTRADICTION:
             return
-        if self.length + self.pools.length < MOST:
+        if self.length + self.pools.length < MOST * 3 // 4:  # the rest is for contradictions
             self.file.write(self.line(row) + "\n")
         else:
             self.left_out += 1
