@@ -271,7 +271,10 @@ function update() {
 
 function draw() {
   body.replaceChildren(...view.slice(0, limit).flatMap(row => opened.has(row) ? [line(row), opening(row)] : [line(row)]));
-  result.value = (view.length < rows.length ? `${view.length} of ` : "") + `${rows.length} rows` + (view.length > limit ? `; the first ${limit} are shown` : "");
+  const counts = [view.length < rows.length ? `${view.length} of ${rows.length} rows` : `${rows.length} rows`];
+  if (view.length > limit) counts.push(`the first ${limit} are shown`);
+  if (data.leftOut) counts.push(`table.csv has ${data.leftOut} more`);
+  result.value = counts.join("; ");
   next.hidden = view.length <= limit;
   next.textContent = `Show ${Math.min(limit, view.length - limit)} more`;
 }
