@@ -6,8 +6,10 @@ import signal
 import sys
 import tempfile
 import time
+import tracemalloc
 import unittest
 import warnings
+import zipfile
 from unittest import mock
 
 HERE = os.path.dirname(os.path.abspath(__file__))
@@ -33,6 +35,13 @@ class RoomTest(unittest.TestCase):
         """Writes a text, or bytes, and returns the path of the file."""
         with open(self.path_of(name), "wb") as file:
             file.write(text if isinstance(text, bytes) else text.encode())
+        return self.path_of(name)
+
+    def pack(self, texts, name="a.zip", method=zipfile.ZIP_DEFLATED):
+        """Writes a package with these files, and returns its path."""
+        with zipfile.ZipFile(self.path_of(name), "w", method) as made:
+            for path, text in texts.items():
+                made.writestr(path, text)
         return self.path_of(name)
 
 
@@ -63,6 +72,15 @@ def run_whole(tool, *words):
         status, lines = process.outcome(tool.main)
         process.print_lines(lines)
         return status, errors.getvalue(), out.buffer.getvalue()
+
+
+def peak(work, *words):
+    """Returns the largest number of bytes that a call has at one time."""
+    tracemalloc.start()
+    work(*words)
+    _, most = tracemalloc.get_traced_memory()
+    tracemalloc.stop()
+    return most
 
 
 def growth(run_at, size):

@@ -117,6 +117,7 @@ abbrev pub amount : ℕ → ℕ
 amount n = n
 """
 
+NAMES = ["Order", "added", "total", "paid", "IsPaid"]
 SPECS_PATH, LAWS_PATH = "crates/shop/specs/Order.antt", "crates/shop/src/laws.rt"
 
 PAGE = """\
@@ -176,7 +177,7 @@ class Doubt(unittest.TestCase):
 
     def test_a_complete_page_passes(self):
         wanted = ["doubt: the headline has 6 names and 20 lines", "doubt: the format has 0 names and 0 lines"]
-        self.assertEqual(self.problems(["Order", "added", "total", "paid", "IsPaid"], 20), (0, wanted))
+        self.assertEqual(self.problems(NAMES, 20), (0, wanted))
 
     def test_a_field_does_not_hide_a_definition_of_its_name(self):
         found = [f"doubt: {SPECS_PATH}: `IsPaid` uses `paid` of {SPECS_PATH}, which is missing on the page"]
@@ -192,7 +193,7 @@ class Doubt(unittest.TestCase):
 
     def test_a_definition_that_no_contract_needs_is_named(self):
         found = [f"doubt: {SPECS_PATH}: no contract of the page needs `AllArePaid`"]
-        self.assertEqual(self.problems(["Order", "added", "total", "paid", "IsPaid", "AllArePaid"], 23), (1, found))
+        self.assertEqual(self.problems([*NAMES, "AllArePaid"], 23), (1, found))
 
     def laws(self, *names):
         """Returns the text of docs/FORMAT.md with these laws, and with `SumsArePaid` if they include `sums_are_paid`."""
@@ -242,15 +243,14 @@ class Doubt(unittest.TestCase):
         self.tree.put("crates/shop/src/bill.rt", BILL)
         self.tree.put("crates/money/src/price.rt", PRICE)
         self.tree.put(SPECS_PATH, "use Rattle.shop.specs.declared.bill.Bill.{Bill}\n\n" + SPECS.replace("prices : List ℕ\n", "prices : List Bill\n"))
-        names = ["Order", "added", "total", "paid", "IsPaid"]
         missing = "doubt: {}: `{}` uses `{}` of {}, which is missing on the page"
         bill, price = "crates/shop/src/bill.rt", "crates/money/src/price.rt"
         lists = f"\n- [shop/bill.rt](../{bill}): `Bill`"
-        self.assertIn(missing.format(SPECS_PATH, "Order", "Bill", bill), self.problems(names, 20)[1])
-        found = self.problems(names, 25, lists)[1]
+        self.assertIn(missing.format(SPECS_PATH, "Order", "Bill", bill), self.problems(NAMES, 20)[1])
+        found = self.problems(NAMES, 25, lists)[1]
         self.assertEqual(found, [missing.format(bill, "Bill", it, there) for it, there in (("Kind", bill), ("Price", price))])
         lists = lists.replace("`Bill`", "`Bill`, `Kind`") + f"\n- [money/price.rt](../{price}): `Price`"
-        self.assertEqual(self.problems(names, 34, lists)[1], [missing.format(price, "Price", "amount", "crates/money/specs/Amount.antt")])
+        self.assertEqual(self.problems(NAMES, 34, lists)[1], [missing.format(price, "Price", "amount", "crates/money/specs/Amount.antt")])
 
     def test_names_that_are_used_before_they_are_listed(self):
         more = "".join(f"\n-- a name\nabbrev pub n{number} : ℕ\nn{number} = {number}\n" for number in range(9))
@@ -258,33 +258,30 @@ class Doubt(unittest.TestCase):
         self.tree.put(SPECS_PATH, SPECS + more + sums)
         self.tree.put("crates/shop/src/sum.rt", CODE.replace("order.now }", "order.now × (sums ≡ 0) }").replace("total}", "total, sums}"))
         late = [f"n{number}" for number in range(9)]
-        names = ["Order", "added", "total", "paid", "IsPaid"]
         # `sum` uses three names that follow it, and `sums` nine
         page = "doubt: docs/DOUBT.md: 12 names are used before they are listed, such as `sum` uses `total`; at most 10 may be"
-        self.assertEqual(self.problems([*names, "sums", *late], 50), (1, [page]))
-        self.assertEqual(self.problems([*names, *late, "sums"], 50)[0], 0)
+        self.assertEqual(self.problems([*NAMES, "sums", *late], 50), (1, [page]))
+        self.assertEqual(self.problems([*NAMES, *late, "sums"], 50)[0], 0)
 
     def test_a_headline_that_is_too_long(self):
         self.tree.put(SPECS_PATH, SPECS.replace("-- one order\n", "-- one order\n" * 632))
         found = ["doubt: docs/DOUBT.md: the headline has 651 lines; at most 650 are allowed"]
-        self.assertEqual(self.problems(["Order", "added", "total", "paid", "IsPaid"], 651), (1, found))
+        self.assertEqual(self.problems(NAMES, 651), (1, found))
 
     def test_the_table_of_conditions_is_that_of_the_code(self):
         rows = ["| 0 | `NotPaid` | An order that is not paid. | shop | own |", "| 1 | `NoOrder` | There is an order. | shop | RFC 1 |"]
         form = FORMAT.format(lines=2, entries="\n".join(rows))
-        names = ["Order", "added", "total", "paid", "IsPaid"]
         mended = rows[1].replace("an order", "no order")
-        self.assertEqual(self.problems(names, 20, form=form), (1, [f"doubt: docs/FORMAT.md: the table of conditions should have {mended}"]))
+        self.assertEqual(self.problems(NAMES, 20, form=form), (1, [f"doubt: docs/FORMAT.md: the table of conditions should have {mended}"]))
         self.assertEqual(self.tree.run("--quiet", "--write")[0], 0)
         self.assertEqual(self.page("FORMAT"), form.replace(rows[1], mended))
 
     def test_the_definitions_of_the_program_are_counted(self):
-        names = ["Order", "added", "total", "paid", "IsPaid"]
         self.tree.put("crates/command_line/src/program.rt", CODE.replace("fn sum", "fn run"))
         stated = "\nOf the program they have {} lines, 3 of them in `command_line`.\n".format
         wrong = "doubt: docs/DOUBT.md: of the program's definitions it should say that they have 20 lines, 3 of them in `command_line`"
-        self.assertEqual(self.problems(names, 20, words=stated(19))[1], [wrong])
-        self.assertEqual(self.problems(names, 20, words=stated(20))[0], 0)
+        self.assertEqual(self.problems(NAMES, 20, words=stated(19))[1], [wrong])
+        self.assertEqual(self.problems(NAMES, 20, words=stated(20))[0], 0)
 
     def test_write_lists_each_name_before_its_users(self):
         self.problems(["Order", "IsPaid", "total", "AllArePaid"], 3)
@@ -292,12 +289,10 @@ class Doubt(unittest.TestCase):
         self.assertEqual((status, found[0]), (0, "doubt: the headline has 6 names and 20 lines"))
         before, _, after = PAGE.partition("- [")
         call, definitions = f"- [{after}".splitlines()
-        names = ["Order", "added", "total", "paid", "IsPaid"]
-        self.assertEqual(self.page("DOUBT"), f"{before}{definitions}\n{call}\n".format(lines=20, words="", names=listed(names)))
+        self.assertEqual(self.page("DOUBT"), f"{before}{definitions}\n{call}\n".format(lines=20, words="", names=listed(NAMES)))
 
     def test_write_mends_entries_of_the_format(self):
         entries = f"- [shop/laws.rt](../{LAWS_PATH}): `sums_are_paid`\n- [shop/Order.antt](../{SPECS_PATH}): `AllArePaid`, `SumsArePaid`"
-        names = ["Order", "added", "total", "paid", "IsPaid"]
-        self.problems(names, 20, form=FORMAT.format(lines=3, entries=entries))
+        self.problems(NAMES, 20, form=FORMAT.format(lines=3, entries=entries))
         self.assertEqual(self.tree.run("--quiet", "--write")[0], 0)
         self.assertEqual(self.page("FORMAT"), FORMAT.format(lines=6, entries=entries.replace("`AllArePaid`, ", "")))

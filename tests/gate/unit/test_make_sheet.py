@@ -3,53 +3,30 @@ import json
 import os
 import subprocess
 import sys
-import zipfile
 
 import in_process
+from support import bytes_of, content
 
 TOOL = os.path.join(in_process.TOOLS, "make_sheet.py")
 TOY = os.path.join(in_process.HERE, "taxonomy")
 EXTENSION = os.path.join(in_process.HERE, "extension", "extension.xsd")
 DOUBTFUL = os.path.join(in_process.HERE, "doubtful", "doubtful.xsd")
+TOY_KINDS = {"numeric": "Apprentices Costs Dividend Emissions Employees Margin Profit Revenue StaffCosts", "text": "Auditor Founded Notes",
+             "name": "Country Currency Industry"}
 TOY_SHEET = {
     "namespaces": {"toy": "http://toy.example/2024", "n2": "http://toy.example/2024/base"},
-    "concepts": {
-        "toy:Apprentices": "numeric",
-        "toy:Auditor": "text",
-        "toy:Costs": "numeric",
-        "toy:Country": "name",
-        "toy:Currency": "name",
-        "toy:Dividend": "numeric",
-        "toy:Emissions": "numeric",
-        "toy:Employees": "numeric",
-        "toy:Founded": "text",
-        "toy:Industry": "name",
-        "toy:Margin": "numeric",
-        "toy:Notes": "text",
-        "toy:Profit": "numeric",
-        "toy:Revenue": "numeric",
-        "toy:StaffCosts": "numeric",
-        "n2:Assets": "numeric",
-    },
+    "concepts": {"n2:Assets": "numeric", **{f"toy:{name}": kind for kind, names in TOY_KINDS.items() for name in names.split()}},
     "dimensions": {"toy:DistrictAxis": "explicit", "toy:ProductAxis": "typed", "toy:RegionAxis": "explicit"},
     "xbrlmerge:types": {"gYear": ["toy:Founded"], "QName": ["toy:Currency"]},
 }
 SCHEMA = """<xs:schema xmlns:xs="http://www.w3.org/2001/XMLSchema" xmlns:xbrli="http://www.xbrl.org/2003/instance"
     xmlns:this="http://made.example" targetNamespace="http://made.example">%s</xs:schema>"""
+DERIVED = '<xs:complexType name="%s"><xs:simpleContent><xs:restriction base="xbrli:stringItemType"/></xs:simpleContent></xs:complexType>'
 ITEM = '<xs:element name="%s" type="xbrli:%sItemType" substitutionGroup="xbrli:item"/>'
 
 
 def run(*words):
     return subprocess.run([sys.executable, TOOL, *words], capture_output=True)
-
-
-def pack(package, folder):
-    """Makes a package of the files in a folder."""
-    with zipfile.ZipFile(package, "w", zipfile.ZIP_DEFLATED) as made:
-        for at, _, names in os.walk(folder):
-            for name in names:
-                path = os.path.join(at, name)
-                made.write(path, os.path.join("toy", os.path.relpath(path, folder)))
 
 
 # bytes of a package that are replaced: where, from its directory of files or its start, by what, and the sentence
@@ -71,6 +48,12 @@ class ToolTest(in_process.RoomTest):
         self.assertTrue(all(line.startswith(b"make_sheet: ") for line in done.stderr.splitlines()), done.stderr)
         return done.stderr.decode().splitlines()
 
+    def sheet_of(self, text, *words, status=0):
+        """Returns the sheet of a schema, and the lines on standard error."""
+        done = run(*words, self.write("a.xsd", text))
+        self.assertEqual(done.returncode, status, done.stderr)
+        return json.loads(done.stdout), done.stderr.decode().splitlines()
+
     def check_sheet(self, sheet, *words):
         done = run(*words)
         self.assertEqual((done.returncode, done.stderr), (0, b""))
@@ -79,12 +62,15 @@ class ToolTest(in_process.RoomTest):
 
 
 class Taxonomies(ToolTest):
+    def toy_package(self):
+        paths = [os.path.join(at, name) for at, _, names in os.walk(TOY) for name in names]
+        return self.pack({os.path.join("toy", os.path.relpath(path, TOY)): bytes_of(path) for path in paths}, "toy.zip")
+
     def test_each_case_of_the_toy_taxonomy(self):
         self.check_sheet(TOY_SHEET, os.path.join(TOY, "toy", "core.xsd"))
 
     def test_file_folder_and_package_give_the_same_bytes(self):
-        package = self.path_of("toy.zip")
-        pack(package, TOY)
+        package = self.toy_package()
         text = self.check_sheet(TOY_SHEET, package)
         self.assertEqual(run(TOY).stdout, text)
         self.assertEqual(run(os.path.join(TOY, "toy", "core.xsd")).stdout, text)
@@ -92,8 +78,7 @@ class Taxonomies(ToolTest):
         self.assertEqual((text.count(b"\n"), text[-1:]), (1, b"\n"))
 
     def test_what_is_imported_by_url_comes_from_a_named_package(self):
-        package = self.path_of("toy.zip")
-        pack(package, TOY)
+        package = self.toy_package()
         sheet = json.loads(run(EXTENSION, package).stdout)
         self.assertEqual(sheet["concepts"]["n1:OnlineRevenue"], "numeric")
         self.assertEqual(sheet["namespaces"]["n1"], "http://issuer.example/2024")
@@ -101,8 +86,7 @@ class Taxonomies(ToolTest):
         self.assertEqual(run(TOY, EXTENSION).stdout, run(EXTENSION, package).stdout)
 
     def test_a_missing_import_is_reported(self):
-        lines = self.check_refused(3, "http://toy.example/2024/core.xsd", EXTENSION)
-        self.assertEqual(len(lines), 1)
+        self.assertEqual(len(self.check_refused(3, "http://toy.example/2024/core.xsd", EXTENSION)), 1)
 
     def test_what_is_in_doubt_is_left_out_with_a_line_each(self):
         done = run(DOUBTFUL)
@@ -114,24 +98,17 @@ class Taxonomies(ToolTest):
         self.assertEqual(left_out, [*names.split(), "RoundType", "Structure"])
 
     def test_a_registry_type_that_is_not_listed_is_followed(self):
-        registry = self.write(
-            "registry.xsd",
-            """<xs:schema xmlns:xs="http://www.w3.org/2001/XMLSchema" xmlns:x="http://www.xbrl.org/2003/instance"
-            targetNamespace="http://www.xbrl.org/dtr/type/2022-03-31"><xs:complexType name="newItemType">
-            <xs:simpleContent><xs:restriction base="x:decimalItemType"/></xs:simpleContent></xs:complexType>
-            <xs:complexType name="SQNameItemType"><xs:simpleContent><xs:restriction base="x:stringItemType"/>
-            </xs:simpleContent></xs:complexType></xs:schema>""",
-        )
-        sheet = json.loads(run(DOUBTFUL, registry).stdout)
+        types = (DERIVED % "newItemType").replace("string", "decimal") + DERIVED % "SQNameItemType"
+        registry = (SCHEMA % types).replace("http://made.example", "http://www.xbrl.org/dtr/type/2022-03-31").replace("this", "x")
+        sheet = json.loads(run(DOUBTFUL, self.write("registry.xsd", registry)).stdout)
         self.assertEqual(sheet["concepts"], {"this:NewInRegistry": "numeric", "this:Set": "text", "this:Sure": "numeric"})
 
 
 class Namespaces(ToolTest):
     def kinds(self, text, status=0):
         """Returns the concepts in the sheet of a schema, and the lines on standard error."""
-        done = run(self.write("a.xsd", text))
-        self.assertEqual(done.returncode, status, done.stderr)
-        return json.loads(done.stdout)["concepts"], done.stderr.decode().splitlines()
+        sheet, lines = self.sheet_of(text, status=status)
+        return sheet["concepts"], lines
 
     def test_a_namespace_at_xbrl_org_may_have_items(self):
         for uri in ("https://www.xbrl.org/2024/sample", "https://xbrl.org/2021/"):
@@ -147,17 +124,15 @@ class Namespaces(ToolTest):
         self.assertEqual(self.kinds(text.replace("xbrli:item", "xbrli:tuple")), ({}, []))
 
     def test_white_space_around_namespaces(self):
-        derived = '<xs:complexType name="t"><xs:simpleContent><xs:restriction base="xbrli:stringItemType"/></xs:simpleContent></xs:complexType>'
-        text = SCHEMA % (ITEM % ("A", "string") + derived + (ITEM % ("B", "")).replace("xbrli:ItemType", "this:t"))
+        text = SCHEMA % (ITEM % ("A", "string") + DERIVED % "t" + (ITEM % ("B", "")).replace("xbrli:ItemType", "this:t"))
         self.assertEqual(self.kinds(text.replace('targetNamespace="', 'targetNamespace=" \n'))[0], {"this:A": "text", "this:B": "text"})
         self.write("b.xsd", SCHEMA % ITEM % ("A", "string"))
         imports = '<xs:import namespace=" http://made.example " schemaLocation="b.xsd"/>'
         self.assertEqual(self.kinds((SCHEMA % imports).replace('example">', 'example/a">'))[0], {"this:A": "text"})
 
     def test_namespaces_that_look_like_those_of_specifications(self):
-        derived = '<xs:complexType name="%s"><xs:simpleContent><xs:restriction base="xbrli:stringItemType"/></xs:simpleContent></xs:complexType>'
         for uri in ("registry", "http://made.example/extensible-enumerations"):
-            text = SCHEMA % (derived % "percentItemType" + (ITEM % ("A", "percent")).replace("xbrli:percent", "this:percent"))
+            text = SCHEMA % (DERIVED % "percentItemType" + (ITEM % ("A", "percent")).replace("xbrli:percent", "this:percent"))
             self.assertEqual(self.kinds(text.replace("http://made.example", uri)), ({"this:A": "text"}, []))
 
 
@@ -186,14 +161,9 @@ NAMED = {"year": '<xs:restriction base="xs:gYear"/>', "words": f'<xs:restriction
 
 
 class TypesOfValues(ToolTest):
-    def made(self, parts, *words, status=0):
-        done = run(*words, self.write("a.xsd", SCHEMA % parts))
-        self.assertEqual(done.returncode, status, done.stderr)
-        return json.loads(done.stdout), done.stderr.decode().splitlines()
-
     def test_types_of_concepts(self):
         parts = "".join(ITEM % (f"A{item}", item) for item in ITEMS)
-        sheet, _ = self.made(parts)
+        sheet, _ = self.sheet_of(SCHEMA % parts)
         groups = {name[6:]: group for group, names in sheet["xbrlmerge:types"].items() for name in names}
         self.assertEqual(groups, {item: group for item, group in ITEMS.items() if group})
 
@@ -205,7 +175,7 @@ class TypesOfValues(ToolTest):
             parts.append(f'<xs:element name="A{number}" substitutionGroup="d:dimensionItem" d:typedDomainRef="#d{number}"/>')
             parts.append(f"{target}</xs:element>" if ">" in target[1:] else target and f"{target}/>")
         text = "".join(parts).replace("<xs:element", '<xs:element xmlns:d="http://xbrl.org/2005/xbrldt"')
-        sheet, lines = self.made(text, status=1)
+        sheet, lines = self.sheet_of(SCHEMA % text, status=1)
         groups = {name: group for group, names in sheet["xbrlmerge:types"].items() for name in names}
         found = [groups.get(name) if name in sheet["dimensions"] else LEFT_OUT for name in (f"this:A{n}" for n in range(len(DOMAINS) + 1))]
         self.assertEqual(found, [*DOMAINS.values(), LEFT_OUT])
@@ -215,10 +185,9 @@ class TypesOfValues(ToolTest):
         kinds = {"monetary": "instant", "shares": "instant", "pure": "duration", "decimal": "", "date": "duration"}
         parts = "".join((ITEM % (kind, kind)).replace("/>", f' xbrli:periodType="{period}"/>') for kind, period in kinds.items())
         types, whole = self.path_of("a.types.json"), self.write("a.json", run(self.write("b.xsd", SCHEMA % parts)).stdout)
-        sheet, _ = self.made(parts, "--types", types)
+        sheet, _ = self.sheet_of(SCHEMA % parts, "--types", types)
         self.assertEqual(sorted(sheet), ["concepts", "dimensions", "namespaces"])
-        with open(types, encoding="utf-8") as file:
-            groups = json.load(file)
+        groups = json.loads(content(types))
         self.assertEqual(groups, {
             "namespaces": sheet["namespaces"], "xbrlmerge:types": {"date": ["this:date"]},
             "xbrlmerge:periods": {"instant": ["this:monetary", "this:shares"], "duration": ["this:date", "this:pure"]},
@@ -226,8 +195,7 @@ class TypesOfValues(ToolTest):
         })
         self.assertEqual(run("--union", whole, "--types", types).returncode, 0)
         self.assertEqual(run("--union", whole, "--types", whole).returncode, 2)
-        with open(types, encoding="utf-8") as file:
-            self.assertEqual(json.load(file), groups)
+        self.assertEqual(json.loads(content(types)), groups)
         for wrong, line in (({"xbrlmerge:types": {"gDay": ["this:date"]}}, "is date in xbrlmerge:types, but gDay earlier"),
                             ({"xbrlmerge:items": {"money": []}}, "has the group money"), ({"xbrlmerge:periods": []}, "is not an object of lists")):
             other = self.write("other.json", json.dumps({**sheet, **wrong}))
@@ -236,7 +204,8 @@ class TypesOfValues(ToolTest):
     def test_types_make_a_large_sheet_at_most_a_tenth_longer(self):
         texts = "".join(ITEM % (f"Abcdefgh{number}", "string") for number in range(20_000))
         for count, status in ((2_000, 0), (8_000, 1)):
-            sheet, lines = self.made(texts + "".join(ITEM % (f"B{number}", "boolean") for number in range(count)), status=status)
+            booleans = "".join(ITEM % (f"B{number}", "boolean") for number in range(count))
+            sheet, lines = self.sheet_of(SCHEMA % (texts + booleans), status=status)
             self.assertEqual((len(sheet.get("xbrlmerge:types", {}).get("boolean", ())), len(lines)), ((count, 0)[status], status))
 
     def test_the_name_of_an_unknown_type_of_the_registry_ends_in_its_base(self):
@@ -246,7 +215,7 @@ class TypesOfValues(ToolTest):
             ends[known] = "numeric"
         ends.update(dict.fromkeys("durationString gYearList noLangString noLangToken".split(), "text"))
         parts = "".join((ITEM % (end, end)).replace('"xbrli:', f'"r:', 1).replace(" name", f' xmlns:r="{registry}" name') for end in ends)
-        sheet, lines = self.made(parts, status=1)
+        sheet, lines = self.sheet_of(SCHEMA % parts, status=1)
         self.assertEqual(sheet["concepts"], {f"this:{end}": kind for end, kind in sorted(ends.items()) if kind})
         self.assertEqual(sheet["xbrlmerge:types"]["token"], ["this:gYearList", "this:newNoLangToken", "this:noLangToken"])
         self.assertEqual([" is listed as " in line for line in lines], [True, False, True, True, False, False])
@@ -273,29 +242,19 @@ class BadInputs(ToolTest):
             self.assertEqual(len(self.check_refused(3, "document type", path)), 1)
         imported = self.write("b.xsd", SCHEMA % '<xs:include schemaLocation="a.xsd"/>')
         self.check_refused(3, "a.xsd: it has a document type", imported)
-        package = self.path_of("a.zip")
-        with zipfile.ZipFile(package, "w") as made:
-            made.write(path, "a.xsd")
-        self.check_refused(3, "document type", package)
+        self.check_refused(3, "document type", self.pack({"a.xsd": bytes_of(path)}))
 
     def test_a_package_keeps_to_itself(self):
         outside = self.write("outside.xsd", SCHEMA % ITEM % ("A", "string"))
-        package = self.path_of("a.zip")
         for name in ("../b.xsd", "a/../../b.xsd", outside):
-            with zipfile.ZipFile(package, "w") as made:
-                made.writestr(name, SCHEMA % "")
-            self.assertEqual(len(self.check_refused(3, "outside", package)), 1)
+            self.assertEqual(len(self.check_refused(3, "outside", self.pack({name: SCHEMA % ""}))), 1)
         self.assertEqual(sorted(os.listdir(self.scratch)), ["a.zip", "outside.xsd"])  # nothing is unpacked
-        with zipfile.ZipFile(package, "w") as made:
-            made.writestr("b.xsd", SCHEMA % '<xs:include schemaLocation="../outside.xsd"/>')
+        package = self.pack({"b.xsd": SCHEMA % '<xs:include schemaLocation="../outside.xsd"/>'})
         self.check_refused(3, "../outside.xsd is not in the named files", package)
 
     def test_a_damaged_package(self):
-        package = self.path_of("p.zip")
-        with zipfile.ZipFile(package, "w", zipfile.ZIP_DEFLATED) as made:
-            made.writestr("t.xsd", SCHEMA % ITEM % ("A", "string"))
-        with open(package, "rb") as file:
-            data = file.read()
+        package = self.pack({"t.xsd": SCHEMA % ITEM % ("A", "string")}, "p.zip")
+        data = bytes_of(package)
         listed = data.rindex(b"PK\1\2")
         for is_listed, place, byte, wanted in DAMAGES:
             changed = bytearray(data)
@@ -304,9 +263,8 @@ class BadInputs(ToolTest):
             self.check_refused(3, f"/{wanted}", package)
 
     def test_a_package_in_a_package_is_named(self):
-        with zipfile.ZipFile(self.path_of("p.zip"), "w") as made:
-            made.writestr("inner.zip", b"PK")
-        self.check_refused(3, "p.zip/inner.zip: not read, because it is in a folder or a package", self.path_of("p.zip"))
+        package = self.pack({"inner.zip": b"PK"}, "p.zip")
+        self.check_refused(3, "p.zip/inner.zip: not read, because it is in a folder or a package", package)
 
     def test_two_declarations_of_one_name(self):
         path = self.write("a.xsd", SCHEMA % (ITEM % ("A", "string") + ITEM % ("A", "monetary")))
@@ -315,10 +273,6 @@ class BadInputs(ToolTest):
     def test_names_cannot_break_a_line(self):
         text = SCHEMA.replace("http://made", "http://made&#10;&#27;[31m") % ITEM % ("A", "fraction")
         self.assertEqual(len(run(self.write("a.xsd", text)).stderr.splitlines()), 1)
-
-    def test_usage(self):
-        self.assertEqual(run().returncode, 2)
-        self.assertEqual(run("--help").returncode, 0)
 
 
 class Unions(ToolTest):

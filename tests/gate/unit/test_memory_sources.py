@@ -6,52 +6,6 @@ from support import script
 
 memory_sources = script("tests/gate/memory_sources")
 
-SETTLE = """\
-impl<'s> BaseBuilder<'s> {
-    /// Sorts the lists. Errors: out of memory (`AllocError`).
-    fn settle(&mut self) -> Result<(), AllocError>
-        ensures { self.new ≡ self.old }
-    {
-        let before = self.settled_facts;
-        settle(&mut self.facts, &mut self.settled_facts)?;
-        settle(&mut self.references, &mut self.settled_references)?;
-        if self.settled_facts != before {
-            return Err(AllocError);
-        }
-        Ok(())
-    }
-}
-"""
-
-ADD = """\
-impl Dimensions {
-    pub fn add(&mut self, name: Name, member: Member) -> Result<(), Reason>
-        ensures errors { IfErr result (λ e. e ≡ Reason.OutOfMemory) }
-    {
-        match index_of(self.members.as_slice(), &name) {
-            Some(index) if self.members.capacity() > self.members.len() => Ok(self.members.insert(index, (name, member))?),
-            Some(_) => {
-                self.members.reserve(1)?;
-                Err(Reason::OutOfMemory)
-            }
-            None => Err(Reason::DimensionValue),
-        }
-    }
-}
-"""
-
-PUT = """\
-impl<K: Key, V: Merge> SortedMap<K, V> {
-    pub fn put(&mut self, key: &K, value: &V) -> Result<(), AllocError> {
-        if self.entries.len() == self.entries.capacity() {
-            self.entries.reserve(1)?;
-            return Err(AllocError);
-        }
-        self.insert(key, value)
-    }
-}
-"""
-
 RECEIVED = """\
 use std::alloc::{AllocError, AllocFailed};
 
@@ -67,7 +21,9 @@ impl From<AllocError> for Fault {
     }
 }
 
-fn read(bytes: &[u8]) -> Result<Tree, Reason> {
+fn read(bytes: &[u8]) -> Result<Tree, Reason>
+    ensures errors { IfErr result (λ e. e ≡ Reason.OutOfMemory) }
+{
     if bytes.len() == usize::from(u8::MAX) && reason != Reason::OutOfMemory {
         return Err(Reason::NotJson);
     }
@@ -98,36 +54,45 @@ def body(*lines):
     return "fn make(failed: Error) -> Result<u8, AllocError> {\n" + "\n".join(lines) + "\n}\n"
 
 
-class MemorySources(unittest.TestCase):
-    def test_planted_bodies(self):
-        self.assertEqual(lines_of(SETTLE), ["return Err(AllocError);"])
-        self.assertEqual(lines_of(ADD), ["Err(Reason::OutOfMemory)"])
-        self.assertEqual(lines_of(PUT), ["return Err(AllocError);"])
+# errors from nothing or from others
+SOURCES = (
+    "Err(_) => Err(AllocError),",
+    "Err(Fault::OutOfMemory(_) | Fault::Device(_)) => Err(AllocError),",
+    "Err(e) if !e.is_memory() => Err(AllocError),",
+    "Err(e) if e.is_memory() || is_late() => Err(AllocError),",
+    "read().map_err(|_| AllocError)",
+    "let Ok(a) = read() else { return Err(AllocError); };",
+    "if let Ok(a) = read() { Ok(a) } else { Err(AllocError) }",
+    "Err(AllocError)",
+    "if is_late() { Err(Reason::OutOfMemory)? } Ok(1)",
+    "let list = Vec::<u8>::with_capacity(alloc, usize::MAX)?;",
+    "list.reserve(u64::MAX as usize)?;",
+    "list.reserve(1 << 60)?;",
+    "list.reserve(1_000_000_000_000)?;",
+    "Err(fmt::Error)",
+    "Err(io::Error::from(ErrorKind::OutOfMemory))",
+)
+# the line that is such an error, and the lines around it
+BODIES = (
+    ("return Err(AllocError);", ["if failed != Error::OutOfMemory {", "return Err(AllocError);", "}"]),
+    ("return Err(AllocError);", ["let before = self.settled;", "settle(&mut self.facts, &mut self.settled)?;", "if self.settled != before {",
+                                 "return Err(AllocError);", "}", "Ok(())"]),
+    ("return Err(AllocError);", ["if self.entries.len() == self.entries.capacity() {", "self.entries.reserve(1)?;", "return Err(AllocError);", "}",
+                                 "self.insert(key, value)"]),
+    ("Err(Reason::OutOfMemory)", ["match index_of(names, &name) {", "Some(at) if names.capacity() > names.len() => Ok(names.insert(at, name)?),",
+                                  "Some(_) => {", "names.reserve(1)?;", "Err(Reason::OutOfMemory)", "}",
+                                  "None => Err(Reason::DimensionValue),", "}"]),
+)
 
+
+class MemorySources(unittest.TestCase):
     def test_errors_that_were_received(self):
         self.assertEqual(lines_of(RECEIVED), [])
 
     def test_errors_from_nothing_or_from_others(self):
-        for line in (
-            "Err(_) => Err(AllocError),",
-            "Err(Fault::OutOfMemory(_) | Fault::Device(_)) => Err(AllocError),",
-            "Err(e) if !e.is_memory() => Err(AllocError),",
-            "Err(e) if e.is_memory() || is_late() => Err(AllocError),",
-            "read().map_err(|_| AllocError)",
-            "let Ok(a) = read() else { return Err(AllocError); };",
-            "if let Ok(a) = read() { Ok(a) } else { Err(AllocError) }",
-            "Err(AllocError)",
-            "if is_late() { Err(Reason::OutOfMemory)? } Ok(1)",
-            "let list = Vec::<u8>::with_capacity(alloc, usize::MAX)?;",
-            "list.reserve(u64::MAX as usize)?;",
-            "list.reserve(1 << 60)?;",
-            "list.reserve(1_000_000_000_000)?;",
-            "Err(fmt::Error)",
-            "Err(io::Error::from(ErrorKind::OutOfMemory))",
-        ):
-            with self.subTest(line):
-                self.assertEqual(lines_of(body(line)), [line])
-        self.assertEqual(lines_of(body("if failed != Error::OutOfMemory {", "return Err(AllocError);", "}")), ["return Err(AllocError);"])
+        for wanted, lines in (*((line, [line]) for line in SOURCES), *BODIES):
+            with self.subTest(lines):
+                self.assertEqual(lines_of(body(*lines)), [wanted])
 
     def test_another_name(self):
         self.assertEqual(lines_of("use std::alloc::AllocError as Late;\n"), ["use std::alloc::AllocError as Late;"])
