@@ -5,13 +5,15 @@ import random
 import re
 import subprocess
 import sys
-import tracemalloc
 import unittest
+from decimal import Context, Decimal
 
 import in_process
 from drawn_reports import OPTIONS as ALL
 from support import content
 from test_normalise import TOOL, ToolTest, normalise
+
+from normalising.numbers import SCIENTIFIC, plain_number
 
 SPACES = "\u00a0\u2003\u3000\x85\x1f"  # white space for Python, but not in the format
 SHEET = {
@@ -65,11 +67,13 @@ LONG = {
 }
 
 
-class Long(ToolTest):
+class HostileTest(ToolTest):
     def setUp(self):
         super().setUp()
         self.sheet = self.write("sheet.json", json.dumps(SHEET))
 
+
+class Long(HostileTest):
     def words(self, text, *options):
         return self.write("report.json", text), self.out, self.changes, "--sheet", self.sheet, *options
 
@@ -89,13 +93,9 @@ class Long(ToolTest):
             *((name, made(20_000), options) for name, (made, options) in LONG.items()),
         ):
             with self.subTest(name):
-                words = self.words(text, *options)
-                tracemalloc.start()
-                in_process.run(normalise, *words)
-                _, peak = tracemalloc.get_traced_memory()
-                tracemalloc.stop()
+                most = in_process.peak(in_process.run, normalise, *self.words(text, *options))
                 written = sum(os.path.getsize(path) for path in (self.out, self.changes) if os.path.exists(path))
-                self.assertLess(peak, 100 * (len(text) + written) + 1_000_000)
+                self.assertLess(most, 100 * (len(text) + written) + 1_000_000)
 
     def test_no_line_repeats_a_long_identifier_or_uri(self):
         long = {"f" * 5_000 + str(number): fact("x" * 5_000, "long:" + "B" * 5_000, extra="y") for number in range(20)}
@@ -131,12 +131,8 @@ class Long(ToolTest):
             self.assertEqual(self.run_tool(*self.words(text))[0], status)
 
 
-class Exact(ToolTest):
+class Exact(HostileTest):
     """Cases in which a careless tool would give a wrong result, a wrong status, or a line with control characters."""
-
-    def setUp(self):
-        super().setUp()
-        self.sheet = self.write("sheet.json", json.dumps(SHEET))
 
     def run_on(self, facts, *options):
         return self.normalised(self.write("report.json", report(facts)), "--sheet", self.sheet, *options)
@@ -182,7 +178,6 @@ class Exact(ToolTest):
         self.assertTrue(errors.replace("\n", "").isprintable())
 
     def test_statuses_are_those_of_the_process(self):
-        run = [sys.executable, TOOL]
         deep = self.write("deep.json", '{"a:a":' * 100_000)
         good = self.write("good.json", report({"f": fact(period="2023-12-31")}))
         for status, words in (
@@ -192,7 +187,7 @@ class Exact(ToolTest):
             (3, [deep, self.out, self.changes]),
             (3, [good, self.scratch, self.changes]),
         ):
-            done = subprocess.run([*run, *words], capture_output=True)
+            done = subprocess.run([sys.executable, TOOL, *words], capture_output=True)
             self.assertEqual((done.returncode, b"Traceback" in done.stderr), (status, False), words)
 
 
@@ -239,7 +234,8 @@ class NoReports(ToolTest):
     def test_each_kind_of_file(self):
         for data, wanted in NO_REPORTS:
             self.check_last_line(wanted, self.write("report.json", data), self.out, self.changes)
-        self.check_last_line("report.json: Is a directory", self.folder("report.json"), self.out, self.changes)
+        os.mkdir(self.path_of("folder.json"))
+        self.check_last_line("folder.json: Is a directory", self.path_of("folder.json"), self.out, self.changes)
         self.check_last_line("nowhere.json: No such file or directory", "nowhere.json", self.out, self.changes)
 
     def test_each_kind_of_sheet(self):
@@ -247,20 +243,11 @@ class NoReports(ToolTest):
         for data, wanted in NO_SHEETS:
             self.check_last_line(wanted, good, self.out, self.changes, "--sheet", self.write("sheet.json", data))
 
-    def folder(self, name):
-        os.unlink(self.path_of(name))
-        os.mkdir(self.path_of(name))
-        return self.path_of(name)
-
 
 class Numbers(unittest.TestCase):
     """Compares `plain_number` with the decimal module, on drawn numbers with exponents."""
 
     def test_drawn_exponents(self):
-        from decimal import Context, Decimal
-
-        from normalising.numbers import SCIENTIFIC, plain_number
-
         chance, context = random.Random(7), Context(prec=200)
         for _ in range(2_000):
             digits = "".join(chance.choice("0019") for _ in range(chance.randint(1, 20)))

@@ -212,32 +212,19 @@ class Examples(in_process.RoomTest):
 
 
 class Changes(Examples):
-    def finds(self, name, changes):
-        for kind, (old, new) in changes.items():
-            with self.subTest(kind):
-                status, lines = self.changed(name, old, new)
-                self.assertEqual(status, 1)
-                self.assertTrue(all(line.startswith((f"{name}: ", "report ")) for line in lines), lines)
-                self.assertTrue(any(line.startswith(f"{name}: line ") for line in lines), lines)
-
     def test_the_examples_agree(self):
         self.assertEqual(self.run_on(*self.words()), (0, AGREE % "merged, verdicts, sources, refusals"))
         self.assertEqual(self.run_on(*self.words(lines=["sources"])), (0, AGREE % "merged, sources"))
 
-    def test_there_are_sixty_kinds_of_changes(self):
-        self.assertGreaterEqual(sum(map(len, (MERGED, VERDICTS, SOURCES, REFUSALS, INPUTS))), 60)
-
-    def test_each_change_of_the_merged_text_is_found(self):
-        self.finds("merged", MERGED)
-
-    def test_each_change_of_the_verdicts_is_found(self):
-        self.finds("verdicts", VERDICTS)
-
-    def test_each_change_of_the_sources_is_found(self):
-        self.finds("sources", SOURCES)
-
-    def test_each_change_of_the_refusals_is_found(self):
-        self.finds("refusals", REFUSALS)
+    def test_each_change_of_a_text_is_found(self):
+        texts = {"merged": MERGED, "verdicts": VERDICTS, "sources": SOURCES, "refusals": REFUSALS}
+        self.assertGreaterEqual(sum(map(len, (*texts.values(), INPUTS))), 60)
+        for name, kind in ((name, kind) for name, changes in texts.items() for kind in changes):
+            with self.subTest(kind, text=name):
+                status, lines = self.changed(name, *texts[name][kind])
+                self.assertEqual(status, 1)
+                self.assertTrue(all(line.startswith((f"{name}: ", "report ")) for line in lines), lines)
+                self.assertTrue(any(line.startswith(f"{name}: line ") for line in lines), lines)
 
     def test_each_change_of_the_inputs_is_found(self):
         for kind, (name, old, new, text) in INPUTS.items():
@@ -352,30 +339,27 @@ class Others(Examples):
 
     def test_statuses(self):
         def ran(*words, **options):
-            done = subprocess.run([sys.executable, TOOL, *words], **{"capture_output": True, "text": True, **options})
+            done = subprocess.run([sys.executable, TOOL, *words], stderr=subprocess.PIPE, text=True, **{"stdout": subprocess.DEVNULL, **options})
             return done.returncode, done.stderr
 
-        words = self.words()
-        self.assertEqual(ran(*words), (0, ""))
-        self.assertEqual(ran(*words[:-3], "--", *words[-3:])[0], 0)
-        self.assertEqual(ran()[0], 2)
-        self.assertEqual(ran("--explain=65", *words), (2, "recheck: there is no row 65\n"))
-        for option in ("verdicts", "sheet", "allow", "status", "explain"):
-            self.assertEqual(ran(*words, f"--{option}", "")[0], 2)
-        self.assertEqual(ran(*words, "--verdicts="), (2, "recheck: an argument is empty\n"))
-        self.assertEqual(ran("--\x1b", *words), (2, "recheck: unrecognized arguments: --\\u001b\n"))
-        self.assertEqual(ran(*words, self.path_of("no\x1b")), (3, f"recheck: {self.scratch}/no\\u001b: No such file or directory\n"))
-        self.assertEqual(ran(*words, self.scratch), (3, f"recheck: {self.scratch}: Is a directory\n"))
-        self.assertEqual(ran(*words, preexec_fn=lambda: os.close(1)), (3, "recheck: standard output: Bad file descriptor\n"))
-        done = subprocess.run([sys.executable, TOOL, *words, "--explain=27"], capture_output=True, env={"LC_ALL": "C", "PYTHONUTF8": "0", "PYTHONCOERCECLOCALE": "0"})
-        self.assertEqual((done.returncode, done.stderr), (0, b""))
+        words, ascii_alone = self.words(), {"LC_ALL": "C", "PYTHONUTF8": "0", "PYTHONCOERCECLOCALE": "0"}
+        for given, wanted in (
+            (words, (0, "")), ([*words[:-3], "--", *words[-3:]], (0, "")),
+            (["--explain=65", *words], (2, "recheck: there is no row 65\n")), ([*words, "--verdicts="], (2, "recheck: an argument is empty\n")),
+            (["--\x1b", *words], (2, "recheck: unrecognized arguments: --\\u001b\n")),
+            ([*words, self.path_of("no\x1b")], (3, f"recheck: {self.scratch}/no\\u001b: No such file or directory\n")),
+            ([*words, self.scratch], (3, f"recheck: {self.scratch}: Is a directory\n")),
+        ):
+            self.assertEqual(ran(*given), wanted)
+        for given in ([], *([*words, f"--{option}", ""] for option in ("verdicts", "sheet", "allow", "status", "explain"))):
+            self.assertEqual(ran(*given)[0], 2, given)
+        self.assertEqual(ran(*words, stdout=subprocess.PIPE, preexec_fn=lambda: os.close(1)), (3, "recheck: standard output: Bad file descriptor\n"))
+        self.assertEqual(ran(*words, "--explain=27", stdout=subprocess.PIPE, env=ascii_alone), (0, ""))
         with open("/dev/full", "w") as full:
-            self.assertEqual(ran("--help", stdout=full, capture_output=False, stderr=subprocess.PIPE), (3, "recheck: standard output: No space left on device\n"))
-        for stream in ("stdout", "stderr"):
-            with open("/dev/full", "w") as full:
-                streams = {"stdout": subprocess.DEVNULL, "stderr": subprocess.DEVNULL, stream: full}
-                done = subprocess.run([sys.executable, TOOL, *words, *[self.scratch] * (stream == "stderr")], **streams)
-                self.assertEqual(done.returncode, 3)
+            for given in (["--help"], words):
+                self.assertEqual(ran(*given, stdout=full), (3, "recheck: standard output: No space left on device\n"))
+            done = subprocess.run([sys.executable, TOOL, *words, self.scratch], stdout=subprocess.DEVNULL, stderr=full)
+            self.assertEqual(done.returncode, 3)
 
     def test_no_exception_reaches_the_user(self):
         deep, long, half = "[" * 200 + "]" * 200, "1" * 5000, '"\\ud800"'

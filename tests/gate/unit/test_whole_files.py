@@ -11,6 +11,7 @@ from unittest import mock
 from in_process import TOOLS, RoomTest, heeding
 import process
 import whole_files
+from support import content
 
 WAITS = f"""
 import sys, time
@@ -42,16 +43,10 @@ class WholeFiles(RoomTest):
 
     def texts(self):
         """Returns the text of each file in the folder."""
-        texts = {}
-        for name in os.listdir(self.scratch):
-            with open(self.path_of(name)) as file:
-                texts[name] = file.read()
-        return texts
+        return {name: content(self.path_of(name)) for name in os.listdir(self.scratch)}
 
-    def put(self, path, text="old", mode=0o644):
-        with open(path, "w") as file:
-            file.write(text)
-        os.chmod(path, mode)
+    def put(self, path, mode=0o644):
+        os.chmod(self.write(path, "old"), mode)
 
     def test_files_are_made_and_replaced(self):
         self.put(self.first)
@@ -108,14 +103,9 @@ class WholeFiles(RoomTest):
             raise ValueError
 
         self.put(self.first)
-        with self.assertRaises(ValueError):
-            write_files([(self.first, ["new"]), (self.second, pieces())])
-        with self.assertRaises(UnicodeEncodeError):
-            write_files([(self.first, ["new"]), (self.second, ["\ud800"])])
-        with self.assertRaises(OSError):
-            write_files([(self.first, ["new"]), (self.scratch, ["new"])])
-        with self.assertRaises(OSError):
-            write_files([(self.first, ["new"]), (os.path.join(self.scratch, ".", "first"), ["newer"])])
+        for fault, path, texts in ((ValueError, self.second, pieces()), (UnicodeEncodeError, self.second, ["\ud800"]),
+                                   (OSError, self.scratch, ["new"]), (OSError, os.path.join(self.scratch, ".", "first"), ["newer"])):
+            self.assertRaises(fault, write_files, [(self.first, ["new"]), (path, texts)])
         self.assertEqual(self.texts(), {"first": "old"})
 
     def test_files_of_other_runs_stay(self):
@@ -153,14 +143,12 @@ class WholeFiles(RoomTest):
                 whole_files.below(self.scratch, path)
 
     def test_the_output_of_all_files_is_limited(self):
-        for most in (7, 6):
+        def texts():
             self.put(self.first)
-            texts = [(self.first, ["é", "ew"]), (self.second, iter("new"))]
-            if most == 7:
-                write_files(texts, most)
-            else:
-                with self.assertRaisesRegex(process.NotDone, "more than 6 bytes; --most-output BYTES sets the bound"):
-                    write_files(texts, most)
+            return [(self.first, ["é", "ew"]), (self.second, iter("new"))]
+
+        write_files(texts(), 7)
+        self.assertRaisesRegex(process.NotDone, "more than 6 bytes; --most-output BYTES sets the bound", write_files, texts(), 6)
         self.assertEqual(self.texts(), {"first": "old", "second": "new"})
         self.assertEqual(whole_files.bytes_in([self.first, self.scratch, self.path_of("nowhere")]), 9)
 
