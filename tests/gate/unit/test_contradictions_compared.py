@@ -51,7 +51,7 @@ class Compared(ToolTest):
             apart = sum(one + other in row[3].split() for row in rows)
             wanted = [one, other, *(sum(name in names for names in own) for name in (one, other)), shared, shared - apart, apart]
             self.assertEqual(list(pair.values()), [*map(str, wanted)])
-            self.assertIn(f"<bdi>{one}</bdi> and <bdi>{other}</bdi><td data-name=\"Rows\">{shared}<td", content(self.page))
+            self.assertIn(f"<bdi>{one}</bdi> and <bdi>{other}</bdi><td>{shared}<td", content(self.page))
 
         summary = json.loads(content(os.path.join(self.output, "summary.json")))
         self.assertEqual((summary["format"], summary["status"], summary["findings"]["contradictions"]), (1, 1, 5))
