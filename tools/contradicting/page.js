@@ -39,7 +39,7 @@ function joined(parts, sign = "; ") {
 }
 
 function bdi(text, title = "", lang = "") {
-  return make("bdi", { title, lang }, text);
+  return make("bdi", { ...title && { title }, ...lang && { lang } }, text);
 }
 
 function words(index) {
@@ -105,7 +105,8 @@ function dimensionsOf(row) {
 
 // The line of a row in the table.
 function line(row) {
-  const about = dimensionsOf(row).filter(([axis]) => data.hasEntities || data.words[axis].length > 1 || data.words[axis][0] !== "Entity").map(([axis, member]) => make("small", {}, words(axis), ": ", words(member)));
+  const unusual = dimensionsOf(row).filter(([axis, member]) => axis !== data.usual[0] || member !== data.usual[1]);
+  const about = unusual.map(([axis, member]) => make("small", {}, words(axis), ": ", words(member)));
   if (data.words[row.unit][0]) about.unshift(make("small", {}, words(row.unit)));
   const name = make("button", { type: "button", "aria-expanded": opened.has(row) }, words(row.concept));
   const values = valueHeads.map((_, index) => joined(row.facts.filter(fact => !hasColumns || holds(fact, index)).map(withDecimals)));

@@ -31,8 +31,9 @@ HERE = os.path.dirname(os.path.abspath(__file__))
 EXPLAINED = f"""<h2>Rows</h2>
 <p>A row has all facts with the same dimensions. A value with decimals, which are in brackets, represents all numbers within half of its
 last decimal place. The facts of a group agree. Facts in red are not in the largest group; if no group is the largest, all are red.
-The difference is that of the two facts that contradict each other, as a share of the larger; \u2013 if they are not both numbers. Long texts
-are cut to {MOST_CHARACTERS} characters near the first difference; table.csv has them whole.</p>
+The difference is that of the two facts that contradict each other, as a share of the larger; \u2013 if they are not both numbers. An
+entity that nine in ten rows have is shown only in opened rows. Long texts are cut to {MOST_CHARACTERS} characters near the first
+difference; table.csv has them whole.</p>
 """
 
 
@@ -105,7 +106,7 @@ def rows_of(found: Found) -> Iterator[str]:
     if len(rows) < len(found.rows):
         yield f"<p>Not shown: {len(found.rows) - len(rows)} with smaller differences; contradictions.csv has them.</p>\n"
     names = found.counts.providers if len(found.counts.providers) <= MOST_COLUMNS else []
-    static = StaticRows(names or [""], found.reader, found.labels, len(found.subject.entities) != 1)
+    static = StaticRows(names or [""], found.reader, found.labels, found.subject.usual())
     yield '<div class="controls" hidden></div><div class="all"><table class="rows" cellspacing="0"><thead><tr>'
     yield from (f'<th scope="col" class="{key}">{name}' for key, name in headings(names, found.reader))
     yield "\n<tbody>"
@@ -114,7 +115,7 @@ def rows_of(found: Found) -> Iterator[str]:
     yield "</table></div>\n<noscript><p>"
     yield f"These are the first {FIRST} of {len(rows)} contradictions. " if len(rows) > FIRST else ""
     yield 'table.csv has all rows. With JavaScript, so has this page.</p></noscript>\n<script type="application/json" id="data">'
-    yield from found.data.pieces(rows, static.has_entities)
+    yield from found.data.pieces(rows, static.usual)
     yield "</script>\n"
     if found.data.left_out:
         yield f"<p>Not on this page: {found.data.left_out} more rows; table.csv has them.</p>\n"

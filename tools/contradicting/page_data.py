@@ -47,17 +47,18 @@ class PageData:
         else:
             self.left_out += 1
 
-    def pieces(self, contradictions: Iterable[Row], has_entities: bool) -> Iterator[str]:
+    def pieces(self, contradictions: Iterable[Row], usual: Sequence[Words]) -> Iterator[str]:
         """Yields the JSON: the contradictions in their order, then the other rows, as long as there is room. Call it once, after the
-        last row. `has_entities` is whether the line of a row shows its entity."""
+        last row. The lines of rows do not show the dimension `usual`."""
         self.file.close()
         self.length, start = 0, '{"rows":['
         for line in self.lines(contradictions):
             yield start + line
             start = ",\n"
+        hidden = [self.word(words) for words in usual]
         shared = {kind: [*items] for kind, items in self.pools.items.items()}
         members = {**shared, "providers": [shortened(str(name)) for name in self.pools.items["providers"]], "verdicts": [kind.value for kind in KINDS],
-                   "language": self.labels.language, "hasEntities": has_entities, "leftOut": self.left_out}
+                   "language": self.labels.language, "usual": hidden, "leftOut": self.left_out}
         yield start.rstrip(",\n") + "]," + compact(members)[1:]
 
     def lines(self, contradictions: Iterable[Row]) -> Iterator[str]:

@@ -18,12 +18,12 @@ HEAD = '<table cellspacing="0"><tr><th>Group<th>Fact<th>Reported by<th>Value<th>
 
 
 class StaticRows(NamedTuple):
-    """`columns` are the providers with a column, or one empty text. `has_entities` is whether the line of a row shows its entity."""
+    """`columns` are the providers with a column, or one empty text. The lines of rows do not show the dimension `usual`."""
 
     columns: Sequence[str]
     reader: Reader
     labels: Labels
-    has_entities: bool
+    usual: tuple[Words, ...]
 
     def html(self, row: ShownRow, is_open: bool) -> Iterator[str]:
         """Yields the line of a row in the table, and its opened part."""
@@ -44,8 +44,7 @@ class StaticRows(NamedTuple):
         """Yields the unit and the other dimensions of a row."""
         if row.unit.text:
             yield bdi(row.unit)
-        hides_entity = bool(row.row.dimensions.entity) and not self.has_entities
-        yield from (f"{self.bdi(axis)}: {self.bdi(member)}" for axis, member in row.dimensions[hides_entity:])
+        yield from (f"{self.bdi(axis)}: {self.bdi(member)}" for axis, member in row.dimensions if (axis, member) != self.usual)
 
     def reported_by(self, row: ShownRow) -> str:
         return self.reader.reported_by(len(names_of(row.row.holders)))

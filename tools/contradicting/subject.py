@@ -30,6 +30,11 @@ class Subject:
         end = row.dimensions.period.rpartition("/")[2]
         self.years |= {day(end, True)[:4]} if end else set()
 
+    def usual(self) -> tuple[Words, ...]:
+        """Returns the entity that at least nine in ten rows have, as the page shows a dimension, or nothing."""
+        (name, count), *_ = [*self.entities.most_common(1), (None, 0)]
+        return (Words("Entity"), name_words(name)) if name and count * 10 >= sum(self.periods.values()) * 9 else ()
+
     def headline(self, counts: ProviderCounts, contradictions: int) -> Iterator[str]:
         """Yields the parts of the headline as HTML."""
         if self.entities:
