@@ -7,21 +7,20 @@ import os
 import shutil
 import subprocess
 import sys
-import tracemalloc
 
 import in_process
 import contradictions
 from support import content, table_in
 from test_contradictions import TOOL, ToolTest, data_of
 
+from contradicting.tables import cell, line_of
+from names import Name
 
 LONG_URI = "http://long.example/" + "u" * 5_000
 URIS = {"e": "http://e.example/t", "l": LONG_URI}
 DIMENSIONS = {"e:Reg": "explicit", **{f"e:d{number}": "typed" for number in range(2_000)}}
 CONCEPTS = {"e:A": "numeric", "e:T": "text", "l:A": "numeric", "l:T": "text"}
 SHEET = {"namespaces": URIS, "concepts": CONCEPTS, "dimensions": DIMENSIONS}
-
-
 LOOK = "contradictions,uncompared"  # the providers report the rows in turn, so they share none
 
 
@@ -98,12 +97,9 @@ class Hostile(ToolTest):
         for name, (made, is_near) in LONG.items():
             with self.subTest(name):
                 words = self.words(made(600), is_near)
-                tracemalloc.start()
-                in_process.run(contradictions, *words)
-                _, peak = tracemalloc.get_traced_memory()
-                tracemalloc.stop()
+                most = in_process.peak(in_process.run, contradictions, *words)
                 files = {path for path in words if os.path.exists(path)}
-                self.assertLess(peak, 30 * sum(map(os.path.getsize, files)) + 3_000_000)
+                self.assertLess(most, 30 * sum(map(os.path.getsize, files)) + 3_000_000)
 
     def test_pairs_that_are_not_compared_are_reported(self):
         facts = [number(1, unit=f"e:u{each:04}") for each in range(100)]
@@ -171,16 +167,11 @@ class Hostile(ToolTest):
         self.assertIn("<p>and 150 more facts in contradictions.csv</p>", page)
 
     def test_a_name_is_guarded_as_a_whole_text(self):
-        from contradicting.tables import cell
-        from names import Name
-
         for uri in ("u", "=u", "a;=b", "u" * 500, "a;=b" * 200, "\t=", ";"):
             for local in ("a", "=a", ";=a", "\t=a", "\ufeff;\t+a", "|-1", "a" * 500):
                 self.assertEqual(cell(Name(uri, local)), cell(f"{{{uri}}}{local}"))
 
     def test_lines_are_those_of_the_csv_module(self):
-        from contradicting.tables import line_of
-
         texts = ["", "a", " a ", ",", '"', '""', "a\nb", "\r", "'", ";", "a,b\"c", "\u2028", "\x00"]
         for cells in [*itertools.product(texts, repeat=2), texts]:
             made = io.StringIO(newline="")

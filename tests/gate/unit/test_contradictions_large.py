@@ -5,11 +5,12 @@ import re
 import resource
 import subprocess
 import sys
-import zipfile
+from unittest import mock
 
 import lines_of_verdicts
 import test_contradictions
 import workload
+from contradicting import texts
 from support import content, table_in
 
 SCHEMA = """<xs:schema xmlns:xs="http://www.w3.org/2001/XMLSchema" xmlns:xbrli="http://www.xbrl.org/2003/instance"
@@ -30,26 +31,18 @@ CATALOG = """<catalog xmlns="urn:oasis:names:tc:entity:xmlns:xml:catalog">
 
 class Labels(test_contradictions.ToolTest):
     def package(self):
-        path = self.path_of("taxonomy.zip")
         labels = LABEL.format(href="core.xsd", name="Revenue", text="Revenue from\n <contracts>".replace("<", "&lt;"), use="")
         labels += LABEL.format(href="http://norlake.example/xbrl/t/core.xsd", name="Dividend", text="Dividend a share", use="")
         labels += LABEL.format(href="core.xsd", name="Goodwill", text="No label", use=' use="prohibited"')
-        with zipfile.ZipFile(path, "w") as made:
-            made.writestr("t/core.xsd", SCHEMA % "".join(map(ITEM.format, ("Revenue", "Dividend", "Goodwill"))))
-            made.writestr("t/labels/../labels.xml", LINKBASE % labels)
-            made.writestr("META-INF/catalog.xml", CATALOG)
-            made.writestr("META-INF/taxonomyPackage.xml", "<a/>")
-        return path
+        return self.pack({"t/core.xsd": SCHEMA % "".join(map(ITEM.format, ("Revenue", "Dividend", "Goodwill"))),
+                          "t/labels/../labels.xml": LINKBASE % labels, "META-INF/catalog.xml": CATALOG,
+                          "META-INF/taxonomyPackage.xml": "<a/>"})
 
     def labelled(self, *options):
-        page, cells = self.written_with(options)
-        return page, {cell["concept"].split("}")[1]: cell["label"] for cell in cells}
-
-    def written_with(self, options):
         words = [*options, "--from", *INPUTS, "-o", self.output]
         done = subprocess.run([sys.executable, test_contradictions.TOOL, *words], capture_output=True)
         self.assertEqual((done.returncode, done.stderr), (1, b""))
-        return content(self.page), table_in(self.table)
+        return content(self.page), {cell["concept"].split("}")[1]: cell["label"] for cell in table_in(self.table)}
 
     def test_standard_labels_of_a_language(self):
         page, labels = self.labelled("--labels", self.package())
@@ -57,10 +50,8 @@ class Labels(test_contradictions.ToolTest):
         self.assertEqual((labels["Dividend"], labels["Goodwill"]), ("Dividend a share", ""))
         self.assertIn('<bdi title="https://norlake.example/2023 Revenue">Revenue from &lt;contracts&gt;</bdi>', page)
         self.assertIn('<bdi title="https://norlake.example/2023">Goodwill</bdi>', page)
-        labels = self.labelled("--labels", self.package(), "--language", "fi")[1]
-        self.assertEqual(labels["Revenue"], "Suomeksi")
-        labels = self.labelled("--labels", self.package(), "--language", "en-GB")[1]
-        self.assertEqual(labels["Dividend"], "Dividend a share (GB)")
+        for language, concept, label in (("fi", "Revenue", "Suomeksi"), ("en-GB", "Dividend", "Dividend a share (GB)")):
+            self.assertEqual(self.labelled("--labels", self.package(), "--language", language)[1][concept], label)
 
     def test_a_taxonomy_that_cannot_be_read(self):
         words = ["--labels", self.write("a.zip", "no zip"), "--from", *INPUTS, "-o", self.output]
@@ -179,17 +170,11 @@ class Large(test_contradictions.ToolTest):
         return abs(one - other) / max(abs(one), abs(other))
 
     def test_pieces_of_a_text_may_end_anywhere(self):
-        sys.path.insert(0, os.path.join(os.path.dirname(test_contradictions.TOOL)))
-        from contradicting import texts
-
         tree = json.loads(content(test_contradictions.MERGED))
-        size, texts.PIECE = texts.PIECE, 1
-        try:
-            for indent in (None, 1):
+        for indent in (None, 1):
+            with mock.patch.object(texts, "PIECE", 1):
                 text = texts.Text(self.write("merged.json", json.dumps(tree, indent=indent)))
                 self.assertEqual(dict(text.facts()), tree["facts"])
-        finally:
-            texts.PIECE = size
 
     def test_a_text_with_features(self):
         tree = json.loads(content(test_contradictions.MERGED))

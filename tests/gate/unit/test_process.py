@@ -10,6 +10,7 @@ import time
 from in_process import TOOLS, TOP, RoomTest, heeding
 from support import content
 
+PIPES = {"stdout": subprocess.PIPE, "stderr": subprocess.PIPE}
 HEAD = f"""
 import argparse, lzma, sys, time
 sys.dont_write_bytecode = True
@@ -76,8 +77,7 @@ class Devices(ProcessTest):
         path = self.path_of("opened")
         body = f"file = open({path!r}, 'w'); print_lines(['left out']); return Status.DONE"
         self.assertEqual(self.check(3, "", body, "2>&-"), b"")
-        with open(path) as file:
-            self.assertEqual(file.read(), "")
+        self.assertEqual(content(path), "")
 
     def test_standard_output_full_or_closed(self):
         body = "sys.stdout.buffer.write(b'x'); return Status.DONE"
@@ -97,14 +97,10 @@ class Devices(ProcessTest):
 
 class Signals(ProcessTest):
     def test_a_signal_cleans_up_and_ends_the_tool(self):
-        path = self.path_of("tool")
-        with open(path, "w") as file:
-            file.write(HEAD + "    try:\n        print('ready', flush=True)\n"
-                       "        while True:\n            time.sleep(0.01)\n"
-                       "    finally:\n        print('clean', flush=True)\nrun(main)\n")
+        path = self.write("tool", HEAD + "    try:\n        print('ready', flush=True)\n        while True:\n            time.sleep(0.01)\n"
+                          "    finally:\n        print('clean', flush=True)\nrun(main)\n")
         for number in (signal.SIGHUP, signal.SIGINT, signal.SIGTERM):
-            with subprocess.Popen([sys.executable, path], stdout=subprocess.PIPE, stderr=subprocess.PIPE,
-                                  preexec_fn=heeding(number)) as tool:
+            with subprocess.Popen([sys.executable, path], **PIPES, preexec_fn=heeding(number)) as tool:
                 self.assertEqual(tool.stdout.readline(), b"ready\n")
                 tool.send_signal(number)
                 self.assertEqual(tool.communicate(), (b"clean\n", b""))
@@ -113,8 +109,7 @@ class Signals(ProcessTest):
     def test_an_early_interrupt_shows_no_traceback(self):
         for number, tool in enumerate(["contradictions", "make_sheet", "normalise", "recheck", "respell"] * 8):
             words = [os.path.join(TOP, "tools", tool), *["nowhere"] * (tool != "recheck")]
-            with subprocess.Popen(words, stdout=subprocess.PIPE, stderr=subprocess.PIPE, cwd=self.scratch,
-                                  preexec_fn=heeding(signal.SIGINT)) as run:
+            with subprocess.Popen(words, **PIPES, cwd=self.scratch, preexec_fn=heeding(signal.SIGINT)) as run:
                 time.sleep(number / 100)
                 run.send_signal(signal.SIGINT)
                 out, errors = run.communicate()

@@ -1,25 +1,18 @@
 """Tests what `tests/program/refused_memory` makes of the runs in which no request is refused."""
 import os
 import stat
-import tempfile
 import unittest
 
-import in_process  # noqa: F401 (lets this test import support)
+import in_process
 from support import script
 
 refused_memory = script("tests/program/refused_memory")
 
 
-class FirstRuns(unittest.TestCase):
-    def setUp(self):
-        self.scratch = tempfile.TemporaryDirectory()
-        self.addCleanup(self.scratch.cleanup)
-
+class FirstRuns(in_process.RoomTest):
     def counted(self, lines, is_program=False):
         """Counts the requests of a stand-in that runs these lines of sh. It tells that it made three requests."""
-        stand_in = f"{self.scratch.name}/stand_in"
-        with open(stand_in, "w", encoding="utf-8") as file:
-            file.write(f'#!/bin/sh\n{lines}\nstatus=$?\necho 3 >>"$REFUSE_LOG"\nexit $status\n')
+        stand_in = self.write("stand_in", f'#!/bin/sh\n{lines}\nstatus=$?\necho 3 >>"$REFUSE_LOG"\nexit $status\n')
         os.chmod(stand_in, stat.S_IRWXU)
         subject = refused_memory.Subject("crate name", (stand_in,), os.devnull, None)
         if is_program:
@@ -28,20 +21,15 @@ class FirstRuns(unittest.TestCase):
 
     def test_a_run_without_want_of_memory_is_counted(self):
         self.assertEqual(self.counted("true"), refused_memory.Counted(3, []))
-        self.assertEqual(self.counted("echo 'file none: cannot be read' >&2; (exit 3)", is_program=True).wrong, [])
 
-    def test_a_test_that_reports_want_of_memory_is_wrong(self):
-        for line in ("refused", "  refused here"):
-            self.assertEqual(len(self.counted(f"echo '{line}' >&2").wrong), 1)
-
-    def test_a_test_that_reports_want_of_memory_in_the_second_run_only_is_wrong(self):
-        self.assertEqual(len(self.counted('test "$REFUSE" = 0 || echo refused >&2').wrong), 1)
-
-    def test_a_program_that_prints_out_of_memory_is_wrong(self):
-        self.assertEqual(len(self.counted("echo 'out of memory' >&2; (exit 3)", is_program=True).wrong), 1)
-
-    def test_a_test_that_fails_is_wrong(self):
-        self.assertEqual(len(self.counted("false").wrong), 1)
+    def test_runs_that_report_want_of_memory_or_fail_are_wrong(self):
+        in_the_second_run_only = 'test "$REFUSE" = 0 || echo refused >&2'
+        for lines, is_program, count in (
+            ("echo 'file none: cannot be read' >&2; (exit 3)", True, 0), ("echo 'out of memory' >&2; (exit 3)", True, 1),
+            ("echo 'refused' >&2", False, 1), ("echo '  refused here' >&2", False, 1), (in_the_second_run_only, False, 1), ("false", False, 1),
+        ):
+            with self.subTest(lines):
+                self.assertEqual(len(self.counted(lines, is_program).wrong), count)
 
 
 class Tasks(unittest.TestCase):
@@ -53,13 +41,12 @@ class Tasks(unittest.TestCase):
 class Harmless(unittest.TestCase):
     """A run that ends as if nothing was refused is a fault, unless the refused request was of a kind that has a name."""
 
-    def ending(self, label, smaller=False):
+    def ending(self, label, smaller):
         subject = refused_memory.Subject(label, (), os.devnull, None)
         return refused_memory.ending(subject, refused_memory.Ran(0, b"", b"", True, smaller, 1))
 
-    def test_a_request_that_a_test_passes_over_is_a_fault(self):
-        self.assertEqual(self.ending("value_tests tests::names::texts_are_copied"), refused_memory.PASSED)
-
-    def test_requests_of_two_kinds_are_named(self):
-        self.assertEqual(self.ending("value_tests tests::names::texts_are_copied", smaller=True), refused_memory.SMALLER)
-        self.assertEqual(self.ending("command_tests tests::words::usage_tells_what_is_wrong"), refused_memory.CLAP)
+    def test_requests_that_are_passed_over(self):
+        copied, usage = "value_tests tests::names::texts_are_copied", "command_tests tests::words::usage_tells_what_is_wrong"
+        for label, smaller, wanted in ((copied, False, refused_memory.PASSED), (copied, True, refused_memory.SMALLER),
+                                       (usage, False, refused_memory.CLAP)):
+            self.assertEqual(self.ending(label, smaller), wanted)
