@@ -32,10 +32,12 @@ class RoomTest(unittest.TestCase):
         return os.path.join(self.scratch, name)
 
     def write(self, name, text):
-        """Writes a text, or bytes, and returns the path of the file."""
-        with open(self.path_of(name), "wb") as file:
+        """Writes a text, or bytes, in folders that are made. Returns the path of the file."""
+        path = self.path_of(name)
+        os.makedirs(os.path.dirname(path), exist_ok=True)
+        with open(path, "wb") as file:
             file.write(text if isinstance(text, bytes) else text.encode())
-        return self.path_of(name)
+        return path
 
     def pack(self, texts, name="a.zip", method=zipfile.ZIP_DEFLATED):
         """Writes a package with these files, and returns its path."""

@@ -2,31 +2,22 @@
 import os
 import shutil
 import subprocess
-import tempfile
 
-from in_process import TOP
+from in_process import TOP, RoomTest
 
 
-class SmallTree:
-    """A folder with copies of a script, of its modules and of support.py, and with the files that a test writes. The folder is
-    removed when the test ends."""
+class SmallTree(RoomTest):
+    """The base class of tests that run a script in a folder with copies of the script, of its modules and of support.py."""
 
-    def __init__(self, test, script, *modules):
-        self.folder = tempfile.mkdtemp()
-        test.addCleanup(shutil.rmtree, self.folder)
-        self.script = os.path.join(self.folder, script)
-        os.makedirs(os.path.dirname(self.script))
-        for path in (script, *modules, "tests/support.py"):
-            shutil.copy(os.path.join(TOP, path), os.path.join(self.folder, path))
+    SCRIPT, MODULES = "", ()
 
-    def put(self, path, text):
-        path = os.path.join(self.folder, path)
-        os.makedirs(os.path.dirname(path), exist_ok=True)
-        with open(path, "w", encoding="utf-8") as file:
-            file.write(text)
-        return path
+    def setUp(self):
+        super().setUp()
+        for path in (self.SCRIPT, *self.MODULES, "tests/support.py"):
+            os.makedirs(os.path.dirname(self.path_of(path)), exist_ok=True)
+            shutil.copy(os.path.join(TOP, path), self.path_of(path))
 
-    def run(self, *words, **settings):
+    def run_script(self, *words, **settings):
         """Runs the script. Returns its status, its lines on standard output, and its lines on standard error."""
-        ran = subprocess.run([self.script, *words], capture_output=True, encoding="utf-8", **settings)
+        ran = subprocess.run([self.path_of(self.SCRIPT), *words], capture_output=True, encoding="utf-8", **settings)
         return ran.returncode, ran.stdout.splitlines(), ran.stderr.splitlines()

@@ -1,7 +1,6 @@
 """Tests of tests/gate/doubt on a small repository: entries, words and their laws, the table of conditions, and line counts."""
-import unittest
-
 from small_tree import SmallTree
+from support import content
 
 CODE = """\
 ghost use Rattle.shop.specs.Order.{Order, IsPaid, total};
@@ -153,27 +152,28 @@ def word(name, law):
     return f"| [`{name}`](../{SPECS_PATH}) | [`{law}`](../{LAWS_PATH}) | all |\n"
 
 
-class Doubt(unittest.TestCase):
+class Doubt(SmallTree):
+    SCRIPT, MODULES = "tests/gate/doubt", ("tests/gate/definitions.py",)
+
     def setUp(self):
-        self.tree = SmallTree(self, "tests/gate/doubt", "tests/gate/definitions.py")
-        self.tree.put("crates/shop/src/sum.rt", CODE)
-        self.tree.put(LAWS_PATH, LAWS)
-        self.tree.put(SPECS_PATH, SPECS)
-        self.tree.put("crates/money/specs/Amount.antt", AMOUNT)
-        self.tree.put("crates/oim_names/src/reason.rt", REASON)
-        self.tree.put("crates/oim_names/specs/Reasons.antt", REASONS)
+        super().setUp()
+        self.write("crates/shop/src/sum.rt", CODE)
+        self.write(LAWS_PATH, LAWS)
+        self.write(SPECS_PATH, SPECS)
+        self.write("crates/money/specs/Amount.antt", AMOUNT)
+        self.write("crates/oim_names/src/reason.rt", REASON)
+        self.write("crates/oim_names/specs/Reasons.antt", REASONS)
 
     def problems(self, names, lines, words="", form=NO_FORMAT):
         """Runs tests/gate/doubt. DOUBT.md has these names, line count and words; FORMAT.md has the text `form`. Returns the status
         and the lines on standard error."""
-        self.tree.put("docs/DOUBT.md", PAGE.format(lines=lines, words=words, names=listed(names)))
-        self.tree.put("docs/FORMAT.md", form)
-        status, _, found = self.tree.run("--quiet")
+        self.write("docs/DOUBT.md", PAGE.format(lines=lines, words=words, names=listed(names)))
+        self.write("docs/FORMAT.md", form)
+        status, _, found = self.run_script("--quiet")
         return status, found
 
     def page(self, name):
-        with open(f"{self.tree.folder}/docs/{name}.md", encoding="utf-8") as file:
-            return file.read()
+        return content(self.path_of(f"docs/{name}.md"))
 
     def test_a_complete_page_passes(self):
         wanted = ["doubt: the headline has 6 names and 20 lines", "doubt: the format has 0 names and 0 lines"]
@@ -186,8 +186,8 @@ class Doubt(unittest.TestCase):
     def test_the_first_variable_of_a_capitalised_name_is_bound(self):
         record = "\n\n-- an order to some place\npub record IsSent (order : Order) : Type 0 where\n  pub place : ℕ\n"
         law = "\n-- it is sent\nabbrev pub Sends : ℕ → Order → Type 0\nSends place order = place ≡ total order\n"
-        self.tree.put(SPECS_PATH, SPECS + record + law)
-        self.tree.put("crates/shop/src/sum.rt", CODE.replace("IsPaid order.now", "Sends 0 order.now").replace("IsPaid,", "Sends,"))
+        self.write(SPECS_PATH, SPECS + record + law)
+        self.write("crates/shop/src/sum.rt", CODE.replace("IsPaid order.now", "Sends 0 order.now").replace("IsPaid,", "Sends,"))
         wanted = ["doubt: the headline has 5 names and 16 lines", "doubt: the format has 0 names and 0 lines"]
         self.assertEqual(self.problems(["Order", "added", "total", "Sends"], 16), (0, wanted))
 
@@ -219,30 +219,30 @@ class Doubt(unittest.TestCase):
     def test_a_clause_of_laws_only(self):
         names = ["SumsArePaid", "added", "paid"]
         page = PAGE.replace("sum.rt", "laws.rt").replace("`sum`", "`sums_are_paid`")
-        self.tree.put("docs/DOUBT.md", page.format(lines=13, words="", names=listed(names)))
-        self.tree.put("docs/FORMAT.md", NO_FORMAT)
+        self.write("docs/DOUBT.md", page.format(lines=13, words="", names=listed(names)))
+        self.write("docs/FORMAT.md", NO_FORMAT)
         found = ["doubt: no function of `1. The sum` does anything"]
-        self.assertEqual(self.tree.run("--quiet")[::2], (1, found))
+        self.assertEqual(self.run_script("--quiet")[::2], (1, found))
         # a function with a result, or with an argument that it may change, does something
         for head in ("pub fn sums_are_paid() -> u64\n", "pub fn sums_are_paid(order: &mut Order)\n"):
-            self.tree.put(LAWS_PATH, LAWS.replace("pub fn sums_are_paid()\n", head))
-            self.assertEqual(self.tree.run("--quiet")[0], 0)
+            self.write(LAWS_PATH, LAWS.replace("pub fn sums_are_paid()\n", head))
+            self.assertEqual(self.run_script("--quiet")[0], 0)
 
     def test_a_word_that_only_laws_need(self):
         # `paid` is used by `IsPaid` and by a law; without `IsPaid`, no function that does something needs it
-        self.tree.put("crates/shop/src/sum.rt", CODE.replace(" × IsPaid order.now", ""))
+        self.write("crates/shop/src/sum.rt", CODE.replace(" × IsPaid order.now", ""))
         names = ["Order", "added", "total"]
         status, found = self.problems(names, 14, word("paid", "sums_are_paid"), self.laws("sums_are_paid"))
         self.assertEqual((status, found[0]), (1, f"doubt: {SPECS_PATH}: no contract of the page needs `paid`"))
         page = PAGE + f"- [shop/laws.rt](../{LAWS_PATH}): `sums_are_paid`\n- [shop/Order.antt](../{SPECS_PATH}): `SumsArePaid`\n"
-        self.tree.put("docs/DOUBT.md", page.format(lines=21, words=word("paid", "sums_are_paid"), names=listed(names)))
-        self.tree.put("docs/FORMAT.md", NO_FORMAT)
-        self.assertEqual(self.tree.run("--quiet")[::2], (1, ["doubt: `paid`: only laws need it"]))
+        self.write("docs/DOUBT.md", page.format(lines=21, words=word("paid", "sums_are_paid"), names=listed(names)))
+        self.write("docs/FORMAT.md", NO_FORMAT)
+        self.assertEqual(self.run_script("--quiet")[::2], (1, ["doubt: `paid`: only laws need it"]))
 
     def test_fields_and_views_name_types_and_definitions(self):
-        self.tree.put("crates/shop/src/bill.rt", BILL)
-        self.tree.put("crates/money/src/price.rt", PRICE)
-        self.tree.put(SPECS_PATH, "use Rattle.shop.specs.declared.bill.Bill.{Bill}\n\n" + SPECS.replace("prices : List ℕ\n", "prices : List Bill\n"))
+        self.write("crates/shop/src/bill.rt", BILL)
+        self.write("crates/money/src/price.rt", PRICE)
+        self.write(SPECS_PATH, "use Rattle.shop.specs.declared.bill.Bill.{Bill}\n\n" + SPECS.replace("prices : List ℕ\n", "prices : List Bill\n"))
         missing = "doubt: {}: `{}` uses `{}` of {}, which is missing on the page"
         bill, price = "crates/shop/src/bill.rt", "crates/money/src/price.rt"
         lists = f"\n- [shop/bill.rt](../{bill}): `Bill`"
@@ -255,8 +255,8 @@ class Doubt(unittest.TestCase):
     def test_names_that_are_used_before_they_are_listed(self):
         more = "".join(f"\n-- a name\nabbrev pub n{number} : ℕ\nn{number} = {number}\n" for number in range(9))
         sums = "\n-- their sum\nabbrev pub sums : ℕ\nsums = n0 + n1 + n2 + n3 + n4 + n5 + n6 + n7 + n8\n"
-        self.tree.put(SPECS_PATH, SPECS + more + sums)
-        self.tree.put("crates/shop/src/sum.rt", CODE.replace("order.now }", "order.now × (sums ≡ 0) }").replace("total}", "total, sums}"))
+        self.write(SPECS_PATH, SPECS + more + sums)
+        self.write("crates/shop/src/sum.rt", CODE.replace("order.now }", "order.now × (sums ≡ 0) }").replace("total}", "total, sums}"))
         late = [f"n{number}" for number in range(9)]
         # `sum` uses three names that follow it, and `sums` nine
         page = "doubt: docs/DOUBT.md: 12 names are used before they are listed, such as `sum` uses `total`; at most 10 may be"
@@ -264,7 +264,7 @@ class Doubt(unittest.TestCase):
         self.assertEqual(self.problems([*NAMES, *late, "sums"], 50)[0], 0)
 
     def test_a_headline_that_is_too_long(self):
-        self.tree.put(SPECS_PATH, SPECS.replace("-- one order\n", "-- one order\n" * 632))
+        self.write(SPECS_PATH, SPECS.replace("-- one order\n", "-- one order\n" * 632))
         found = ["doubt: docs/DOUBT.md: the headline has 651 lines; at most 650 are allowed"]
         self.assertEqual(self.problems(NAMES, 651), (1, found))
 
@@ -273,11 +273,11 @@ class Doubt(unittest.TestCase):
         form = FORMAT.format(lines=2, entries="\n".join(rows))
         mended = rows[1].replace("an order", "no order")
         self.assertEqual(self.problems(NAMES, 20, form=form), (1, [f"doubt: docs/FORMAT.md: the table of conditions should have {mended}"]))
-        self.assertEqual(self.tree.run("--quiet", "--write")[0], 0)
+        self.assertEqual(self.run_script("--quiet", "--write")[0], 0)
         self.assertEqual(self.page("FORMAT"), form.replace(rows[1], mended))
 
     def test_the_definitions_of_the_program_are_counted(self):
-        self.tree.put("crates/command_line/src/program.rt", CODE.replace("fn sum", "fn run"))
+        self.write("crates/command_line/src/program.rt", CODE.replace("fn sum", "fn run"))
         stated = "\nOf the program they have {} lines, 3 of them in `command_line`.\n".format
         wrong = "doubt: docs/DOUBT.md: of the program's definitions it should say that they have 20 lines, 3 of them in `command_line`"
         self.assertEqual(self.problems(NAMES, 20, words=stated(19))[1], [wrong])
@@ -285,7 +285,7 @@ class Doubt(unittest.TestCase):
 
     def test_write_lists_each_name_before_its_users(self):
         self.problems(["Order", "IsPaid", "total", "AllArePaid"], 3)
-        status, _, found = self.tree.run("--quiet", "--write")
+        status, _, found = self.run_script("--quiet", "--write")
         self.assertEqual((status, found[0]), (0, "doubt: the headline has 6 names and 20 lines"))
         before, _, after = PAGE.partition("- [")
         call, definitions = f"- [{after}".splitlines()
@@ -294,5 +294,5 @@ class Doubt(unittest.TestCase):
     def test_write_mends_entries_of_the_format(self):
         entries = f"- [shop/laws.rt](../{LAWS_PATH}): `sums_are_paid`\n- [shop/Order.antt](../{SPECS_PATH}): `AllArePaid`, `SumsArePaid`"
         self.problems(NAMES, 20, form=FORMAT.format(lines=3, entries=entries))
-        self.assertEqual(self.tree.run("--quiet", "--write")[0], 0)
+        self.assertEqual(self.run_script("--quiet", "--write")[0], 0)
         self.assertEqual(self.page("FORMAT"), FORMAT.format(lines=6, entries=entries.replace("`AllArePaid`, ", "")))

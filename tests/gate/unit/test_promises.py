@@ -1,6 +1,4 @@
 """Tests of tests/gate/promises on a small library: the list has each public function, and the page names only functions that exist."""
-import unittest
-
 from small_tree import SmallTree
 
 LIBRARY = """\
@@ -68,18 +66,20 @@ TABLE = """\
 PAGE = "# What is proved\n\n`Order::price` and `shop::read_order`, under `laws::orders_are`; `Vec::new`.\n"
 
 
-class Promises(unittest.TestCase):
+class Promises(SmallTree):
+    SCRIPT = "tests/gate/promises"
+
     def setUp(self):
-        self.tree = SmallTree(self, "tests/gate/promises")
-        self.tree.put("crates.txt", "shop:\n")
-        self.tree.put("crates/shop/src/lib.rt", LIBRARY)
-        self.tree.put("crates/shop/src/order.rt", ORDER)
-        self.tree.put("crates/shop/src/laws.rt", LAWS)
+        super().setUp()
+        self.write("crates.txt", "shop:\n")
+        self.write("crates/shop/src/lib.rt", LIBRARY)
+        self.write("crates/shop/src/order.rt", ORDER)
+        self.write("crates/shop/src/laws.rt", LAWS)
 
     def problems(self, page, *words):
         """Runs tests/gate/promises on a page. Returns its status, its lines without `promises: `, and the list."""
-        self.tree.put("docs/PROVED.md", page)
-        status, listed, lines = self.tree.run(*words)
+        self.write("docs/PROVED.md", page)
+        status, listed, lines = self.run_script(*words)
         return status, [it.removeprefix("promises: ") for it in lines], listed
 
     def test_each_public_function_has_a_promise(self):
@@ -93,9 +93,9 @@ class Promises(unittest.TestCase):
         self.assertEqual(self.problems(page)[:2], (1, wrong))
 
     def test_a_function_without_a_comment(self):
-        self.tree.put("crates/shop/src/laws.rt", LAWS.replace("/// Does nothing.\n", ""))
+        self.write("crates/shop/src/laws.rt", LAWS.replace("/// Does nothing.\n", ""))
         self.assertEqual(self.problems(PAGE)[1][0], "`laws::orders_are` has no doc comment")
 
     def test_a_cost_is_no_promise(self):
-        self.tree.put("crates/shop/src/order.rt", ORDER.replace("cents.\n    ///\n    /// It takes no memory.", "cents. It does not allocate."))
+        self.write("crates/shop/src/order.rt", ORDER.replace("cents.\n    ///\n    /// It takes no memory.", "cents. It does not allocate."))
         self.assertEqual(self.problems(PAGE)[:2], (1, ["the promise of `Order::price` says what it costs"]))

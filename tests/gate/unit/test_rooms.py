@@ -1,18 +1,15 @@
 """Tests of tests/gate/rooms on a small crate."""
-import unittest
-
 from small_tree import SmallTree
 
 
-class Rooms(unittest.TestCase):
-    def setUp(self):
-        self.tree = SmallTree(self, "tests/gate/rooms")
+class Rooms(SmallTree):
+    SCRIPT = "tests/gate/rooms"
 
     def lines(self, **files):
         """Runs the script on a crate with these files; `__` in a name is a folder. Returns the status and the lines."""
         for name, text in files.items():
-            self.tree.put(f"crates/shop/src/{name.replace('__', '/')}.rt", text)
-        status, _, lines = self.tree.run()
+            self.write(f"crates/shop/src/{name.replace('__', '/')}.rt", text)
+        status, _, lines = self.run_script()
         return status, lines
 
     def test_modules_in_an_order(self):

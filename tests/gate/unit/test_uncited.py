@@ -1,6 +1,4 @@
 """Tests of tests/gate/uncited on a small crate."""
-import unittest
-
 from small_tree import SmallTree
 
 LEMMAS = """\
@@ -19,20 +17,22 @@ in-a-contract = 0
 """
 
 
-class Uncited(unittest.TestCase):
+class Uncited(SmallTree):
+    SCRIPT = "tests/gate/uncited"
+
     def setUp(self):
-        self.tree = SmallTree(self, "tests/gate/uncited")
-        self.tree.put("crates/shop/proofs/order/Answers.antt", "returns : ℕ\nreturns = used 1\n")
+        super().setUp()
+        self.write("crates/shop/proofs/order/Answers.antt", "returns : ℕ\nreturns = used 1\n")
 
     def lines(self):
-        self.tree.put("crates/shop/proofs/Prices.antt", LEMMAS)
-        self.tree.put("crates/shop/src/order.rt", "#[tactic(auto, using(crate::proofs::Prices::in-a-contract))]\n")
-        status, _, lines = self.tree.run()
+        self.write("crates/shop/proofs/Prices.antt", LEMMAS)
+        self.write("crates/shop/src/order.rt", "#[tactic(auto, using(crate::proofs::Prices::in-a-contract))]\n")
+        status, _, lines = self.run_script()
         return status, lines
 
     def test_a_lemma_is_not_cited(self):
         self.assertEqual(self.lines(), (1, ["uncited: crates/shop/proofs/Prices.antt: nothing cites unused"]))
 
     def test_all_lemmas_are_cited(self):
-        self.tree.put("crates/shop/proofs/Totals.antt", "use Rattle.shop.proofs.Prices.{unused}\n")
+        self.write("crates/shop/proofs/Totals.antt", "use Rattle.shop.proofs.Prices.{unused}\n")
         self.assertEqual(self.lines(), (0, ["uncited: each lemma is cited"]))

@@ -37,57 +37,61 @@ def edit(name, old, new, file="src/lib.rt"):
     return f"name: {name}\nfile: {file}\nold: {old}\nnew: {new}\n"
 
 
-def tree_of(test, crates, prover):
-    """Returns a tree with the script and the crates, and the variables with which the script finds the prover."""
-    tree = SmallTree(test, SCRIPT)
-    tree.put("crates.txt", crates)
-    tree.put("HANDLES", "")
-    path = tree.put("prover/rt", prover)
-    os.chmod(path, 0o755)
-    return tree, {**os.environ, "PATH": os.pathsep.join([os.path.dirname(path), os.environ["PATH"]])}
+class WithProver(SmallTree):
+    SCRIPT, CRATES, PROVER = SCRIPT, "", ""
+
+    def setUp(self):
+        """Writes the crates' list and the prover, which the variables let the script find."""
+        super().setUp()
+        self.write("crates.txt", self.CRATES)
+        self.write("HANDLES", "")
+        os.chmod(self.write("prover/rt", self.PROVER), 0o755)
+        self.env = {**os.environ, "PATH": os.pathsep.join([self.path_of("prover"), os.environ["PATH"]]), "RUNS": self.path_of("runs")}
 
 
 @unittest.skipIf(shutil.which("git") is None, "needs git")
-class Alone(unittest.TestCase):
+class Alone(WithProver):
+    CRATES, PROVER = "low:\nmiddle: low\nhigh: low middle\nbare:\n", REFUSER
+
     def setUp(self):
-        self.tree, self.env = tree_of(self, "low:\nmiddle: low\nhigh: low middle\nbare:\n", REFUSER)
+        super().setUp()
         for crate in ("low", "middle", "high", "bare"):
-            self.tree.put(f"crates/{crate}/src/lib.rt", "")
+            self.write(f"crates/{crate}/src/lib.rt", "")
         for crate in ("low", "middle", "high"):
-            self.tree.put(f"wrong_edits/{crate}.edits", edit("one", "a", "b"))
-        self.tree.put(".gitignore", "out/\n")
+            self.write(f"wrong_edits/{crate}.edits", edit("one", "a", "b"))
+        self.write(".gitignore", "out/\n")
         self.git("init", "--quiet")
         self.git("add", "--all")
         self.git("-c", "user.name=a", "-c", "user.email=a@b", "-c", "commit.gpgsign=false", "commit", "--quiet", "--message", "first")
 
     def git(self, *words):
-        subprocess.run(["git", "-C", self.tree.folder, *words], check=True)
+        subprocess.run(["git", "-C", self.scratch, *words], check=True)
 
     def tried(self, *words):
         """Runs the script. Returns its status, and its lines except those of the prover."""
-        status, lines, errors = self.tree.run(*words, env=self.env)
+        status, lines, errors = self.run_script(*words, env=self.env)
         return status, [it for it in lines if not it.startswith("must-fail ")] + errors
 
     def test_the_crates_whose_files_or_edits_differ(self):
         self.assertEqual(self.tried("--changed", "HEAD"), (0, ["no crate with edits differs from HEAD"]))
-        self.tree.put("crates/low/src/lib.rt", "// changed, and not committed\n")
-        self.tree.put("crates/high/specs/New.antt", "-- a file that git does not know\n")
-        self.tree.put("crates/middle/out/left_by_rt", "")
-        self.tree.put("crates/bare/src/lib.rt", "// it has no edits\n")
+        self.write("crates/low/src/lib.rt", "// changed, and not committed\n")
+        self.write("crates/high/specs/New.antt", "-- a file that git does not know\n")
+        self.write("crates/middle/out/left_by_rt", "")
+        self.write("crates/bare/src/lib.rt", "// it has no edits\n")
         high, low = "high: 1 of 1 refused, 0 by names alone", "low: 1 of 1 refused, 0 by names alone"
         self.assertEqual(self.tried("--changed", "HEAD"), (0, [high, low]))
-        self.tree.put("wrong_edits/middle.edits", edit("one", "a", "b") + "\n" + edit("two", "a", "c"))
+        self.write("wrong_edits/middle.edits", edit("one", "a", "b") + "\n" + edit("two", "a", "c"))
         middle = "middle: 2 of 2 refused, 0 by names alone"
         self.assertEqual(self.tried("--changed", "HEAD"), (0, [high, low, middle]))
 
     def test_a_moved_file_counts_in_both_crates(self):
-        os.rename(os.path.join(self.tree.folder, "crates/low/src/lib.rt"), os.path.join(self.tree.folder, "crates/middle/src/moved.rt"))
+        os.rename(self.path_of("crates/low/src/lib.rt"), self.path_of("crates/middle/src/moved.rt"))
         self.git("add", "--all")
         lines = [f"{crate}: 1 of 1 refused, 0 by names alone" for crate in ("low", "middle")]
         self.assertEqual(self.tried("--changed", "HEAD"), (0, lines))
 
     def test_a_crate_that_lost_its_edits(self):
-        os.remove(os.path.join(self.tree.folder, "wrong_edits/low.edits"))
+        os.remove(self.path_of("wrong_edits/low.edits"))
         self.assertEqual(self.tried("--changed", "HEAD"), (1, ["low: no such crate, or no edits in wrong_edits/low.edits"]))
 
     def test_a_revision_that_does_not_exist(self):
@@ -95,28 +99,26 @@ class Alone(unittest.TestCase):
         self.assertEqual(self.tried("--changed"), (1, ["no revision "]))
 
 
-class Together(unittest.TestCase):
+class Together(WithProver):
+    CRATES, PROVER = "low:\n", CHECKER
+
     def setUp(self):
-        self.tree, env = tree_of(self, "low:\n", CHECKER)
-        self.tree.put("crates/low/src/lib.rt", CODE)
-        self.env = {**env, "RUNS": os.path.join(self.tree.folder, "runs")}
+        super().setUp()
+        self.write("crates/low/src/lib.rt", CODE)
 
     def tried(self, *edits):
         """Tries the edits together. Returns the script's status, its lines, and how often it ran the prover."""
-        self.tree.put("wrong_edits/low.edits", "\n".join(edits))
-        status, lines, _ = self.tree.run("--together", env=self.env)
+        self.write("wrong_edits/low.edits", "\n".join(edits))
+        status, lines, _ = self.run_script("--together", env=self.env)
         return status, lines, content(self.env["RUNS"]).count("\n")
 
-    def test_edits_of_different_functions_are_made_together(self):
-        first, second = edit("first_is_wrong", "first", "wrong"), edit("second_is_wrong", "second", "wrong")
-        self.assertEqual(self.tried(first, second), (0, ["low: 2 of 2 refused"], 1))
-
-    def test_edits_of_one_function_are_made_in_turn(self):
-        first, again = edit("first_is_wrong", "first", "wrong"), edit("first_is_wronger", "first", "wronger")
-        self.assertEqual(self.tried(first, again), (0, ["low: 2 of 2 refused"], 2))
+    def test_edits_of_different_functions_are_made_together_and_others_in_turn(self):
+        for other, runs in ((edit("second_is_wrong", "second", "wrong"), 1), (edit("first_is_wronger", "first", "wronger"), 1 + 2),
+                            (edit("second_calls_the_first", "second", "calls"), 1 + 2 + 2)):  # runs of the prover so far
+            self.assertEqual(self.tried(edit("first_is_wrong", "first", "wrong"), other), (0, ["low: 2 of 2 refused"], runs))
 
     def test_functions_of_one_name_are_edited_in_turn(self):
-        self.tree.put("crates/low/src/other.rt", "fn one() {\n    third\n}\n")
+        self.write("crates/low/src/other.rt", "fn one() {\n    third\n}\n")
         edits = edit("first_is_wrong", "first", "wrong"), edit("third_is_wrong", "third", "wrong", "src/other.rt")
         lines = ["low/third_is_wrong: `one` does not lose its own proof", "low: 1 of 2 refused"]
         self.assertEqual(self.tried(*edits), (1, lines, 2))
@@ -126,17 +128,13 @@ class Together(unittest.TestCase):
         lines = ["low/second_is_other: `two` does not lose its own proof", "low: 1 of 2 refused"]
         self.assertEqual(self.tried(*edits), (1, lines, 1))
 
-    def test_an_edit_of_a_function_that_calls_another_edited_one(self):
-        edits = edit("first_is_wrong", "first", "wrong"), edit("second_calls_the_first", "second", "calls")
-        self.assertEqual(self.tried(*edits), (0, ["low: 2 of 2 refused"], 2))
-
     def test_edits_that_cannot_be_made_or_do_not_compile(self):
         edits = [edit("first_is_wrong", "first", "wrong"), edit("second_is_unknown", "second", "unknown"), edit("third_is_wrong", "third", "wrong")]
         lines = ["low/second_is_unknown: does not compile", "low/third_is_wrong: cannot be made", "low: 1 of 3 refused"]
         self.assertEqual(self.tried(*edits), (1, lines, 3))
 
     def test_a_crate_without_edits(self):
-        self.assertEqual(self.tree.run("low", env=self.env)[:2], (1, ["low: no such crate, or no edits in wrong_edits/low.edits"]))
+        self.assertEqual(self.run_script("low", env=self.env)[:2], (1, ["low: no such crate, or no edits in wrong_edits/low.edits"]))
 
 
 class Edits(unittest.TestCase):
