@@ -10,7 +10,7 @@ import lines_of_verdicts
 from test_contradictions import TOOL, ToolTest, data_of
 from support import content
 
-from contradicting import groups, hints
+from contradicting import all_rows, groups, hints
 from contradicting.facts import Fact
 
 URIS = {"n1": "http://example.org/t"}
@@ -37,53 +37,52 @@ def hinted(first, second, **weights):
     return (found[0].group[0], found[0].phrase) if found else None
 
 
-class Groups(unittest.TestCase):
-    def test_the_largest_set_with_a_common_number_comes_first(self):
-        self.assertEqual(grouped(number(1, 0), number(5, 0), number(5, 1)), ("bc a", "a"))
-        self.assertEqual(grouped(number(1, 0), number(2, 0), number(3, 0)), ("ab c", "c"))  # 1 and 2 meet at 1.5
-        self.assertEqual(grouped(number(1), number(2, 0), number(2, -1), number(9)), ("ac b d", "bd"))
+# facts, the weights of some, their groups, and the facts outside the largest group
+GROUPS = (
+    # the largest set with a common number comes first; 1 and 2 meet at 1.5
+    ([number(1, 0), number(5, 0), number(5, 1)], {}, "bc a", "a"), ([number(1, 0), number(2, 0), number(3, 0)], {}, "ab c", "c"),
+    ([number(1), number(2, 0), number(2, -1), number(9)], {}, "ac b d", "bd"),
+    # of two, that with the lowest fact
+    ([number(1), number(2)], {}, "a b", "ab"), ([number(1), number(1, 0), number(9), number(9, 0)], {}, "ab cd", "abcd"),
+    ([number(-3, -1), number(10, 0), number(20, 0)], {}, "a b c", "abc"),
+    # a fact counts for each provider that reports it
+    ([number(1), number(2)], {"b": 2}, "b a", "a"), ([number(1, 0), number(2, 0), number(3, 0)], {"c": 2}, "bc a", "a"),
+    # other values never agree
+    ([number(None), number(7), number(7, 0)], {}, "bc a", "a"), ([Fact("x", None), Fact("y", None)], {"b": 3}, "b a", "a"),
+    # again and again
+    ([*(number(low + each, 0) for low in (0, 100, 200) for each in (0, 1)), number(300)], {}, "ab cd ef g", "abcdefg"),
+)
+# two facts, the weights of some, and the hint
+HINTS = (
+    (number(4321, 0), number(4321000, -3), {}, ("a", "1,000 times smaller")),
+    (number(-4321000, -3), number(-4321, 0), {}, ("b", "1,000 times smaller")),
+    (number(4321, 0), number(4321000, -3), {"a": 2}, ("b", "1,000 times larger")),
+    *((number("1.25"), number(Decimal("1.25") * factor), {}, ("a", f"{factor:,} times smaller")) for factor in (10**6, 10**9, 100)),
+    (number(4321, 0), number(4400000, -3), {}, None),  # about 1,000 is no hint
+    (number(0, 0), number(300000000, 0), {}, None),  # an interval with zero meets any number once it is scaled
+    (number(2), number(20), {}, None), (number(-454, 0), number(454, 0), {}, ("b", "opposite sign")),
+    (number(None), number(454, 0), {}, ("a", "nil")), (number(None), number(454, 0), {"b": 2}, ("a", "nil")),
+    (number(None), number(454, 0), {"a": 2}, ("b", "not nil")),
+    (number(57, 0), number("57.6", 1), {}, ("a", "less than 1 away in the last place")),
+    (number(57, 0), number("58.1", 1), {}, None), (number(57), number("57.6"), {}, None), (Fact("a", None), Fact("b", None), {}, None),
+)
 
-    def test_ties_go_to_the_lowest_fact(self):
-        self.assertEqual(grouped(number(1), number(2)), ("a b", "ab"))
-        self.assertEqual(grouped(number(1), number(1, 0), number(9), number(9, 0)), ("ab cd", "abcd"))
-        self.assertEqual(grouped(number(-3, -1), number(10, 0), number(20, 0)), ("a b c", "abc"))
 
-    def test_a_fact_counts_for_each_provider_that_reports_it(self):
-        self.assertEqual(grouped(number(1), number(2), b=2), ("b a", "a"))
-        self.assertEqual(grouped(number(1, 0), number(2, 0), number(3, 0), c=2), ("bc a", "a"))
+class GroupsAndHints(unittest.TestCase):
+    def test_groups(self):
+        for facts, weights, found, odd in GROUPS:
+            with self.subTest(facts):
+                self.assertEqual(grouped(*facts, **weights), (found, odd))
 
-    def test_other_values_never_agree(self):
-        self.assertEqual(grouped(number(None), number(7), number(7, 0)), ("bc a", "a"))
-        self.assertEqual(grouped(Fact("x", None), Fact("y", None), b=3), ("b a", "a"))
+    def test_hints_of_two_facts(self):
+        for first, second, weights, hint in HINTS:
+            with self.subTest((first, second)):
+                self.assertEqual(hinted(first, second, **weights), hint)
 
-    def test_again_and_again(self):
-        facts = [number(low + each, 0) for low in (0, 100, 200) for each in (0, 1)]
-        self.assertEqual(grouped(*facts, number(300)), ("ab cd ef g", "abcdefg"))
-
-
-class Hints(unittest.TestCase):
-    def test_a_factor_at_which_the_intervals_meet(self):
-        self.assertEqual(hinted(number(4321, 0), number(4321000, -3)), ("a", "1,000 times smaller"))
-        self.assertEqual(hinted(number(-4321000, -3), number(-4321, 0)), ("b", "1,000 times smaller"))
-        self.assertEqual(hinted(number(4321, 0), number(4321000, -3), a=2), ("b", "1,000 times larger"))
-        for factor, phrase in ((10**6, "1,000,000"), (10**9, "1,000,000,000"), (100, "100")):
-            self.assertEqual(hinted(number("1.25"), number(Decimal("1.25") * factor)), ("a", f"{phrase} times smaller"))
-        self.assertIsNone(hinted(number(4321, 0), number(4400000, -3)))  # about 1,000 is no hint
-        self.assertIsNone(hinted(number(0, 0), number(300000000, 0)))  # an interval with zero meets any number once it is scaled
-        self.assertIsNone(hinted(number(2), number(20)))
-
-    def test_signs_nil_and_the_last_place(self):
-        self.assertEqual(hinted(number(-454, 0), number(454, 0)), ("b", "opposite sign"))
-        self.assertEqual(hinted(number(None), number(454, 0)), ("a", "nil"))
-        self.assertEqual(hinted(number(None), number(454, 0), b=2), ("a", "nil"))
-        self.assertEqual(hinted(number(None), number(454, 0), a=2), ("b", "not nil"))
-        self.assertEqual(hinted(number(57, 0), number("57.6", 1)), ("a", "less than 1 away in the last place"))
-        self.assertIsNone(hinted(number(57, 0), number("58.1", 1)))
-        self.assertIsNone(hinted(number(57), number("57.6")))
-        self.assertIsNone(hinted(Fact("a", None), Fact("b", None)))
+    def test_a_hint_is_given_once_for_both_other_groups(self):
         facts = {"a": number(None), "b": number(0, 0), "c": number(5, 0)}
         found = hints.hints_of(facts, (("a",), ("b",), ("c",)), dict.fromkeys("abc", 1))
-        self.assertEqual([hint.phrase for hint in found], ["nil"])  # once for both other groups
+        self.assertEqual([hint.phrase for hint in found], ["nil"])
 
     def test_every_fact_of_a_group_must_meet(self):
         facts = {"a": number(1000, 0), "b": number("1.0", 1), "c": number("1.2", 1), "d": number(1000, 0)}
@@ -158,8 +157,6 @@ class Reported(ToolTest):
         self.assertIn("<bdi>Beta i2f1</bdi>", page)
 
     def test_without_columns_of_providers_all_values_are_in_one(self):
-        from contradicting import all_rows
-
         rows = [[(("1", 0), (1,)), (("9", 2), (2,))], [("x", (1,))]]
         names = self.NAMES
         self.NAMES = [*names, *(f"P{number}" for number in range(all_rows.MOST_PROVIDERS))]

@@ -46,8 +46,7 @@ class Packages(RoomTest):
     def source(self):
         kit_folder = self.path_of("kit")
         for name, uses in {"json": "std", "url": "json", "std": "", "os": "std", "libc": ""}.items():
-            for folder in (f"rattle/{name}", f"rlibs/{name}.rlib"):
-                os.makedirs(os.path.join(kit_folder, folder), exist_ok=True)
+            os.makedirs(os.path.join(kit_folder, "rattle", name), exist_ok=True)
             self.write(f"kit/rlibs/{name}.rlib/format", f"crate {name}\n" + (f"dep {uses}\n" if uses else ""))
         self.write("kit/rattle/url/README.md", URL)
         self.write("kit/rattle/url/LICENSE-MIT", "")
@@ -87,6 +86,7 @@ class Contents(Packages):
 
 
 FILES = [File("bin/a", b"a", RUNS), File("bin/b", b"b"), File("share/c", b"a", is_link=True)]
+ACTIONS = (installation.uninstall, lambda prefix: installation.install(FILES, prefix))
 
 
 def tree(folder):
@@ -96,14 +96,17 @@ def tree(folder):
 
 
 class Installation(Packages):
+    def installed(self, name):
+        installation.install(self.program(), self.path_of(name))
+        return self.path_of(name)
+
     def run_installed(self, prefix, tool, *words, path=None):
         around = {**os.environ, "PATH": path or os.environ["PATH"]}
         command = os.path.join(prefix, "bin", contents.command_of(tool))
         return subprocess.run([command, *words], capture_output=True, text=True, env=around, cwd=self.scratch)
 
     def test_the_tools_have_the_names_of_their_commands(self):
-        prefix = self.path_of("a prefix")
-        installation.install(self.program(), prefix)
+        prefix = self.installed("a prefix")
         for tool in contents.TOOLS:
             done = self.run_installed(prefix, tool, "--help")
             self.assertIn(f"usage: {contents.command_of(tool)} ", done.stdout)
@@ -114,8 +117,7 @@ class Installation(Packages):
         self.assertFalse([it for at, folders, _ in os.walk(prefix) for it in folders if it == "__pycache__"])
 
     def test_a_tool_finds_the_program_beside_its_command(self):
-        prefix = self.path_of("prefix")
-        installation.install(self.program(), prefix)
+        prefix = self.installed("prefix")
         link = self.path_of("link")
         os.symlink(os.path.join(prefix, "bin", "xbrlmerge-contradictions"), link)
         sheet = self.write("sheet.json", "{}")
@@ -124,8 +126,7 @@ class Installation(Packages):
         self.assertIn("xbrlmerge merge: a stand-in\n", done.stderr)
 
     def test_without_python_a_tool_says_so(self):
-        prefix, empty = self.path_of("prefix"), self.path_of("empty")
-        installation.install(self.program(), prefix)
+        prefix, empty = self.installed("prefix"), self.path_of("empty")
         os.mkdir(empty)
         for name in ("sh", "dirname", "readlink"):
             os.symlink(shutil.which(name), os.path.join(empty, name))
@@ -133,9 +134,7 @@ class Installation(Packages):
         self.assertEqual((done.returncode, done.stderr), (3, "xbrlmerge-recheck: Python 3.9 or later is not installed\n"))
 
     def test_what_was_installed_is_removed(self):
-        prefix, own = self.path_of("prefix"), self.path_of("prefix/share/man/own")
-        os.makedirs(os.path.dirname(own))
-        self.write("prefix/share/man/own", "own")
+        prefix, own = self.path_of("prefix"), self.write("prefix/share/man/own", "own")
         installation.install([*self.program(), File("share/xbrlmerge/old/file", b"")], prefix)
         installation.install(self.program(), prefix)
         self.assertFalse(os.path.exists(os.path.join(prefix, "share/xbrlmerge/old")))
@@ -155,7 +154,7 @@ class Installation(Packages):
                 lines = content(listed)
                 self.write(listed, f"{lines}{digest}{line}\n")
                 before = tree(self.scratch)
-                for action in (installation.uninstall, lambda at: installation.install(FILES, at)):
+                for action in ACTIONS:
                     with self.assertRaisesRegex(OSError, f"installed.txt, line {lines.count(chr(10)) + 1}: ", msg=line):
                         action(prefix)
                 self.assertEqual(tree(self.scratch), before)
@@ -175,10 +174,9 @@ class Installation(Packages):
         shutil.rmtree(os.path.join(prefix, "bin"))
         os.symlink(self.scratch, os.path.join(prefix, "bin"))
         before = tree(self.scratch)
-        for action in (installation.uninstall, lambda at: installation.install(FILES, at)):
+        for action in ACTIONS:
             self.assertRaisesRegex(OSError, "through a link", action, prefix)
         self.assertEqual(tree(self.scratch), before)
-
 
     def test_other_users_can_read_what_was_installed(self):
         prefix, victim = self.path_of("prefix"), self.write("victim", "own")
@@ -223,7 +221,6 @@ class Archives(Packages):
         top = self.path_of("a [b]*? 'c\" $(d)\n-e%f")
         for folder in ("python", "tools"):
             shutil.copytree(os.path.join(TOP, folder), os.path.join(top, folder))
-        os.makedirs(os.path.join(top, "tools", "out"))
         self.write(os.path.join(top, "tools", "out", "made.py"), "")
         names = [wheel_of_library.make_wheel(self.scratch, self.path_of(contents.SHARED), self.path_of("program"))]
         with mock.patch.object(wheel_of_library, "HERE", os.path.join(top, "python")):
@@ -256,12 +253,10 @@ class Archives(Packages):
             self.assertEqual(os.listdir(folder), [])
             with mock.patch.object(debian, "make"), mock.patch.object(release, "tarball", return_value=b""):
                 release.make(self.source(), folder)
-        with open(os.path.join(folder, "SHA256SUMS"), encoding="ascii") as file:
-            sums = dict(reversed(line.split("  ")) for line in file.read().splitlines())
+        sums = dict(reversed(line.split("  ")) for line in content(os.path.join(folder, "SHA256SUMS")).splitlines())
         self.assertEqual({*sums, "SHA256SUMS"}, {*os.listdir(folder)})
         for name, checksum in sums.items():
-            with open(os.path.join(folder, name), "rb") as file:
-                self.assertEqual(hashlib.sha256(file.read()).hexdigest(), checksum)
+            self.assertEqual(hashlib.sha256(bytes_of(os.path.join(folder, name))).hexdigest(), checksum)
 
 
 class Bill(Packages):
@@ -316,7 +311,6 @@ class Sources(Packages):
             self.assertEqual(wrong_source(top, out), "the checkout has changes that are not committed, such as new")
             self.write("top/.git/info/exclude", "*~\nnew\n")
             self.assertEqual(wrong_source(top, out), "")
-            os.mkdir(self.path_of("top/docs"))
             self.write("top/docs/page.md~", "")
             self.assertEqual(wrong_source(top, out), "docs/page.md~ is not in the commit, and would be packed")
             self.write("top/docs/page.md", "")
@@ -334,6 +328,5 @@ class Files(Packages):
         self.assertEqual([(it.target, it.mode) for it in read_below(self.scratch, "x", ("am",))], [("x/program", RUNS)])
 
     def test_files_that_python_made_are_left_out(self):
-        os.mkdir(self.path_of("__pycache__"))
         self.write("__pycache__/program", "")
         self.assertEqual([it.target for it in read_below(self.scratch, "x", ("program",))], ["x/program"])
