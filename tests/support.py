@@ -1,5 +1,6 @@
 """Functions that the scripts of tests/ share: reading files, and finding the program."""
 import csv
+import glob
 import importlib.machinery
 import importlib.util
 import os
@@ -21,6 +22,19 @@ def bytes_of(path):
     """Returns the bytes of a file. A relative path starts at the working folder."""
     with open(path, "rb") as file:
         return file.read()
+
+
+def crate_files(folder, ending, crate="*"):
+    """Returns the paths of files in a folder of a crate, or of all crates, and below it. They start at the top of the repository."""
+    found = glob.glob(os.path.join(TOP, "crates", crate, folder, "**", f"*.{ending}"), recursive=True)
+    return sorted(os.path.relpath(path, TOP) for path in found)
+
+
+def status_of(name, wrong, *good):
+    """Prints a line of a script for each thing that is wrong, or the good ones if there is none. Returns the script's status."""
+    for line in wrong or good:
+        print(f"{name}: {line}", file=sys.stderr)
+    return 1 if wrong else 0
 
 
 def table_in(path):

@@ -4,11 +4,10 @@ A variable hides a definition of the same name within the variable's scope. A re
 the later fields of the record.
 """
 import functools
-import glob
 import os
 import re
 
-from support import TOP, content
+from support import TOP, content, crate_files
 
 RUST_USE = re.compile(r"^(?:pub )?use (\w+)::(?:\w+::)*(?:\{([^}]*)\}|(\w+));", re.MULTILINE)
 USE = re.compile(r"^\s*(?:ghost )?(?:pub )?use Rattle\.([\w.]+?)(?:\.\{(.*?)\}| as (\w+));?$", re.MULTILINE)
@@ -54,8 +53,7 @@ class Specs:
 
     def __init__(self):
         self.texts, self.names, self.owners, self.imports, self.types = {}, {}, {}, {}, {}
-        for path in sorted(glob.glob(os.path.join(TOP, "crates/*/specs/**/*.antt"), recursive=True)):
-            path = os.path.relpath(path, TOP)
+        for path in crate_files("specs", "antt"):
             text = content(path)
             self.imports[path] = imports_of(text)
             for name, others, piece in pieces(text):
@@ -64,8 +62,7 @@ class Specs:
                 self.owners[path, name] = (path, name)
                 for it in others:
                     self.owners.setdefault((path, it), (path, name))
-        for path in sorted(glob.glob(os.path.join(TOP, "crates/*/src/**/*.rt"), recursive=True)):
-            path = os.path.relpath(path, TOP)
+        for path in crate_files("src", "rt"):
             crate = path.split("/")[1]
             for is_public, name in re.findall(r"^(pub )?(?:struct|enum|const) (\w+)", content(path), re.MULTILINE):
                 if is_public or (crate, name) not in self.types:
