@@ -31,10 +31,9 @@ use Rattle.oim_report.specs.Refusal.{map_ok}
 use Rattle.oim_report.specs.Sheet.{Sheet}
 use Rattle.oim_report.specs.Pieces.{IsPiece, put_all}
 use Rattle.oim_report.specs.code.Pieces.{IsLike, IsOutline}
-use Rattle.oim_report.proofs.PieceTexts.{append}
 use Rattle.oim_report.specs.code.TapeValues.{Ascends}
 use Rattle.oim_report.specs.PlainJson.{IsBefore}
-use Rattle.oim_report.specs.code.FoundFacts.{AreFound, AreRelated, HaveMore, is_above, rise_after}
+use Rattle.oim_report.specs.code.FoundFacts.{append, AreFound, AreRelated, is_above, rise_after}
 use Rattle.oim_report.specs.Identifiers.{identifiers_in}
 use Rattle.oim_report.specs.code.Ranks.{AreRanks, IsRank}
 use Rattle.oim_report.proofs.DocumentHolds.{document_least, has_misshapen_part, has_other_type, has_unknown_part, info_refusal, shape_refusal}
@@ -162,12 +161,6 @@ module _ (sheet : Sheet) (bs : List Binding) where
 
   pub found_by : (ms : Members) (ss ts : List (List ℕ)) (fs gs : List Fact) → ts ≡ ss → gs ≡ fs → AreFound sheet bs ms ss fs → AreFound sheet bs ms ts gs
   found_by ms ss ts fs gs e f h = subst (λ l. AreFound sheet bs ms l gs) (sym e) (subst (AreFound sheet bs ms ss) (sym f) h)
-
-  pub found_more : (ms ns : Members) (ss ts : List (List ℕ)) (fs gs : List Fact) → AreFound sheet bs ms ss fs → HaveMore sheet bs ns ss ts fs gs → AreFound sheet bs (append ms ns) ts gs
-  found_more ms ns ss ts fs gs h more = found_by (append ms ns) _ ts _ gs more.pushed more.added (found_append ms ns ss more.new_ids fs more.new_facts h more.found)
-
-  pub found_alone : (ms : Members) (ss ts : List (List ℕ)) (fs gs : List Fact) → ss ≡ [] → fs ≡ [] → HaveMore sheet bs ms ss ts fs gs → AreFound sheet bs ms ts gs
-  found_alone ms ss ts fs gs e f h = found_by ms h.new_ids ts h.new_facts gs (h.pushed ∙ ap (λ l. l ++ h.new_ids) e) (h.added ∙ ap (λ l. l ++ h.new_facts) f) h.found
 
   -- ---- the facts that the pieces denote
 

@@ -1,6 +1,5 @@
 -- The judgements of facts, and the first refused fact.
-use Rattle.std.proofs.Common.{◌≡◌, ℕ, ◌+◌, List, [], ◌∷◌, ◌++◌, Option, Some, None, IfOk, IfSome, Result, Err, map, String, Global, string_bytes, string_cmp, refl, sym, ap, ◌∙◌, subst}
-use Rattle.std.specs.Prelude.{ok_or}
+use Rattle.std.proofs.Common.{◌≡◌, ℕ, ◌+◌, List, [], ◌∷◌, ◌++◌, Result, Err, map, String, Global, string_bytes, string_cmp, refl, ap, ◌∙◌}
 use Rattle.std.specs.BTreeMap.{insert_entry}
 use Rattle.oim_names.specs.Bindings.{Binding}
 use Rattle.oim_names.specs.declared.reason.Reason.{Reason}
@@ -39,28 +38,6 @@ module _ (sheet : Sheet) (bs : List Binding) where
       accepted_put ms (put l d onto) ss fs (insert_entry string_cmp es s Accepted) h.2 (judged_put l d s Accepted onto es h.0 (f, h.1) k)
   accepted_put ms onto ss fs es h k = absurd h
 
-  -- the members of the entries that are left, and the members that were put so far
-  pub record AreAbsorbed (all onto : Members) (left now : List (String Global × Judgement)) : Type 0 where
-    pub rest : Members
-    pub put_now : Members
-    pub are : AreJudged sheet bs rest left
-    pub judged : AreJudged sheet bs put_now now
-    pub puts : put_all rest put_now ≡ put_all all onto
-
-  pub one_absorbed : (all onto : Members) (s : String Global) (j : Judgement) (left rest now : List (String Global × Judgement)) → left ≡ (s, j) ∷ rest → AreAbsorbed all onto left now → AreAbsorbed all onto rest (insert_entry string_cmp now s j)
-  one_absorbed all onto s j left rest now e h = by_rest h.rest (subst (AreJudged sheet bs h.rest) e h.are) h.puts
-    where
-      by_rest : (ms : Members) → AreJudged sheet bs ms ((s, j) ∷ rest) → put_all ms h.put_now ≡ put_all all onto → AreAbsorbed all onto rest (insert_entry string_cmp now s j)
-      by_rest no_members are puts = absurd are
-      by_rest (member k d ms) are puts = record { rest = ms; put_now = put k d h.put_now; are = are.2; judged = judged_put k d s j h.put_now now are.0 are.1 h.judged; puts = puts }
-
-  pub all_absorbed : (all onto : Members) (left now : List (String Global × Judgement)) → left ≡ [] → AreAbsorbed all onto left now → AreJudged sheet bs (put_all all onto) now
-  all_absorbed all onto left now e h = by_rest h.rest (subst (AreJudged sheet bs h.rest) e h.are) h.puts
-    where
-      by_rest : (ms : Members) → AreJudged sheet bs ms [] → put_all ms h.put_now ≡ put_all all onto → AreJudged sheet bs (put_all all onto) now
-      by_rest no_members are puts = subst (λ ns. AreJudged sheet bs ns now) puts h.judged
-      by_rest (member k d ms) are puts = absurd are
-
   -- ---- the first refused fact
 
   abbrev outcomes : Members → List (Result Fact Reason)
@@ -89,7 +66,3 @@ module _ (sheet : Sheet) (bs : List Binding) where
   pub refused_first : (n : ℕ) (ms : Members) (s : String Global) (reason : Reason) (es : List (String Global × Judgement)) → AreJudged sheet bs ms ((s, Refused reason) ∷ es) → IsRefused n ms reason
   refused_first n no_members s reason es h = absurd h
   refused_first n (member k d ms) s reason es h = record { object = d; refused = h.1; first = ap (λ o. all_or_first n (o ∷ outcomes ms)) h.1 }
-
-pub if_refused : {E : Type 0} (o : Option Refusal) (e : E) (r : Result Refusal E) (P Q : Refusal → Type 0) → r ≡ ok_or o e → IfSome o P → ((x : Refusal) → P x → Q x) → IfOk r Q
-if_refused None e r P Q is h then = subst (λ x. IfOk x Q) (sym is) tt
-if_refused (Some x) e r P Q is h then = subst (λ y. IfOk y Q) (sym is) (then x h)

@@ -62,7 +62,7 @@ pub mod BesideFacts
 pub mod Outlines
 pub mod FoundInOrder
 pub mod Judged
-pub mod Appended
+pub mod FactsSoFar
 pub mod DimensionRuns
 pub mod StatedLaws
 pub mod TextSpans

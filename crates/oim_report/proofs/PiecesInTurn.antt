@@ -12,7 +12,7 @@ use Rattle.serde_json.specs.Data as d
 use Rattle.oim_report.specs.Pieces.{alone, one_data, HasMember, IsPiece, put_all}
 use Rattle.oim_report.specs.code.Pieces.{IsUpTo}
 use Rattle.oim_report.specs.code.TapeValues.{one, Ascends}
-use Rattle.oim_report.proofs.PieceTexts.{append}
+use Rattle.oim_report.specs.code.FoundFacts.{append}
 use Rattle.oim_report.proofs.JoinedMembers.{Reads, HasSome, plus, joined}
 use Rattle.oim_report.proofs.Accepted.{map_some, and_then_some}
 use Rattle.oim_report.proofs.PutMembers.{both_found, ascends_put, put_onto}

@@ -1,5 +1,5 @@
 -- Members and facts that are read from a tape.
-use Rattle.std.proofs.Common.{◌≡◌, ℕ, ◌-◌, ◌<◌, ◌≤◌, List, Some, None, option_and_then, option_map, OnOk, Result, refl, ap, ◌∙◌, arith, [], ◌++◌, Option, ◌∷◌, length, sym, subst, append_assoc, append-nil}
+use Rattle.std.proofs.Common.{◌≡◌, ℕ, ◌-◌, ◌<◌, ◌≤◌, List, Some, None, option_and_then, option_map, OnOk, Result, refl, ap, ◌∙◌, arith, [], ◌++◌, Option, sym, subst}
 use Rattle.std.proofs.lemmas.Result.{on_ok_weaker}
 use Rattle.json.specs.Token.{Token}
 use Rattle.json.specs.Json.{Json, value, if_last, document}
@@ -11,17 +11,14 @@ use Rattle.json.proofs.Printed.Trees.{value-json_tokens}
 use Rattle.json.proofs.Unique.Spelling.{value-json_tokens_back}
 use Rattle.serde_json.specs.Data.{Data, null, boolean, string, array, no_items, item, Members, no_members, put, member}
 use Rattle.serde_json.specs.Read.{of_json, of_items, of_members, max_depth}
-use Rattle.oim_dims.specs.declared.fact.Fact.{Fact}
-use Rattle.oim_report.specs.code.TapeValues.{Ascends, AreData, IsRead, one}
+use Rattle.oim_report.specs.code.TapeValues.{Ascends, AreData, IsRead, IsReadWhere, one}
 use Rattle.oim_report.specs.Pieces.{alone, HasMember, IsPiece, put_all}
-use Rattle.oim_report.specs.code.FoundFacts.{AreFound, HaveMore, HaveOneMore}
-use Rattle.oim_report.proofs.PieceTexts.{append}
-use Rattle.oim_report.specs.code.Scope.{Scope}
+use Rattle.oim_report.specs.code.FoundFacts.{append}
 use Rattle.oim_report.proofs.Accepted.{map_some}
 use Rattle.oim_report.proofs.PutMembers.{ascends_put}
 use Rattle.oim_report.proofs.JoinedMembers.{Reads}
 use Rattle.oim_report.proofs.PiecesInTurn.{has_put, has_put_all, read_back}
-use Rattle.oim_report.proofs.FoundInOrder.{found_one}
+use Rattle.oim_report.proofs.FactsSoFar.{append_append, append_none}
 
 -- ---- the members of an object on a tape, while they are read one after another
 
@@ -126,7 +123,7 @@ members_put (j.member k v vs) (member l d ms) onto h =
     ap (option_and_then (λ x. of_members vs (put k x onto))) h.1 ∙ ap (λ q. of_members vs (put q d onto)) h.0 ∙ members_put vs ms (put l d onto) h.3
 members_put vs ms onto h = absurd h
 
-shallow : (vs : j.Members) (ms : Members) → AreData vs ms → members_depth vs ≤ 17
+shallow : (vs : j.Members) (ms : Members) → AreData vs ms → members_depth vs ≤ 125
 shallow j.no_members no_members h = omega arith
 shallow (j.member k v vs) (member l d ms) h = let rest = shallow vs ms h.3 in let here = h.2 in omega (arith, rest, here)
 shallow vs ms h = absurd h
@@ -157,63 +154,31 @@ piece_of_facts piece vs ms e are some =
 
 -- ---- the facts of a piece, while they are read one after another
 
--- the members of `vs` before the place on the tape are data, and the lists have more identifiers and facts, which are theirs
-pub record AreReading (s : Scope) (vs : j.Members) (tape : List Token) (ids more_ids : List (List ℕ)) (facts more_facts : List Fact) : Type 0 where
+-- the members of `vs` before the place on the tape are the data `ms`, of which `Is` is true
+pub record AreReading (vs : j.Members) (tape : List Token) (Is : Members → Type 0) : Type 0 where
   pub left : j.Members
   pub ms : Members
   pub here : InMembers tape left
   pub are : (more : Members) → AreData left more → AreData vs (append ms more)
-  pub found : HaveMore s.sheet s.aliases ms ids more_ids facts more_facts
+  pub is : Is ms
 
-pub none_reading : (s : Scope) (vs : j.Members) (tape : List Token) (ids : List (List ℕ)) (facts : List Fact) → InMembers tape vs → AreReading s vs tape ids ids facts facts
-none_reading s vs tape ids facts here = record {
-  left = vs;
-  ms = no_members;
-  here = here;
-  are = λ more h. h;
-  found = record { new_ids = []; new_facts = []; pushed = sym (append-nil ids); added = sym (append-nil facts); found = tt };
-}
+pub none_reading : (vs : j.Members) (tape : List Token) (Is : Members → Type 0) → InMembers tape vs → Is no_members → AreReading vs tape Is
+none_reading vs tape Is here is = record { left = vs; ms = no_members; here = here; are = λ more h. h; is = is }
 
-pub append_more : (ms : Members) (k : List ℕ) (d : Data) (more : Members) → append (append ms (member k d no_members)) more ≡ append ms (member k d more)
-append_more no_members k d more = refl
-append_more (member l e ms) k d more = ap (member l e) (append_more ms k d more)
-
-pub append_none : (ms : Members) → append ms no_members ≡ ms
-append_none no_members = refl
-append_none (member k d ms) = ap (member k d) (append_none ms)
-
-pub one_read : (s : Scope) (vs : j.Members) (tape rest : List Token) (ids now_ids more_ids : List (List ℕ)) (facts now_facts more_facts : List Fact) (m : List ℕ × List Token) → NextMember tape (Some m) rest
-    → HaveOneMore s.sheet s.aliases m.0 m.1 now_ids more_ids now_facts more_facts → AreReading s vs tape ids now_ids facts now_facts → AreReading s vs rest ids more_ids facts more_facts
-one_read s vs tape rest ids now_ids more_ids facts now_facts more_facts m next more r =
+pub one_read : (vs : j.Members) (tape rest : List Token) (Is More : Members → Type 0) (m : List ℕ × List Token) → NextMember tape (Some m) rest
+    → ((v : Json) → BeginsWith m.1 v → IsReadWhere v (λ d. (ms : Members) → Is ms → More (append ms (member m.0 d no_members)))) → AreReading vs tape Is → AreReading vs rest More
+one_read vs tape rest Is More m next reads r =
     let step = next r.left r.here in
-    let v = step.0 in
-    let one = more.says v step.3 in
-    let old = r.found in
+    let one = reads step.0 step.3 in
     record {
       left = step.1;
       ms = append r.ms (member m.0 one.found no_members);
       here = step.4;
-      are = λ l h. subst (AreData vs) (sym (append_more r.ms m.0 one.found l)) (r.are (member m.0 one.found l) (subst (λ k. AreData k (member m.0 one.found l)) (sym step.2) (refl, one.reads, one.flat, h)));
-      found = record {
-        new_ids = old.new_ids ++ m.0 ∷ [];
-        new_facts = old.new_facts ++ more.fact ∷ [];
-        pushed = more.pushed ∙ ap (λ l. l ++ m.0 ∷ []) old.pushed ∙ append_assoc ids old.new_ids (m.0 ∷ []);
-        added = more.added ∙ ap (λ l. l ++ more.fact ∷ []) old.added ∙ append_assoc facts old.new_facts (more.fact ∷ []);
-        found = found_one s.sheet s.aliases r.ms old.new_ids old.new_facts m.0 one.found more.fact old.found one.says;
-      };
+      are = λ l h. subst (AreData vs) (sym (append_append r.ms (member m.0 one.found no_members) l)) (r.are (member m.0 one.found l) (subst (λ k. AreData k (member m.0 one.found l)) (sym step.2) (refl, one.reads, one.flat, h)));
+      is = one.is r.ms r.is;
     }
 
-pub all_found : (s : Scope) (vs : j.Members) (tape rest : List Token) (ids more_ids : List (List ℕ)) (facts more_facts : List Fact) → NextMember tape None rest → AreReading s vs tape ids more_ids facts more_facts
-    → (ms : Members) × AreData vs ms × HaveMore s.sheet s.aliases ms ids more_ids facts more_facts
-all_found s vs tape rest ids more_ids facts more_facts next r =
+pub all_found : (vs : j.Members) (tape rest : List Token) (Is : Members → Type 0) → NextMember tape None rest → AreReading vs tape Is → (ms : Members) × AreData vs ms × Is ms
+all_found vs tape rest Is next r =
     let none : r.left ≡ j.no_members = next r.left r.here in
-    (r.ms, subst (AreData vs) (append_none r.ms) (r.are no_members (subst (λ l. AreData l no_members) (sym none) tt)), r.found)
-
-none_new : (s : Scope) (ids : List (List ℕ)) (facts : List Fact) → AreFound s.sheet s.aliases no_members ids facts → facts ≡ []
-none_new s [] [] h = refl
-none_new s ids facts h = absurd h
-
-pub found_some : (s : Scope) (ms : Members) (ids more_ids : List (List ℕ)) (facts more_facts : List Fact) → HaveMore s.sheet s.aliases ms ids more_ids facts more_facts → (length more_facts ≡ length facts → ⊥) → HasMember ms
-found_some s no_members ids more_ids facts more_facts h some =
-    some (ap length (h.added ∙ ap (λ l. facts ++ l) (none_new s h.new_ids h.new_facts h.found) ∙ append-nil facts))
-found_some s (member k d ms) ids more_ids facts more_facts h some = tt
+    (r.ms, subst (AreData vs) (append_none r.ms) (r.are no_members (subst (λ l. AreData l no_members) (sym none) tt)), r.is)

@@ -67,16 +67,6 @@ module _ (buffer more : List ℕ) (spans : List (ℕ × ℕ)) (span : ℕ × ℕ
       let kept = texts_stay buffer more spans utf8 are in
       map-append (λ s. slice_range (buffer ++ more) s.0 s.1) spans (span ∷ []) ∙ (λ i. kept i ++ last i ∷ [])
 
-pub spans_take : (buffer : List ℕ) (n : ℕ) (spans : List (ℕ × ℕ)) → AreTextSpans buffer spans → AreTextSpans buffer (take n spans)
-spans_take buffer zero spans h = tt
-spans_take buffer (suc n) [] h = tt
-spans_take buffer (suc n) (s ∷ ss) h = (h.0, spans_take buffer n ss h.1)
-
-pub texts_take : (buffer : List ℕ) (n : ℕ) (spans : List (ℕ × ℕ)) → texts_at buffer (take n spans) ≡ take n (texts_at buffer spans)
-texts_take buffer zero spans = refl
-texts_take buffer (suc n) [] = refl
-texts_take buffer (suc n) (s ∷ ss) = ap (λ ts. slice_range buffer s.0 s.1 ∷ ts) (texts_take buffer n ss)
-
 span_at : (buffer : List ℕ) (spans : List (ℕ × ℕ)) (index : ℕ) (span : ℕ × ℕ) → AreTextSpans buffer spans → slice_get spans index ≡ Some span → IsTextSpan buffer span
 span_at buffer [] index span h e = absurd (Prim.cc)
 span_at buffer (s ∷ ss) zero span h e = let same : s ≡ span = Prim.cc in subst (IsTextSpan buffer) same h.0

@@ -1,7 +1,7 @@
 -- Definitions that no public contract uses, such as stored forms of values, tests of parts and intermediate laws.
-pub mod Appended
 pub mod Beside
 pub mod DimensionRuns
+pub mod FactsSoFar
 pub mod Findings
 pub mod FoundFacts
 pub mod Groups

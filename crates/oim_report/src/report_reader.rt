@@ -13,7 +13,7 @@ use crate::order::order_of;
 use crate::pieces::facts_in_pieces::read_facts_in_pieces;
 use crate::pieces::found_facts::FoundFacts;
 use crate::pieces::outline::read_json_outline;
-use crate::pieces::piece_facts::PieceBuffers;
+use crate::pieces::piece_tape::PieceBuffers;
 use crate::pieces::texts::Texts;
 use crate::place::Place;
 use crate::refusal::Refusal;
@@ -44,7 +44,7 @@ pub fn read_report<'s>(alloc: Global, sheet: &'s Sheet, bytes: &[u8]) -> Result<
 /// Returns `true` only if a report is accepted under a sheet (own). The result is `false` if the
 /// report is refused, or if it cannot be read in pieces.
 ///
-/// Unlike `read_report`, this parses at most one piece at a time as a tree.
+/// Unlike `read_report`, this parses at most one fact at a time as a tree.
 ///
 /// Errors: out of memory.
 pub fn is_accepted_in_pieces(alloc: Global, sheet: &Sheet, bytes: &[u8]) -> Result<bool, AllocError>
@@ -179,9 +179,8 @@ impl<'s> ReportReader<'s> {
     }
 
     /// Does the same as `read_identified`, but parses the facts in pieces. Only one piece at a time
-    /// is held as a tape or a tree. The result is `NeedsTree` if the text cannot be read in pieces,
-    /// if a condition applies to the document, or if a tape does not give all facts of the only
-    /// piece.
+    /// is held as a tape, and one fact as a tree. The result is `NeedsTree` if the text cannot be
+    /// read in pieces, or if a condition applies to the document.
     fn read_in_pieces(
         &mut self,
         bytes: &[u8],

@@ -1,15 +1,11 @@
 -- Judgements of facts that were found in a text (own).
-use Rattle.std.specs.Prelude.{◌≡◌, ◌≤◌, List, Some, Result, Ok, Err, String, string_bytes, map, ⊤}
+use Rattle.std.specs.Prelude.{◌≡◌, List, Result, Ok, Err, String, string_bytes, map, ⊤}
 use Rattle.std.specs.Global.{Global}
 use Rattle.oim_names.specs.Bindings.{Binding}
 use Rattle.oim_names.specs.declared.reason.Reason.{Reason}
 use Rattle.oim_dims.specs.declared.fact.Fact.{Fact}
-use Rattle.json.specs.Json as json
-use Rattle.json.specs.Tree.{members_depth}
-use Rattle.serde_json.specs.Data.{Members, no_members}
-use Rattle.serde_json.specs.Read.{of_members}
+use Rattle.serde_json.specs.Data.{Members}
 use Rattle.oim_report.specs.Outcome.{fact_outcome}
-use Rattle.oim_report.specs.Pieces.{HasMember}
 use Rattle.oim_report.specs.Sheet.{Sheet}
 use Rattle.oim_report.specs.code.FoundFacts.{AreRelated}
 use Rattle.oim_report.specs.declared.pieces.judgement.Judgement.{Judgement}
@@ -24,12 +20,3 @@ IsJudged outcome Unknown = ⊤
 -- the entries have the keys of the members, each with a judgement of the member's value
 abbrev pub AreJudged : Sheet → List Binding → Members → List (String Global × Judgement) → Type 0
 AreJudged sheet bs ms es = AreRelated (λ d j. IsJudged (fact_outcome sheet bs d) j) ms (map (λ e. string_bytes e.0) es) (map (λ e. e.1) es)
-
--- there is at least one member, and each value is read as data and has 125 levels at most; the entries have the keys of the members,
--- with judgements that are true under each sheet
-pub record AreSkipped (vs : json.Members) (es : List (String Global × Judgement)) : Type 0 where
-  pub ms : Members
-  pub reads : of_members vs no_members ≡ Some ms
-  pub some : HasMember ms
-  pub flat : members_depth vs ≤ 125
-  pub judged : (sheet : Sheet) (bs : List Binding) → AreJudged sheet bs ms es

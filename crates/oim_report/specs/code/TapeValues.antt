@@ -61,6 +61,13 @@ pub record IsReadAs (n : ℕ) (v : json.Json) (found : Data) : Type 0 where
   pub reads : of_json v ≡ Some found
   pub flat : depth v ≤ n
 
+-- the value has 125 levels at most, and is read as data of which `Is` is true
+pub record IsReadWhere (v : json.Json) (Is : Data → Type 0) : Type 0 where
+  pub found : Data
+  pub reads : of_json v ≡ Some found
+  pub flat : depth v ≤ 125
+  pub is : Is found
+
 -- the value has 125 levels at most; members that are like `old` are like `new` after the value is put at the key
 pub record IsAdded (key : List ℕ) (v : json.Json) (old new : Members) : Type 0 where
   pub found : Data
@@ -81,9 +88,9 @@ pub record AreAdded (vs : json.Members) (old new : Members) : Type 0 where
 abbrev pub one : json.Members → json.Json
 one ms = json.array (json.item (json.object ms) json.no_items)
 
--- the keys are equal, one by one, and each value has 17 levels at most and is read as the data with the same index
+-- the keys are equal, one by one, and each value has 125 levels at most and is read as the data with the same index
 abbrev pub AreData : json.Members → Members → Type 0
 AreData json.no_members no_members = ⊤
 AreData json.no_members (member k d ms) = ⊥
 AreData (json.member k v vs) no_members = ⊥
-AreData (json.member k v vs) (member l d ms) = (k ≡ l) × (of_json v ≡ Some d) × (depth v ≤ 17) × AreData vs ms
+AreData (json.member k v vs) (member l d ms) = (k ≡ l) × (of_json v ≡ Some d) × (depth v ≤ 125) × AreData vs ms

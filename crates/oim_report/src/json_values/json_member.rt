@@ -1,11 +1,10 @@
 ghost use Rattle.std.specs.Prelude.{◌≡◌, ◌<◌, ◌==◌, true, false, Some, IfOk, IfSome, IsTrue, length, slice_index, option_map};
 ghost use Rattle.json.specs.Find.{BeginsWith};
 ghost use Rattle.json.specs.Json.{Json};
-ghost use Rattle.serde_json.specs.Data as tree;
 ghost use Rattle.serde_json.specs.Data.{Num, string};
 ghost use Rattle.serde_json.specs.Find.{as_integer};
-ghost use Rattle.serde_json.specs.Read.{number_of, number_from};
-ghost use Rattle.serde_json.specs.View.{view};
+ghost use Rattle.serde_json.specs.Read.{float_of, number_from, number_of};
+ghost use Rattle.serde_json.specs.View.{number_view, view};
 ghost use Rattle.oim_report.specs.code.JsonMember.{seen};
 ghost use Rattle.oim_report.specs.code.TapeValues.{IsLeaf};
 ghost use Rattle.oim_report.specs.Json.{given, given_of, is_absent, is_no_text, text_of};
@@ -13,7 +12,7 @@ ghost use Rattle.oim_report.specs.Json.{given, given_of, is_absent, is_no_text, 
 use crate::unread::Unread;
 use fast_float::Numeral;
 use json::Element;
-use serde_json::Value;
+use serde_json::{Number, Value};
 
 /// A JSON value that may be absent. The variants are the cases that readers of sheets and reports
 /// distinguish.
@@ -100,40 +99,26 @@ impl<'a> JsonMember<'a> {
     }
 }
 
-// Returns the integer that a JSON number represents. The result is `None` for `-0`, for a number
+// Returns the integer that `serde_json` reads. The result is `None` for `-0`, for a number
 // with a point or an exponent, and for an integer that does not fit in 64 bits.
 fn whole_number(digits: &str) -> Option<i128>
     ensures { IfSome result
         (λ n. (found : Num) × (number_of digits.now ≡ Some found) × (as_integer found ≡ Some n)) }
 {
-    let bytes = digits.as_bytes();
-    if has_minus(bytes) {
-        let whole = negative(&Numeral::scan(&bytes[1..]))?;
-        Some(whole as i128)
-    } else {
-        let whole = unsigned(&Numeral::scan(bytes))?;
-        Some(whole as i128)
-    }
+    let number = read_number(digits)?;
+    number.as_i128()
 }
 
-/// Returns whether `serde_json` reads a JSON number. It rejects a number that is too large for a
-/// float.
-pub(crate) fn is_finite_number(digits: &str) -> bool
-    ensures { result ≡ true → (found : Num) × (number_of digits.now ≡ Some found) }
+/// Returns the number that `serde_json` reads, or `None` if it is too large for a float.
+pub(crate) fn read_number(digits: &str) -> Option<Number>
+    ensures { option_map number_view result ≡ number_of digits.now }
 {
     let bytes = digits.as_bytes();
     if has_minus(bytes) {
-        is_finite(&Numeral::scan(&bytes[1..]), true)
+        negative(&Numeral::scan(&bytes[1..]))
     } else {
-        is_finite(&Numeral::scan(bytes), false)
+        unsigned(&Numeral::scan(bytes))
     }
-}
-
-fn is_finite(numeral: &Numeral<'_>, is_negative: bool) -> bool
-    ensures { result ≡ true → (found : Num) × (number_from is_negative numeral.now ≡ Some found) }
-{
-    let number: f64 = numeral.to_float(is_negative);
-    number.is_finite()
 }
 
 fn has_minus(bytes: &[u8]) -> bool
@@ -143,15 +128,28 @@ fn has_minus(bytes: &[u8]) -> bool
     !bytes.is_empty() && bytes[0] == b'-'
 }
 
-fn negative(numeral: &Numeral<'_>) -> Option<i64>
-    ensures { IfSome result (λ n. number_from true numeral.now ≡ Some (tree.negative n)) }
+fn negative(numeral: &Numeral<'_>) -> Option<Number>
+    ensures { option_map number_view result ≡ number_from true numeral.now }
 {
-    let whole = numeral.to_i64(true)?;
-    if whole < 0 { Some(whole) } else { None }
+    if let Some(whole) = numeral.to_i64(true) {
+        if whole < 0 {
+            return Some(Number::from(whole));
+        }
+    }
+    nearest(true, numeral)
 }
 
-fn unsigned(numeral: &Numeral<'_>) -> Option<u64>
-    ensures { IfSome result (λ n. number_from false numeral.now ≡ Some (tree.unsigned n)) }
+fn unsigned(numeral: &Numeral<'_>) -> Option<Number>
+    ensures { option_map number_view result ≡ number_from false numeral.now }
 {
-    numeral.to_u64()
+    match numeral.to_u64() {
+        Some(whole) => Some(Number::from(whole)),
+        None => nearest(false, numeral),
+    }
+}
+
+fn nearest(is_negative: bool, numeral: &Numeral<'_>) -> Option<Number>
+    ensures { option_map number_view result ≡ float_of is_negative numeral.now }
+{
+    Number::from_f64(numeral.to_float::<f64>(is_negative))
 }

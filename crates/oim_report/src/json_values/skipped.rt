@@ -6,7 +6,7 @@ ghost use Rattle.json.specs.Json.{Json, array, number, object};
 ghost use Rattle.json.specs.Json as spec;
 ghost use Rattle.oim_report.specs.code.TapeValues.{IsRead};
 
-use crate::json_values::json_member::is_finite_number;
+use crate::json_values::json_member::read_number;
 use crate::unread::Unread;
 use json::{Element, Items, Members};
 
@@ -57,7 +57,7 @@ fn skip_members(mut members: Members<'_, '_>, levels: usize) -> Result<(), Unrea
 fn skip_number(digits: &str) -> Result<(), Unread>
     ensures { OnOk result (IsRead 0 (number digits.now)) }
 {
-    if is_finite_number(digits) {
+    if read_number(digits).is_some() {
         Ok(())
     } else {
         Err(Unread::NeedsTree)

@@ -12,7 +12,7 @@ ghost use Rattle.oim_report.specs.code.TapeValues.{AreAdded, IsAdded};
 use crate::json_values::json_tree::has_colon;
 use crate::json_values::skipped::skip_value;
 use crate::limits::MOST_MEMBER_LEVELS;
-use crate::pieces::piece_facts::{PieceBuffers, only_object, parse_piece};
+use crate::pieces::piece_tape::{PieceBuffers, only_object, parse_piece};
 use crate::pieces::taped_tree::tree_of;
 use crate::unread::Unread;
 use json::{Element, Members};

@@ -1,4 +1,4 @@
-ghost use Rattle.std.specs.Prelude.{◌≡◌, ◌++◌, ◌∷◌, [], List, length, take, None, map, option_map, string_bytes, IfOk, OnOk};
+ghost use Rattle.std.specs.Prelude.{◌≡◌, ◌++◌, ◌∷◌, [], List, None, map, option_map, string_bytes, IfOk, OnOk};
 ghost use Rattle.std.specs.BTreeMap.{insert_entry};
 ghost use Rattle.std.specs.String.{string_cmp};
 ghost use Rattle.oim_names.specs.Bindings.{Binding};
@@ -65,41 +65,6 @@ impl FoundFacts {
         self.identifiers.push(identifier)?;
         self.ranks.push(rank)?;
         Ok(())
-    }
-
-    /// Adds the facts of a later piece at the end.
-    pub(crate) fn append(&mut self, piece: FoundFacts) -> Result<(), AllocError>
-        ensures identifiers { OnOk result (self.new.identifiers ≡ self.old.identifiers ++ piece.identifiers) }
-        ensures facts { OnOk result (self.new.facts.items ≡ self.old.facts.items ++ piece.facts.items) }
-        ensures ranks { OnOk result (self.new.ranks.items ≡ self.old.ranks.items ++ piece.ranks.items) }
-    {
-        let FoundFacts {
-            identifiers,
-            mut facts,
-            mut ranks,
-        } = piece;
-        self.identifiers.append(&identifiers)?;
-        self.facts.append(&mut facts)?;
-        self.ranks.append(&mut ranks)
-    }
-
-    /// Returns the lengths of the lists of identifiers, facts and ranks.
-    pub(crate) fn lengths(&self) -> (usize, usize, usize)
-        ensures { result ≡ (length self.now.identifiers, length self.now.facts.items, length self.now.ranks.items) }
-    {
-        (self.identifiers.len(), self.facts.len(), self.ranks.len())
-    }
-
-    /// Shortens the lists of identifiers, facts and ranks to these lengths.
-    pub(crate) fn truncate(&mut self, lengths: (usize, usize, usize))
-        ensures identifiers { self.new.identifiers ≡ take lengths.0 self.old.identifiers }
-        ensures facts { self.new.facts.items ≡ take lengths.1 self.old.facts.items }
-        ensures ranks { self.new.ranks.items ≡ take lengths.2 self.old.ranks.items }
-    {
-        let (identifiers, facts, ranks) = lengths;
-        self.identifiers.truncate(identifiers);
-        self.facts.truncate(facts);
-        self.ranks.truncate(ranks);
     }
 
     /// Sorts the facts by their identifiers in byte order. If an identifier is repeated, only its

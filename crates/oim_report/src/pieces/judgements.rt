@@ -21,8 +21,7 @@ use std::collections::BTreeMap;
 #[derive(Drop)]
 pub(crate) struct Judgements {
     pub(crate) by_identifier: BTreeMap<String, Judgement>,
-    // The least identifier of a fact that was refused in an absorbed piece. It only saves time, so
-    // no contract mentions it.
+    // The least identifier of a refused fact. It only saves time, so no contract mentions it.
     least_refused: Option<String>,
 }
 
@@ -61,21 +60,9 @@ impl Judgements {
         ensures { OnOk result ((key : String Global) × (string_bytes key ≡ identifier.now)
             × (self.new.by_identifier.entries ≡ insert_entry string_cmp self.old.by_identifier.entries key judgement)) }
     {
+        self.note_refused(alloc, identifier, judgement)?;
         let key = String::from_str(alloc, identifier)?;
         let _earlier = self.by_identifier.insert(key, judgement)?;
-        Ok(())
-    }
-
-    /// Adds the judgements of a later piece.
-    pub(crate) fn absorb(&mut self, alloc: Global, later: Judgements) -> Result<(), AllocError>
-        ensures { OnOk result ((sheet : ASheet) (bs : List Binding) (ms onto : Members) →
-            AreJudged sheet bs ms later.by_identifier.entries → AreJudged sheet bs onto self.old.by_identifier.entries →
-            AreJudged sheet bs (put_all ms onto) self.new.by_identifier.entries) }
-    {
-        for (identifier, judgement) in later.by_identifier {
-            self.note_refused(alloc, identifier.as_str(), judgement)?;
-            let _earlier = self.by_identifier.insert(identifier, judgement)?;
-        }
         Ok(())
     }
 
@@ -94,13 +81,7 @@ impl Judgements {
         Ok(())
     }
 
-    /// Returns whether an absorbed piece has a refused fact.
-    pub(crate) fn has_refused(&self) -> bool {
-        self.least_refused.is_some()
-    }
-
-    /// Returns whether an absorbed piece has a refused fact with a lesser identifier. A later fact
-    /// may have replaced it.
+    /// Returns whether a fact with a lesser identifier was refused. A later fact may have replaced it.
     pub(crate) fn is_after_refused(&self, identifier: &str) -> bool {
         match &self.least_refused {
             Some(least) => least.as_str() < identifier,

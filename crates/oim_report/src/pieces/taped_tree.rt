@@ -8,13 +8,14 @@ ghost use Rattle.serde_json.specs.Data as tree;
 ghost use Rattle.serde_json.specs.View.{view, items_view, members_view};
 ghost use Rattle.oim_report.specs.code.TapeValues.{IsReadAs};
 
+use crate::json_values::json_member::read_number;
 use crate::unread::Unread;
 use json::{Element, Items, Members};
 use serde_json::{Map, Value};
 use std::alloc::Global;
 
 /// Returns the value at this place of a tape. The result is `NeedsTree` if the value has more than
-/// `levels` levels of arrays and objects, or if it has a number.
+/// `levels` levels of arrays and objects, or if it has a number that is too large for a float.
 #[cycle(tree)]
 pub(crate) fn tree_of(
     alloc: Global,
@@ -79,8 +80,13 @@ fn leaf_of(alloc: Global, element: &Element<'_, '_>) -> Result<Value, Unread>
         return Ok(Value::Bool(is_true));
     }
     if element.is_null() {
-        Ok(Value::Null)
-    } else {
-        Err(Unread::NeedsTree)
+        return Ok(Value::Null);
+    }
+    let Some(digits) = element.as_number() else {
+        return Err(Unread::NeedsTree);
+    };
+    match read_number(digits) {
+        Some(number) => Ok(Value::Number(number)),
+        None => Err(Unread::NeedsTree),
     }
 }

@@ -1,4 +1,4 @@
-ghost use Rattle.std.specs.Prelude.{◌≡◌, [], ◌∷◌, ◌++◌, IfOk, OnOk, length, option_map, slice_get, take};
+ghost use Rattle.std.specs.Prelude.{◌≡◌, [], ◌∷◌, ◌++◌, IfOk, OnOk, length, option_map, slice_get};
 
 use oim_names::Text;
 use std::alloc::{AllocError, Global};
@@ -52,25 +52,6 @@ impl Texts {
         self.buffer.push_str(text)?;
         self.spans.push((start, self.buffer.len()))?;
         Ok(())
-    }
-
-    /// Adds all texts of another list at the end, in the same order.
-    pub(crate) fn append(&mut self, other: &Texts) -> Result<(), AllocError>
-        ensures { OnOk result (self.new ≡ self.old ++ other.now) }
-    {
-        for index in 0..other.len() {
-            if let Some(text) = other.get(index) {
-                self.push(text)?;
-            }
-        }
-        Ok(())
-    }
-
-    /// Keeps only the first `count` texts.
-    pub(crate) fn truncate(&mut self, count: usize)
-        ensures { self.new ≡ take count self.old }
-    {
-        self.spans.truncate(count);
     }
 
     pub(crate) fn get(&self, index: usize) -> Option<&str>

@@ -1,8 +1,15 @@
-use Rattle.std.proofs.Common.{option_map, ap, arith}
-use Rattle.serde_json.specs.Data.{number}
+use Rattle.std.proofs.Common.{◌≡◌, ℕ, List, Option, Some, None, true, option_map, is_some, sym, ap, ◌∙◌, arith}
+use Rattle.serde_json.specs.Data.{Num, number}
+use Rattle.serde_json.specs.Read.{number_of}
+use Rattle.serde_json.specs.View.{number_view}
+use Rattle.serde_json.specs.declared.number.Number.{Number}
 use Rattle.oim_report.proofs.json_values.skipped.skip_number.Goals as goal
 
-pub returns-then-is_finite_number : goal.returns-then-is_finite_number
-returns-then-is_finite_number c =
-    let read = c.is_finite_number.ensures c.if-is_finite_number.true in
+read_as : (o : Option Number) (s : List ℕ) → option_map number_view o ≡ number_of s → is_some o ≡ true → (x : Num) × (number_of s ≡ Some x)
+read_as None s e some = absurd (Prim.cc)
+read_as (Some n) s e some = (number_view n, sym e)
+
+pub returns-then-is_some : goal.returns-then-is_some
+returns-then-is_some c =
+    let read = read_as c.read_number.result c.args.digits.now c.read_number.ensures (sym c.is_some.ensures ∙ c.if-is_some.true) in
     record { found = number read.0; reads = ap (option_map number) read.1; flat = omega arith }

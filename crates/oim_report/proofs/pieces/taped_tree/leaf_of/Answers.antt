@@ -1,10 +1,11 @@
-use Rattle.std.proofs.Common.{rules, ◌≡◌, ℕ, List, Bool, true, Some, string_bytes, sym, ap, ◌∙◌, arith}
-use Rattle.json.specs.Find.{as_bool, as_str, is_null}
+use Rattle.std.proofs.Common.{rules, ◌≡◌, ℕ, List, Bool, true, Some, option_map, string_bytes, sym, ap, ◌∙◌, arith}
+use Rattle.json.specs.Find.{as_bool, as_number, as_str, is_null}
 use Rattle.json.specs.Json as j
 use Rattle.json.specs.Json.{Json}
-use Rattle.serde_json.specs.Data.{Data, null, boolean, string}
-use Rattle.serde_json.specs.View.{view}
-use Rattle.serde_json.specs.declared.value.Value.{Bool as BoolValue, Null, String, the_lemmas}
+use Rattle.serde_json.specs.Data.{Data, Num, null, boolean, number, string}
+use Rattle.serde_json.specs.Read.{number_of}
+use Rattle.serde_json.specs.View.{number_view, view}
+use Rattle.serde_json.specs.declared.value.Value.{Bool as BoolValue, Null, Number as NumberValue, String, the_lemmas}
 use Rattle.oim_report.specs.code.TapeValues.{IsReadAs}
 use Rattle.oim_report.proofs.pieces.taped_tree.leaf_of.Goals as goal
 
@@ -19,6 +20,10 @@ boolean_read v b d e f = absurd (Prim.cc)
 null_read : (v : Json) (d : Data) → is_null v ≡ true → d ≡ null → IsReadAs 0 v d
 null_read j.null d e f = record { reads = ap (λ x. Some x) (sym f); flat = omega arith }
 null_read v d e f = absurd (Prim.cc)
+
+number_read : (v : Json) (s : List ℕ) (x : Num) (d : Data) → as_number v ≡ Some s → number_of s ≡ Some x → d ≡ number x → IsReadAs 0 v d
+number_read (j.number t) s x d e of f = let same : t ≡ s = Prim.cc in record { reads = ap (λ l. option_map number (number_of l)) same ∙ ap (option_map number) of ∙ ap (λ y. Some y) (sym f); flat = omega arith }
+number_read v s x d e of f = absurd (Prim.cc)
 
 pub returns-in-Some : goal.returns-in-Some
 returns-in-Some c = λ v begins.
@@ -37,3 +42,10 @@ pub returns-then-is_null : goal.returns-then-is_null
 returns-then-is_null c = λ v begins.
     let seen : view Null ≡ null = search (rules, the_lemmas) in
     null_read v (view Null) (sym (c.is_null.ensures v begins) ∙ c.if-is_null.true) seen
+
+pub returns-in-Some-read_number : goal.returns-in-Some-read_number
+returns-in-Some-read_number c = λ v begins.
+    let s = c.in-Some-as_number.digits.now in
+    let n = c.in-Some-read_number.number in
+    let seen : view (NumberValue n) ≡ number (number_view n) = search (rules, the_lemmas) in
+    number_read v s (number_view n) (view (NumberValue n)) (sym (c.in-Some-as_number.ensures v begins)) (sym c.in-Some-read_number.ensures) seen
