@@ -10,7 +10,7 @@ use oim_dims::Fact;
 use oim_names::Reason;
 use oim_report::{Place, Refusal, Report, Sheet, read_report};
 use oim_value::Level;
-use oim_write::text;
+use oim_write::{is_text, text};
 use std::alloc::{AllocError, Global};
 
 /// The result of checking an accepted report.
@@ -27,8 +27,6 @@ pub struct Checked {
 /// Reads a report under a sheet. Returns the number of its facts, their level, and whether the
 /// bytes are canonical (xBRL-JSON 1.0; levels: OIM Common 1.0; the canonical text is our own).
 ///
-/// The report and its canonical text may be in memory at the same time.
-///
 /// Errors: the report's first refusal, with its place; `OutOfMemory`, at the document.
 pub fn check_report(alloc: Global, sheet: &Sheet, bytes: &[u8]) -> Result<Checked, Refusal>
     ensures ok { IfOk result (IsChecked sheet.now bytes.now) }
@@ -36,11 +34,10 @@ pub fn check_report(alloc: Global, sheet: &Sheet, bytes: &[u8]) -> Result<Checke
         (λ r. (r ≡ at Place.Document Reason.OutOfMemory) ⊎ (outcome sheet.now bytes.now ≡ Err r)) }
 {
     let report = read_report(alloc, sheet, bytes)?;
-    let canonical = is_canonical(alloc, sheet, &report, bytes)?;
     Ok(Checked {
         facts: report.facts().len() as u64,
         level: report.level(),
-        canonical,
+        canonical: is_canonical(alloc, sheet, report, bytes)?,
     })
 }
 
@@ -49,20 +46,19 @@ pub fn check_report(alloc: Global, sheet: &Sheet, bytes: &[u8]) -> Result<Checke
 fn is_canonical(
     alloc: Global,
     sheet: &Sheet,
-    report: &Report<'_>,
+    report: Report<'_>,
     bytes: &[u8],
 ) -> Result<bool, AllocError>
-    requires sheet { report.now.sheet ≡ sheet.now }
-    requires read { outcome sheet.now bytes.now ≡ Ok report.now.document }
-    ensures { IfOk result (λ canonical. IsTrue canonical ↔ IsCanonicalOf report.now.document bytes.now) }
+    requires sheet { report.sheet ≡ sheet.now }
+    requires read { outcome sheet.now bytes.now ≡ Ok report.document }
+    ensures { IfOk result (λ canonical. IsTrue canonical ↔ IsCanonicalOf report.entry.document bytes.now) }
 {
-    if !rise(report) {
+    if !rise(&report) {
         return Ok(false);
     }
     let mut base = Base::new(alloc, sheet);
-    base.take(report)?;
-    let text = text(alloc, &base)?;
-    Ok(text.as_bytes() == bytes)
+    base.absorb_report(report)?;
+    is_text(alloc, &base, bytes)
 }
 
 // Returns true if the facts ascend strictly: each is at its place in the order, and no fact equals

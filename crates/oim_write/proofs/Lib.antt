@@ -1,3 +1,4 @@
+mod Compared
 pub mod BoundedRuns
 pub mod Ranks
 pub mod Padded

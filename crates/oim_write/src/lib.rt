@@ -2,6 +2,7 @@
 #![tactic(auto)]
 
 mod bounded_sink;
+mod compared_sink;
 mod concept_texts;
 mod fact_text;
 mod fixed_text;
@@ -17,6 +18,7 @@ mod write_fault;
 mod writer;
 
 pub use bounded_sink::{BOUND_PER_BYTE, BoundedSink, default_bound};
+pub use compared_sink::is_text;
 pub use fact_text::{write_decimals, write_defined, write_dimensions, write_value};
 pub use labels::identifier;
 pub use prefix_table::prefixes;

@@ -1,8 +1,7 @@
-use Rattle.std.proofs.Common.{◌≡◌, [], ◌∷◌, sym, ap, ◌∙◌}
+use Rattle.std.proofs.Common.{◌≡◌, [], ◌∷◌, sym, ap, subst, ◌∙◌}
 use Rattle.std.proofs.lemmas.Bool.{false≢true}
-use Rattle.std.specs.Str.{bytes_eq}
-use Rattle.oim_names.proofs.Bytes.{bytes_eq-refl, same_bytes}
-use Rattle.fact_base.specs.Body.{body, union}
+use Rattle.std.specs.Prelude.{◌↔◌, IfOk, IsTrue}
+use Rattle.fact_base.specs.Body.{Body, body, union}
 use Rattle.fact_base.specs.Contents.{Contents}
 use Rattle.fact_base.proofs.Bodies.{body_of_both}
 use Rattle.oim_write.specs.Bytes.{canonical}
@@ -13,18 +12,14 @@ pub returns-then-not-rise : goal.returns-then-not-rise
 returns-then-not-rise c = (
   λ h. absurd (false≢true h),
   λ is.
-      let rises = canonical_rises c.args.sheet.now c.args.bytes.now c.args.report.now.document c.requires.read is in
+      let rises = canonical_rises c.args.sheet.now c.args.bytes.now c.args.report.document c.requires.read is in
       sym c.if-not-rise.true ∙ c.rise.ensures.1 rises,
 )
 
 pub returns : goal.returns
 returns c =
-    let d = c.args.report.now.document in
-    let base = c.new-base.result in
-    let taken : union base.body (body (d ∷ [])) ≡ body (d ∷ []) =
-    ap (λ (x : Contents). union x.body (body (d ∷ []))) c.new-base.ensures ∙ sym (body_of_both [] (d ∷ [])) in
-    let text : c.as_bytes.result.now ≡ canonical (body (d ∷ [])) =
-    c.as_bytes.ensures ∙ c.in_ok-text.ensures ∙ ap canonical (ap (λ (x : Contents). x.body) c.in_ok-take.ensures.ok ∙ taken) in (
-      λ h. sym (same_bytes c.as_bytes.result.now c.args.bytes.now (sym c.eq.ensures ∙ h)) ∙ text,
-      λ is. c.eq.ensures ∙ ap (λ t. bytes_eq t c.args.bytes.now) (text ∙ sym is) ∙ bytes_eq-refl c.args.bytes.now,
-    )
+    let documents = c.args.report.document ∷ [] in
+    let taken : union c.new-base.result.body (body documents) ≡ body documents =
+    ap (λ (x : Contents). union x.body (body documents)) c.new-base.ensures ∙ sym (body_of_both [] documents) in
+    let same = ap (λ (x : Contents). x.body) c.in_ok-absorb_report.ensures.ok ∙ taken in
+    subst (λ (b : Body). IfOk c.is_text.result (λ is. IsTrue is ↔ (c.args.bytes.now ≡ canonical b))) same c.is_text.ensures
