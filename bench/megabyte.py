@@ -5,8 +5,9 @@ import os
 import resource
 import subprocess
 
-from shaped import COSTLY, MEGABYTES, SENT, SHAPES, expected
+from shaped import SENT, SHAPES, expected
 
+MEASURED = {**SHAPES, **SENT}
 MEGABYTE = 1_000_000
 NEAR = 50_000
 TRIES = 20
@@ -32,10 +33,10 @@ def bytes_of(files):
     return sum(len(text_of(content).encode()) for content in files.values())
 
 
-def megabyte_of(name, shape):
+def megabyte_of(shape):
     """The arguments and files of a shape, at a size at which the files have about a megabyte."""
-    if name in MEGABYTES:
-        return shape.make(*MEGABYTES[name])
+    if shape.megabyte:
+        return shape.make(*shape.megabyte)
     (before, fewer), size = (0, bytes_of(shape.make(1)[1])), shape.size
     for _ in range(TRIES):
         words, files = shape.make(size)
@@ -49,7 +50,7 @@ def megabyte_of(name, shape):
 
 
 def make(name, folder):
-    words, files = megabyte_of(name, {**SHAPES, **SENT}[name])
+    words, files = megabyte_of(MEASURED[name])
     write_files(files, folder)
     return words, bytes_of(files)
 
@@ -83,8 +84,8 @@ def too_costly(shapes, program, folder):
         words, size = made(shape, place)
         seconds, kilobytes, done = measure([program, *words], place)
         is_costly = seconds > MOST_SECONDS or kilobytes > MOST_KILOBYTES or not done
-        note = ("too much, listed" if shape in COSTLY else "too much") if is_costly else ""
+        note = ("too much, listed" if MEASURED[shape].is_costly else "too much") if is_costly else ""
         print(f"| {name} | {size:,} | {seconds:.2f} | {kilobytes / 1e3:,.0f} MB | {note if done else 'ended early, ' + note} |", flush=True)
-        if is_costly and shape not in COSTLY:
+        if is_costly and not MEASURED[shape].is_costly:
             costly.append(name)
     return costly

@@ -325,8 +325,10 @@ def events_of_eight_replicas(n):
 # ---- the table of shapes
 
 class Shape(NamedTuple):
-    size: int
+    size: int  # the smaller of two
     make: Callable
+    megabyte: tuple = ()  # the sizes with which a shape of several sizes costs most for a megabyte
+    is_costly: bool = False  # whether a megabyte may cost more than --megabyte allows; docs/COSTS.md lists these shapes
 
 
 SHAPES = {
@@ -339,7 +341,7 @@ SHAPES = {
     "references_that_fall": Shape(5_000, lambda n: one_report([fact()], taxonomy=references(range(n, 0, -1)))),
     # each reference is stored as a URL of about 5,000 bytes
     "references_beside_a_long_base": Shape(500, lambda n: one_report(
-        [fact()], taxonomy=[str(place) for place in range(n)], baseURL=f"{URI}/{'b' * 5_000}/")),
+        [fact()], taxonomy=[str(place) for place in range(n)], baseURL=f"{URI}/{'b' * 5_000}/"), is_costly=True),
     "references_of_many_reports": Shape(500, lambda n: merging(
         sheet(), *(report(numbered([fact()]), taxonomy=[reference]) for reference in references(range(n))))),
     "features": Shape(5_000, lambda n: one_report([fact()], features={f"eg:f{place:07}": True for place in range(n)})),
@@ -347,12 +349,12 @@ SHAPES = {
     "dimensions_whose_names_fall": Shape(5_000, dimensions_whose_names_fall),
     "measures_of_a_unit": Shape(5_000, lambda n: one_report([numeric("1", unit=measures("eg", n))])),
     "measures_beside_a_long_uri": Shape(1_000, lambda n: one_report([numeric("1", unit=measures("u", n))], beside_a_long_one(5_000))),
-    "measures_in_no_order": Shape(1_000, measures_in_no_order),
-    "members_of_a_long_uri": Shape(1_000, members_of_a_long_uri),
-    "entities_of_a_long_uri": Shape(1_000, entities_of_a_long_uri),
-    "entities_of_two_long_uris": Shape(1_000, entities_of_two_long_uris),
-    "sources_of_members_of_a_long_uri": Shape(1_000, by("sources", members_of_a_long_uri)),
-    "take_of_members_of_a_long_uri": Shape(1_000, taken(members_of_a_long_uri)),
+    "measures_in_no_order": Shape(1_000, measures_in_no_order, (54_000, 490_000), True),
+    "members_of_a_long_uri": Shape(1_000, members_of_a_long_uri, (5_200, 500_000)),
+    "entities_of_a_long_uri": Shape(1_000, entities_of_a_long_uri, (5_200, 500_000)),
+    "entities_of_two_long_uris": Shape(1_000, entities_of_two_long_uris, (5_900, 250_000)),
+    "sources_of_members_of_a_long_uri": Shape(1_000, by("sources", members_of_a_long_uri), (5_200, 500_000)),
+    "take_of_members_of_a_long_uri": Shape(1_000, taken(members_of_a_long_uri), (5_200, 500_000)),
     "names_of_a_long_uri": Shape(2_000, lambda n: merging(*long_uri(n, 50_000))),
     "bytes_of_a_uri_of_many_names": Shape(50_000, lambda n: merging(*long_uri(2_000, n))),
     "names_and_bytes_of_a_uri": Shape(2_000, names_and_bytes_of_a_uri),
@@ -400,7 +402,7 @@ SHAPES = {
     "sources_of_one_file_named_often": Shape(2_000, sources_of_one_file_named_often),
     "faults_of_facts": Shape(5_000, lambda n: explaining(
         report(numbered(fact("1,5", concept=f"q{place}:N", unit=f"q{place}:u") for place in range(n))))),
-    "faults_of_names_of_a_long_uri": Shape(500, faults_of_names_of_a_long_uri),
+    "faults_of_names_of_a_long_uri": Shape(500, faults_of_names_of_a_long_uri, (3_400, 250_000)),
     "faults_of_one_fact": Shape(10_000, lambda n: explaining(report(numbered(
         [fact(**{f"eg:D{n - place:07}": 1 for place in range(n)}, unit="*".join(f"q{place}:u" for place in range(n)))])))),
     "duplicates_that_are_denied": Shape(5_000, duplicates_that_are_denied),
@@ -412,30 +414,16 @@ SHAPES = {
     "texts_sent_and_received": Shape(1_000, texts_sent_and_received),
     # a replica of 1,000 facts sends its base, which does not change
     "sends_without_a_change": Shape(1_000, lambda n: replaying(1, ["take 1 1", *["send 1"] * n], report(apart(FACTS)))),
-    "joins_that_add_nothing": Shape(100, joins_that_add_nothing),
+    "joins_that_add_nothing": Shape(100, joins_that_add_nothing, is_costly=True),
     "takes_of_different_reports": Shape(500, lambda n: replaying(1, (f"take 1 {place}" for place in range(1, n + 1)), *tiny_reports(n))),
     "takes_of_reports_in_no_order": Shape(500, lambda n: replaying(1, (f"take 1 {place}" for place in shuffled(range(1, n + 1))), *tiny_reports(n))),
-    "events_of_eight_replicas": Shape(500, events_of_eight_replicas),
+    "events_of_eight_replicas": Shape(500, events_of_eight_replicas, is_costly=True),
 }
 
 # shapes that --megabyte measures besides, each with a size to begin at. Texts that are sent after each report contain the square of
 # their number, so these shapes cannot grow as slowly as the others.
-SENT = {"reports_sent_in_a_ring": Shape(500, reports_sent_in_a_ring), "reports_received_late": Shape(500, reports_received_late),
-        "long_texts_sent_after_takes": Shape(100, long_texts_sent_after_takes)}
-
-# the sizes with which some shapes cost most for a megabyte; the other shapes have one size
-MEGABYTES = {
-    "measures_in_no_order": (54_000, 490_000),
-    "members_of_a_long_uri": (5_200, 500_000),
-    "entities_of_a_long_uri": (5_200, 500_000),
-    "entities_of_two_long_uris": (5_900, 250_000),
-    "sources_of_members_of_a_long_uri": (5_200, 500_000),
-    "take_of_members_of_a_long_uri": (5_200, 500_000),
-    "faults_of_names_of_a_long_uri": (3_400, 250_000),
-    "reports_sent_in_a_ring": (2_000,),
-    "reports_received_late": (2_000,),
-    "long_texts_sent_after_takes": (400,),
+SENT = {
+    "reports_sent_in_a_ring": Shape(500, reports_sent_in_a_ring, (2_000,), True),
+    "reports_received_late": Shape(500, reports_received_late, (2_000,), True),
+    "long_texts_sent_after_takes": Shape(100, long_texts_sent_after_takes, (400,), True),
 }
-
-# shapes of which a megabyte may cost more than --megabyte allows; docs/COSTS.md lists them
-COSTLY = {"measures_in_no_order", "references_beside_a_long_base", "joins_that_add_nothing", "events_of_eight_replicas", *SENT}

@@ -27,7 +27,7 @@ class Megabytes(unittest.TestCase):
 
     def test_the_files_have_about_a_megabyte(self):
         for name in ("facts", "bytes_of_a_uri_of_many_names", "names_and_bytes_of_a_uri", "measures_in_no_order"):
-            _, files = megabyte.megabyte_of(name, shaped.SHAPES[name]._replace(size=100))
+            _, files = megabyte.megabyte_of(shaped.SHAPES[name]._replace(size=100))
             self.assertAlmostEqual(megabyte.bytes_of(files), 1_000_000, delta=100_000, msg=name)
 
     def test_what_costs_too_much_or_ends_early_fails_if_it_is_not_listed(self):
