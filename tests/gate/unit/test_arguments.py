@@ -67,8 +67,8 @@ class StandardStreams(Stubbed):
     CHANGE = b'{"fact":"a","pointer":"/facts/a/value","was":1,"now":"1","rule":"value-text","loss":false}\n'
 
     def run_piped(self, name, *words, given=b"", **options):
-        tool = os.path.join(in_process.TOOLS, f"{name}.py")
-        done = subprocess.run([sys.executable, tool, *words], input=given, capture_output=True, cwd=self.scratch, **options)
+        tool, pipes = os.path.join(in_process.TOOLS, f"{name}.py"), {"stdout": subprocess.PIPE, "stderr": subprocess.PIPE, **options}
+        done = subprocess.run([sys.executable, tool, *words], input=given, cwd=self.scratch, **pipes)
         return done.returncode, done.stderr, done.stdout
 
     def test_normalise_reads_and_writes_standard_streams(self):
@@ -85,9 +85,8 @@ class StandardStreams(Stubbed):
         self.write("report.json", self.REPORT)
         for out, changes in (("-", "made"), ("made", "-")):
             with open("/dev/full", "wb") as full:
-                words = [sys.executable, os.path.join(in_process.TOOLS, "normalise.py"), "report.json", out, changes]
-                done = subprocess.run(words, stdout=full, stderr=subprocess.PIPE, cwd=self.scratch)
-            self.assertEqual((done.returncode, done.stderr), (3, b"normalise: No space left on device\n"))
+                done = self.run_piped("normalise", "report.json", out, changes, stdout=full)
+            self.assertEqual(done, (3, b"normalise: No space left on device\n", None))
             self.assertFalse(os.path.exists(self.path_of("made")))
 
     def test_make_sheet_reads_standard_input(self):
@@ -112,9 +111,7 @@ class StandardStreams(Stubbed):
 
 class Messages(Stubbed):
     def test_no_message_has_a_name_with_control_characters(self):
-        odd = [self.write(name + ESCAPE + ".json", "{}") for name in ("a", "a")]
-        os.mkdir(self.path_of("other"))
-        odd[1] = self.write("other/a" + ESCAPE + ".json", "{}")
+        odd = [self.write(f"{folder}a{ESCAPE}.json", "{}") for folder in ("", "other/")]
         sheet = ["--sheet", SHEET, "-o", self.output]
         for tool, words in (
             (contradictions, [*sheet, *odd]),

@@ -69,10 +69,12 @@ class Stubbed(ToolTest):
         lines = (json.dumps({**usual, "sentence": sentence, **more}) + "\n" for sentence, more in faults)
         self.prints("explain", "".join(lines), status=1)
 
+    def tool_words(self, *words, sheet=("--sheet", SHEET)):
+        return [sys.executable, TOOL, "--program", self.program, *sheet, "-o", self.output, *words]
+
     def run_on(self, *words, sheet=("--sheet", SHEET), **options):
         others = ["--fail-on", "contradictions,refusals,losses,omissions"] if self.is_empty and "--exit-zero" not in words else []
-        run = [sys.executable, TOOL, "--program", self.program, *sheet, "-o", self.output, *others, *words]
-        done = subprocess.run(run, capture_output=True, text=True, **options)
+        done = subprocess.run(self.tool_words(*others, *words, sheet=sheet), capture_output=True, text=True, **options)
         done.stderr = "".join(f"{line}\n" for line in self.other_lines(done.stderr)) if self.is_empty else done.stderr
         return done
 
@@ -177,8 +179,7 @@ class Files(Stubbed):
 
     def test_progress_is_shown_on_a_terminal(self):
         main, terminal = pty.openpty()
-        run = [sys.executable, TOOL, "--program", self.program, "--sheet", SHEET, "-o", self.output, *REPORTS]
-        with subprocess.Popen(run, stdout=subprocess.PIPE, stderr=terminal) as child:
+        with subprocess.Popen(self.tool_words(*REPORTS), stdout=subprocess.PIPE, stderr=terminal) as child:
             os.close(terminal)
             seen = b""
             try:
@@ -269,8 +270,7 @@ class Refused(Stubbed):
 
 class Prepared(Stubbed):
     def package(self, more=""):
-        os.makedirs(self.path_of("package"), exist_ok=True)
-        self.write(os.path.join("package", "t.xsd"), SCHEMA % more)
+        self.write("package/t.xsd", SCHEMA % more)
         return ["--taxonomy", self.path_of("package")]
 
     def test_a_taxonomy_in_place_of_a_sheet(self):
@@ -359,8 +359,7 @@ class Prepared(Stubbed):
 
 class BadInputs(Stubbed):
     def test_names_with_two_meanings(self):
-        os.mkdir(self.path_of("other"))
-        other = self.write(os.path.join("other", "issuer.json"), "{}")
+        other = self.write("other/issuer.json", "{}")
         for words, wanted in (
             ([REPORTS[0], other], "both get the name issuer: write NAME=FILE for both"),
             ([f"issuer={REPORTS[1]}", other], "both get the name issuer"),
@@ -407,12 +406,12 @@ class BadInputs(Stubbed):
         self.assertEqual(content(self.output), "a file")
 
     def test_a_program_that_fails(self):
-        self.prints("verdicts", "1 f", "device: 3 bytes written\n", 3)
-        self.refused_run("xbrlmerge verdicts: its output cannot be written, perhaps for lack of room", *REPORTS)
-        self.prints("verdicts", "1 f", "out of memory\n", 3)
-        self.refused_run("xbrlmerge verdicts: out of memory", *REPORTS)
-        self.prints("merge", "", "", 101)
-        self.refused_run("xbrlmerge merge: it ended with status 101", *REPORTS)
+        for command, out, err, status, wanted in (
+            ("verdicts", "1 f", "device: 3 bytes written\n", 3, "verdicts: its output cannot be written, perhaps for lack of room"),
+            ("verdicts", "1 f", "out of memory\n", 3, "verdicts: out of memory"), ("merge", "", "", 101, "merge: it ended with status 101"),
+        ):
+            self.prints(command, out, err, status)
+            self.refused_run(f"xbrlmerge {wanted}", *REPORTS)
         self.prints("merge", "", "sheet: 32 SheetKind\n", 3)
         self.prints("explain", "", 'sheet.json: the entry "x:A": "numberic" has an unknown kind\nsheet: 32 SheetKind\n', 3)
         self.refused_run("has an unknown kind", *REPORTS)
@@ -442,8 +441,7 @@ class BadInputs(Stubbed):
     def test_a_signal_leaves_nothing(self):
         self.write(os.path.join("bin", "verdicts.waits"), "")
         before = sorted(os.walk(self.scratch))
-        run = [sys.executable, TOOL, "--program", self.program, "--sheet", SHEET, "-o", self.output, *REPORTS]
-        with subprocess.Popen(run, stdout=subprocess.PIPE, stderr=subprocess.PIPE) as child:
+        with subprocess.Popen(self.tool_words(*REPORTS), stdout=subprocess.PIPE, stderr=subprocess.PIPE) as child:
             while not os.path.exists(os.path.join(self.bin, "log")) or "verdicts" not in content(os.path.join(self.bin, "log")):
                 time.sleep(0.01)
             child.terminate()

@@ -77,16 +77,16 @@ class Maps(ToolTest):
             self.check_refused("/facts/f/value cannot be scaled by 10^3", {"f": fact(value, decimals=decimals, unit="u:kEUR")}, SCALED)
 
     def test_names_that_become_equal_are_refused(self):
-        equal = {"f": fact(), "g": fact(concept="n:A")}
-        self.check_refused(f"the map makes {{{OLD}}}A and {{{NEW}}}A equal", equal, YEAR)
-        self.check_refused("equal", {"f": fact(concept="n:A", **{"o:Reg": "n:a"}), "g": fact(concept="n:A", **{"n:Reg": "n:a"})}, YEAR)
-        self.check_refused("equal", {"f": fact("o:X", "n:Q"), "g": fact("n:X", "n:Q")}, YEAR)
-        self.check_refused("equal", {"f": fact(unit="o:x"), "g": fact(concept="n:B", unit="n:x")}, YEAR)
-        self.check_refused("equal", {"f": fact(entity="l:1"), "g": fact(entity="l:2")}, {"entities": {f"{{{LEI}}}1": f"{{{LEI}}}2"}})
-        self.check_refused("equal", {"f": fact("o:a", "n:S"), "g": fact("n:a", "n:S")}, YEAR)
-        self.check_refused("equal", {"f": fact("o:a n:a", "n:S")}, YEAR)
+        self.check_refused(f"the map makes {{{OLD}}}A and {{{NEW}}}A equal", {"f": fact(), "g": fact(concept="n:A")}, YEAR)
         ratio = {"units": {f"{{{UNITS}}}ratio": {"unit": "{http://www.xbrl.org/2003/instance}pure"}}}
-        self.check_refused("equal", {"f": fact(concept="n:A", unit="u:ratio"), "g": fact(concept="n:A")}, ratio)
+        for names, *facts in (
+            (YEAR, fact(concept="n:A", **{"o:Reg": "n:a"}), fact(concept="n:A", **{"n:Reg": "n:a"})),
+            (YEAR, fact("o:X", "n:Q"), fact("n:X", "n:Q")), (YEAR, fact(unit="o:x"), fact(concept="n:B", unit="n:x")),
+            (YEAR, fact("o:a", "n:S"), fact("n:a", "n:S")), (YEAR, fact("o:a n:a", "n:S")),
+            ({"entities": {f"{{{LEI}}}1": f"{{{LEI}}}2"}}, fact(entity="l:1"), fact(entity="l:2")),
+            (ratio, fact(concept="n:A", unit="u:ratio"), fact(concept="n:A")),
+        ):
+            self.check_refused("equal", dict(zip("fg", facts)), names)
         self.mapped({"f": fact(unit="u:kEUR"), "g": fact(unit="u:EUR")}, SCALED)  # a scaled unit may meet another one
 
     def test_a_set_that_spells_its_namespace(self):
