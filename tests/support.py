@@ -24,6 +24,14 @@ def bytes_of(path):
         return file.read()
 
 
+def write(path, text):
+    """Writes a text, or bytes, to a file in folders that are made. Returns the path."""
+    os.makedirs(os.path.dirname(path) or ".", exist_ok=True)
+    with open(path, "wb") as file:
+        file.write(text if isinstance(text, bytes) else text.encode())
+    return path
+
+
 def crate_files(folder, ending, crate="*"):
     """Returns the paths of files in a folder of a crate, or of all crates, and below it. They start at the top of the repository."""
     found = glob.glob(os.path.join(TOP, "crates", crate, folder, "**", f"*.{ending}"), recursive=True)

@@ -5,7 +5,7 @@ import subprocess
 import tempfile
 import zipfile
 
-from support import TOP, table_in
+from support import TOP, content, table_in, write
 
 NAMESPACE = "http://trial.example/t"
 SCALED = [f"Item{number:02}" for number in range(1, 21)]  # concepts that Beta reports 1,000 times smaller
@@ -45,8 +45,7 @@ def run(program, scratch, files, *options):
     """Writes the taxonomy and the reports, and runs the tool on them. Returns the process that ended."""
     write_package(os.path.join(scratch, "taxonomy.zip"))
     for name, (_, values) in files.items():
-        with open(os.path.join(scratch, name), "w", encoding="utf-8") as file:
-            file.write(report(values))
+        write(os.path.join(scratch, name), report(values))
     words = ["--program", program, "--taxonomy", "taxonomy.zip", *options, *(f"{provider}={name}" for name, (provider, _) in files.items())]
     return subprocess.run([os.path.join(TOP, "tools", "contradictions"), *words], capture_output=True, text=True, cwd=scratch)
 
@@ -59,9 +58,7 @@ def faults(program):
         if (ran.returncode, ran.stderr) != (1, line):
             return [f"the trial ends with {ran.returncode}: {ran.stderr}"]
         folder = os.path.join(scratch, "out")
-        with open(os.path.join(folder, "page.html"), encoding="utf-8") as file:
-            page = file.read()
-        return lacking(page, *(table_in(os.path.join(folder, name)) for name in ("contradictions.csv", "table.csv")))
+        return lacking(content(os.path.join(folder, "page.html")), *(table_in(os.path.join(folder, name)) for name in ("contradictions.csv", "table.csv")))
 
 
 def lacking(page, cells, rows):

@@ -14,6 +14,7 @@ from hypothesis import HealthCheck, Phase, currently_in_test_context, given, not
 from hypothesis.strategies import data, integers
 
 sys.path.append(os.path.join(os.path.dirname(os.path.abspath(__file__)), ".."))
+import support
 from support import TOP, built_program
 
 CASES, SEED = os.environ.get("CASES"), int(os.environ.get("SEED", 1))
@@ -67,10 +68,7 @@ def write(name, content):
     content = content if isinstance(content, bytes) else content.encode()
     if currently_in_test_context():
         note(f"{name!r}: {content[:2000]!r}")
-    os.makedirs(os.path.dirname(name) or ".", exist_ok=True)
-    with open(name, "wb") as file:
-        file.write(content)
-    return name
+    return support.write(name, content)
 
 
 def run(*words, given=b"", program=PROGRAM):

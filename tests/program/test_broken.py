@@ -21,8 +21,7 @@ GOOD = {}
 def write_good():
     """Writes the sheet and two good reports, and returns the text of their merge."""
     for name, content in (("sheet", SHEET), ("one", ONE), ("two", TWO)):
-        with open(name, "wb") as file:
-            file.write(content)
+        write(name, content)
     if not GOOD:
         GOOD["text"] = merged("one", "two")
     return GOOD["text"]

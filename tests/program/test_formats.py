@@ -255,8 +255,7 @@ def generous(scratch, shape):
     info = {"documentType": "https://xbrl.org/2021/xbrl-json", "namespaces": {"eg": uri}}
     paths = f"{scratch}/long_sheet.json", f"{scratch}/long.json"
     for path, tree in zip(paths, (sheet, {"documentInfo": info, "facts": facts})):
-        with open(path, "w", encoding="utf-8") as file:
-            json.dump(tree, file)
+        write(path, json.dumps(tree))
     return paths, sum(map(os.path.getsize, paths))
 
 

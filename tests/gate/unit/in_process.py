@@ -14,7 +14,7 @@ from unittest import mock
 
 HERE = os.path.dirname(os.path.abspath(__file__))
 sys.path.append(f"{HERE}/../..")
-from support import TOP, content
+from support import TOP, content, write
 import process
 
 TOOLS = os.path.join(TOP, "tools")
@@ -33,11 +33,7 @@ class RoomTest(unittest.TestCase):
 
     def write(self, name, text):
         """Writes a text, or bytes, in folders that are made. Returns the path of the file."""
-        path = self.path_of(name)
-        os.makedirs(os.path.dirname(path), exist_ok=True)
-        with open(path, "wb") as file:
-            file.write(text if isinstance(text, bytes) else text.encode())
-        return path
+        return write(self.path_of(name), text)
 
     def pack(self, texts, name="a.zip", method=zipfile.ZIP_DEFLATED):
         """Writes a package with these files, and returns its path."""
@@ -54,9 +50,7 @@ def heeding(number):
 
 def stub_program(folder):
     """Writes the stub program to a folder, and returns its path."""
-    path = os.path.join(folder, "xbrlmerge")
-    with open(path, "w", encoding="utf-8") as file:
-        file.write(f"#!{sys.executable} -IS\n{content('tests/gate/unit/stub_program.py')}")
+    path = write(os.path.join(folder, "xbrlmerge"), f"#!{sys.executable} -IS\n{content('tests/gate/unit/stub_program.py')}")
     os.chmod(path, 0o755)
     return path
 
