@@ -108,7 +108,7 @@ class Outcome:
         inputs = self.inputs
         made_from = MadeFrom(inputs.version, tuple(self.snapshot.files.values()))
         found = Found(self.rows, self.reader, inputs.labels, inputs.refusals, self.data, self.counts, self.options.at_least,
-                      inputs.check, made_from, self.warnings, self.subject, self.since)
+                      inputs.check, made_from, self.warnings, self.subject, self.since, sum(inputs.superseded.values()))
         yield "page.html", page(found)
         yield "contradictions.csv", lines_of(table(self.rows, inputs.labels, self.reader))
         yield "table.csv", self.all_rows.pieces()

@@ -53,6 +53,7 @@ class Found:
     warnings: Optional[Warnings] = None
     subject: Subject = field(default_factory=Subject)
     since: Optional[Since] = None
+    superseded: int = 0  # the number of facts that --latest dropped
 
 
 def part(name: str) -> str:
@@ -71,6 +72,8 @@ def page(found: Found) -> Iterator[str]:
 <meta http-equiv="Content-Security-Policy" content="{policy}">
 <meta name="viewport" content="width=device-width"><style>{part("page.css")}</style></head><body>{heading_of(found)}<p class="counts">{numbers}</p>
 """
+    if found.superseded:
+        yield f"<p>Facts left out because a later report of the same provider supersedes them: {found.superseded}, listed in changes.csv.</p>\n"
     yield from found.since.html() if found.since else ()
     yield from found.counts.html(found.refusals)
     yield from refused(found.refusals)

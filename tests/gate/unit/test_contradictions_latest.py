@@ -63,10 +63,12 @@ class Latest(Stubbed):
                          [(path, int(path == annual), len(text)) for path, text in zip(self.paths, FILES.values())])
         self.assertEqual([(each["normalised"] or {}).get("path") for each in summary["reports"]], [written, None, None, None])
         self.assertIn(f" -- {written} {b} {bad} {restated}</pre>", content(self.page))
+        self.assertIn("<p>Facts left out because a later report of the same provider supersedes them: 1, listed in changes.csv.</p>", content(self.page))
 
     def test_without_the_option_a_restatement_is_a_hint(self):
         self.run_latest()
         self.assertFalse(os.path.exists(os.path.join(self.output, "changes.csv")))
+        self.assertNotIn("supersedes them", content(self.page))
         self.assertIn("A: restated: restated.json after annual {}.json", self.cells("table.csv")[1]["hint"])
 
     def test_if_nothing_is_superseded_the_table_of_changes_is_empty(self):
