@@ -214,7 +214,7 @@ class TypesOfValues(ToolTest):
         for known in "electricCharge energyPerMonetary flow ghgEmissionsPerMonetary monetaryPerMass".split():
             ends[known] = "numeric"
         ends.update(dict.fromkeys("durationString gYearList noLangString noLangToken".split(), "text"))
-        parts = "".join((ITEM % (end, end)).replace('"xbrli:', f'"r:', 1).replace(" name", f' xmlns:r="{registry}" name') for end in ends)
+        parts = "".join((ITEM % (end, end)).replace('"xbrli:', '"r:', 1).replace(" name", f' xmlns:r="{registry}" name') for end in ends)
         sheet, lines = self.sheet_of(SCHEMA % parts, status=1)
         self.assertEqual(sheet["concepts"], {f"this:{end}": kind for end, kind in sorted(ends.items()) if kind})
         self.assertEqual(sheet["xbrlmerge:types"]["token"], ["this:gYearList", "this:newNoLangToken", "this:noLangToken"])

@@ -1,13 +1,9 @@
-"""Makes a large merged text with contradictions, its sheet, its lines of verdicts and the texts of three providers.
-
-   python3 tests/gate/unit/workload.py FOLDER [CONTRADICTIONS]
-"""
+"""Makes a large merged text with contradictions, its sheet, its lines of verdicts and the texts of three providers."""
 import json
-import os
 import random
-import sys
 
 import lines_of_verdicts
+from support import write
 
 URIS = {"n1": "http://standards.iso.org/iso/17442", "n2": "http://www.xbrl.org/2003/iso4217", "n3": "https://norlake.example/2023"}
 PROVIDERS = ("issuer", "ledgerline", "statfeed")
@@ -67,19 +63,11 @@ def text_of(facts):
 
 def make(folder, contradictions):
     """Writes merged.json, sheet.json, verdicts.txt and a text for each provider."""
-    def write(name, text):
-        with open(os.path.join(folder, name), "w", encoding="utf-8", newline="\n") as file:
-            file.write(text)
-
     facts = list(facts_of(contradictions))
     concepts = {fact["dimensions"]["concept"]: "numeric" for fact in facts} | {"n3:Text": "text"}
     kinds = {"namespaces": URIS, "concepts": concepts, "dimensions": {"n3:SegmentsAxis": "explicit", "n3:MillAxis": "typed"}}
-    write("sheet.json", json.dumps(kinds))
-    write("merged.json", text := text_of(facts))
-    write("verdicts.txt", lines_of_verdicts.lines(text))
+    write(f"{folder}/sheet.json", json.dumps(kinds))
+    write(f"{folder}/merged.json", text := text_of(facts))
+    write(f"{folder}/verdicts.txt", lines_of_verdicts.lines(text))
     for rank, provider in enumerate(PROVIDERS):
-        write(f"{provider}.json", text_of(facts[rank :: len(PROVIDERS)]))
-
-
-if __name__ == "__main__":
-    make(sys.argv[1], int(sys.argv[2]) if len(sys.argv) > 2 else 11_000)
+        write(f"{folder}/{provider}.json", text_of(facts[rank :: len(PROVIDERS)]))
