@@ -7,7 +7,6 @@ import os
 import re
 import subprocess
 import sys
-import unittest
 
 import in_process
 import lines_of_verdicts
@@ -327,7 +326,3 @@ class BadInputs(Texts):
         near = self.run_tool(MERGED, SHEET, VERDICTS, "--near", self.path_of("near.csv"))
         self.assertEqual((near.returncode, b"--near needs the providers" in near.stderr), (2, True))
         self.assertEqual(subprocess.run([sys.executable, TOOL, "--help"], capture_output=True).returncode, 0)
-
-
-if __name__ == "__main__":
-    unittest.main()
