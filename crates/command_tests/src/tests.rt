@@ -1,4 +1,5 @@
 mod files;
+mod memory;
 mod ran;
 mod run;
 mod terminals;

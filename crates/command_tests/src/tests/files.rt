@@ -3,10 +3,10 @@ mod made;
 mod replayed;
 mod rows;
 
-use crate::tests::ran::{ends, piped, stops, words_of};
-use command_line::run;
+use crate::tests::memory::Memory;
+use crate::tests::ran::{Place, Real, ends, piped, stops, words_of};
 use explained::{EXPLAINED, SAID};
-use made::{made, removed};
+use made::{made, made_real, removed};
 use replayed::REPLAYED;
 use rows::{
     BOUNDED, CHECKED, FULL, Full, JUDGED, LISTED, MERGED, ONE, Row, SHOWN, STOPPED, UNFLUSHED,
@@ -20,57 +20,61 @@ use test_helpers::expecting::Expecting;
 
 // The program is run again after a refused request for memory.
 
-fn are_met(rt: &HostRuntime, rows: &[Row]) -> Result<bool, Fail> {
+fn are_met<P: Place>(rt: &HostRuntime, place: &mut P, rows: &[Row]) -> Result<bool, Fail> {
     let mut all = true;
     for (line, status, out, err) in rows {
         let words = words_of(rt, line)?;
         let text = joined(rt, out)?;
         let err = Expecting::just(err.as_bytes());
-        all = ends(rt, &words, *status, Expecting::just(&text), err) && all;
+        all = ends(rt, place, &words, *status, Expecting::just(&text), err) && all;
     }
     Ok(all)
 }
 
-fn stop_when_full(rt: &HostRuntime, rows: &[Full]) -> Result<bool, Fail> {
+fn stop_when_full(rt: &HostRuntime, memory: &mut Memory, rows: &[Full]) -> Result<bool, Fail> {
     let mut all = true;
     for (line, room, err) in rows {
         let words = words_of(rt, line)?;
-        all = stops(rt, &words, FullAfter::new(*room), err) && all;
+        all = stops(rt, memory, &words, FullAfter::new(*room), err) && all;
     }
     Ok(all)
 }
 
-fn stop_unflushed(rt: &HostRuntime, rows: &[(&str, &str)]) -> Result<bool, Fail> {
+fn stop_unflushed(
+    rt: &HostRuntime,
+    memory: &mut Memory,
+    rows: &[(&str, &str)],
+) -> Result<bool, Fail> {
     let mut all = true;
     for (line, err) in rows {
         let words = words_of(rt, line)?;
-        all = stops(rt, &words, NeverFlushed, err) && all;
+        all = stops(rt, memory, &words, NeverFlushed, err) && all;
     }
     Ok(all)
 }
 
 /// Returns whether the program ends with this status and this standard output when standard error
 /// takes only three bytes.
-fn ends_unheard(rt: &HostRuntime, words: &[&str], status: u8, out: &[u8]) -> bool {
+fn ends_unheard(
+    rt: &HostRuntime,
+    memory: &mut Memory,
+    words: &[&str],
+    status: u8,
+    out: &[u8],
+) -> bool {
     let input = TestReader::new(b"", Step::All, Then::Fails);
     let mut out = Expecting::just(out);
-    let ended = run(
-        rt.alloc(),
-        rt,
-        words,
-        piped(input, &mut out, FullAfter::new(3)),
-    )
-    .status;
+    let ended = memory.run(rt, words, piped(input, &mut out, FullAfter::new(3)));
     ended == status && out.is_met()
 }
 
-fn are_unheard(rt: &HostRuntime, rows: &[Row]) -> Result<bool, Fail> {
+fn are_unheard(rt: &HostRuntime, memory: &mut Memory, rows: &[Row]) -> Result<bool, Fail> {
     let mut all = true;
     for (line, status, out, _) in rows {
         let words = words_of(rt, line)?;
         let text = joined(rt, out)?;
-        all = (ends_unheard(rt, &words, *status, &text)
-            || may_repeat(rt) && ends_unheard(rt, &words, *status, &text))
+        all = (ends_unheard(rt, memory, &words, *status, &text)
+            || may_repeat(rt) && ends_unheard(rt, memory, &words, *status, &text))
             && all;
     }
     Ok(all)
@@ -84,15 +88,14 @@ fn content(rt: &HostRuntime, name: &str) -> Result<Vec<u8>, Fail> {
     }
 }
 
-fn holds(rt: &HostRuntime, name: &str, parts: &[&str]) -> Result<bool, Fail> {
+fn holds(rt: &HostRuntime, memory: &Memory, name: &str, parts: &[&str]) -> Result<bool, Fail> {
     let text = joined(rt, parts)?;
-    let held = content(rt, name)?;
-    Ok(held.as_slice() == text.as_slice())
+    Ok(memory.bytes(name) == Some(text.as_slice()))
 }
 
 /// Returns whether the program ends with status 0 and prints exactly this on standard error, which
 /// is a terminal.
-fn shows_once(rt: &HostRuntime, words: &[&str], shown: &str) -> bool {
+fn shows_once(rt: &HostRuntime, memory: &mut Memory, words: &[&str], shown: &str) -> bool {
     let mut err = Expecting::just(shown.as_bytes());
     let mut streams = piped(
         TestReader::new(b"", Step::All, Then::Fails),
@@ -100,89 +103,129 @@ fn shows_once(rt: &HostRuntime, words: &[&str], shown: &str) -> bool {
         &mut err,
     );
     streams.is_err_terminal = true;
-    let status = run(rt.alloc(), rt, words, streams).status;
+    let status = memory.run(rt, words, streams);
     status == 0 && err.is_met()
 }
 
-fn show(rt: &HostRuntime, rows: &[(&str, &str)]) -> Result<bool, Fail> {
+fn show(rt: &HostRuntime, memory: &mut Memory, rows: &[(&str, &str)]) -> Result<bool, Fail> {
     let mut all = true;
     for (line, shown) in rows {
         let words = words_of(rt, line)?;
-        all = (shows_once(rt, &words, shown) || may_repeat(rt) && shows_once(rt, &words, shown))
+        all = (shows_once(rt, memory, &words, shown)
+            || may_repeat(rt) && shows_once(rt, memory, &words, shown))
             && all;
     }
     Ok(all)
 }
 
-// Each test makes the files in a folder of its own, because tests may run in parallel.
-
 #[test]
 fn files_are_merged(rt: HostRuntime) -> Result<(), Fail> {
-    made(&rt, "out/merged")?;
-    assert!(rt; are_met(&rt, MERGED.as_slice())?);
-    removed(&rt, "out/merged")
+    assert!(rt; are_met(&rt, &mut made(&rt)?, MERGED.as_slice())?);
+    Ok(())
 }
 
 #[test]
 fn files_are_judged(rt: HostRuntime) -> Result<(), Fail> {
-    made(&rt, "out/judged")?;
-    assert!(rt; are_met(&rt, JUDGED.as_slice())? && show(&rt, SHOWN.as_slice())?);
-    removed(&rt, "out/judged")
+    let mut memory = made(&rt)?;
+    assert!(rt; are_met(&rt, &mut memory, JUDGED.as_slice())?);
+    assert!(rt; show(&rt, &mut memory, SHOWN.as_slice())?);
+    Ok(())
 }
 
 #[test]
 fn files_are_checked_and_listed(rt: HostRuntime) -> Result<(), Fail> {
-    made(&rt, "out/checked")?;
-    assert!(rt; are_met(&rt, CHECKED.as_slice())? && are_met(&rt, LISTED.as_slice())?);
-    assert!(rt; are_met(&rt, VERBOSE.as_slice())?);
-    removed(&rt, "out/checked")
+    let mut memory = made(&rt)?;
+    assert!(rt; are_met(&rt, &mut memory, CHECKED.as_slice())?);
+    assert!(rt; are_met(&rt, &mut memory, LISTED.as_slice())?);
+    assert!(rt; are_met(&rt, &mut memory, VERBOSE.as_slice())?);
+    Ok(())
 }
 
 #[test]
 fn files_are_explained(rt: HostRuntime) -> Result<(), Fail> {
-    made(&rt, "out/explained")?;
-    assert!(rt; are_met(&rt, EXPLAINED.as_slice())? && holds(&rt, "said", SAID)?);
-    assert!(rt; stop_when_full(&rt, explained::FULL.as_slice())?);
-    removed(&rt, "out/explained")
+    let mut memory = made(&rt)?;
+    assert!(rt; are_met(&rt, &mut memory, EXPLAINED.as_slice())?);
+    assert!(rt; holds(&rt, &memory, "said", SAID)?);
+    assert!(rt; stop_when_full(&rt, &mut memory, explained::FULL.as_slice())?);
+    Ok(())
 }
 
 #[test]
 fn files_are_replayed(rt: HostRuntime) -> Result<(), Fail> {
-    made(&rt, "out/replayed")?;
-    assert!(rt; are_met(&rt, REPLAYED.as_slice())?);
-    removed(&rt, "out/replayed")
-}
-
-#[test]
-fn files_stop_a_replay(rt: HostRuntime) -> Result<(), Fail> {
-    made(&rt, "out/stopped_replays")?;
-    assert!(rt; are_met(&rt, replayed::STOPPED.as_slice())?);
-    removed(&rt, "out/stopped_replays")
+    let mut memory = made(&rt)?;
+    assert!(rt; are_met(&rt, &mut memory, REPLAYED.as_slice())?);
+    assert!(rt; are_met(&rt, &mut memory, replayed::STOPPED.as_slice())?);
+    Ok(())
 }
 
 #[test]
 fn files_are_written(rt: HostRuntime) -> Result<(), Fail> {
-    made(&rt, "out/written")?;
-    assert!(rt; are_met(&rt, WRITTEN.as_slice())? && are_met(&rt, BOUNDED.as_slice())?);
-    assert!(rt; holds(&rt, "out", ONE)? && are_met(&rt, STOPPED.as_slice())?);
-    removed(&rt, "out/written")
+    let mut memory = made(&rt)?;
+    assert!(rt; are_met(&rt, &mut memory, WRITTEN.as_slice())?);
+    assert!(rt; are_met(&rt, &mut memory, BOUNDED.as_slice())?);
+    assert!(rt; holds(&rt, &memory, "out", ONE)?);
+    assert!(rt; are_met(&rt, &mut memory, STOPPED.as_slice())?);
+    Ok(())
 }
 
 #[test]
 fn failing_streams_are_told(rt: HostRuntime) -> Result<(), Fail> {
-    made(&rt, "out/failing")?;
-    assert!(rt;
-        stop_when_full(&rt, FULL.as_slice())? && stop_unflushed(&rt, UNFLUSHED.as_slice())?
-    );
-    assert!(rt; are_unheard(&rt, UNHEARD.as_slice())?);
-    removed(&rt, "out/failing")
+    let mut memory = made(&rt)?;
+    assert!(rt; stop_when_full(&rt, &mut memory, FULL.as_slice())?);
+    assert!(rt; stop_unflushed(&rt, &mut memory, UNFLUSHED.as_slice())?);
+    assert!(rt; are_unheard(&rt, &mut memory, UNHEARD.as_slice())?);
+    Ok(())
 }
 
 #[test]
 fn failing_streams_of_a_replay_are_told(rt: HostRuntime) -> Result<(), Fail> {
-    made(&rt, "out/failing_replays")?;
-    assert!(rt; stop_when_full(&rt, replayed::FULL.as_slice())?);
-    assert!(rt; stop_unflushed(&rt, replayed::UNFLUSHED.as_slice())?);
-    assert!(rt; are_unheard(&rt, replayed::UNHEARD.as_slice())?);
-    removed(&rt, "out/failing_replays")
+    let mut memory = made(&rt)?;
+    assert!(rt; stop_when_full(&rt, &mut memory, replayed::FULL.as_slice())?);
+    assert!(rt; stop_unflushed(&rt, &mut memory, replayed::UNFLUSHED.as_slice())?);
+    assert!(rt; are_unheard(&rt, &mut memory, replayed::UNHEARD.as_slice())?);
+    Ok(())
+}
+
+/// A second line has the cause of a failed read or write.
+const CAUSES: [Row; 5] = [
+    (
+        "merge --sheet sheet --verbose 100 none",
+        3,
+        &[],
+        "file none: cannot be read\nThere is no such file.\n",
+    ),
+    (
+        "check --sheet sheet --verbose -",
+        3,
+        &[],
+        "file -: cannot be read\nThere is no such file; for standard input, use /dev/stdin.\n",
+    ),
+    (
+        "merge --sheet https://example.org/sheet.json --verbose",
+        3,
+        &[],
+        "file https://example.org/sheet.json: cannot be read\nURLs are not downloaded.\n",
+    ),
+    (
+        "merge --sheet sheet --verbose -o .",
+        3,
+        &[],
+        "file .: cannot be written\nIt is a folder.\n",
+    ),
+    (
+        "merge --sheet sheet --verbose -o none/out",
+        3,
+        &[],
+        "file none/out: cannot be written\nThere is no such folder.\n",
+    ),
+];
+
+#[test]
+fn real_files_are_read_and_written(rt: HostRuntime) -> Result<(), Fail> {
+    made_real(&rt, "out/real")?;
+    assert!(rt; are_met(&rt, &mut Real, CAUSES.as_slice())?);
+    assert!(rt; are_met(&rt, &mut Real, WRITTEN.as_slice())?);
+    let text = joined(&rt, ONE)?;
+    assert!(rt; content(&rt, "out")?.as_slice() == text.as_slice());
+    removed(&rt, "out/real")
 }

@@ -1,6 +1,6 @@
 use command_line::{Streams, run};
 use std::alloc::AllocError;
-use std::io::Write;
+use std::io::{Read, Write};
 use test_helpers::asked_again::{may_repeat, may_repeat_here};
 use test_helpers::devices::{Step, TestReader, Then};
 use test_helpers::expecting::{Either, Expecting};
@@ -12,6 +12,32 @@ use test_helpers::expecting::{Either, Expecting};
 pub(crate) const NO_WORDS: &[&str] = &[];
 
 const MOST_WORDS: usize = 16;
+
+/// Where the program finds its files.
+pub(crate) trait Place {
+    /// Runs the program, and returns its status.
+    fn run<R: Read + Drop, O: Write + Drop, E: Write + Drop>(
+        &mut self,
+        rt: &HostRuntime,
+        words: &[&str],
+        streams: Streams<R, O, E>,
+    ) -> u8;
+}
+
+/// The files of the system.
+#[derive(Clone, Copy)]
+pub(crate) struct Real;
+
+impl Place for Real {
+    fn run<R: Read + Drop, O: Write + Drop, E: Write + Drop>(
+        &mut self,
+        rt: &HostRuntime,
+        words: &[&str],
+        streams: Streams<R, O, E>,
+    ) -> u8 {
+        run(rt.alloc(), rt, words, streams).status
+    }
+}
 
 pub(crate) fn piped<R, O, E>(input: R, out: O, err: E) -> Streams<R, O, E> {
     Streams {
@@ -37,28 +63,30 @@ pub(crate) fn words_of<'t>(rt: &HostRuntime, line: &'t str) -> Result<Vec<&'t st
 
 /// Returns whether the program, with a standard input that fails, ends with this status and prints
 /// these texts. If not, prints the status and the numbers of missing bytes.
-pub(crate) fn ends(
+pub(crate) fn ends<P: Place>(
     rt: &HostRuntime,
+    place: &mut P,
     words: &[&str],
     status: u8,
     out: Expecting<'_>,
     err: Expecting<'_>,
 ) -> bool {
-    match ends_once(rt, words, status, out, err) {
-        None if may_repeat(rt) => ends_once(rt, words, status, out, err) == Some(true),
+    match ends_once(rt, place, words, status, out, err) {
+        None if may_repeat(rt) => ends_once(rt, place, words, status, out, err) == Some(true),
         same => same == Some(true),
     }
 }
 
 /// Does the same as `ends`, but returns None if memory was refused.
-fn ends_once(
+fn ends_once<P: Place>(
     rt: &HostRuntime,
+    place: &mut P,
     words: &[&str],
     status: u8,
     mut out: Expecting<'_>,
     err: Expecting<'_>,
 ) -> Option<bool> {
-    let (ended, heard) = heard(rt, words, &mut out, err);
+    let (ended, heard) = heard(rt, place, words, &mut out, err);
     if ended == 3 && heard.1.is_met() {
         return None;
     }
@@ -74,26 +102,28 @@ fn ends_once(
 
 /// Returns whether the program, with this standard output, ends with status 3 and prints only this
 /// line on standard error.
-pub(crate) fn stops<O: Write + Copy + Drop>(
+pub(crate) fn stops<P: Place, O: Write + Copy + Drop>(
     rt: &HostRuntime,
+    place: &mut P,
     words: &[&str],
     out: O,
     line: &str,
 ) -> bool {
-    match stops_once(rt, words, out, line) {
-        None if may_repeat(rt) => stops_once(rt, words, out, line) == Some(true),
+    match stops_once(rt, place, words, out, line) {
+        None if may_repeat(rt) => stops_once(rt, place, words, out, line) == Some(true),
         same => same == Some(true),
     }
 }
 
 /// Does the same as `stops`, but returns None if memory was refused.
-fn stops_once<O: Write + Drop>(
+fn stops_once<P: Place, O: Write + Drop>(
     rt: &HostRuntime,
+    place: &mut P,
     words: &[&str],
     out: O,
     line: &str,
 ) -> Option<bool> {
-    let (ended, heard) = heard(rt, words, out, Expecting::just(line.as_bytes()));
+    let (ended, heard) = heard(rt, place, words, out, Expecting::just(line.as_bytes()));
     if ended == 3 && heard.1.is_met() {
         return None;
     }
@@ -107,14 +137,15 @@ fn stops_once<O: Write + Drop>(
 
 /// Runs the program with a standard input that fails. Returns the status, and standard error as
 /// compared with the expected text and with the line for refused memory.
-fn heard<'a, O: Write + Drop>(
+fn heard<'a, P: Place, O: Write + Drop>(
     rt: &HostRuntime,
+    place: &mut P,
     words: &[&str],
     out: O,
     err: Expecting<'a>,
 ) -> (u8, Either<'a>) {
     let mut heard = Either(err, Expecting::just(b"out of memory\n"));
     let input = TestReader::new(b"", Step::All, Then::Fails);
-    let status = run(rt.alloc(), rt, words, piped(input, out, &mut heard)).status;
+    let status = place.run(rt, words, piped(input, out, &mut heard));
     (status, heard)
 }

@@ -1,4 +1,4 @@
-use crate::tests::ran::{ends, stops, words_of};
+use crate::tests::ran::{Real, ends, stops, words_of};
 use std::test::Fail;
 use test_helpers::devices::FullAfter;
 use test_helpers::expecting::Expecting;
@@ -10,7 +10,7 @@ use test_helpers::expecting::Expecting;
 /// standard output only.
 fn is_answered(rt: &HostRuntime, words: &[&str], front: &str) -> bool {
     let out = Expecting::front(front.as_bytes());
-    ends(rt, words, 0, out, Expecting::just(b""))
+    ends(rt, &mut Real, words, 0, out, Expecting::just(b""))
 }
 
 const USAGE: [(&str, &str); 7] = [
@@ -86,7 +86,10 @@ For more information, try '--help'.
 fn usage_tells_what_is_wrong(rt: HostRuntime) -> Result<(), Fail> {
     for (line, text) in USAGE {
         let words = words_of(&rt, line)?;
-        assert!(rt; stops(&rt, &words, FullAfter::new(0), text), "{line}");
+        assert!(rt;
+            stops(&rt, &mut Real, &words, FullAfter::new(0), text),
+            "{line}"
+        );
     }
     Ok(())
 }

@@ -1,4 +1,4 @@
-use std::alloc::AllocError;
+use crate::tests::memory::Memory;
 use std::test::Fail;
 use std::{env, fs};
 use test_helpers::asked_again::{INFO, OPEN_INFO, SHEET, joined, repeated};
@@ -106,27 +106,26 @@ const FILES: [(&str, &str, &str); 27] = [
     ),
 ];
 
-fn make(rt: &HostRuntime, name: &str, parts: &[&str]) -> Result<(), Fail> {
-    let bytes = joined(rt, parts)?;
-    fs::write(rt, name, bytes.as_slice())?;
-    Ok(())
-}
-
-fn make_all(rt: &HostRuntime, files: &[(&str, &str, &str)]) -> Result<(), Fail> {
-    for (name, front, rest) in files {
-        make(rt, name, &[front, rest])?;
+/// All files, in memory.
+pub(super) fn made(rt: &HostRuntime) -> Result<Memory, Fail> {
+    let mut memory = Memory::new(rt)?;
+    for (name, front, rest) in FILES {
+        memory.add(rt, name, &[front, rest])?;
     }
-    Ok(())
+    let spaces = repeated(rt, " ", SPACES)?;
+    memory.add(rt, "long", &[INFO, "}}", spaces.as_str()])?;
+    Ok(memory)
 }
 
-/// Makes the files in this folder, which is below `out`, and goes there. `out` is not under version
-/// control.
-pub(super) fn made(rt: &HostRuntime, folder: &str) -> Result<(), Fail> {
+/// Makes the files but `long` in this folder, which is below `out`, and goes there. `out` is not
+/// under version control.
+pub(super) fn made_real(rt: &HostRuntime, folder: &str) -> Result<(), Fail> {
     fs::create_dir_all(rt, folder)?;
     env::set_current_dir(rt, folder)?;
-    make_all(rt, FILES.as_slice())?;
-    let spaces = repeated(rt, " ", SPACES)?;
-    make(rt, "long", &[INFO, "}}", spaces.as_str()])
+    for (name, front, rest) in FILES {
+        fs::write(rt, name, joined(rt, &[front, rest])?.as_slice())?;
+    }
+    Ok(())
 }
 
 /// Goes back, and removes the folder.

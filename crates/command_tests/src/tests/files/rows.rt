@@ -114,8 +114,8 @@ pub(super) const JUDGED: [Row; 9] = [
     ),
 ];
 
-/// A second line has the file of a refused report, or why a file failed.
-pub(super) const VERBOSE: [Row; 8] = [
+/// A second line has the file of a refused report.
+pub(super) const VERBOSE: [Row; 3] = [
     (
         "merge --sheet sheet 100 unbound --verbose",
         1,
@@ -133,36 +133,6 @@ pub(super) const VERBOSE: [Row; 8] = [
         1,
         &[],
         "report 1: 13 UnboundPrefix at fact 1\nFile: unbound\n",
-    ),
-    (
-        "merge --sheet sheet --verbose 100 none",
-        3,
-        &[],
-        "file none: cannot be read\nThere is no such file.\n",
-    ),
-    (
-        "check --sheet sheet --verbose -",
-        3,
-        &[],
-        "file -: cannot be read\nThere is no such file; for standard input, use /dev/stdin.\n",
-    ),
-    (
-        "merge --sheet https://example.org/sheet.json --verbose",
-        3,
-        &[],
-        "file https://example.org/sheet.json: cannot be read\nURLs are not downloaded.\n",
-    ),
-    (
-        "merge --sheet sheet --verbose -o .",
-        3,
-        &[],
-        "file .: cannot be written\nIt is a folder.\n",
-    ),
-    (
-        "merge --sheet sheet --verbose -o none/out",
-        3,
-        &[],
-        "file none/out: cannot be written\nThere is no such folder.\n",
     ),
 ];
 
