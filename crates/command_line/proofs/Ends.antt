@@ -1,11 +1,10 @@
 -- How the end of a part becomes the end of the whole.
-use Rattle.std.proofs.Common.{◌≡◌, ◌⊎◌, ℕ, List, [], Option, Result, Ok, Err, refl, sym, subst, inl, inr, append-nil}
+use Rattle.std.proofs.Common.{◌≡◌, ℕ, List, [], Option, Result, Ok, Err, refl, sym, subst, inl, inr}
 use Rattle.std.specs.Prelude.{IsErrAnd}
-use Rattle.std.specs.Io.KnownBytes.{Appends, Keeps}
-use Rattle.std.proofs.KnownBytes.{Appends-kept, Appends-nil}
+use Rattle.std.specs.Io.KnownBytes.{Appends}
+use Rattle.std.proofs.KnownBytes.{Appends-nil}
 use Rattle.oim_write.specs.Sink.{AppendsFront}
 use Rattle.command_line.specs.Endings.{AppendsPart, Ends, IsCutOff, Prints, Puts, Stops}
-use Rattle.command_line.specs.Faults.{IsOutputFault}
 use Rattle.command_line.specs.Outputs.{NumberedRefusals}
 use Rattle.command_line.specs.declared.error.Error.{Error}
 use Rattle.command_line.specs.declared.error.Error.TheVariants as error
@@ -58,39 +57,3 @@ pub ends_whole : {T : Type 0} (Gives Whole : List ℕ → T → Type 0) (old new
     (Loose LooseWhole : ℕ → NumberedRefusals → Type 0) (loose_whole : (row : ℕ) (returned : NumberedRefusals) → Loose row returned → LooseWhole row returned) (done : Result T Error) → Ends Gives old new Loose done → Ends Whole old new LooseWhole done
 ends_whole Gives Whole old new gives_whole Loose LooseWhole loose_whole (Ok result) ends = prints_whole Gives Whole old new (λ x. x) gives_whole result ends
 ends_whole Gives Whole old new gives_whole Loose LooseWhole loose_whole (Err e) ends = stops_whole Gives Whole old new (λ x. x) gives_whole Loose LooseWhole loose_whole e ends
-
--- ---- the end of a run whose output is flushed
-
-module _ (old mid new : Option (List ℕ)) (keeps : Keeps mid new) where
-  part_kept : (text : List ℕ) → AppendsPart old mid text → AppendsPart old new text
-  part_kept text p = record { front = p.front; rest = p.rest; whole = p.whole; appended = Appends-kept old mid new p.front p.appended keeps }
-
-module _ {T : Type 0} (Gives : List ℕ → T → Type 0) (Loose : ℕ → NumberedRefusals → Type 0) (old mid new : Option (List ℕ)) (keeps : Keeps mid new) where
-  pub cut_off_kept : IsCutOff Gives old mid → IsCutOff Gives old new
-  cut_off_kept (inl none) = inl (Appends-kept old mid new [] none keeps)
-  cut_off_kept (inr b) =
-      inr (record { result = b.result; text = b.text; gives = b.gives; part = part_kept old mid new keeps b.text b.part })
-
-  pub ends_kept : (done : Result T Error) → Ends Gives old mid Loose done → Ends Gives old new Loose done
-  ends_kept (Ok result) p = record { text = p.text; gives = p.gives; appended = Appends-kept old mid new p.text p.appended keeps }
-  ends_kept (Err (error.TooLoose row returned)) stops = (stops.0, Appends-kept old mid new [] stops.1 keeps)
-  ends_kept (Err (error.Device written)) stops = cut_off_kept stops
-  ends_kept (Err (error.TooMuch most)) stops = cut_off_kept stops
-  ends_kept (Err error.OutOfMemory) stops = cut_off_kept stops
-  ends_kept (Err _) stops = Appends-kept old mid new [] stops keeps
-
-  -- whatever the end was, nothing else was printed than a beginning of the text
-  pub cut_off : (done : Result T Error) → Ends Gives old mid Loose done → IsCutOff Gives old new
-  cut_off (Ok result) p =
-      cut_off_kept (inr (record { result = result; text = p.text; gives = p.gives; part = record { front = p.text; rest = []; whole = sym (append-nil p.text); appended = p.appended } }))
-  cut_off (Err (error.TooLoose row returned)) stops = cut_off_kept (inl stops.1)
-  cut_off (Err (error.Device written)) stops = cut_off_kept stops
-  cut_off (Err (error.TooMuch most)) stops = cut_off_kept stops
-  cut_off (Err error.OutOfMemory) stops = cut_off_kept stops
-  cut_off (Err _) stops = cut_off_kept (inl stops)
-
-  pub ends_settled : (done result : Result T Error) → (result ≡ done) ⊎ IsErrAnd result IsOutputFault → Ends Gives old mid Loose done → Ends Gives old new Loose result
-  ends_settled done result (inl is) ends = subst (Ends Gives old new Loose) (sym is) (ends_kept done ends)
-  ends_settled done (Err (error.Device written)) (inr fault) ends = cut_off done ends
-  ends_settled done (Err (error.TooMuch most)) (inr fault) ends = cut_off done ends
-  ends_settled done _ (inr fault) ends = absurd fault

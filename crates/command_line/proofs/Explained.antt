@@ -2,23 +2,25 @@
 use Rattle.std.proofs.Common.{◌≡◌, ◌⊎◌, ℕ, ◌+◌, ◌<◌, List, [], ◌∷◌, ◌++◌, Option, None, Some, Result, Ok, Err, Bor, take, drop, get_or, length, refl, sym, ap, subst, inl, inr, ◌∙◌, arith, append_assoc, append-nil, take-append-drop, string_bytes}
 use Rattle.std.specs.Prelude.{nat_lt, if◌then◌else◌}
 use Rattle.std.specs.Io.KnownBytes.{Appends}
-use Rattle.std.proofs.KnownBytes.{Appends-nil, Appends-trans}
+use Rattle.std.proofs.KnownBytes.{Appends-trans}
 use Rattle.std.proofs.lemmas.Grind.{flat_map-append, fold-append}
 use Rattle.std.proofs.lemmas.List.{length-map, length-take, map-append, take_more}
 use Rattle.oim_report.specs.Sheet.{Sheet, sheet_outcome}
 use Rattle.oim_explain.specs.Explained.{Explains, counted, printed_faults}
 use Rattle.oim_explain.specs.declared.lines.Explained.{Explained}
 use Rattle.oim_explain.specs.declared.lines.Format.{Format}
-use Rattle.command_line.specs.Endings.{AppendsPart, IsCutOff, Prints, Puts}
+use Rattle.command_line.specs.Endings.{AppendsPart, Puts}
 use Rattle.command_line.specs.Explained.{AreExplained, ExplainGives, IsExplained, Report, all_faults, counts_line, faulty_reports, names_of, reports_text}
 use Rattle.command_line.specs.Explaining.{ListsReports, ReportsEnd, StopsAmong, UnderEnds}
-use Rattle.command_line.specs.Faults.{IsNotLoose}
-use Rattle.command_line.specs.Runs.{ExplainStops}
+use Rattle.command_line.specs.Page.{Because, Begins, Cuts}
+use Rattle.command_line.specs.Words.{Task, explain, name_texts, under}
 use Rattle.command_line.specs.declared.commands.explain.Counts.{Counts}
 use Rattle.command_line.specs.declared.error.Error.{Error}
 use Rattle.command_line.specs.declared.error.Error.TheVariants as error
+use Rattle.command_line.specs.declared.error.Success.TheVariants.{Faults}
 use Rattle.command_line.proofs.Readings.{no_name}
 use Rattle.command_line.proofs.Replicas.{part_behind}
+use Rattle.command_line.proofs.Requests.{Printed}
 
 pub whole_part : (old new : Option (List ℕ)) (text : List ℕ) → Appends old new text → AppendsPart old new text
 whole_part old new text appended = record { front = text; rest = []; whole = sym (append-nil text); appended = appended }
@@ -28,10 +30,10 @@ longer_part old new text more part = record { front = part.front; rest = part.re
 
 -- ---- errors
 
-pub put_stops : (text : List ℕ) (old new : Option (List ℕ)) (e : Error) → Puts text old new (Err e) → IsNotLoose e × AppendsPart old new text
-put_stops text old new (error.Device written) part = (tt, part)
-put_stops text old new error.OutOfMemory part = (tt, part)
-put_stops text old new _ part = absurd part
+pub put_part : (text : List ℕ) (old new : Option (List ℕ)) (e : Error) → Puts text old new (Err e) → AppendsPart old new text
+put_part text old new (error.Device written) part = part
+put_part text old new error.OutOfMemory part = part
+put_part text old new _ part = absurd part
 
 -- ---- reports
 
@@ -99,118 +101,114 @@ module _ (gives : List ℕ → List ℕ → Type 0) (format : Format) (sheet : S
     part = whole_part old new (reports_text lists.reports) lists.appended;
   }
 
--- nothing was printed yet
-pub nothing_explained : (gives : List ℕ → List ℕ → Type 0) (names : List (Bor (List ℕ))) (name : Bor (List ℕ)) (format : Format) (old : Option (List ℕ)) (e : Error) → IsNotLoose e → ExplainStops gives names name format old old e
-nothing_explained gives names name format old e not_loose = record { not_loose = not_loose; front = []; rest = names; whole = refl; cut_off = inl (Appends-nil old) }
-
 module _ (gives : List ℕ → List ℕ → Type 0) (format : Format) (name : Bor (List ℕ)) (names : List (Bor (List ℕ))) (bytes : List ℕ) (sheet : Sheet) (read : sheet_outcome bytes ≡ Ok sheet)
     (of_sheet : Explained) (repeated : Explains (record { report = None; name = name; format = format }) bytes [] of_sheet) where
   -- the end of the reports as the end of all lines
   pub under_ends : (old mid new : Option (List ℕ)) → Appends old mid (string_bytes of_sheet.text) → (done : Result Counts Error) → ReportsEnd gives format sheet names mid new of_sheet.faults done
       → UnderEnds gives format name bytes names old new done
   under_ends old mid new first (Ok counts) lists = record { sheet = sheet; read = read; of_sheet = of_sheet; repeated = repeated; has = (mid, first, lists) }
-  under_ends old mid new first (Err e) ends = (ends.0, inr (record { sheet = sheet; read = read; of_sheet = of_sheet; repeated = repeated; has = inr (mid, first, ends.1) }))
+  under_ends old mid new first (Err e) ends = inr (record { sheet = sheet; read = read; of_sheet = of_sheet; repeated = repeated; has = inr (mid, first, ends) })
 
-  pub sheet_stops : (old new : Option (List ℕ)) (e : Error) → IsNotLoose e → AppendsPart old new (string_bytes of_sheet.text) → UnderEnds gives format name bytes names old new (Err e)
-  sheet_stops old new e not_loose part = (not_loose, inr (record { sheet = sheet; read = read; of_sheet = of_sheet; repeated = repeated; has = inl part }))
+  pub sheet_stops : (old new : Option (List ℕ)) (e : Error) → AppendsPart old new (string_bytes of_sheet.text) → UnderEnds gives format name bytes names old new (Err e)
+  sheet_stops old new e part = inr (record { sheet = sheet; read = read; of_sheet = of_sheet; repeated = repeated; has = inl part })
 
 -- ---- the whole output
 
-module _ (gives : List ℕ → List ℕ → Type 0) (format : Format) (name : Bor (List ℕ)) (names : List (Bor (List ℕ))) (bytes : List ℕ) (gave : gives name.now bytes) where
-  abbrev line_of : Explained → List Report → List (Bor (List ℕ)) → List ℕ
-  line_of of_sheet reports ns = counts_line format (length ns) (faulty_reports reports) (all_faults of_sheet.faults reports)
+module _ (gives : List ℕ → List ℕ → Type 0) (fails : List ℕ → Type 0) (input : List ℕ) (format : Format) (name : Bor (List ℕ)) (names : List (Bor (List ℕ))) where
+  abbrev task : Task
+  task = under name.now (explain format)
 
-  abbrev all_of : Explained → List Report → List (Bor (List ℕ)) → List ℕ
-  all_of of_sheet reports ns = string_bytes of_sheet.text ++ (reports_text reports ++ line_of of_sheet reports ns)
+  abbrev texts : List (List ℕ)
+  texts = name_texts names
 
-  module _ (sheet : Sheet) (read : sheet_outcome bytes ≡ Ok sheet) (of_sheet : Explained) (repeated : Explains (record { report = None; name = name; format = format }) bytes [] of_sheet) where
-    given : (ns : List (Bor (List ℕ))) (reports : List Report) → names_of reports ≡ ns → AreExplained gives format sheet 1 reports → ExplainGives gives format name ns (all_of of_sheet reports ns) (all_faults of_sheet.faults reports)
-    given ns reports named are = record {
-      bytes = bytes;
-      sheet = sheet;
-      gave = gave;
-      read = read;
-      of_sheet = of_sheet;
-      repeated = repeated;
-      reports = reports;
-      named = named;
-      are = are;
-      faults_are = refl;
-      text_is = refl;
-    }
+  -- the output grew by nothing, or by a beginning of the text for the first reports
+  abbrev HasBegun : Option (List ℕ) → Option (List ℕ) → Type 0
+  HasBegun old new = (part : List ℕ) × ((part ≡ []) ⊎ Begins gives fails input texts task part) × Appends old new part
 
-    cut : (ns : List (Bor (List ℕ))) (reports : List Report) (old new : Option (List ℕ)) → names_of reports ≡ ns → AreExplained gives format sheet 1 reports → AppendsPart old new (all_of of_sheet reports ns) → IsCutOff (ExplainGives gives format name ns) old new
-    cut ns reports old new named are part =
-        inr (record { result = all_faults of_sheet.faults reports; text = all_of of_sheet reports ns; gives = given ns reports named are; part = part })
+  cuts : (e : Error) → Cuts gives fails input texts e task
+  cuts (error.Device written) = tt
+  cuts (error.TooMuch most) = tt
+  cuts error.OutOfMemory = tt
+  cuts _ = tt
 
-  module _ (old mid new : Option (List ℕ)) (counts : Counts) (under : UnderEnds gives format name bytes names old mid (Ok counts)) where
-    abbrev pub line : List ℕ
-    line = counts_line format (length names) counts.faulty counts.faults
+  pub stops : (old new : Option (List ℕ)) (e : Error) → Because gives fails input texts None task e → HasBegun old new → Printed gives fails input texts task old new (Err e)
+  stops old new e why (part, inl none, appended) = (part, (why, inl none), appended)
+  stops old new e why (part, inr begins, appended) = (part, (why, inr (cuts e, begins)), appended)
 
-    abbrev pub text : List ℕ
-    text = string_bytes under.of_sheet.text ++ (reports_text under.has.2.reports ++ line)
+  module _ (bytes : List ℕ) (gave : gives name.now bytes) where
+    abbrev line_of : Explained → List Report → List (Bor (List ℕ)) → List ℕ
+    line_of of_sheet reports ns = counts_line format (length (name_texts ns)) (faulty_reports reports) (all_faults of_sheet.faults reports)
 
-    ended : ExplainGives gives format name names text counts.faults
-    ended =
-        let lists = under.has.2 in
-        record {
-          bytes = bytes;
-          sheet = under.sheet;
-          gave = gave;
-          read = under.read;
-          of_sheet = under.of_sheet;
-          repeated = under.repeated;
-          reports = lists.reports;
-          named = lists.named;
-          are = lists.are;
-          faults_are = lists.faults;
-          text_is = ap (λ n. string_bytes under.of_sheet.text ++ (reports_text lists.reports ++ counts_line format (length names) n counts.faults)) lists.faulty;
-        }
+    abbrev all_of : Explained → List Report → List (Bor (List ℕ)) → List ℕ
+    all_of of_sheet reports ns = string_bytes of_sheet.text ++ (reports_text reports ++ line_of of_sheet reports ns)
 
-    pub printed : Appends mid new line → Prints (ExplainGives gives format name names) old new counts.faults
-    printed last =
-        let first = under.has in
-        record {
-          text = text;
-          gives = ended;
-          appended = Appends-trans old first.0 new (string_bytes under.of_sheet.text) (reports_text first.2.reports ++ line) first.1 (Appends-trans first.0 mid new (reports_text first.2.reports) line first.2.appended last);
-        }
-
-    pub line_stops : (e : Error) → IsNotLoose e → AppendsPart mid new line → ExplainStops gives names name format old new e
-    line_stops e not_loose part =
-        let first = under.has in
-        let all = reports_text first.2.reports ++ line in
-        let later = part_behind first.0 mid new all (reports_text first.2.reports) line [] (ap (λ t. reports_text first.2.reports ++ t) (sym (append-nil line))) first.2.appended part in
-        record {
-          not_loose = not_loose;
-          front = names;
-          rest = [];
-          whole = sym (append-nil names);
-          cut_off = inr (record {
-            result = counts.faults;
-            text = text;
-            gives = ended;
-            part = part_behind old first.0 new text (string_bytes under.of_sheet.text) all [] (ap (λ t. string_bytes under.of_sheet.text ++ t) (sym (append-nil all))) first.1 later;
-          });
-        }
-
-  pub under_stops : (old new : Option (List ℕ)) (e : Error) → UnderEnds gives format name bytes names old new (Err e) → ExplainStops gives names name format old new e
-  under_stops old new e (not_loose, inl none) = record { not_loose = not_loose; front = []; rest = names; whole = refl; cut_off = inl none }
-  under_stops old new e (not_loose, inr under) = by_part under.has
-    where
-      by_part : AppendsPart old new (string_bytes under.of_sheet.text) ⊎ ((mid : Option (List ℕ)) × Appends old mid (string_bytes under.of_sheet.text) × StopsAmong gives format under.sheet names mid new) → ExplainStops gives names name format old new e
-      by_part (inl part) = record {
-        not_loose = not_loose;
-        front = [];
-        rest = names;
-        whole = refl;
-        cut_off = cut under.sheet under.read under.of_sheet under.repeated [] [] old new refl tt (longer_part old new (string_bytes under.of_sheet.text) ([] ++ line_of under.of_sheet [] []) part);
+    module _ (sheet : Sheet) (read : sheet_outcome bytes ≡ Ok sheet) (of_sheet : Explained) (repeated : Explains (record { report = None; name = name; format = format }) bytes [] of_sheet) where
+      given : (ns : List (Bor (List ℕ))) (reports : List Report) → names_of reports ≡ ns → AreExplained gives format sheet 1 reports
+          → ExplainGives gives format name.now (name_texts ns) (all_of of_sheet reports ns) (all_faults of_sheet.faults reports)
+      given ns reports named are = record {
+        name = name;
+        name_is = refl;
+        bytes = bytes;
+        sheet = sheet;
+        gave = gave;
+        read = read;
+        of_sheet = of_sheet;
+        repeated = repeated;
+        reports = reports;
+        named = ap name_texts named;
+        are = are;
+        faults_are = refl;
+        text_is = refl;
       }
-      by_part (inr (mid, first, stops)) = record {
-        not_loose = not_loose;
-        front = names_of stops.reports;
-        rest = stops.rest;
-        whole = stops.named;
-        cut_off = cut under.sheet under.read under.of_sheet under.repeated (names_of stops.reports) stops.reports old new refl stops.are
-            (part_behind old mid new (all_of under.of_sheet stops.reports (names_of stops.reports)) (string_bytes under.of_sheet.text) (reports_text stops.reports) (line_of under.of_sheet stops.reports (names_of stops.reports)) refl first stops.part);
-      }
+
+      begun : (old new : Option (List ℕ)) (first rest : List (Bor (List ℕ))) (reports : List Report) → names ≡ first ++ rest → names_of reports ≡ first → AreExplained gives format sheet 1 reports
+          → AppendsPart old new (all_of of_sheet reports first) → HasBegun old new
+      begun old new first rest reports whole named are part = (
+        part.front,
+        inr (record {
+          first = name_texts first;
+          begun = (name_texts rest, ap name_texts whole ∙ map-append (λ (n : Bor (List ℕ)). n.now) first rest);
+          text = all_of of_sheet reports first;
+          success = Faults (all_faults of_sheet.faults reports);
+          gives_text = given first reports named are;
+          rest = part.rest;
+          whole = part.whole;
+        }),
+        part.appended,
+      )
+
+    module _ (old mid new : Option (List ℕ)) (counts : Counts) (ends : UnderEnds gives format name bytes names old mid (Ok counts)) where
+      abbrev lists : ListsReports gives format ends.sheet names ends.has.0 mid ends.of_sheet.faults counts
+      lists = ends.has.2
+
+      abbrev last : List ℕ
+      last = line_of ends.of_sheet lists.reports names
+
+      line_is : counts_line format (length names) counts.faulty counts.faults ≡ last
+      line_is = let count : length names ≡ length texts = sym (length-map names (λ (n : Bor (List ℕ)). n.now)) in λ i. counts_line format (count i) (lists.faulty i) (lists.faults i)
+
+      pub printed : Appends mid new (counts_line format (length names) counts.faulty counts.faults) → Printed gives fails input texts task old new (Ok (Faults counts.faults))
+      printed line = (
+        all_of ends.of_sheet lists.reports names,
+        subst (ExplainGives gives format name.now texts (all_of ends.of_sheet lists.reports names)) (sym lists.faults) (given ends.sheet ends.read ends.of_sheet ends.repeated names lists.reports lists.named lists.are),
+        Appends-trans old ends.has.0 new (string_bytes ends.of_sheet.text) (reports_text lists.reports ++ last) ends.has.1
+            (Appends-trans ends.has.0 mid new (reports_text lists.reports) last lists.appended (subst (Appends mid new) line_is line)),
+      )
+
+      pub line_stops : AppendsPart mid new (counts_line format (length names) counts.faulty counts.faults) → HasBegun old new
+      line_stops part =
+          let all = reports_text lists.reports ++ last in
+          let later = part_behind ends.has.0 mid new all (reports_text lists.reports) last [] (ap (λ t. reports_text lists.reports ++ t) (sym (append-nil last))) lists.appended (subst (AppendsPart mid new) line_is part) in
+          begun ends.sheet ends.read ends.of_sheet ends.repeated old new names [] lists.reports (sym (append-nil names)) lists.named lists.are
+          (part_behind old ends.has.0 new (all_of ends.of_sheet lists.reports names) (string_bytes ends.of_sheet.text) all [] (ap (λ t. string_bytes ends.of_sheet.text ++ t) (sym (append-nil all))) ends.has.1 later)
+
+    pub under_stops : (old new : Option (List ℕ)) (e : Error) → UnderEnds gives format name bytes names old new (Err e) → HasBegun old new
+    under_stops old new e (inl none) = ([], inl refl, none)
+    under_stops old new e (inr ends) = by_part ends.has
+      where
+        by_part : AppendsPart old new (string_bytes ends.of_sheet.text) ⊎ ((mid : Option (List ℕ)) × Appends old mid (string_bytes ends.of_sheet.text) × StopsAmong gives format ends.sheet names mid new) → HasBegun old new
+        by_part (inl part) =
+            begun ends.sheet ends.read ends.of_sheet ends.repeated old new [] names [] refl refl tt (longer_part old new (string_bytes ends.of_sheet.text) ([] ++ line_of ends.of_sheet [] []) part)
+        by_part (inr (mid, first, stops)) =
+            begun ends.sheet ends.read ends.of_sheet ends.repeated old new (names_of stops.reports) stops.rest stops.reports stops.named refl stops.are
+            (part_behind old mid new (all_of ends.of_sheet stops.reports (names_of stops.reports)) (string_bytes ends.of_sheet.text) (reports_text stops.reports) (line_of ends.of_sheet stops.reports (names_of stops.reports)) refl first stops.part)

@@ -1,5 +1,6 @@
 -- Results and faults of the libraries as the ends of commands.
-use Rattle.std.proofs.Common.{◌≡◌, ℕ, List, ◌++◌, true, Option, Some, None, Result, Bor, refl, subst, sym, inl, inr, true≢false}
+use Rattle.std.proofs.Common.{◌≡◌, ℕ, List, ◌++◌, true, Option, Some, None, Result, refl, subst, sym, inl, inr, true≢false}
+use Rattle.clap.specs.Words.{Text}
 use Rattle.oim_value.specs.declared.level.Level.{Level}
 use Rattle.oim_value.specs.declared.level.Level.TheVariants.{All}
 use Rattle.oim_report.specs.Sheet.{Sheet}
@@ -18,17 +19,17 @@ use Rattle.oim_merge.specs.Traced.{Traced, traced}
 use Rattle.oim_merge.specs.VerdictCalls.{AppendsFrontOfRows, RowsStop, ListsRows}
 use Rattle.oim_merge.specs.declared.fault.Fault.{Fault}
 use Rattle.oim_merge.specs.declared.fault.Fault.TheVariants as fault
-use Rattle.command_line.specs.Endings.{Ends, IsCutOff, Never, Prints, Stops}
+use Rattle.command_line.specs.Endings.{CommandEnds, Ends, IsCutOff, Never, Prints, Stops}
 use Rattle.command_line.specs.Faults.{error_of}
-use Rattle.command_line.specs.Outputs.{AreSources, AreVerdicts, IsLoose, IsMerge, LooseIn, OutputOf, NumberedRefusals, source_written, sources_header, verdict_written, verdicts_header}
-use Rattle.command_line.specs.Reading.{WithRead}
-use Rattle.command_line.specs.Runs.{CommandEnds, MergesBundle}
+use Rattle.command_line.specs.Outputs.{AreSources, AreVerdicts, IsLoose, IsMerge, MergesBundle, NumberedRefusals, source_written, sources_header, verdict_written, verdicts_header}
+use Rattle.command_line.specs.Page.{Loose, Says}
+use Rattle.command_line.specs.Why.{WithRead}
+use Rattle.command_line.specs.Words.{merge, sources, verdicts}
 use Rattle.command_line.specs.declared.error.Error.{Error}
 use Rattle.command_line.specs.declared.print_format.PrintFormat.{PrintFormat}
-use Rattle.command_line.specs.declared.request.Subcommand.TheVariants.{Merge, Verdicts, Sources}
 use Rattle.command_line.proofs.Ends.{begins, ends_whole, part_of_front, prints_whole, stops_whole}
 
-module _ (gives : List ℕ → List ℕ → Type 0) (names : List (Bor (List ℕ))) (sheet : Sheet) where
+module _ (gives : List ℕ → List ℕ → Type 0) (names : List Text) (sheet : Sheet) where
   -- what holds of the state after all reports holds of the reports
   pub of_added : (P : Body → NumberedRefusals → Type 0) (a : Added) → WithRead gives names (λ reports. a ≡ added sheet reports) → P a.body a.refusals → WithRead gives names (λ reports. P (merged sheet reports) (refused sheet reports))
   of_added P a read p = (read.0, read.1, subst (λ (b : Added). P b.body b.refusals) read.2 p)
@@ -74,7 +75,7 @@ module _ (old new : Option (List ℕ)) where
     verdicts_stop (fault.TooLoose row returned) stops = absurd stops
     verdicts_stop (fault.Sheet reason) stops = absurd stops
 
-  module _ (format : PrintFormat) (names : List (Bor (List ℕ))) (t : Traced) where
+  module _ (format : PrintFormat) (names : List Text) (t : Traced) where
     pub sources_print : (returned : NumberedRefusals) → AppendsMentions (sources_header format) (source_written format names) t old new returned → Prints (AreSources format names t) old new returned
     sources_print returned w = record {
       text = sources_header format ++ mention_texts (source_written format names) t;
@@ -126,20 +127,20 @@ module _ (old new : Option (List ℕ)) where
 
 -- ---- commands under a sheet
 
-module _ (gives : List ℕ → List ℕ → Type 0) (names : List (Bor (List ℕ))) (sheet : Sheet) (old new : Option (List ℕ)) where
-  pub merge_ends : (level : Level) (a : Added) → WithRead gives names (λ reports. a ≡ added sheet reports) → (done : Result NumberedRefusals Error) → Ends (IsMerge level a.body a.refusals) old new (IsLoose level a.body a.refusals) done → CommandEnds gives names sheet (Merge level) old new done
+module _ (gives : List ℕ → List ℕ → Type 0) (names : List Text) (sheet : Sheet) (old new : Option (List ℕ)) where
+  pub merge_ends : (level : Level) (a : Added) → WithRead gives names (λ reports. a ≡ added sheet reports) → (done : Result NumberedRefusals Error) → Ends (IsMerge level a.body a.refusals) old new (IsLoose level a.body a.refusals) done → CommandEnds gives names sheet (merge level) old new done
   merge_ends level a read done ends =
-      ends_whole (IsMerge level a.body a.refusals) (OutputOf gives names sheet (Merge level)) old new
+      ends_whole (IsMerge level a.body a.refusals) (Says gives names sheet (merge level)) old new
       (λ text returned is. of_added gives names sheet (λ b refusals. IsMerge level b refusals text returned) a read is)
-      (IsLoose level a.body a.refusals) (LooseIn gives names sheet (Merge level))
+      (IsLoose level a.body a.refusals) (Loose gives names sheet (merge level))
       (λ row returned loose. of_added gives names sheet (λ b refusals. IsLoose level b refusals row returned) a read loose) done ends
 
-  pub verdicts_end : (format : PrintFormat) (a : Added) → WithRead gives names (λ reports. a ≡ added sheet reports) → (done : Result NumberedRefusals Error) → Ends (AreVerdicts format a.body a.refusals) old new Never done → CommandEnds gives names sheet (Verdicts format) old new done
+  pub verdicts_end : (format : PrintFormat) (a : Added) → WithRead gives names (λ reports. a ≡ added sheet reports) → (done : Result NumberedRefusals Error) → Ends (AreVerdicts format a.body a.refusals) old new Never done → CommandEnds gives names sheet (verdicts format) old new done
   verdicts_end format a read done ends =
-      ends_whole (AreVerdicts format a.body a.refusals) (OutputOf gives names sheet (Verdicts format)) old new
-      (λ text returned are. of_added gives names sheet (λ b refusals. AreVerdicts format b refusals text returned) a read are) Never (LooseIn gives names sheet (Verdicts format)) (λ row returned loose. loose) done ends
+      ends_whole (AreVerdicts format a.body a.refusals) (Says gives names sheet (verdicts format)) old new
+      (λ text returned are. of_added gives names sheet (λ b refusals. AreVerdicts format b refusals text returned) a read are) Never (Loose gives names sheet (verdicts format)) (λ row returned loose. loose) done ends
 
-  pub sources_end : (format : PrintFormat) (t : Traced) → WithRead gives names (λ reports. t ≡ traced sheet reports) → (done : Result NumberedRefusals Error) → Ends (AreSources format names t) old new Never done → CommandEnds gives names sheet (Sources format) old new done
+  pub sources_end : (format : PrintFormat) (t : Traced) → WithRead gives names (λ reports. t ≡ traced sheet reports) → (done : Result NumberedRefusals Error) → Ends (AreSources format names t) old new Never done → CommandEnds gives names sheet (sources format) old new done
   sources_end format t read done ends =
-      ends_whole (AreSources format names t) (OutputOf gives names sheet (Sources format)) old new
-      (λ text returned are. of_traced gives names sheet (λ u. AreSources format names u text returned) t read are) Never (LooseIn gives names sheet (Sources format)) (λ row returned loose. loose) done ends
+      ends_whole (AreSources format names t) (Says gives names sheet (sources format)) old new
+      (λ text returned are. of_traced gives names sheet (λ u. AreSources format names u text returned) t read are) Never (Loose gives names sheet (sources format)) (λ row returned loose. loose) done ends

@@ -1,10 +1,10 @@
 pub mod Readings
-pub mod Why
 pub mod Ends
 pub mod Faults
+pub mod Why
+pub mod Requests
 pub mod Replicas
 pub mod Explained
-pub mod Requests
 mod RowReads
 mod Parsed
 mod KnownNames
@@ -12,3 +12,4 @@ mod Reached
 pub mod Asking
 pub mod ListedNames
 pub mod Steps
+pub mod OneRun

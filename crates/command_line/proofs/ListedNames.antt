@@ -11,8 +11,8 @@ use Rattle.std.specs.Option.{MatchOption, option_map_or, unwrap_or}
 use Rattle.clap.specs.Words.{Text}
 use Rattle.std.specs.Str.Lines.{strip_carriage_return}
 use Rattle.oim_report.specs.Json.{without_mark}
-use Rattle.command_line.specs.declared.request.Args.{Args}
-use Rattle.command_line.specs.ReportNames.{has_text, name_end, name_texts, names_in_file, report_names, without_return}
+use Rattle.command_line.specs.ReportNames.{has_text, name_end, names_in_file, report_names, without_return}
+use Rattle.command_line.specs.Words.{Asked}
 
 with_return : (name front : List ℕ) → name ≡ front ++ 13 ∷ [] → front ≡ strip_carriage_return name
 with_return name front e =
@@ -59,9 +59,8 @@ ascii_end true = lit< tt
 ascii_end false = lit< tt
 
 -- all pieces of the file were read
-pub names_read : (args : Args) (file : Bor Text) (all pieces : List Text) (text bytes : List ℕ) → args.list ≡ Some file → text ≡ without_mark bytes → pieces ≡ slice_split (λ b. b == name_end args.is_null) text
-    → all ≡ name_texts args.reports.items ++ filter has_text (map (without_return args.is_null) pieces) → all ≡ report_names args bytes
-names_read args file all pieces text bytes listed same split whole =
-    let words = name_texts args.reports.items in
-    whole ∙ ap (λ ps. words ++ filter has_text (map (without_return args.is_null) ps)) split ∙ ap (λ bs. words ++ filter has_text (map (without_return args.is_null) (slice_split (λ b. b == name_end args.is_null) bs))) same
-    ∙ ap (λ list. words ++ option_map_or (λ (f : Bor Text). names_in_file args.is_null bytes) list []) (sym listed)
+pub names_read : (a : Asked) (file : Text) (all pieces : List Text) (text bytes : List ℕ) → a.list ≡ Some file → text ≡ without_mark bytes → pieces ≡ slice_split (λ b. b == name_end a.is_null) text
+    → all ≡ a.names ++ filter has_text (map (without_return a.is_null) pieces) → all ≡ report_names a bytes
+names_read a file all pieces text bytes listed same split whole =
+    whole ∙ ap (λ ps. a.names ++ filter has_text (map (without_return a.is_null) ps)) split ∙ ap (λ bs. a.names ++ filter has_text (map (without_return a.is_null) (slice_split (λ b. b == name_end a.is_null) bs))) same
+    ∙ ap (λ list. a.names ++ option_map_or (λ (f : Text). names_in_file a.is_null bytes) list []) (sym listed)

@@ -1,7 +1,6 @@
 -- What the matches and the errors of a parse say of the words.
-use Rattle.std.proofs.Common.{◌∙◌, ◌≡◌, ◌⊎◌, ◌∷◌, [], List, Option, Some, None, true, false, ap, if◌then◌else◌, inl, inr, refl, subst}
+use Rattle.std.proofs.Common.{◌∙◌, ◌≡◌, ◌⊎◌, ◌∷◌, [], List, Option, Some, None, true, false, ap, if◌then◌else◌, inl, inr, refl, subst, sym}
 use Rattle.std.specs.Prelude.{◌≢◌, ⊤}
-use Rattle.std.specs.Option.{option_map, unwrap_or}
 use Rattle.clap.specs.Walk.{is_empty}
 use Rattle.clap.specs.Words.{HasKind, IsAmong, Kinds, Text, fault_of, is_simple, is_simple_and_free, kind_of, subcommand_of}
 use Rattle.clap.specs.declared.error.Error.{Error}
@@ -9,8 +8,7 @@ use Rattle.clap.specs.declared.error.kind.ErrorKind.{ErrorKind}
 use Rattle.clap.specs.declared.error.kind.ErrorKind.TheVariants as kind
 use Rattle.clap.proofs.OnLiterals.{clap_on_literals}
 use Rattle.command_line.specs.Arguments.{AreTables, Tables, check_app, explain_app, merge_app, program_app, replay_app, rows_app, top_app, with_output_of, with_reports_of}
-use Rattle.command_line.specs.Words.{AreRefused, AskFor, AskForNothing, Asked, CallForHelp, HasFault, asked, asked_of, asked_with}
-use Rattle.command_line.specs.declared.request.Args.{Args}
+use Rattle.command_line.specs.Words.{AreRefused, AskFor, AskForNothing, Asked, CallForHelp, HasFault, asked, asked_with}
 
 -- what a proof unfolds to compute at words
 unfoldable pub program_on_literals : ⊤
@@ -36,19 +34,11 @@ module _ (t : Tables) (are : AreTables t) (words : List Text) where
   asked_is : (x : Option Asked) → faults ≡ [] → found ≡ x → asked_with t words ≡ x
   asked_is x none is = ap (λ k. if is_empty k then found else None) none ∙ is
 
-  pub some_asked : (args : Args) → faults ≡ [] → Some (asked_of args) ≡ option_map Some found → AskFor words args
-  some_asked args none same = go found refl same
-    where
-      go : (x : Option Asked) → found ≡ x → Some (asked_of args) ≡ option_map Some x → AskFor words args
-      go None is e = cc
-      go (Some a) is e = (t, are, a, ap (λ o. unwrap_or o None) e, asked_is (Some a) none is)
+  pub some_asked : (a : Asked) → faults ≡ [] → Some a ≡ found → AskFor words a
+  some_asked a none same = (t, are, asked_is (Some a) none (sym same))
 
-  pub none_asked : faults ≡ [] → None ≡ option_map Some found → AskForNothing words
-  none_asked none same = go found refl same
-    where
-      go : (x : Option Asked) → found ≡ x → None ≡ option_map Some x → AskForNothing words
-      go None is e = (t, are, none, is)
-      go (Some a) is e = cc
+  pub none_asked : faults ≡ [] → None ≡ found → AskForNothing words
+  none_asked none same = (t, are, none, sym same)
 
   pub refused : (e : Error) → HasKind faults e → (kind_of e ≡ kind.OutOfMemory) ⊎ HasFault words (kind_of e) ⊎ AskForNothing words
   refused e (inl h) = inl h

@@ -1,87 +1,105 @@
--- A command under a sheet as a request, and the end of its run.
-use Rattle.std.proofs.Common.{◌≡◌, ℕ, List, [], Option, Result, Ok, Err, Bor, sym, subst, inl, inr, append-nil}
-use Rattle.std.specs.Io.KnownBytes.{Keeps}
-use Rattle.std.proofs.KnownBytes.{Appends-kept, Appends-nil}
-use Rattle.oim_explain.specs.declared.lines.Format.{Format}
-use Rattle.oim_report.specs.Sheet.{Sheet, sheet_outcome}
-use Rattle.command_line.specs.Endings.{Never, Prints, Stops}
-use Rattle.command_line.specs.Explained.{ExplainGives}
-use Rattle.command_line.specs.Faults.{IsDoneOrFault, IsDoneOrUnwritten, IsNotLoose, IsWriteError}
-use Rattle.command_line.specs.Outputs.{LooseIn, OutputOf, NumberedRefusals}
-use Rattle.command_line.specs.Runs.{ExplainEnds, ExplainStops, IsPlaced, Replaces, RequestEnds, RequestGives, RequestIsLoose}
+-- The end of a part of a run as the end of the task, and of its output.
+use Rattle.std.proofs.Common.{◌≡◌, ◌⊎◌, ℕ, List, [], Option, Some, None, Result, Ok, Err, refl, sym, subst, inl, inr, append-nil}
+use Rattle.std.specs.Prelude.{IfErr, MatchResult, ⊤}
+use Rattle.std.specs.Io.KnownBytes.{Appends, Keeps}
+use Rattle.std.proofs.KnownBytes.{Appends-kept}
+use Rattle.clap.specs.Words.{Text}
+use Rattle.command_line.specs.Endings.{Ends as EndsSo, IsCutOff, Never, Prints, PrintsHelp, Stops}
+use Rattle.command_line.specs.Faults.{IsDoneOrFault, IsDoneOrUnwritten, IsWriteError}
+use Rattle.command_line.specs.Outputs.{NumberedRefusals}
+use Rattle.command_line.specs.Page.{AreBegun, Because, Begins, Cuts, EndsWith, Gives, IsBadIn, IsFailureIn, IsLostIn, IsPlaced, IsRefusedBy, World}
+use Rattle.command_line.specs.Words.{Task, bundle, check, explain, help, merge, replay, sources, under, verdicts}
 use Rattle.command_line.specs.declared.error.Error.{Error}
 use Rattle.command_line.specs.declared.error.Error.TheVariants as error
 use Rattle.command_line.specs.declared.error.Success.{Success}
 use Rattle.command_line.specs.declared.error.Success.TheVariants.{Faults, Refusals}
-use Rattle.command_line.specs.declared.request.Request.{Request}
-use Rattle.command_line.specs.declared.request.Request.TheVariants.{Explain, Under}
-use Rattle.command_line.specs.declared.request.Subcommand.{Subcommand}
-use Rattle.command_line.proofs.Ends.{cut_off_kept, ends_settled, prints_whole, stops_whole}
-use Rattle.command_line.proofs.Explained.{nothing_explained, whole_part}
+use Rattle.command_line.specs.Why.{IsOutputError}
+use Rattle.command_line.proofs.Why.{output_because, why_more}
 
-module _ (gives : List ℕ → List ℕ → Type 0) (bundle : List ℕ) (names : List (Bor (List ℕ))) (old new : Option (List ℕ)) where
-  module _ (name : Bor (List ℕ)) (command : Subcommand) (bytes : List ℕ) (sheet : Sheet) (gave : gives name.now bytes) (read : sheet_outcome bytes ≡ Ok sheet) where
-    under : (text : List ℕ) (returned : NumberedRefusals) → OutputOf gives names sheet command text returned → RequestGives gives bundle names (Under name command) text (Refusals returned)
-    under text returned has = record { bytes = bytes; sheet = sheet; gave = gave; read = read; has = has }
+module _ (gives : Text → List ℕ → Type 0) (fails : Text → Type 0) (input : List ℕ) (names : List Text) where
+  all_begun : (task : Task) → AreBegun gives fails input names task names
+  all_begun bundle = refl
+  all_begun help = refl
+  all_begun (under sheet (merge level)) = refl
+  all_begun (under sheet (verdicts format)) = refl
+  all_begun (under sheet (sources format)) = refl
+  all_begun (under sheet (check report)) = refl
+  all_begun (under sheet (explain format)) = ([], sym (append-nil names))
+  all_begun (under sheet (replay replicas events)) = refl
 
-    pub under_prints : (returned : NumberedRefusals) → Prints (OutputOf gives names sheet command) old new returned → Prints (RequestGives gives bundle names (Under name command)) old new (Refusals returned)
-    under_prints returned p = prints_whole (OutputOf gives names sheet command) (RequestGives gives bundle names (Under name command)) old new Refusals under returned p
+  help_given : (text : List ℕ) (success : Success) → PrintsHelp text success → Gives gives fails input help names text success
+  help_given text (Refusals returned) is = is
+  help_given text (Faults count) is = is
 
-    pub under_stops : (e : Error) → Stops (OutputOf gives names sheet command) old new (LooseIn gives names sheet command) e → Stops (RequestGives gives bundle names (Under name command)) old new (RequestIsLoose gives bundle names (Under name command)) e
-    under_stops e stops =
-        stops_whole (OutputOf gives names sheet command) (RequestGives gives bundle names (Under name command)) old new Refusals under
-        (LooseIn gives names sheet command) (RequestIsLoose gives bundle names (Under name command))
-        (λ row returned loose. record { bytes = bytes; sheet = sheet; gave = gave; read = read; has = loose }) e stops
+  module _ (task : Task) where
+    abbrev Ends : Option Text → List ℕ → Result Success Error → Type 0
+    Ends output = EndsWith gives fails input names output task
 
-  -- ---- the end of a run
+    -- the output grew by a part, with which the task ended so
+    abbrev pub Printed : Option (List ℕ) → Option (List ℕ) → Result Success Error → Type 0
+    Printed old new done = (part : List ℕ) × Ends None part done × Appends old new part
 
-  module _ (name : Bor (List ℕ)) (format : Format) (mid : Option (List ℕ)) (keeps : Keeps mid new) where
-    -- whatever the end was, nothing else was printed than a beginning of the output for the first reports
-    explain_cut : (done : Result Success Error) → ExplainEnds gives names name format old mid done → (e : Error) → IsNotLoose e → ExplainStops gives names name format old new e
-    explain_cut (Ok (Refusals returned)) ends e not_loose = absurd ends
-    explain_cut (Ok (Faults count)) p e not_loose = record {
-      not_loose = not_loose;
-      front = names;
-      rest = [];
-      whole = sym (append-nil names);
-      cut_off = inr (record { result = count; text = p.text; gives = p.gives; part = whole_part old new p.text (Appends-kept old mid new p.text p.appended keeps) });
-    }
-    explain_cut (Err f) stops e not_loose = record {
-      not_loose = not_loose;
-      front = stops.front;
-      rest = stops.rest;
-      whole = stops.whole;
-      cut_off = cut_off_kept (ExplainGives gives format name stops.front) Never old mid new keeps stops.cut_off;
-    }
+    -- a part of the run ended so
+    module _ {T : Type 0} (Part : List ℕ → T → Type 0) (old new : Option (List ℕ)) (result_of : T → Success) (whole : (text : List ℕ) (result : T) → Part text result → Gives gives fails input task names text (result_of result)) where
+      pub printed : (result : T) → Prints Part old new result → Printed old new (Ok (result_of result))
+      printed result p = (p.text, whole p.text result p.gives, p.appended)
 
-    explain_kept : (done : Result Success Error) → ExplainEnds gives names name format old mid done → ExplainEnds gives names name format old new done
-    explain_kept (Ok (Refusals returned)) ends = absurd ends
-    explain_kept (Ok (Faults count)) p = record { text = p.text; gives = p.gives; appended = Appends-kept old mid new p.text p.appended keeps }
-    explain_kept (Err e) stops = explain_cut (Err e) stops e stops.not_loose
+      cut : (e : Error) → Because gives fails input names None task e → Cuts gives fails input names e task → IsCutOff Part old new → Printed old new (Err e)
+      cut e why cuts (inl none) = ([], (why, inl refl), none)
+      cut e why cuts (inr b) =
+          (b.part.front, (why, inr (cuts, record { first = names; begun = all_begun task; text = b.text; success = result_of b.result; gives_text = whole b.text b.result b.gives; rest = b.part.rest; whole = b.part.whole })), b.part.appended)
 
-    explain_settled : (done result : Result Success Error) → IsDoneOrFault done result → ExplainEnds gives names name format old mid done → ExplainEnds gives names name format old new result
-    explain_settled done result (inl is) ends = subst (ExplainEnds gives names name format old new) (sym is) (explain_kept done ends)
-    explain_settled done (Err (error.TooLoose row returned)) (inr fault) ends = absurd fault
-    explain_settled done (Err e) (inr fault) ends = explain_cut done ends e tt
-    explain_settled done (Ok success) (inr fault) ends = absurd fault
+      pub stopped : (Loose : ℕ → NumberedRefusals → Type 0) (e : Error) → Because gives fails input names None task e → Stops Part old new Loose e → Printed old new (Err e)
+      stopped Loose (error.TooLoose row returned) why stops = ([], (why, inl refl), stops.1)
+      stopped Loose (error.Device written) why stops = cut (error.Device written) why tt stops
+      stopped Loose (error.TooMuch most) why stops = cut (error.TooMuch most) why tt stops
+      stopped Loose error.OutOfMemory why stops = cut error.OutOfMemory why tt stops
+      stopped Loose e why stops = ([], (why, inl refl), stops)
 
-  pub settled : (mid : Option (List ℕ)) → Keeps mid new → (request : Request) (done result : Result Success Error) → IsDoneOrFault done result → RequestEnds gives bundle names request old mid done → RequestEnds gives bundle names request old new result
-  settled mid keeps (Explain name format) done result is ends = explain_settled name format mid keeps done result is ends
-  settled mid keeps request done result is ends =
-      ends_settled (RequestGives gives bundle names request) (RequestIsLoose gives bundle names request) old mid new keeps done result is ends
+    -- ---- the end of a run
 
-  -- the output of a run that could not put its file in place does not count
-  pub unwritten : (out : List ℕ) (e : Error) → IsWriteError out e → (request : Request) → RequestEnds gives bundle names request old old (Err e)
-  unwritten out (error.Unwritten name why) is (Explain sheet format) = nothing_explained gives names sheet format old (error.Unwritten name why) tt
-  unwritten out (error.Unwritten name why) is request = Appends-nil old
-  unwritten out error.OutOfMemory is (Explain sheet format) = nothing_explained gives names sheet format old error.OutOfMemory tt
-  unwritten out error.OutOfMemory is request = inl (Appends-nil old)
-  unwritten out _ is request = absurd is
+    -- a beginning of the text stands there if the output failed, whatever the end was before
+    begun : (done : Result Success Error) (part : List ℕ) → Ends None part done → (part ≡ []) ⊎ (⊤ × Begins gives fails input names task part)
+    begun (Ok success) part gives_text = inr (tt, record { first = names; begun = all_begun task; text = part; success = success; gives_text = gives_text; rest = []; whole = sym (append-nil part) })
+    begun (Err e) part (why, inl none) = inl none
+    begun (Err e) part (why, inr b) = inr (tt, b.1)
 
-  pub done_or_unwritten : (out : List ℕ) (mid placed_old placed_new : Option (List ℕ)) (request : Request) (done result : Result Success Error) → IsDoneOrUnwritten out done result → RequestEnds gives bundle names request old mid done
-      → IsPlaced mid placed_old placed_new result → Replaces (RequestEnds gives bundle names request) old placed_old placed_new result
-  done_or_unwritten out mid placed_old placed_new request done result (inl is) ends placed =
-      record { written = mid; ends = subst (RequestEnds gives bundle names request old mid) (sym is) ends; placed = placed }
-  done_or_unwritten out mid placed_old placed_new request done (Err e) (inr fault) ends placed =
-      record { written = old; ends = unwritten out e fault request; placed = placed }
-  done_or_unwritten out mid placed_old placed_new request done (Ok success) (inr fault) ends placed = absurd fault
+    pub faulted : (done result : Result Success Error) → IsDoneOrFault done result → (part : List ℕ) → Ends None part done → Ends None part result
+    faulted done result (inl is) part ends = subst (Ends None part) (sym is) ends
+    faulted done (Err (error.Device written)) (inr fault) part ends = (tt, begun done part ends)
+    faulted done (Err (error.TooMuch most)) (inr fault) part ends = (tt, begun done part ends)
+    faulted done _ (inr fault) part ends = absurd fault
+
+    module _ (name : Text) where
+      named_failure : (e : Error) → IsFailureIn gives fails input names None task e → IsFailureIn gives fails input names (Some name) task e
+      named_failure (error.Unwritten file cause) is = absurd is
+      named_failure (error.TooLoose row returned) is = is
+      named_failure e is = is
+
+      to_file : (done : Result Success Error) (part : List ℕ) → Ends None part done → Ends (Some name) part done
+      to_file (Ok success) part gives_text = gives_text
+      to_file (Err e) part (why, stood) =
+          let lost = IsLostIn gives fails input names task in
+          let refused = IsRefusedBy gives fails input names task in
+          let bad = IsBadIn gives fails input names task in
+          (why_more lost lost refused refused bad bad (IsFailureIn gives fails input names None task) (IsFailureIn gives fails input names (Some name) task) (λ file is. is) (λ reason is. is) (λ line is. is) named_failure e why, stood)
+
+      -- the file was not written
+      pub unwritten : (e : Error) → IsWriteError name e → Ends (Some name) [] (Err e)
+      unwritten (error.Unwritten file cause) is = (is, inl refl)
+      unwritten error.OutOfMemory is = (tt, inl refl)
+      unwritten _ is = absurd is
+
+      -- the run ended so before its file was put in place
+      module _ (empty mid : Option (List ℕ)) (free : Text → Type 0) (old new : World) where
+        pub settled : (done result : Result Success Error) → IsDoneOrUnwritten name done result → MatchResult result (λ success. Keeps mid (new.file name)) (λ e. new.file name ≡ old.file name)
+            → (part : List ℕ) → Ends None part done → Appends empty mid part → (part : List ℕ) × Ends (Some name) part result × IsPlaced empty free old new name part result
+        settled done (Ok success) (inl is) placed part ends appended = (part, to_file (Ok success) part (subst (Ends None part) (sym is) ends), Appends-kept empty mid (new.file name) part appended placed)
+        settled done (Err e) (inl is) placed part ends appended = (part, to_file (Err e) part (subst (Ends None part) (sym is) ends), placed)
+        settled done (Err e) (inr fault) placed part ends appended = ([], unwritten e fault, placed)
+        settled done (Ok success) (inr fault) placed part ends appended = absurd fault
+
+  -- help and the version
+  pub helped : (old new : Option (List ℕ)) (done : Result Success Error) → EndsSo PrintsHelp old new Never done → IfErr done IsOutputError → Printed help old new done
+  helped old new (Ok success) p why = printed help PrintsHelp old new (λ s. s) help_given success p
+  helped old new (Err e) stops why = stopped help PrintsHelp old new (λ s. s) help_given Never e (output_because gives fails names input help e why) stops

@@ -1,9 +1,15 @@
--- What a run printed when it ended (own).
+-- What a part of a run printed when it ended (own).
 use Rattle.std.specs.Prelude.{◌≡◌, ◌⊎◌, ℕ, Option, List, [], ◌++◌, Result, Ok, Err}
 use Rattle.std.specs.Io.KnownBytes.{Appends}
+use Rattle.clap.specs.Words.{Text}
+use Rattle.oim_report.specs.Sheet.{Sheet}
 use Rattle.command_line.specs.Outputs.{NumberedRefusals}
+use Rattle.command_line.specs.Page.{Loose as LooseIn, Says}
+use Rattle.command_line.specs.Words.{Work}
 use Rattle.command_line.specs.declared.error.Error.{Error}
 use Rattle.command_line.specs.declared.error.Error.TheVariants.{TooLoose, Device, TooMuch, OutOfMemory}
+use Rattle.command_line.specs.declared.error.Success.{Success}
+use Rattle.command_line.specs.declared.error.Success.TheVariants.{Faults, Refusals}
 
 -- a beginning of the text was appended
 pub record AppendsPart (old new : Option (List ℕ)) (text : List ℕ) : Type 0 where
@@ -44,9 +50,18 @@ module _ {T : Type 0} (Gives : List ℕ → T → Type 0) (old new : Option (Lis
   Ends Loose (Ok result) = Prints result
   Ends Loose (Err error) = Stops Loose error
 
+-- what was printed when a command under a sheet ended
+abbrev pub CommandEnds : (Text → List ℕ → Type 0) → List Text → Sheet → Work → Option (List ℕ) → Option (List ℕ) → Result NumberedRefusals Error → Type 0
+CommandEnds gives names sheet work old new done = Ends (Says gives names sheet work) old new (LooseIn gives names sheet work) done
+
 -- no row is too loose
 abbrev pub Never : ℕ → NumberedRefusals → Type 0
 Never row returned = ⊥
+
+-- clap makes the text of help
+abbrev pub PrintsHelp : List ℕ → Success → Type 0
+PrintsHelp text (Refusals returned) = returned ≡ []
+PrintsHelp text (Faults count) = ⊥
 
 -- ---- a known text
 

@@ -8,8 +8,9 @@ use Rattle.oim_explain.specs.Explained.{Explains, counted, printed_faults}
 use Rattle.oim_explain.specs.declared.lines.Explained.{Explained}
 use Rattle.oim_explain.specs.declared.lines.Format.{Format}
 use Rattle.oim_explain.specs.declared.lines.Format.TheVariants.{Text, Json}
+use Rattle.command_line.specs.Words.{name_texts}
 
--- a report that was read, and what is printed about it
+-- a report that was read, and what is printed about it; a reference only passes on the name
 pub record Report : Type 0 where
   pub name : Bor (List ℕ)
   pub bytes : List ℕ
@@ -45,15 +46,17 @@ module _ (gives : List ℕ → List ℕ → Type 0) (format : Format) where
 
   -- `text` contains the lines of the sheet's repeated members, the lines of each report in the order of the names, and the line
   -- with the counts; `faults` is the number of lines before the counts
-  pub record ExplainGives (name : Bor (List ℕ)) (names : List (Bor (List ℕ))) (text : List ℕ) (faults : ℕ) : Type 0 where
+  pub record ExplainGives (sheet_name : List ℕ) (names : List (List ℕ)) (text : List ℕ) (faults : ℕ) : Type 0 where
+    pub name : Bor (List ℕ)
+    pub name_is : name.now ≡ sheet_name
     pub bytes : List ℕ
     pub sheet : Sheet
-    pub gave : gives name.now bytes
+    pub gave : gives sheet_name bytes
     pub read : sheet_outcome bytes ≡ Ok sheet
     pub of_sheet : Explained
     pub repeated : Explains (record { report = None; name = name; format = format }) bytes [] of_sheet
     pub reports : List Report
-    pub named : names_of reports ≡ names
+    pub named : name_texts (names_of reports) ≡ names
     pub are : AreExplained sheet 1 reports
     pub faults_are : faults ≡ all_faults of_sheet.faults reports
     pub text_is : text ≡ string_bytes of_sheet.text ++ (reports_text reports ++ counts_line format (length names) (faulty_reports reports) faults)

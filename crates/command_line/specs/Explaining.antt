@@ -8,7 +8,6 @@ use Rattle.oim_explain.specs.declared.lines.Explained.{Explained}
 use Rattle.oim_explain.specs.declared.lines.Format.{Format}
 use Rattle.command_line.specs.Endings.{AppendsPart}
 use Rattle.command_line.specs.Explained.{AreExplained, Report, all_faults, faulty_reports, names_of, reports_text}
-use Rattle.command_line.specs.Faults.{IsNotLoose}
 use Rattle.command_line.specs.declared.commands.explain.Counts.{Counts}
 use Rattle.command_line.specs.declared.error.Error.{Error}
 
@@ -33,7 +32,7 @@ module _ (gives : List ℕ → List ℕ → Type 0) (format : Format) where
 
     abbrev pub ReportsEnd : ℕ → Result Counts Error → Type 0
     ReportsEnd of_sheet (Ok counts) = ListsReports of_sheet counts
-    ReportsEnd of_sheet (Err e) = IsNotLoose e × StopsAmong
+    ReportsEnd of_sheet (Err e) = StopsAmong
 
   module _ (name : Bor (List ℕ)) (bytes : List ℕ) (names : List (Bor (List ℕ))) (old new : Option (List ℕ)) where
     -- the bytes are a sheet, `of_sheet` has the lines of its repeated members, and both have the property
@@ -51,4 +50,4 @@ module _ (gives : List ℕ → List ℕ → Type 0) (format : Format) where
     abbrev pub UnderEnds : Result Counts Error → Type 0
     UnderEnds (Ok counts) = OfSheet (λ sheet of_sheet. Behind (λ mid. ListsReports sheet names mid new of_sheet.faults counts) of_sheet)
     UnderEnds (Err e) =
-        IsNotLoose e × (Appends old new [] ⊎ OfSheet (λ sheet of_sheet. AppendsPart old new (string_bytes of_sheet.text) ⊎ Behind (λ mid. StopsAmong sheet names mid new) of_sheet))
+        Appends old new [] ⊎ OfSheet (λ sheet of_sheet. AppendsPart old new (string_bytes of_sheet.text) ⊎ Behind (λ mid. StopsAmong sheet names mid new) of_sheet)

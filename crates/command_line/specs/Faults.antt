@@ -8,11 +8,6 @@ use Rattle.command_line.specs.declared.error.Error.{Error}
 use Rattle.command_line.specs.declared.error.Error.TheVariants as error
 use Rattle.command_line.specs.declared.error.Success.{Success}
 
--- no row is too loose
-abbrev pub IsNotLoose : Error → Type 0
-IsNotLoose (error.TooLoose row refused) = ⊥
-IsNotLoose _ = ⊤
-
 -- the file with this name was not written
 abbrev pub IsWriteError : List ℕ → Error → Type 0
 IsWriteError name (error.Unwritten file why) = file.now ≡ name

@@ -1,9 +1,10 @@
 -- The text that each command prints, and its refusals, from the bytes of the files that it names (own).
-use Rattle.std.specs.Prelude.{◌≡◌, ◌⊎◌, ℕ, List, [], ◌∷◌, ◌++◌, codes, flat_map, map, Err, if◌then◌else◌}
-use Rattle.std.specs.Borrow.{Bor}
+use Rattle.std.specs.Prelude.{◌≡◌, ◌⊎◌, ℕ, List, [], ◌∷◌, ◌++◌, codes, flat_map, Err, if◌then◌else◌}
 use Rattle.std.specs.Fmt.{decimal}
+use Rattle.clap.specs.Words.{Text}
 use Rattle.oim_value.specs.Level.{level_entry}
 use Rattle.oim_value.specs.declared.level.Level.{Level}
+use Rattle.oim_value.specs.declared.level.Level.TheVariants.{All}
 use Rattle.oim_report.specs.Outcome.{outcome}
 use Rattle.oim_report.specs.Sheet.{Sheet}
 use Rattle.oim_report.specs.declared.refusal.Refusal.{Refusal}
@@ -11,23 +12,22 @@ use Rattle.fact_base.specs.Body.{Body}
 use Rattle.fact_base.specs.Contents.{Contents}
 use Rattle.oim_write.specs.Bytes.{canonical}
 use Rattle.oim_merge.specs.Above.{IsFirstAbove, StaysWithin}
+use Rattle.oim_merge.specs.Bundle.{report_pieces}
 use Rattle.oim_merge.specs.Checked.{IsChecked}
 use Rattle.oim_merge.specs.EventLines.{SaysEvents}
 use Rattle.oim_merge.specs.Lines.{AreRowsOf, RowText, line_text}
 use Rattle.oim_merge.specs.Replay.{IsReplayOf, Replay}
 use Rattle.oim_merge.specs.Reports.{merged, refused}
+use Rattle.oim_merge.specs.Run.{IsSheetOf}
 use Rattle.oim_merge.specs.SourceCalls.{mention_texts}
 use Rattle.oim_merge.specs.Sources.{SourceText, source_line}
-use Rattle.oim_merge.specs.Traced.{Traced, traced}
+use Rattle.oim_merge.specs.Traced.{Traced}
 use Rattle.oim_merge.specs.declared.checked.Checked.{Checked}
 use Rattle.oim_merge.specs.declared.event.Event.{Event}
 use Rattle.row_formats.specs.Rows.{header, row_text}
 use Rattle.row_formats.specs.SourceRows.{source_header, source_text}
-use Rattle.command_line.specs.Reading.{WithRead}
 use Rattle.command_line.specs.declared.print_format.PrintFormat.{PrintFormat}
 use Rattle.command_line.specs.declared.print_format.PrintFormat.TheVariants.{Lines, Rows}
-use Rattle.command_line.specs.declared.request.Subcommand.{Subcommand}
-use Rattle.command_line.specs.declared.request.Subcommand.TheVariants.{Merge, Verdicts, Sources, Check, Replay as ReplayCommand}
 
 -- refusals with the numbers of their reports
 abbrev pub NumberedRefusals : Type 0
@@ -68,12 +68,12 @@ sources_header Lines = []
 sources_header (Rows format) = source_header format
 
 -- how to write a source, given the files of the reports
-abbrev pub source_written : PrintFormat → List (Bor (List ℕ)) → SourceText
+abbrev pub source_written : PrintFormat → List Text → SourceText
 source_written Lines names = source_line
-source_written (Rows format) names = source_text format (map (λ name. name.now) names)
+source_written (Rows format) names = source_text format names
 
 -- the fact objects of the accepted reports, in the order of facts, then reports, then identifiers
-pub record AreSources (format : PrintFormat) (names : List (Bor (List ℕ))) (t : Traced) (text : List ℕ) (returned : NumberedRefusals) : Type 0 where
+pub record AreSources (format : PrintFormat) (names : List Text) (t : Traced) (text : List ℕ) (returned : NumberedRefusals) : Type 0 where
   pub text_is : text ≡ sources_header format ++ mention_texts (source_written format names) t
   pub refusals_are : returned ≡ t.added.refusals
 
@@ -119,19 +119,10 @@ pub record Replays (sheet : Sheet) (replicas : ℕ) (lines : List ℕ) (reports 
   pub is : IsReplayOf sheet replicas reports events replay
   pub printed : PrintsReplay replay text returned
 
--- ---- all commands under a sheet
+-- ---- the bundle
 
-module _ (gives : List ℕ → List ℕ → Type 0) (names : List (Bor (List ℕ))) (sheet : Sheet) where
-  -- the text of the command, and the refusals
-  abbrev pub OutputOf : Subcommand → List ℕ → NumberedRefusals → Type 0
-  OutputOf (Merge level) text returned = WithRead gives names (λ reports. IsMerge level (merged sheet reports) (refused sheet reports) text returned)
-  OutputOf (Verdicts format) text returned = WithRead gives names (λ reports. AreVerdicts format (merged sheet reports) (refused sheet reports) text returned)
-  OutputOf (Sources format) text returned = WithRead gives names (λ reports. AreSources format names (traced sheet reports) text returned)
-  OutputOf (Check name) text returned = (bytes : List ℕ) × gives name.now bytes × Checks sheet bytes text returned
-  OutputOf (ReplayCommand replicas name) text returned =
-      (lines : List ℕ) × gives name.now lines × WithRead gives names (λ reports. Replays sheet replicas lines reports text returned)
-
-  -- only `merge` has rows that are too loose
-  abbrev pub LooseIn : Subcommand → ℕ → NumberedRefusals → Type 0
-  LooseIn (Merge level) row returned = WithRead gives names (λ reports. IsLoose level (merged sheet reports) (refused sheet reports) row returned)
-  LooseIn command row returned = ⊥
+-- the merge of a bundle, which allows all duplicates
+pub record MergesBundle (bundle text : List ℕ) (returned : NumberedRefusals) : Type 0 where
+  pub sheet : Sheet
+  pub read : IsSheetOf bundle sheet
+  pub is : IsMerge All (merged sheet (report_pieces bundle)) (refused sheet (report_pieces bundle)) text returned

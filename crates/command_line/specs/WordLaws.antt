@@ -1,5 +1,5 @@
 -- Words and the commands that they ask for (own).
-use Rattle.std.specs.Prelude.{◌≡◌, ◌≢◌, ◌<◌, ◌^◌, ◌++◌, List, [], ◌∷◌, Option, Some, None, codes, false, length, ⊤, true}
+use Rattle.std.specs.Prelude.{◌≡◌, ◌≢◌, ◌<◌, ◌^◌, ◌++◌, List, [], ◌∷◌, Option, Some, codes, length, ⊤, true}
 use Rattle.clap.specs.Words.{Text}
 use Rattle.oim_value.specs.Level.{level_entry}
 use Rattle.oim_value.specs.declared.level.Level.{Level}
@@ -10,7 +10,7 @@ use Rattle.row_formats.specs.declared.row_format.RowFormat.TheVariants as rows
 use Rattle.command_line.specs.declared.print_format.PrintFormat.{PrintFormat}
 use Rattle.command_line.specs.declared.print_format.PrintFormat.TheVariants as printed
 use Rattle.command_line.specs.Arguments.{AreTables, Tables}
-use Rattle.command_line.specs.Words.{Asked, Work, asked_with, check, explain, merge, replay, sources, verdicts}
+use Rattle.command_line.specs.Words.{Asked, Work, alone, asked_with, check, explain, merge, replay, sources, under, verdicts}
 
 -- the word is empty, or does not begin with a hyphen
 abbrev pub IsName : Text → Type 0
@@ -32,17 +32,7 @@ Ask words a = (t : Tables) → AreTables t → asked_with t words ≡ Some a
 
 -- a command with no further options
 abbrev pub plainly : Text → Work → List Text → Asked
-plainly sheet work names = record {
-  sheet = sheet;
-  work = work;
-  names = names;
-  list = None;
-  is_null = false;
-  output = None;
-  most = None;
-  is_quiet = false;
-  is_verbose = false;
-}
+plainly sheet work names = record (alone (under sheet work)) { names = names }
 
 -- `NAME --sheet SHEET OPTIONS.. REPORTS..` asks for this work on these reports, in this order
 abbrev pub IsUsage : Text → List Text → Work → Type 0
@@ -84,17 +74,8 @@ CheckWords = (sheet report : Text) → IsName sheet → IsName report
     → Ask (codes "check" ∷ codes "--sheet" ∷ sheet ∷ report ∷ []) (plainly sheet (check report) (report ∷ []))
 
 abbrev pub with_all_options : Text → Text → Option Text → List Text → Asked
-with_all_options sheet list output reports = record {
-  sheet = sheet;
-  work = merge All;
-  names = reports;
-  list = Some list;
-  is_null = true;
-  output = output;
-  most = Some 1000;
-  is_quiet = true;
-  is_verbose = true;
-}
+with_all_options sheet list output reports =
+    record (plainly sheet (merge All) reports) { list = Some list; is_null = true; output = output; most = Some 1000; is_quiet = true; is_verbose = true }
 
 abbrev pub OptionsWords : Type 0
 OptionsWords = (sheet list output : Text) (reports : List Text) → IsName sheet → IsName list → IsName output → AreReports reports

@@ -2,12 +2,12 @@
 use Rattle.std.specs.Prelude.{◌≡◌, ◌≢◌, ◌&&◌, ◌||◌, not, ℕ, List, [], map, Bool, true, false, Option, Some, None, codes, if◌then◌else◌, ◌⊎◌}
 use Rattle.std.specs.Prelude.{find, option_map, option_and_then, unwrap_or}
 use Rattle.std.specs.Option.{option_map_or}
+use Rattle.std.specs.Borrow.{Bor}
 use Rattle.std.specs.Str.{bytes_eq}
 use Rattle.std.specs.Str.Parse.{digits_value, without_leading_plus}
 use Rattle.clap.specs.ValueTests.{is_unsigned_in}
 use Rattle.clap.specs.Walk.{Row, all_of, first_of, is_empty}
 use Rattle.clap.specs.Words.{IsAmong, Text, fault_of, subcommand_of}
-use Rattle.clap.specs.declared.error.Error.{Error}
 use Rattle.clap.specs.declared.error.kind.ErrorKind.{ErrorKind}
 use Rattle.clap.specs.declared.error.kind.ErrorKind.TheVariants as kind
 use Rattle.clap.specs.declared.parser.matches.ValueSource.{ValueSource}
@@ -35,10 +35,15 @@ pub data Work : Type 0 where
   -- on this many replicas, by the schedule in this file
   replay : ℕ → Text → Work
 
--- a command, with texts in the place of references
+-- the merge of the bundle on standard input, the text of help, or work under the sheet in this file
+pub data Task : Type 0 where
+  bundle : Task
+  help : Task
+  under : Text → Work → Task
+
+-- what the words ask for
 pub record Asked : Type 0 where
-  pub sheet : Text
-  pub work : Work
+  pub task : Task
   -- the reports named among the words, in their order
   pub names : List Text
   -- the file of more names, and whether NUL ends each
@@ -58,17 +63,19 @@ work_of (subcommand.Sources format) = sources format
 work_of (subcommand.Check report) = check report.now
 work_of (subcommand.Replay replicas events) = replay replicas events.now
 
--- the sheet and the work
-abbrev pub work_in : Request → Option (Text × Work)
-work_in (request.Explain sheet format) = Some (sheet.now, explain format)
-work_in (request.Under sheet command) = Some (sheet.now, work_of command)
-work_in _ = None
+abbrev pub task_of : Request → Task
+task_of request.Bundle = bundle
+task_of (request.Help e) = help
+task_of (request.Explain sheet format) = under sheet.now (explain format)
+task_of (request.Under sheet command) = under sheet.now (work_of command)
 
-abbrev pub with_options_of : Args → Text × Work → Asked
-with_options_of args p = record {
-  sheet = p.0;
-  work = p.1;
-  names = map (λ name. name.now) args.reports.items;
+abbrev pub name_texts : List (Bor Text) → List Text
+name_texts names = map (λ (name : Bor Text). name.now) names
+
+abbrev pub asked_of : Args → Asked
+asked_of args = record {
+  task = task_of args.request;
+  names = name_texts args.reports.items;
   list = option_map (λ name. name.now) args.list;
   is_null = args.is_null;
   output = option_map (λ name. name.now) args.output;
@@ -76,9 +83,6 @@ with_options_of args p = record {
   is_quiet = args.is_quiet;
   is_verbose = args.is_verbose;
 }
-
-abbrev pub asked_of : Args → Option Asked
-asked_of args = option_map (with_options_of args) (work_in args.request)
 
 -- ---- what clap's matches ask for
 
@@ -136,18 +140,16 @@ abbrev pub work_asked : Text → List Row → Option Work
 work_asked name rows =
     if bytes_eq name (codes "explain") then Some (explain (explained_asked rows)) else subcommand_asked name rows
 
-abbrev pub request_asked : Text → List Row → Option (Text × Work)
-request_asked name rows =
-    option_and_then (λ sheet. option_map (λ work. (sheet, work)) (work_asked name rows)) (first_of (codes "sheet") rows)
+abbrev pub task_asked : Text → List Row → Option Task
+task_asked name rows = option_and_then (λ sheet. option_map (under sheet) (work_asked name rows)) (first_of (codes "sheet") rows)
 
 -- `-` is standard output
 abbrev pub output_named : Text → Option Text
 output_named text = if bytes_eq text (codes "-") then None else Some text
 
-abbrev pub with_options : List Row → Text × Work → Asked
-with_options rows p = record {
-  sheet = p.0;
-  work = p.1;
+abbrev pub with_options : List Row → Task → Asked
+with_options rows task = record {
+  task = task;
   names = unwrap_or (all_of (codes "REPORT") rows) [];
   list = first_of (codes "reports-from") rows;
   is_null = is_set (codes "null") rows;
@@ -161,7 +163,7 @@ with_options rows p = record {
 abbrev pub asked_by : Text → List Row → Option Asked
 asked_by name rows =
     if lacks (codes "null") (codes "reports-from") rows || lacks (codes "spreadsheet") (codes "format") rows then None
-    else option_map (with_options rows) (request_asked name rows)
+    else option_map (with_options rows) (task_asked name rows)
 
 abbrev pub asked : Option (Text × List Row) → Option Asked
 asked = option_and_then (λ p. asked_by p.0 p.1)
@@ -187,16 +189,23 @@ AskForNothing words = (t : Tables) × AreTables t × (fault_of (program_app fals
 abbrev pub AreRefused : List Text → Type 0
 AreRefused words = ((k : ErrorKind) × (k ≢ kind.DisplayHelp) × (k ≢ kind.DisplayVersion) × HasFault words k) ⊎ AskForNothing words
 
--- the arguments and clap's matches of the words give the same command
-abbrev pub AskFor : List Text → Args → Type 0
-AskFor words args = (t : Tables) × AreTables t × (a : Asked) × (asked_of args ≡ Some a) × (asked_with t words ≡ Some a)
+-- the task without options
+abbrev pub alone : Task → Asked
+alone task = record {
+  task = task;
+  names = [];
+  list = None;
+  is_null = false;
+  output = None;
+  most = None;
+  is_quiet = false;
+  is_verbose = false;
+}
 
--- the request without options; `is_null` has no effect, because no file lists names
-abbrev pub IsAlone : Request → Args → Type 0
-IsAlone r args = (args.request ≡ r) × (args.reports.items ≡ []) × (args.list ≡ None) × (args.output ≡ None) × (args.most ≡ None)
-    × (args.is_quiet ≡ false) × (args.is_verbose ≡ false)
+-- clap's matches of the words give this command
+abbrev pub AskFor : List Text → Asked → Type 0
+AskFor words a = (t : Tables) × AreTables t × (asked_with t words ≡ Some a)
 
 -- no words ask for the merge of the bundle
-abbrev pub Mean : List Text → Args → Type 0
-Mean words args = ((words ≡ []) × IsAlone request.Bundle args) ⊎ (CallForHelp words × ((e : Error) × IsAlone (request.Help e) args))
-    ⊎ AskFor words args
+abbrev pub Mean : List Text → Asked → Type 0
+Mean words a = ((words ≡ []) × (a ≡ alone bundle)) ⊎ (CallForHelp words × (a ≡ alone help)) ⊎ AskFor words a

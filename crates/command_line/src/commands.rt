@@ -1,11 +1,12 @@
 //! Runs the commands. The files of the folder `commands` have their help and their own parts.
 
-ghost use Rattle.std.specs.Prelude.{◌≡◌, ◌-◌, ◌^◌, ◌<◌, false, IfErr, None, OnOk};
+ghost use Rattle.std.specs.Prelude.{◌≡◌, ◌-◌, ◌^◌, ◌<◌, ℕ, List, false, IfErr, None, OnOk};
+ghost use Rattle.std.specs.Io.KnownBytes.{Appends};
 ghost use Rattle.oim_write.specs.BoundedSink.{bounded_failures};
-ghost use Rattle.command_line.specs.Endings.{Ends, Never, Puts};
-ghost use Rattle.command_line.specs.Runs.{CommandEnds, PrintsHelp, RequestEnds};
-ghost use Rattle.command_line.specs.Why.{IsOutputError, RequestWhy, WhyUnder};
-ghost use Rattle.command_line.specs.declared.request.Subcommand.TheVariants.{Merge, Verdicts, Sources};
+ghost use Rattle.command_line.specs.Endings.{CommandEnds, Ends, Never, PrintsHelp, Puts};
+ghost use Rattle.command_line.specs.Page.{EndsWith};
+ghost use Rattle.command_line.specs.Why.{IsOutputError, WhyUnder};
+ghost use Rattle.command_line.specs.Words.{merge, name_texts, sources, task_of, verdicts, work_of};
 
 pub(crate) mod check;
 pub(crate) mod explain;
@@ -33,9 +34,8 @@ pub(crate) fn execute<'n, F: Folder, E: Write, S: Sink>(
     out: &mut BoundedSink<S>,
 ) -> Result<Success, Error<'n>>
     requires { bounded_failures (S.failures out.old.sink) out.old.overruns < 2 ^ 64 - 1 }
-    ensures ends { RequestEnds (F.gives inputs.old.files.now) inputs.old.bundle.now inputs.old.names.now request.now
-        (S.told out.old.sink) (S.told out.new.sink) result }
-    ensures why { IfErr result (RequestWhy (F.gives inputs.old.files.now) (F.fails inputs.old.files.now) inputs.old.bundle.now inputs.old.names.now None request.now) }
+    ensures ends { (part : List ℕ) × EndsWith (F.gives inputs.old.files.now) (F.fails inputs.old.files.now) inputs.old.bundle.now (name_texts inputs.old.names.now)
+        None (task_of request.now) part result × Appends (S.told out.old.sink) (S.told out.new.sink) part }
     ensures console { inputs.old.console.is_terminal ≡ false → inputs.new.console ≡ inputs.old.console }
 {
     match request {
@@ -74,9 +74,9 @@ fn execute_under<'n, F: Folder, E: Write, S: Sink>(
     out: &mut BoundedSink<S>,
 ) -> Result<Refusals, Error<'n>>
     requires { bounded_failures (S.failures out.old.sink) out.old.overruns < 2 ^ 64 - 1 }
-    ensures ends { CommandEnds (F.gives inputs.old.files.now) inputs.old.names.now sheet.now subcommand.entry
+    ensures ends { CommandEnds (F.gives inputs.old.files.now) (name_texts inputs.old.names.now) sheet.now (work_of subcommand.entry)
         (S.told out.old.sink) (S.told out.new.sink) result }
-    ensures why { IfErr result (WhyUnder (F.gives inputs.old.files.now) (F.fails inputs.old.files.now) inputs.old.names.now subcommand.entry) }
+    ensures why { IfErr result (WhyUnder (F.gives inputs.old.files.now) (F.fails inputs.old.files.now) (name_texts inputs.old.names.now) (work_of subcommand.entry)) }
     ensures console { inputs.old.console.is_terminal ≡ false → inputs.new.console ≡ inputs.old.console }
 {
     match subcommand {
@@ -96,9 +96,9 @@ fn run_merge<'n, F: Folder, E: Write, S: Sink>(
     out: &mut S,
 ) -> Result<Refusals, Error<'n>>
     requires { S.failures out.old < 2 ^ 64 - 1 }
-    ensures ends { CommandEnds (F.gives inputs.old.files.now) inputs.old.names.now sheet.now (Merge allow)
+    ensures ends { CommandEnds (F.gives inputs.old.files.now) (name_texts inputs.old.names.now) sheet.now (merge allow)
         (S.told out.old) (S.told out.new) result }
-    ensures why { IfErr result (WhyUnder (F.gives inputs.old.files.now) (F.fails inputs.old.files.now) inputs.old.names.now (Merge allow)) }
+    ensures why { IfErr result (WhyUnder (F.gives inputs.old.files.now) (F.fails inputs.old.files.now) (name_texts inputs.old.names.now) (merge allow)) }
     ensures console { inputs.old.console.is_terminal ≡ false → inputs.new.console ≡ inputs.old.console }
 {
     let Merged { base, refusals } = inputs.consolidate(sheet)?.into_merged()?;
@@ -116,9 +116,9 @@ fn run_verdicts<'n, F: Folder, E: Write, S: Sink>(
     out: &mut BoundedSink<S>,
 ) -> Result<Refusals, Error<'n>>
     requires { bounded_failures (S.failures out.old.sink) out.old.overruns < 2 ^ 64 - 1 }
-    ensures ends { CommandEnds (F.gives inputs.old.files.now) inputs.old.names.now sheet.now (Verdicts format)
+    ensures ends { CommandEnds (F.gives inputs.old.files.now) (name_texts inputs.old.names.now) sheet.now (verdicts format)
         (S.told out.old.sink) (S.told out.new.sink) result }
-    ensures why { IfErr result (WhyUnder (F.gives inputs.old.files.now) (F.fails inputs.old.files.now) inputs.old.names.now (Verdicts format)) }
+    ensures why { IfErr result (WhyUnder (F.gives inputs.old.files.now) (F.fails inputs.old.files.now) (name_texts inputs.old.names.now) (verdicts format)) }
     ensures console { inputs.old.console.is_terminal ≡ false → inputs.new.console ≡ inputs.old.console }
 {
     let consolidation = inputs.consolidate(sheet)?;
@@ -134,9 +134,9 @@ fn run_sources<'n, F: Folder, E: Write, S: Sink>(
     out: &mut BoundedSink<S>,
 ) -> Result<Refusals, Error<'n>>
     requires { bounded_failures (S.failures out.old.sink) out.old.overruns < 2 ^ 64 - 1 }
-    ensures ends { CommandEnds (F.gives inputs.old.files.now) inputs.old.names.now sheet.now (Sources format)
+    ensures ends { CommandEnds (F.gives inputs.old.files.now) (name_texts inputs.old.names.now) sheet.now (sources format)
         (S.told out.old.sink) (S.told out.new.sink) result }
-    ensures why { IfErr result (WhyUnder (F.gives inputs.old.files.now) (F.fails inputs.old.files.now) inputs.old.names.now (Sources format)) }
+    ensures why { IfErr result (WhyUnder (F.gives inputs.old.files.now) (F.fails inputs.old.files.now) (name_texts inputs.old.names.now) (sources format)) }
     ensures console { inputs.old.console.is_terminal ≡ false → inputs.new.console ≡ inputs.old.console }
 {
     let names = inputs.names;

@@ -1,4 +1,5 @@
 //! Laws of the definitions. Each is the contract of a function that does nothing.
+ghost use Rattle.command_line.specs.RunLaws.{AskedIsMeant, RunsAreOne};
 ghost use Rattle.command_line.specs.WordLaws.{AllowWords, CheckWords, ExplainWords, MergeWords, OptionsWords, ReplayWords, SourcesWords, VerdictsWords};
 
 /// `merge --sheet SHEET REPORT..` asks for the merge of these reports, in this order, whatever the
@@ -52,4 +53,17 @@ pub fn replay_words()
 #[tactic(auto, using(crate::proofs::Asking::options_words))]
 pub fn options_words()
     ensures { OptionsWords }
+{}
+
+/// Words that ask for a command mean nothing else.
+#[tactic(auto, using(crate::proofs::OneRun::asked_is_meant))]
+pub fn asked_is_meant()
+    ensures { AskedIsMeant }
+{}
+
+/// Two runs whose words mean the same command or the bundle, with the same standard input and the
+/// same bytes under each name, and with statuses below 3: the same text, the same status and the
+/// same lines, whatever was written before. `explain` and help are excepted.
+pub fn runs_are_one()
+    ensures { RunsAreOne }
 {}

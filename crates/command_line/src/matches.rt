@@ -3,7 +3,7 @@ ghost use Rattle.std.specs.Prelude.{◌≡◌, [], IfOk, Some, codes, map, optio
 ghost use Rattle.clap.specs.Walk.{all_of, first_of};
 ghost use Rattle.clap.specs.Words.{found_of, rows_of};
 ghost use Rattle.oim_value.specs.Level.{level_with};
-ghost use Rattle.command_line.specs.Words.{asked_by, asked_of, explained_asked, format_asked, format_named, is_from_words, is_set, lacks, number_at, output_named, request_asked, source_of, subcommand_asked, work_in, work_of};
+ghost use Rattle.command_line.specs.Words.{asked_by, asked_of, explained_asked, format_asked, format_named, is_from_words, is_set, lacks, number_at, output_named, source_of, subcommand_asked, task_asked, task_of, work_of};
 
 use crate::print_format::PrintFormat;
 use crate::request::{Args, Request, Subcommand};
@@ -21,7 +21,7 @@ pub(crate) fn args_in<'w>(
     name: &str,
     matches: &ArgMatches<'w>,
 ) -> Result<Option<Args<'w>>, AllocError>
-    ensures { IfOk result (λ o. option_map asked_of o ≡ option_map Some (asked_by name.now (rows_of (found_of matches.now)))) }
+    ensures { IfOk result (λ o. option_map asked_of o ≡ asked_by name.now (rows_of (found_of matches.now))) }
 {
     if lacks(matches, "null", "reports-from") || lacks(matches, "spreadsheet", "format") {
         return Ok(None);
@@ -43,7 +43,7 @@ pub(crate) fn args_in<'w>(
 }
 
 fn request_in<'w>(name: &str, matches: &ArgMatches<'w>) -> Option<Request<'w>>
-    ensures { option_map work_in result ≡ option_map Some (request_asked name.now (rows_of (found_of matches.now))) }
+    ensures { option_map task_of result ≡ task_asked name.now (rows_of (found_of matches.now)) }
 {
     let sheet = text_in(matches, "sheet")?;
     if name == "explain" {

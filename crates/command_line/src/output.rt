@@ -1,10 +1,10 @@
-ghost use Rattle.std.specs.Prelude.{◌≡◌, ◌≢◌, ℕ, List, false, true, None, Ok, Some, IfErr, IfOk};
-ghost use Rattle.std.specs.Io.KnownBytes.{Keeps};
+ghost use Rattle.std.specs.Prelude.{◌≡◌, ◌≢◌, ℕ, List, false, true, None, Ok, Some, IfOk, MatchResult};
+ghost use Rattle.std.specs.Io.KnownBytes.{Appends, Keeps};
 ghost use Rattle.std.specs.List.{list_any};
 ghost use Rattle.command_line.specs.Faults.{IsDoneOrFault, IsDoneOrUnwritten};
+ghost use Rattle.command_line.specs.Page.{EndsWith, IsPlaced, SparesOthers, TaskEnds, world};
 ghost use Rattle.command_line.specs.Refused.{SparesRefused, is_of, refuses};
-ghost use Rattle.command_line.specs.Runs.{IsPlaced, OutputEnds, Replaces, RequestEnds, Spares, SparesOthers};
-ghost use Rattle.command_line.specs.Why.{RequestWhy};
+ghost use Rattle.command_line.specs.Words.{asked_of, name_texts, task_of};
 
 use crate::commands::execute;
 use crate::disk::{Disk, Named};
@@ -24,10 +24,8 @@ pub(crate) fn write<'n, F: Folder, D: Disk, E: Write, O: Write + Drop>(
     disk: &mut D,
     out: O,
 ) -> (Result<Success, Error<'n>>, O)
-    ensures ends { let ends = RequestEnds (F.gives inputs.old.files.now) inputs.old.bundle.now inputs.old.names.now args.now.request in
-        OutputEnds ends args.now.output (O.contents out) (O.contents result.1) (D.empty disk.old) (D.file disk.old) (D.file disk.new) result.0 }
-    ensures why { IfErr result.0 (RequestWhy (F.gives inputs.old.files.now) (F.fails inputs.old.files.now) inputs.old.bundle.now inputs.old.names.now args.now.output args.now.request) }
-    ensures others { Spares (D.free disk.old) args.now.output (D.file disk.old) (D.file disk.new) }
+    ensures ends { (part : List ℕ) × TaskEnds (D.empty disk.old) (D.free disk.old) (world (O.contents out) (D.file disk.old)) (world (O.contents result.1) (D.file disk.new))
+        (F.gives inputs.old.files.now) (F.fails inputs.old.files.now) (asked_of args.now) inputs.old.bundle.now (name_texts inputs.old.names.now) part result.0 }
     ensures console { inputs.old.console.is_terminal ≡ false → inputs.new.console ≡ inputs.old.console }
 {
     match args.output {
@@ -43,9 +41,8 @@ fn write_out<'n, F: Folder, E: Write, O: Write + Drop>(
     inputs: &mut Inputs<'n, F, E>,
     out: O,
 ) -> (Result<Success, Error<'n>>, O)
-    ensures ends { RequestEnds (F.gives inputs.old.files.now) inputs.old.bundle.now inputs.old.names.now args.now.request
-        (O.contents out) (O.contents result.1) result.0 }
-    ensures why { IfErr result.0 (RequestWhy (F.gives inputs.old.files.now) (F.fails inputs.old.files.now) inputs.old.bundle.now inputs.old.names.now None args.now.request) }
+    ensures ends { (part : List ℕ) × EndsWith (F.gives inputs.old.files.now) (F.fails inputs.old.files.now) inputs.old.bundle.now (name_texts inputs.old.names.now)
+        None (task_of args.now.request) part result.0 × Appends (O.contents out) (O.contents result.1) part }
     ensures console { inputs.old.console.is_terminal ≡ false → inputs.new.console ≡ inputs.old.console }
 {
     let mut sink = BoundedSink::new(StdSink::new(out), args.first_bound());
@@ -102,10 +99,10 @@ fn write_file<'n, F: Folder, D: Disk, E: Write>(
     disk: &mut D,
     name: &'n str,
 ) -> Result<Success, Error<'n>>
-    ensures ends { Replaces (RequestEnds (F.gives inputs.old.files.now) inputs.old.bundle.now inputs.old.names.now args.now.request)
-        (D.empty disk.old) (D.file disk.old name.now) (D.file disk.new name.now) result }
-    ensures why { IfErr result (RequestWhy (F.gives inputs.old.files.now) (F.fails inputs.old.files.now) inputs.old.bundle.now inputs.old.names.now (Some name.entry) args.now.request) }
-    ensures others { SparesOthers (D.free disk.old) name.now (D.file disk.old) (D.file disk.new) }
+    ensures ends { (part : List ℕ) × EndsWith (F.gives inputs.old.files.now) (F.fails inputs.old.files.now) inputs.old.bundle.now (name_texts inputs.old.names.now)
+        (Some name.now) (task_of args.now.request) part result
+        × IsPlaced (D.empty disk.old) (D.free disk.old) (world None (D.file disk.old)) (world None (D.file disk.new)) name.now part result }
+    ensures others { SparesOthers (D.empty disk.old) (D.free disk.old) (world None (D.file disk.old)) (world None (D.file disk.new)) name.now }
     ensures console { inputs.old.console.is_terminal ≡ false → inputs.new.console ≡ inputs.old.console }
 {
     let Named { name: beside, file } = disk.create_beside(inputs.alloc, name)?;
@@ -144,7 +141,7 @@ fn settle<'n, D: Disk>(
 ) -> Result<Success, Error<'n>>
     ensures done { IsDoneOrUnwritten name.now done.entry result }
     ensures others { (other : List ℕ) → other ≢ name.now → other ≢ beside.now → D.file disk.new other ≡ D.file disk.old other }
-    ensures placed { IsPlaced (D.New.contents file) (D.file disk.old name.now) (D.file disk.new name.now) result }
+    ensures placed { MatchResult result (λ success. Keeps (D.New.contents file) (D.file disk.new name.now)) (λ error. D.file disk.new name.now ≡ D.file disk.old name.now) }
     ensures spares { IfOk result (SparesRefused reports.now name.now) }
 {
     match done {
@@ -165,7 +162,7 @@ fn place<'n, D: Disk>(
 ) -> Result<Success, Error<'n>>
     ensures done { IsDoneOrUnwritten name.now (Ok success) result }
     ensures others { (other : List ℕ) → other ≢ name.now → other ≢ beside.now → D.file disk.new other ≡ D.file disk.old other }
-    ensures placed { IsPlaced (D.New.contents file) (D.file disk.old name.now) (D.file disk.new name.now) result }
+    ensures placed { MatchResult result (λ success. Keeps (D.New.contents file) (D.file disk.new name.now)) (λ error. D.file disk.new name.now ≡ D.file disk.old name.now) }
     ensures spares { IfOk result (SparesRefused reports.now name.now) }
 {
     if is_refused(disk, reports, &success, name) {

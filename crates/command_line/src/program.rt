@@ -1,5 +1,8 @@
-ghost use Rattle.std.specs.Prelude.{◌≡◌, None, map, ⊤};
-ghost use Rattle.command_line.specs.Program.{InputEnd, IsPlain, IsPlainRun, NamesEnd, RunEnds, Tells, WordsEnd};
+ghost use Rattle.std.specs.Prelude.{◌≡◌, IfSome, None, map, ⊤};
+ghost use Rattle.std.specs.Io.KnownBytes.{Appends};
+ghost use Rattle.command_line.specs.Page.{InputEnd, IsPlain, IsPlainRun, IsRun, NamesEnd, TaskEnds, WordsEnd, world};
+ghost use Rattle.command_line.specs.Printed.{lines_of, status_of};
+ghost use Rattle.command_line.specs.Words.{asked_of, name_texts};
 
 use crate::console::Console;
 use crate::disk::{Disk, System};
@@ -55,8 +58,8 @@ where
     O: Write + Drop,
     E: Write + Drop,
     ensures { let texts = map W.text words.entry.now in
-        let ends = WordsEnd (λ name bytes. ⊤) (λ name. ⊤) (O.contents streams.out) (O.contents result.out) None (λ name. ⊤) (λ name. None) (λ name. None) in
-        Tells (ends (R.remaining streams.input) texts) result.status (IsPlainRun texts streams.is_input_terminal streams.is_err_terminal result.console.is_whole) (E.contents streams.err) (E.contents result.console.err) }
+        let ends = WordsEnd None (λ name. ⊤) (world (O.contents streams.out) (λ name. None)) (world (O.contents result.out) (λ name. None)) (λ name bytes. ⊤) (λ name. ⊤) in
+        IsRun (ends (R.remaining streams.input) texts) (IsPlainRun texts streams.is_input_terminal streams.is_err_terminal result.console.is_whole) (E.contents streams.err) (E.contents result.console.err) result.status }
 {
     run_words(alloc, files, &mut System(files), words, streams)
 }
@@ -76,8 +79,8 @@ pub fn run_words<F: Folder, D: Disk, W: AsStr, R: Read + Drop, O: Write + Drop, 
     streams: Streams<R, O, E>,
 ) -> Ran<O, E>
     ensures { let texts = map W.text words.entry.now in
-        let ends = WordsEnd (F.gives folder.now) (F.fails folder.now) (O.contents streams.out) (O.contents result.out) (D.empty disk.old) (D.free disk.old) (D.file disk.old) (D.file disk.new) in
-        Tells (ends (R.remaining streams.input) texts) result.status (IsPlainRun texts streams.is_input_terminal streams.is_err_terminal result.console.is_whole) (E.contents streams.err) (E.contents result.console.err) }
+        let ends = WordsEnd (D.empty disk.old) (D.free disk.old) (world (O.contents streams.out) (D.file disk.old)) (world (O.contents result.out) (D.file disk.new)) (F.gives folder.now) (F.fails folder.now) in
+        IsRun (ends (R.remaining streams.input) texts) (IsPlainRun texts streams.is_input_terminal streams.is_err_terminal result.console.is_whole) (E.contents streams.err) (E.contents result.console.err) result.status }
 {
     let (input, out) = (streams.input, streams.out);
     let mut console = Console::new(streams.err, streams.is_err_terminal);
@@ -100,7 +103,8 @@ fn ended<O, E: Write>(
     mut console: Console<E>,
 ) -> Ran<O, E>
     ensures out { result.out ≡ out }
-    ensures tells { Tells (λ d. d ≡ done.now) result.status (IsPlain console.is_terminal console.is_verbose result.console.is_whole) (E.contents console.err) (E.contents result.console.err) }
+    ensures status { result.status ≡ status_of done.now }
+    ensures lines { IsPlain console.is_terminal console.is_verbose result.console.is_whole → IfSome (lines_of done.now) (Appends (E.contents console.err) (E.contents result.console.err)) }
 {
     Ran {
         status: tell(&mut console, done, names),
@@ -119,8 +123,8 @@ fn run_args<F: Folder, D: Disk, R: Read + Drop, O: Write + Drop, E: Write + Drop
     out: O,
     console: Console<E>,
 ) -> Ran<O, E>
-    ensures { let ends = InputEnd (F.gives folder.now) (F.fails folder.now) (O.contents out) (O.contents result.out) (D.empty disk.old) (D.free disk.old) (D.file disk.old) (D.file disk.new) in
-        Tells (ends (R.remaining input) args.now) result.status (IsPlain console.is_terminal console.is_verbose result.console.is_whole) (E.contents console.err) (E.contents result.console.err) }
+    ensures { let ends = InputEnd (D.empty disk.old) (D.free disk.old) (world (O.contents out) (D.file disk.old)) (world (O.contents result.out) (D.file disk.new)) (F.gives folder.now) (F.fails folder.now) in
+        IsRun (ends (R.remaining input) (asked_of args.now)) (IsPlain console.is_terminal console.is_verbose result.console.is_whole) (E.contents console.err) (E.contents result.console.err) result.status }
 {
     match args.read_input(alloc, folder, input) {
         Ok(bytes) => run_named(alloc, folder, disk, args, bytes.as_bytes(), out, console),
@@ -138,8 +142,8 @@ fn run_named<'n, F: Folder, D: Disk, O: Write + Drop, E: Write + Drop>(
     out: O,
     console: Console<E>,
 ) -> Ran<O, E>
-    ensures { let ends = NamesEnd (F.gives folder.now) (F.fails folder.now) (O.contents out) (O.contents result.out) (D.empty disk.old) (D.free disk.old) (D.file disk.old) (D.file disk.new) in
-        Tells (ends args.now bytes.now) result.status (IsPlain console.is_terminal console.is_verbose result.console.is_whole) (E.contents console.err) (E.contents result.console.err) }
+    ensures { let ends = NamesEnd (D.empty disk.old) (D.free disk.old) (world (O.contents out) (D.file disk.old)) (world (O.contents result.out) (D.file disk.new)) (F.gives folder.now) (F.fails folder.now) in
+        IsRun (ends (asked_of args.now) bytes.now) (IsPlain console.is_terminal console.is_verbose result.console.is_whole) (E.contents console.err) (E.contents result.console.err) result.status }
 {
     match args.names(alloc, bytes) {
         Ok(names) => {
@@ -168,9 +172,9 @@ fn run_request<'n, F: Folder, D: Disk, O: Write + Drop, E: Write + Drop>(
     disk: &mut D,
     out: O,
 ) -> Ran<O, E>
-    ensures { let ends = RunEnds (F.gives inputs.entry.files.now) (F.fails inputs.entry.files.now) (O.contents out) (O.contents result.out) (D.empty disk.old) (D.free disk.old) (D.file disk.old) (D.file disk.new) in
-        Tells (ends args.now inputs.entry.bundle.now inputs.entry.names.now)
-        result.status (IsPlain inputs.entry.console.is_terminal inputs.entry.console.is_verbose result.console.is_whole) (E.contents inputs.entry.console.err) (E.contents result.console.err) }
+    ensures { let ends = TaskEnds (D.empty disk.old) (D.free disk.old) (world (O.contents out) (D.file disk.old)) (world (O.contents result.out) (D.file disk.new)) (F.gives inputs.entry.files.now) (F.fails inputs.entry.files.now) in
+        IsRun (ends (asked_of args.now) inputs.entry.bundle.now (name_texts inputs.entry.names.now))
+        (IsPlain inputs.entry.console.is_terminal inputs.entry.console.is_verbose result.console.is_whole) (E.contents inputs.entry.console.err) (E.contents result.console.err) result.status }
 {
     let names = inputs.names;
     let (done, out) = write(args, &mut inputs, disk, out);

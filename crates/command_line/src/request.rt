@@ -1,6 +1,7 @@
 ghost use Rattle.std.specs.Prelude.{◌≡◌, IfOk, IfErr, option_map};
-ghost use Rattle.command_line.specs.Program.{IsInput, IsInputError, input_of};
+ghost use Rattle.command_line.specs.Page.{IsInput, IsInputError, input_of};
 ghost use Rattle.command_line.specs.ReportNames.{AreReportNames, IsNameError, name_end, without_return};
+ghost use Rattle.command_line.specs.Words.{asked_of, name_texts, task_of};
 
 use crate::error::{Error, STANDARD_INPUT};
 use crate::folder::{Folder, read_bytes};
@@ -61,8 +62,8 @@ impl<'w> Args<'w> {
         folder: &F,
         input: R,
     ) -> Result<Encoded, Error<'w>>
-        ensures ok { IfOk result (IsInput (F.gives folder.now) (R.remaining input) (input_of self.now)) }
-        ensures err { IfErr result (IsInputError (F.fails folder.now) (R.remaining input) (input_of self.now)) }
+        ensures ok { IfOk result (IsInput (F.gives folder.now) (R.remaining input) (input_of (task_of self.now.request) (option_map (λ name. name.now) self.now.list))) }
+        ensures err { IfErr result (IsInputError (F.fails folder.now) (R.remaining input) (input_of (task_of self.now.request) (option_map (λ name. name.now) self.now.list))) }
     {
         let Some(name) = self.input_name() else {
             return Ok(Encoded::from_vec(Vec::new(alloc)));
@@ -75,7 +76,7 @@ impl<'w> Args<'w> {
     }
 
     fn input_name(&self) -> Option<&'w str>
-        ensures { option_map (λ name. name.now) result ≡ input_of self.now }
+        ensures { option_map (λ name. name.now) result ≡ input_of (task_of self.now.request) (option_map (λ name. name.now) self.now.list) }
     {
         match &self.request {
             Request::Bundle => Some(STANDARD_INPUT),
@@ -93,8 +94,8 @@ impl<'w> Args<'w> {
         alloc: Global,
         bytes: &'n [u8],
     ) -> Result<Vec<&'n str>, Error<'w>>
-        ensures ok { IfOk result (λ names. AreReportNames self.now bytes.now names.items) }
-        ensures err { IfErr result (IsNameError self.now bytes.now) }
+        ensures ok { IfOk result (λ names. AreReportNames (asked_of self.now) bytes.now (name_texts names.items)) }
+        ensures err { IfErr result (IsNameError (asked_of self.now) bytes.now) }
     {
         let mut all = Vec::from_slice(alloc, self.reports.as_slice())?;
         let Some(list) = self.list else {

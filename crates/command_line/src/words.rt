@@ -2,8 +2,8 @@ ghost use Rattle.std.specs.Prelude.{◌≡◌, ◌⊎◌, IfErr, IfOk, Some, map
 ghost use Rattle.clap.specs.Words.{App, kind_of, subcommand_rows_of, with_subcommand};
 ghost use Rattle.clap.specs.declared.error.kind.ErrorKind.TheVariants as kind;
 ghost use Rattle.command_line.specs.Arguments.{AreTables, IsApp, Tables, program_app, top_app};
-ghost use Rattle.command_line.specs.Program.{IsWordsError};
-ghost use Rattle.command_line.specs.Words.{AskFor, AskForNothing, CallForHelp, HasFault, IsAlone, Mean, asked, asked_of};
+ghost use Rattle.command_line.specs.Page.{IsWordsError};
+ghost use Rattle.command_line.specs.Words.{AskFor, AskForNothing, CallForHelp, HasFault, Mean, alone, asked, asked_of, task_of};
 
 use crate::arguments::{Building, command};
 use crate::commands::rows;
@@ -46,7 +46,7 @@ Status of each command; if several apply, the highest:
 ///
 /// Errors: `Usage` if the arguments are not valid, and out of memory.
 pub(crate) fn read_words<W: AsStr>(alloc: Global, words: &[W]) -> Result<Args<'_>, Error<'_>>
-    ensures ok { IfOk result (Mean (map W.text words.entry.now)) }
+    ensures ok { IfOk result (λ args. Mean (map W.text words.entry.now) (asked_of args)) }
     ensures err { IfErr result (IsWordsError (map W.text words.entry.now)) }
 {
     if words.is_empty() {
@@ -97,7 +97,7 @@ fn escape_each<W: AsStr>(alloc: Global, words: &[W]) -> Result<Vec<String>, Allo
 }
 
 fn alone(alloc: Global, request: Request<'_>) -> Args<'_>
-    ensures { IsAlone request.entry result }
+    ensures { asked_of result ≡ alone (task_of request.entry) }
 {
     Args {
         request,
@@ -112,7 +112,7 @@ fn alone(alloc: Global, request: Request<'_>) -> Args<'_>
 }
 
 fn parse<W: AsStr>(alloc: Global, words: &[W]) -> Result<Args<'_>, clap::Error>
-    ensures ok { IfOk result (AskFor (map W.text words.entry.now)) }
+    ensures ok { IfOk result (λ args. AskFor (map W.text words.entry.now) (asked_of args)) }
     ensures err { IfErr result (λ e. (kind_of e ≡ kind.OutOfMemory)
         ⊎ HasFault (map W.text words.entry.now) (kind_of e) ⊎ AskForNothing (map W.text words.entry.now)) }
     ensures help { IfErr result (λ e. (kind_of e ≡ kind.DisplayHelp) ⊎ (kind_of e ≡ kind.DisplayVersion) → CallForHelp (map W.text words.entry.now)) }
@@ -131,7 +131,7 @@ fn missing_command(alloc: Global) -> Result<clap::Error, AllocError>
 }
 
 fn args_of<'w>(alloc: Global, matches: &ArgMatches<'w>) -> Result<Option<Args<'w>>, AllocError>
-    ensures { IfOk result (λ o. option_map asked_of o ≡ option_map Some (asked (subcommand_rows_of matches.now))) }
+    ensures { IfOk result (λ o. option_map asked_of o ≡ asked (subcommand_rows_of matches.now)) }
 {
     match matches.subcommand() {
         Some((name, inner)) => args_in(alloc, name, inner),

@@ -1,11 +1,10 @@
 ghost use Rattle.std.specs.Prelude.{◌≡◌, ◌-◌, ◌^◌, ◌<◌, false, Err, IfErr, IfOk, MatchResult};
 ghost use Rattle.oim_report.specs.Outcome.{outcome};
 ghost use Rattle.oim_merge.specs.Checked.{IsChecked};
-ghost use Rattle.command_line.specs.Endings.{Ends, Never, Puts};
+ghost use Rattle.command_line.specs.Endings.{CommandEnds, Ends, Never, Puts};
 ghost use Rattle.command_line.specs.Outputs.{Checks, accepted_line};
-ghost use Rattle.command_line.specs.Runs.{CommandEnds};
 ghost use Rattle.command_line.specs.Why.{IsOutputError, WhyUnder};
-ghost use Rattle.command_line.specs.declared.request.Subcommand.TheVariants.{Check};
+ghost use Rattle.command_line.specs.Words.{check, name_texts};
 
 use crate::commands::put_text;
 use crate::error::Error;
@@ -56,9 +55,9 @@ pub(crate) fn run<'n, F: Folder, E: Write, S: Sink>(
     out: &mut S,
 ) -> Result<Refusals, Error<'n>>
     requires { S.failures out.old < 2 ^ 64 - 1 }
-    ensures ends { CommandEnds (F.gives inputs.old.files.now) inputs.old.names.now sheet.now (Check report.entry)
+    ensures ends { CommandEnds (F.gives inputs.old.files.now) (name_texts inputs.old.names.now) sheet.now (check report.now)
         (S.told out.old) (S.told out.new) result }
-    ensures why { IfErr result (WhyUnder (F.gives inputs.old.files.now) (F.fails inputs.old.files.now) inputs.old.names.now (Check report.entry)) }
+    ensures why { IfErr result (WhyUnder (F.gives inputs.old.files.now) (F.fails inputs.old.files.now) (name_texts inputs.old.names.now) (check report.now)) }
     ensures console { inputs.old.console.is_terminal ≡ false → inputs.new.console ≡ inputs.old.console }
 {
     let bytes = inputs.read(report)?;

@@ -1,4 +1,5 @@
-ghost use Rattle.std.specs.Prelude.{◌≡◌, ◌+◌, ◌-◌, ◌^◌, ◌<◌, false, nat_lt, if◌then◌else◌, IfErr, IfOk, None, Ok, OnOk};
+ghost use Rattle.std.specs.Prelude.{◌≡◌, ◌+◌, ◌-◌, ◌^◌, ◌<◌, false, nat_lt, if◌then◌else◌, ℕ, List, IfErr, IfOk, None, Ok, OnOk};
+ghost use Rattle.std.specs.Io.KnownBytes.{Appends};
 ghost use Rattle.oim_report.specs.Sheet.{sheet_outcome};
 ghost use Rattle.oim_write.specs.BoundedSink.{bounded_failures};
 ghost use Rattle.oim_explain.specs.Explained.{counted};
@@ -6,9 +7,9 @@ ghost use Rattle.command_line.specs.Endings.{Puts};
 ghost use Rattle.command_line.specs.Explained.{counts_line};
 ghost use Rattle.command_line.specs.Explaining.{ReportsEnd, UnderEnds};
 ghost use Rattle.command_line.specs.Faults.{IsOutputFault};
-ghost use Rattle.command_line.specs.Runs.{ExplainEnds};
-ghost use Rattle.command_line.specs.Why.{IsFirstLost, IsNoSheet, NoLine, NoReason, RequestWhy, Why, WhyExplained};
-ghost use Rattle.command_line.specs.declared.request.Request.TheVariants.{Explain};
+ghost use Rattle.command_line.specs.Page.{EndsWith};
+ghost use Rattle.command_line.specs.Why.{IsFirstLost, IsNoSheet, NoLine, NoReason, Why, WhyExplained};
+ghost use Rattle.command_line.specs.Words.{explain, name_texts, under};
 
 use crate::commands::put_text;
 use crate::error::{Error, Success};
@@ -80,9 +81,8 @@ pub(crate) fn run<'n, F: Folder, E: Write, S: Sink>(
     out: &mut BoundedSink<S>,
 ) -> Result<Success, Error<'n>>
     requires { bounded_failures (S.failures out.old.sink) out.old.overruns < 2 ^ 64 - 1 }
-    ensures ends { ExplainEnds (F.gives inputs.old.files.now) inputs.old.names.now name.entry format
-        (S.told out.old.sink) (S.told out.new.sink) result }
-    ensures why { IfErr result (RequestWhy (F.gives inputs.old.files.now) (F.fails inputs.old.files.now) inputs.old.bundle.now inputs.old.names.now None (Explain name.entry format)) }
+    ensures ends { (part : List ℕ) × EndsWith (F.gives inputs.old.files.now) (F.fails inputs.old.files.now) inputs.old.bundle.now (name_texts inputs.old.names.now)
+        None (under name.now (explain format)) part result × Appends (S.told out.old.sink) (S.told out.new.sink) part }
     ensures console { inputs.old.console.is_terminal ≡ false → inputs.new.console ≡ inputs.old.console }
 {
     let bytes = inputs.read(name)?;
@@ -127,7 +127,7 @@ fn put_under<'n, F: Folder, E: Write, S: Sink>(
         (S.told out.old.sink) (S.told out.new.sink) result }
     ensures failures { OnOk result (bounded_failures (S.failures out.new.sink) out.new.overruns ≡ bounded_failures (S.failures out.old.sink) out.old.overruns) }
     ensures names { inputs.new.names ≡ inputs.old.names }
-    ensures why { IfErr result (WhyExplained (F.gives inputs.old.files.now) (F.fails inputs.old.files.now) inputs.old.names.now bytes.now) }
+    ensures why { IfErr result (WhyExplained (F.gives inputs.old.files.now) (F.fails inputs.old.files.now) (name_texts inputs.old.names.now) bytes.now) }
     ensures console { inputs.old.console.is_terminal ≡ false → inputs.new.console ≡ inputs.old.console }
 {
     let sheet = read_sheet(inputs.alloc, name, bytes)?;
@@ -190,7 +190,7 @@ fn put_each<'n, F: Folder, E: Write, S: Sink>(
         (S.told out.old.sink) (S.told out.new.sink) faults result }
     ensures failures { OnOk result (bounded_failures (S.failures out.new.sink) out.new.overruns ≡ bounded_failures (S.failures out.old.sink) out.old.overruns) }
     ensures names { inputs.new.names ≡ inputs.old.names }
-    ensures why { IfErr result (Why (IsFirstLost (F.gives inputs.old.files.now) (F.fails inputs.old.files.now) inputs.old.names.now) NoReason NoLine IsOutputFault) }
+    ensures why { IfErr result (Why (IsFirstLost (F.gives inputs.old.files.now) (F.fails inputs.old.files.now) (name_texts inputs.old.names.now)) NoReason NoLine IsOutputFault) }
     ensures console { inputs.old.console.is_terminal ≡ false → inputs.new.console ≡ inputs.old.console }
 {
     let (alloc, names) = (inputs.alloc, inputs.names);

@@ -1,12 +1,10 @@
 ghost use Rattle.std.specs.Prelude.{◌≡◌, ◌-◌, ◌^◌, ◌<◌, false, length, IfOk, IfErr};
 ghost use Rattle.oim_merge.specs.Replay.{IsReplayOf};
 ghost use Rattle.oim_merge.specs.Schedule.{IsFirstBad};
-ghost use Rattle.command_line.specs.Endings.{Ends, Never, Puts};
+ghost use Rattle.command_line.specs.Endings.{CommandEnds, Ends, Never, Puts};
 ghost use Rattle.command_line.specs.Outputs.{PrintsReplay, replica_lines};
-ghost use Rattle.command_line.specs.Reading.{WithRead};
-ghost use Rattle.command_line.specs.Runs.{CommandEnds};
-ghost use Rattle.command_line.specs.Why.{IsFirstLost, IsOutputError, NoFailure, NoReason, Why, WhyUnder};
-ghost use Rattle.command_line.specs.declared.request.Subcommand.TheVariants.{Replay};
+ghost use Rattle.command_line.specs.Why.{IsFirstLost, IsOutputError, NoFailure, NoReason, Why, WhyUnder, WithRead};
+ghost use Rattle.command_line.specs.Words.{name_texts, replay};
 
 use crate::commands::put_text;
 use crate::error::Error;
@@ -63,9 +61,9 @@ pub(crate) fn run<'n, F: Folder, E: Write, S: Sink>(
     out: &mut S,
 ) -> Result<Refusals, Error<'n>>
     requires { S.failures out.old < 2 ^ 64 - 1 }
-    ensures ends { CommandEnds (F.gives inputs.old.files.now) inputs.old.names.now sheet.now (Replay replicas schedule.entry)
+    ensures ends { CommandEnds (F.gives inputs.old.files.now) (name_texts inputs.old.names.now) sheet.now (replay replicas schedule.now)
         (S.told out.old) (S.told out.new) result }
-    ensures why { IfErr result (WhyUnder (F.gives inputs.old.files.now) (F.fails inputs.old.files.now) inputs.old.names.now (Replay replicas schedule.entry)) }
+    ensures why { IfErr result (WhyUnder (F.gives inputs.old.files.now) (F.fails inputs.old.files.now) (name_texts inputs.old.names.now) (replay replicas schedule.now)) }
     ensures console { inputs.old.console.is_terminal ≡ false → inputs.new.console ≡ inputs.old.console }
 {
     let lines = inputs.read(schedule)?;
@@ -80,9 +78,9 @@ fn replay_reports<'n, 's, F: Folder, E: Write>(
     sheet: &'s Sheet,
     inputs: &mut Inputs<'n, F, E>,
 ) -> Result<Replayed<'s>, Error<'n>>
-    ensures ok { IfOk result (λ replayed. WithRead (F.gives inputs.old.files.now) inputs.old.names.now
+    ensures ok { IfOk result (λ replayed. WithRead (F.gives inputs.old.files.now) (name_texts inputs.old.names.now)
         (λ reports. IsReplayOf sheet.now replicas reports events.now replayed)) }
-    ensures why { IfErr result (Why (IsFirstLost (F.gives inputs.old.files.now) (F.fails inputs.old.files.now) inputs.old.names.now) NoReason (λ line. WithRead (F.gives inputs.old.files.now) inputs.old.names.now (λ reports. IsFirstBad replicas (length reports) events.now line)) NoFailure) }
+    ensures why { IfErr result (Why (IsFirstLost (F.gives inputs.old.files.now) (F.fails inputs.old.files.now) (name_texts inputs.old.names.now)) NoReason (λ line. WithRead (F.gives inputs.old.files.now) (name_texts inputs.old.names.now) (λ reports. IsFirstBad replicas (length reports) events.now line)) NoFailure) }
     ensures console { inputs.old.console.is_terminal ≡ false → inputs.new.console ≡ inputs.old.console }
 {
     let reports = inputs.read_reports()?;

@@ -5,6 +5,7 @@ ghost use Rattle.oim_write.specs.BoundedSink.{bounded_failures};
 ghost use Rattle.command_line.specs.Endings.{Ends, Never};
 ghost use Rattle.command_line.specs.Outputs.{AreSources, AreVerdicts};
 ghost use Rattle.command_line.specs.Why.{IsOutputError};
+ghost use Rattle.command_line.specs.Words.{name_texts};
 ghost use Rattle.command_line.specs.declared.print_format.PrintFormat.TheVariants.{Lines, Rows};
 
 use crate::error::Error;
@@ -152,7 +153,7 @@ pub(crate) fn put_sources<'n, S: Sink>(
     out: &mut S,
 ) -> Result<Refusals, Error<'n>>
     requires { S.failures out.old < 2 ^ 64 - 1 }
-    ensures ends { Ends (AreSources format files.now merge.entry) (S.told out.old) (S.told out.new) Never result }
+    ensures ends { Ends (AreSources format (name_texts files.now) merge.entry) (S.told out.old) (S.told out.new) Never result }
     ensures why { IfErr result IsOutputError }
 {
     match format {

@@ -1,6 +1,5 @@
 use Rattle.std.proofs.Common.{[], refl}
-use Rattle.command_line.specs.Endings.{Ends, Never}
-use Rattle.command_line.specs.Runs.{PrintsHelp}
+use Rattle.command_line.specs.Endings.{Ends, Never, PrintsHelp}
 use Rattle.command_line.specs.declared.error.Success.TheVariants.{Refusals}
 use Rattle.command_line.proofs.Ends.{of_error, put_stops}
 use Rattle.command_line.proofs.commands.put_help.Goals as goal

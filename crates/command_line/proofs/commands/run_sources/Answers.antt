@@ -1,13 +1,14 @@
 use Rattle.std.proofs.Common.{subst}
 use Rattle.command_line.specs.Endings.{Ends, Never}
 use Rattle.command_line.specs.Outputs.{AreSources}
+use Rattle.command_line.specs.Words.{name_texts}
 use Rattle.command_line.proofs.Faults.{sources_end}
 use Rattle.command_line.proofs.commands.run_sources.Goals as goal
 
 pub returns-clause-ends : goal.returns-clause-ends
 returns-clause-ends g c =
     let told = g.S.Sink.told in
-    let names = c.args.inputs.now.names.now in
+    let names = name_texts c.args.inputs.now.names.now in
     let t = c.in_ok-merge.merge in
     let new = told c.put_sources.new.out.sink in
     sources_end (g.F.Folder.gives c.args.inputs.now.files.now) names c.args.sheet.now (told c.args.out.now.sink) new

@@ -1,17 +1,9 @@
-use Rattle.std.proofs.Common.{◌∙◌, ◌≡◌, ◌||◌, Bool, Option, Some, None, ap, ap₂, if◌then◌else◌, sym, List}
-use Rattle.std.specs.Option.{option_map, unwrap_or}
-use Rattle.clap.specs.Walk.{Row, Text}
+use Rattle.std.proofs.Common.{◌≡◌, ◌∙◌, ◌||◌, Bool, None, Some, ap, ap₂, if◌then◌else◌, sym}
+use Rattle.std.specs.Option.{option_map}
 use Rattle.clap.specs.Words.{found_of, rows_of}
 use Rattle.command_line.specs.declared.request.Args.{Args}
-use Rattle.command_line.specs.Words.{Work, request_asked, with_options, with_options_of, work_in}
+use Rattle.command_line.specs.Words.{asked_of, task_asked, task_of, with_options}
 use Rattle.command_line.proofs.matches.args_in.Goals as goal
-
--- the same options with the same request
-same_asked : (args : Args) (rows : List Row) → ((p : Text × Work) → with_options_of args p ≡ with_options rows p)
-    → (w o : Option (Text × Work)) → Some w ≡ option_map Some o → Some (option_map (with_options_of args) w) ≡ option_map Some (option_map (with_options rows) o)
-same_asked args rows same w None e = cc
-same_asked args rows same w (Some p) e =
-    ap Some (ap (option_map (with_options_of args)) (ap (λ x. unwrap_or x None) e) ∙ ap Some (same p))
 
 pub returns : goal.returns
 returns c =
@@ -26,10 +18,9 @@ returns c =
       is_quiet = c.flag_in-2.result;
       is_verbose = c.flag_in-3.result;
     } in
-    let asked = request_asked c.args.name.now rows in
-    same_asked args rows (λ p i. record {
-      sheet = p.0;
-      work = p.1;
+    let asked = task_asked c.args.name.now rows in
+    let same : asked_of args ≡ with_options rows (task_of c.in-Some.request) = λ i. record {
+      task = task_of c.in-Some.request;
       names = c.in_ok-reports.ensures i;
       list = c.text_in.ensures i;
       is_null = c.flag_in.ensures i;
@@ -37,6 +28,7 @@ returns c =
       most = c.number_in.ensures i;
       is_quiet = c.flag_in-2.ensures i;
       is_verbose = c.flag_in-3.ensures i;
-    }) (work_in c.in-Some.request) asked (ap (option_map work_in) (sym c.in-Some.is) ∙ c.request_in.ensures)
-    ∙ ap₂ (λ (a b : Bool). option_map Some (if a || b then None else option_map (with_options rows) asked))
-    (sym c.if-lacks.false ∙ c.lacks.ensures) (sym c.if-lacks-2.false ∙ c.lacks-else-lacks.ensures)
+    } in
+    ap Some same
+    ∙ ap (option_map (with_options rows)) (ap (option_map task_of) (sym c.in-Some.is) ∙ c.request_in.ensures)
+    ∙ ap₂ (λ (a b : Bool). if a || b then None else option_map (with_options rows) asked) (sym c.if-lacks.false ∙ c.lacks.ensures) (sym c.if-lacks-2.false ∙ c.lacks-else-lacks.ensures)

@@ -28,8 +28,8 @@ returns-in-Some-clause-ok g c =
     let words = map g.W.AsStr.text c.args.words.now in
     let kinds = c.in_ok-matches.ensures.kinds (ap is_simple_and_free made.2.0 ∙ free made.0) in
     let matches = c.in_ok-matches.ensures.matches (ap is_simple made.2.0 ∙ simple made.0) in
-    some_asked made.0 made.1 words c.in-Some.args (sym (ap (λ (a : App). fault_of a words) made.2.0) ∙ kinds)
-    (ap (option_map asked_of) (sym c.in-Some.is) ∙ c.in_ok-args.ensures ∙ ap (λ x. option_map Some (asked x)) (matches.1 ∙ ap (λ (a : App). subcommand_of a words) made.2.0))
+    some_asked made.0 made.1 words (asked_of c.in-Some.args) (sym (ap (λ (a : App). fault_of a words) made.2.0) ∙ kinds)
+    (ap (option_map asked_of) (sym c.in-Some.is) ∙ c.in_ok-args.ensures ∙ ap asked (matches.1 ∙ ap (λ (a : App). subcommand_of a words) made.2.0))
 
 pub returns-clause-err : goal.returns-clause-err
 returns-clause-err g c =
@@ -38,4 +38,4 @@ returns-clause-err g c =
     let kinds = c.in_ok-matches.ensures.kinds (ap is_simple_and_free made.2.0 ∙ free made.0) in
     let matches = c.in_ok-matches.ensures.matches (ap is_simple made.2.0 ∙ simple made.0) in
     inr (inr (none_asked made.0 made.1 words (sym (ap (λ (a : App). fault_of a words) made.2.0) ∙ kinds)
-    (ap (option_map asked_of) (sym c.in-None.is) ∙ c.in_ok-args.ensures ∙ ap (λ x. option_map Some (asked x)) (matches.1 ∙ ap (λ (a : App). subcommand_of a words) made.2.0))))
+    (ap (option_map asked_of) (sym c.in-None.is) ∙ c.in_ok-args.ensures ∙ ap asked (matches.1 ∙ ap (λ (a : App). subcommand_of a words) made.2.0))))

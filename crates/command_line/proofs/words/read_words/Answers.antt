@@ -8,7 +8,7 @@ use Rattle.command_line.proofs.words.read_words.Goals as goal
 pub returns-in-DisplayHelp-clause-ok : goal.returns-in-DisplayHelp-clause-ok
 returns-in-DisplayHelp-clause-ok g c =
     let is = subst (λ k. (k ≡ kind.DisplayHelp) ⊎ (k ≡ kind.DisplayVersion)) c.kind.ensures c.in-DisplayHelp.is in
-    inr (inl (c.in-Err.ensures.help is, (c.in-Err.error, c.alone-in-DisplayHelp.ensures)))
+    inr (inl (c.in-Err.ensures.help is, c.alone-in-DisplayHelp.ensures))
 
 pub returns : goal.returns
 returns g c =

@@ -5,13 +5,14 @@ use Rattle.oim_write.specs.BoundedSink.{bounded_failures}
 use Rattle.command_line.specs.Endings.{Puts}
 use Rattle.command_line.specs.Explaining.{ListsReports, ReportsEnd}
 use Rattle.command_line.specs.Faults.{IsOutputFault}
-use Rattle.command_line.specs.Reading.{AreRead}
-use Rattle.command_line.specs.Why.{IsFirstLost, IsLost, IsUnread, NoLine, NoReason, Why}
+use Rattle.std.specs.List.{AllZip}
+use Rattle.command_line.specs.Why.{IsFirstLost, IsUnread, NoLine, NoReason, Why}
+use Rattle.command_line.specs.Words.{name_texts}
 use Rattle.command_line.specs.declared.error.Error.TheVariants.{OutOfMemory}
 use Rattle.command_line.proofs.Ends.{of_error}
-use Rattle.command_line.proofs.Explained.{explained_report, lists_more, put_stops, stops_before, stops_within}
+use Rattle.command_line.proofs.Explained.{explained_report, lists_more, put_part, stops_before, stops_within}
 use Rattle.command_line.proofs.Readings.{no_name}
-use Rattle.command_line.proofs.Why.{bytes_of, explained_read, read_not_loose, stops_at}
+use Rattle.command_line.proofs.Why.{bytes_of, explained_read, stops_at}
 use Rattle.command_line.proofs.commands.explain.put_each.Goals as goal
 
 pub returns-in_err-report-clause-ends : goal.returns-in_err-report-clause-ends
@@ -24,7 +25,7 @@ returns-in_err-report-clause-ends g c =
     let new = g.S.Sink.told l.out.sink in
     let e = c.in_err-report.field-0.0 in
     of_error (ReportsEnd gives c.args.format sheet names old new c.args.faults) c.from_residual.result e c.from_residual.ensures.1
-    (read_not_loose (IsLost (g.F.Folder.fails l.inputs.files.now) (get_or names l.index no_name).now) e c.in_err-report.ensures.why, stops_before gives c.args.format sheet names l.index old new c.args.faults l.counts l.invariant.lists)
+    (stops_before gives c.args.format sheet names l.index old new c.args.faults l.counts l.invariant.lists)
 
 pub returns-in_err-explained-clause-ends : goal.returns-in_err-explained-clause-ends
 returns-in_err-explained-clause-ends g c =
@@ -36,7 +37,7 @@ returns-in_err-explained-clause-ends g c =
     let old = told c.args.out.now.sink in
     let lists = subst (λ sink. ListsReports gives c.args.format sheet (take l.index names) old (told sink) c.args.faults l.counts) (sym c.raise.ensures.sink) l.invariant.lists in
     of_error (ReportsEnd gives c.args.format sheet names old (told c.raise.new.self.sink) c.args.faults) c.from_residual-in_err-explained.result OutOfMemory c.from_residual-in_err-explained.ensures.1
-    (tt, stops_before gives c.args.format sheet names l.index old (told c.raise.new.self.sink) c.args.faults l.counts lists)
+    (stops_before gives c.args.format sheet names l.index old (told c.raise.new.self.sink) c.args.faults l.counts lists)
 
 pub returns-in_err-put_text-clause-ends : goal.returns-in_err-put_text-clause-ends
 returns-in_err-put_text-clause-ends g c =
@@ -57,9 +58,9 @@ returns-in_err-put_text-clause-ends g c =
     let gave = subst (λ files. g.F.Folder.gives files.now name.now c.in_ok-report.report) l.invariant.files c.in_ok-report.ensures.ok in
     let number : c.saturating_add.result ≡ 1 + l.index = omega (arith, c.saturating_add.ensures, c.loop-index-test.true) in
     let is = explained_report gives format sheet name c.in_ok-report.report c.as_bytes.result.now found c.saturating_add.result (1 + l.index) gave number c.as_bytes.ensures c.in_ok-explained.ensures in
-    let part = put_stops text mid new e (subst (λ t. Puts t mid new (Err e)) c.as_str.ensures.value c.in_err-put_text.ensures.put) in
+    let part = put_part text mid new e (subst (λ t. Puts t mid new (Err e)) c.as_str.ensures.value c.in_err-put_text.ensures.put) in
     of_error (ReportsEnd gives format sheet names old new c.args.faults) c.from_residual-in_err-put_text.result e c.from_residual-in_err-put_text.ensures.1
-    (part.0, stops_within gives format sheet names l.index c.loop-index-test.true (record { name = name; bytes = c.in_ok-report.report; explained = found }) refl old mid new c.args.faults l.counts lists is part.1)
+    (stops_within gives format sheet names l.index c.loop-index-test.true (record { name = name; bytes = c.in_ok-report.report; explained = found }) refl old mid new c.args.faults l.counts lists is part)
 
 pub returns-in_err-report-clause-why : goal.returns-in_err-report-clause-why
 returns-in_err-report-clause-why g c =
@@ -70,9 +71,9 @@ returns-in_err-report-clause-why g c =
     let lists = l.invariant.lists in
     let bytes = bytes_of lists.reports in
     let e = c.in_err-report.field-0.0 in
-    let read = subst (λ ns. AreRead gives ns bytes) lists.named (explained_read gives c.args.format c.args.names_of_sheet.now.sheet.now 1 lists.reports lists.are) in
+    let read = subst (λ ns. AllZip gives (name_texts ns) bytes) lists.named (explained_read gives c.args.format c.args.names_of_sheet.now.sheet.now 1 lists.reports lists.are) in
     let why = subst (λ files. IsUnread (g.F.Folder.fails files.now) (get_or names l.index no_name).now e) l.invariant.files c.in_err-report.ensures.why in
-    of_error (λ r. IfErr r (Why (IsFirstLost gives fails names) NoReason NoLine IsOutputFault)) c.from_residual.result e c.from_residual.ensures.1
+    of_error (λ r. IfErr r (Why (IsFirstLost gives fails (name_texts names)) NoReason NoLine IsOutputFault)) c.from_residual.result e c.from_residual.ensures.1
     (stops_at gives fails names l.index c.loop-index-test.true bytes read IsOutputFault e why)
 
 pub loop-index-preserved : goal.loop-index-preserved

@@ -1,7 +1,8 @@
 use Rattle.std.proofs.Common.{◌∙◌, ap, ◌+◌, subst, sym, get_or, take}
 use Rattle.std.specs.Prelude.{IfErr}
-use Rattle.command_line.specs.Reading.{AreRead}
+use Rattle.std.specs.List.{AllZip}
 use Rattle.command_line.specs.Why.{AreUnread, IsUnread, NoFailure}
+use Rattle.command_line.specs.Words.{name_texts}
 use Rattle.command_line.proofs.Readings.{no_name, read_more}
 use Rattle.command_line.proofs.Ends.{of_error}
 use Rattle.command_line.proofs.Why.{stops_at}
@@ -17,7 +18,7 @@ loop-name-preserved g c =
     record {
       files = c.read_report.ensures.files ∙ l.invariant.files;
       console = λ plain. let same = l.invariant.console plain in c.read_report.ensures.console (ap (λ console. console.is_terminal) same ∙ plain) ∙ same;
-      read = subst (AreRead (gives c.args.self.now.files.now) (take (l.name-index + 1) names)) (sym c.in_ok-push.ensures.items)
+      read = subst (AllZip (gives c.args.self.now.files.now) (name_texts (take (l.name-index + 1) names))) (sym c.in_ok-push.ensures.items)
           (read_more (gives c.args.self.now.files.now) names l.name-index bytes c.loop-name-test.true gave l.all.items l.invariant.read);
     }
 
@@ -29,5 +30,5 @@ returns-in_err-read_report-clause-why g c =
     let l = c.loop-name in
     let e = c.in_err-read_report.field-0.0 in
     let why = subst (λ files. IsUnread (g.F.Folder.fails files.now) (get_or names l.name-index no_name).now e) l.invariant.files c.in_err-read_report.ensures.why in
-    of_error (λ r. IfErr r (AreUnread gives fails names)) c.from_residual.result e c.from_residual.ensures.1
+    of_error (λ r. IfErr r (AreUnread gives fails (name_texts names))) c.from_residual.result e c.from_residual.ensures.1
     (stops_at gives fails names l.name-index c.loop-name-test.true l.all.items l.invariant.read NoFailure e why)

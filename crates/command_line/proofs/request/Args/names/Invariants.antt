@@ -1,6 +1,7 @@
 use Rattle.std.proofs.Common.{◌≡◌, ◌++◌, map}
 use Rattle.std.specs.List.{filter}
-use Rattle.command_line.specs.ReportNames.{has_text, name_texts, without_return}
+use Rattle.command_line.specs.ReportNames.{has_text, without_return}
+use Rattle.command_line.specs.Words.{name_texts}
 use Rattle.command_line.proofs.request.Args.names.Given as goal
 
 -- the names of the words, and those among the pieces so far

@@ -1,0 +1,218 @@
+-- A run of the program on one page: its words, the bytes of the files that they name, its output, status and printed lines (own).
+-- `Outputs` has the text of each command, `Explained` that of `explain`, `Why` what holds of a file that was not read, `Printed` the
+-- status and the lines.
+use Rattle.std.specs.Prelude.{◌≡◌, ◌≢◌, ◌⊎◌, ℕ, Bool, true, false, List, [], ◌++◌, Option, Some, None, Result, Ok, Err, IfSome, IsErrAnd, IsTrue, codes, ⊤}
+use Rattle.std.specs.Io.KnownBytes.{Appends}
+use Rattle.std.specs.Str.{bytes_eq}
+use Rattle.clap.specs.Words.{Text}
+use Rattle.oim_names.specs.declared.reason.Reason.{Reason}
+use Rattle.oim_report.specs.Sheet.{Sheet, sheet_outcome}
+use Rattle.oim_merge.specs.Bundle.{sheet_piece}
+use Rattle.oim_merge.specs.Reports.{merged, refused}
+use Rattle.oim_merge.specs.Traced.{traced}
+use Rattle.command_line.specs.Explained.{ExplainGives}
+use Rattle.command_line.specs.Faults.{IsOutputFault, IsUsageError}
+use Rattle.command_line.specs.Outputs.{AreSources, AreVerdicts, Checks, IsLoose, IsMerge, MergesBundle, NumberedRefusals, Replays}
+use Rattle.command_line.specs.Printed.{lines_of, status_of}
+use Rattle.command_line.specs.ReportNames.{AreReportNames, IsNameError}
+use Rattle.command_line.specs.Why.{IsBadUnder, IsCutInput, IsLost, IsLostUnder, IsRefusedIn, IsUnread, Why, WithRead, WithSheet}
+use Rattle.command_line.specs.Words.{AreRefused, Asked, Mean, Task, Work, bundle, check, explain, help, merge, replay, sources, under, verdicts}
+use Rattle.command_line.specs.declared.error.Error.{Error}
+use Rattle.command_line.specs.declared.error.Error.TheVariants as error
+use Rattle.command_line.specs.declared.error.Success.{Success}
+use Rattle.command_line.specs.declared.error.Success.TheVariants.{Faults, Refusals}
+
+-- clap refuses the words, or memory was refused
+abbrev pub IsWordsError : List Text → Error → Type 0
+IsWordsError words e = IsUsageError e × ((e ≡ error.OutOfMemory) ⊎ AreRefused words)
+
+-- ---- what a command says under a sheet: its text and the refused reports
+
+-- `gives name bytes` holds if a read of the file may give these bytes
+module _ (gives : Text → List ℕ → Type 0) (names : List Text) (sheet : Sheet) where
+  abbrev pub Says : Work → List ℕ → NumberedRefusals → Type 0
+  Says (merge level) text rs = WithRead gives names (λ reports. IsMerge level (merged sheet reports) (refused sheet reports) text rs)
+  Says (verdicts format) text rs = WithRead gives names (λ reports. AreVerdicts format (merged sheet reports) (refused sheet reports) text rs)
+  Says (sources format) text rs = WithRead gives names (λ reports. AreSources format names (traced sheet reports) text rs)
+  Says (check report) text rs = (bytes : List ℕ) × gives report bytes × Checks sheet bytes text rs
+  Says (replay replicas events) text rs = (lines : List ℕ) × gives events lines × WithRead gives names (λ reports. Replays sheet replicas lines reports text rs)
+  Says (explain format) text rs = ⊥
+
+  -- only `merge` has a row that is too loose
+  abbrev pub Loose : Work → ℕ → NumberedRefusals → Type 0
+  Loose (merge level) row rs = WithRead gives names (λ reports. IsLoose level (merged sheet reports) (refused sheet reports) row rs)
+  Loose work row rs = ⊥
+
+-- ---- how a task ends
+
+-- `fails name` holds if a read of the file may fail; `input` has the bytes of the bundle
+module _ (gives : Text → List ℕ → Type 0) (fails : Text → Type 0) (input : List ℕ) where
+  abbrev pub Explains : Text → Work → List Text → List ℕ → ℕ → Type 0
+  Explains sheet (explain format) names text count = ExplainGives gives format sheet names text count
+  Explains sheet work names text count = ⊥
+
+  -- the whole text for these reports, and the result; clap makes the text of help
+  abbrev pub Gives : Task → List Text → List ℕ → Success → Type 0
+  Gives (under sheet work) names text (Refusals rs) = WithSheet gives sheet (λ s. Says gives names s work text rs)
+  Gives (under sheet work) names text (Faults count) = Explains sheet work names text count
+  Gives bundle names text (Refusals rs) = MergesBundle input text rs
+  Gives help names text (Refusals rs) = rs ≡ []
+  Gives task names text (Faults count) = ⊥
+
+  module _ (names : List Text) where
+    -- ---- why it stopped
+
+    -- the sheet was not read, or it was accepted and then another file was not read
+    abbrev pub IsLostIn : Task → Text → Type 0
+    IsLostIn (under sheet work) file = IsLost fails sheet file ⊎ WithSheet gives sheet (λ s. IsLostUnder gives fails names work file)
+    IsLostIn task file = ⊥
+
+    abbrev pub IsRefusedBy : Task → Reason → Type 0
+    IsRefusedBy bundle reason = sheet_outcome (sheet_piece input) ≡ Err reason
+    IsRefusedBy (under sheet work) reason = IsRefusedIn gives sheet reason
+    IsRefusedBy help reason = ⊥
+
+    abbrev pub IsBadIn : Task → ℕ → Type 0
+    IsBadIn (under sheet work) line = WithSheet gives sheet (λ s. IsBadUnder gives names work line)
+    IsBadIn task line = ⊥
+
+    abbrev pub IsLooseIn : Task → ℕ → NumberedRefusals → Type 0
+    IsLooseIn (under sheet work) row rs = WithSheet gives sheet (λ s. Loose gives names s work row rs)
+    IsLooseIn task row rs = ⊥
+
+    -- a row is too loose, or the output failed: the device, or the file with this name
+    abbrev pub IsFailureIn : Option Text → Task → Error → Type 0
+    IsFailureIn output task (error.TooLoose row rs) = IsLooseIn task row rs
+    IsFailureIn (Some name) task (error.Unwritten file cause) = file.now ≡ name
+    IsFailureIn output task e = IsOutputFault e
+
+    abbrev pub Because : Option Text → Task → Error → Type 0
+    Because output task = Why (IsLostIn task) (IsRefusedBy task) (IsBadIn task) (IsFailureIn output task)
+
+    -- ---- what was printed
+
+    -- behind these errors a beginning of the text may stand; `explain` prints each report before it reads the next
+    abbrev pub Cuts : Error → Task → Type 0
+    Cuts (error.Device written) task = ⊤
+    Cuts (error.TooMuch most) task = ⊤
+    Cuts error.OutOfMemory task = ⊤
+    Cuts e (under sheet (explain format)) = ⊤
+    Cuts e task = ⊥
+
+    -- the reports whose text was begun: all, or the first of `explain`
+    abbrev pub AreBegun : Task → List Text → Type 0
+    AreBegun (under sheet (explain format)) first = (others : List Text) × (names ≡ first ++ others)
+    AreBegun task first = first ≡ names
+
+    -- the part is a beginning of the text
+    pub record Begins (task : Task) (part : List ℕ) : Type 0 where
+      pub first : List Text
+      pub begun : AreBegun task first
+      pub text : List ℕ
+      pub success : Success
+      pub gives_text : Gives task first text success
+      pub rest : List ℕ
+      pub whole : text ≡ part ++ rest
+
+    -- how the task ended, if it printed this part
+    abbrev pub EndsWith : Option Text → Task → List ℕ → Result Success Error → Type 0
+    EndsWith output task part (Ok success) = Gives task names part success
+    EndsWith output task part (Err e) = Because output task e × ((part ≡ []) ⊎ (Cuts e task × Begins task part))
+
+-- ---- what is read before
+
+-- the bundle or the file of names; `-` is standard input
+abbrev pub input_of : Task → Option Text → Option Text
+input_of bundle list = Some (codes "-")
+input_of task list = list
+
+-- `all` has the bytes of standard input
+module _ (gives : Text → List ℕ → Type 0) (all : Option (List ℕ)) where
+  abbrev pub IsFrom : Bool → Text → List ℕ → Type 0
+  IsFrom true name bytes = IfSome all (λ given. bytes ≡ given)
+  IsFrom false name bytes = gives name bytes
+
+  abbrev pub IsInput : Option Text → List ℕ → Type 0
+  IsInput None bytes = bytes ≡ []
+  IsInput (Some name) bytes = IsFrom (bytes_eq name (codes "-")) name bytes
+
+module _ (fails : Text → Type 0) (all : Option (List ℕ)) where
+  abbrev pub IsNotFrom : Bool → Text → Error → Type 0
+  IsNotFrom true name = IsCutInput all name
+  IsNotFrom false name = IsUnread fails name
+
+  abbrev pub IsInputError : Option Text → Error → Type 0
+  IsInputError None e = ⊥
+  IsInputError (Some name) e = IsNotFrom (bytes_eq name (codes "-")) name e
+
+-- ---- where the part went
+
+-- what contracts see of the world: the bytes of standard output, and of each file; None where they see nothing
+pub record World : Type 0 where
+  pub out : Option (List ℕ)
+  pub file : Text → Option (List ℕ)
+
+abbrev pub world : Option (List ℕ) → (Text → Option (List ℕ)) → World
+world out file = record { out = out; file = file }
+
+-- `empty` has the bytes of a new file, and `free name` holds if no file has the name
+module _ (empty : Option (List ℕ)) (free : Text → Type 0) (old new : World) where
+  abbrev pub AreKept : Type 0
+  AreKept = (name : Text) → new.file name ≡ old.file name
+
+  -- every file is as it was, but the one with this name, and a new one beside it, whose name was free
+  abbrev pub SparesOthers : Text → Type 0
+  SparesOthers name = ((other : Text) → other ≢ name → new.file other ≡ old.file other)
+      ⊎ ((beside : Text) × free beside × ((other : Text) → other ≢ name → other ≢ beside → new.file other ≡ old.file other))
+
+  -- after a success the file has the part as its bytes; after an error it is as it was
+  abbrev pub IsPlaced : Text → List ℕ → Result Success Error → Type 0
+  IsPlaced name part (Ok success) = Appends empty (new.file name) part
+  IsPlaced name part (Err e) = new.file name ≡ old.file name
+
+  -- to standard output, or to the file with this name
+  abbrev pub Goes : Option Text → List ℕ → Result Success Error → Type 0
+  Goes None part done = Appends old.out new.out part × AreKept
+  Goes (Some name) part done = IsPlaced name part done × SparesOthers name × (new.out ≡ old.out)
+
+  -- ---- from the words to the end
+
+  -- a step gave something, and the run went on with it; or the step failed, and the run wrote nothing
+  abbrev pub GoesOn : {T : Type 0} → (T → Type 0) → (Error → Type 0) → (T → List ℕ → Result Success Error → Type 0) → List ℕ → Result Success Error → Type 0
+  GoesOn {T} Steps Fails Rest part done = ((x : T) × Steps x × Rest x part done) ⊎ (IsErrAnd done Fails × (part ≡ []) × (new.out ≡ old.out) × AreKept)
+
+  module _ (gives : Text → List ℕ → Type 0) (fails : Text → Type 0) where
+    -- the request runs
+    abbrev pub TaskEnds : Asked → List ℕ → List Text → List ℕ → Result Success Error → Type 0
+    TaskEnds a bytes names part done = EndsWith gives fails bytes names a.output a.task part done × Goes a.output part done
+
+    -- the reports are named, and then the request runs
+    abbrev pub NamesEnd : Asked → List ℕ → List ℕ → Result Success Error → Type 0
+    NamesEnd a bytes = GoesOn (AreReportNames a bytes) (IsNameError a bytes) (TaskEnds a bytes)
+
+    abbrev pub InputEnd : Option (List ℕ) → Asked → List ℕ → Result Success Error → Type 0
+    InputEnd all a = GoesOn (IsInput gives all (input_of a.task a.list)) (IsInputError fails all (input_of a.task a.list)) (NamesEnd a)
+
+    -- the words mean a request, given the bytes of standard input, if contracts can see them
+    abbrev pub WordsEnd : Option (List ℕ) → List Text → List ℕ → Result Success Error → Type 0
+    WordsEnd all words = GoesOn (Mean words) (IsWordsError words) (InputEnd all)
+
+-- ---- the status and standard error
+
+-- standard error is no terminal and took each line, and no second lines are asked for
+abbrev pub IsPlain : Bool → Bool → Bool → Type 0
+IsPlain is_terminal is_verbose is_whole = (is_terminal ≡ false) × (is_verbose ≡ false) × IsTrue is_whole
+
+-- a whole run is plain if also no option asks for second lines and no line about an awaited bundle is printed
+abbrev pub IsPlainRun : List Text → Bool → Bool → Bool → Type 0
+IsPlainRun words is_input_terminal is_terminal is_whole =
+    ((a : Asked) → Mean words a → a.is_verbose ≡ false) × (words ≡ [] → is_input_terminal ≡ false) × IsPlain is_terminal false is_whole
+
+-- A run printed `part` and ended with `done`, for which `Ends` holds. It returned the status of `done` and, if it is plain, appended
+-- its lines to standard error.
+pub record IsRun (Ends : List ℕ → Result Success Error → Type 0) (Plain : Type 0) (err_old err_new : Option (List ℕ)) (status : ℕ) : Type 0 where
+  pub part : List ℕ
+  pub done : Result Success Error
+  pub ends : Ends part done
+  pub status_is : status ≡ status_of done
+  pub lines : Plain → IfSome (lines_of done) (Appends err_old err_new)
