@@ -157,8 +157,7 @@ def print_lines(lines: Iterable[str]) -> None:
 
 
 def printable(text: str) -> str:
-    """Returns a text in which characters that are not printable are JSON escapes. If there are any, backslashes are escaped as well,
-    so that no two texts look alike."""
+    """Returns a text in which characters that are not printable are JSON escapes. If there are any, backslashes are escaped as well."""
     return text if text.isprintable() else printable_json(text.replace("\\", "\\\\"))
 
 
