@@ -1,4 +1,6 @@
 """Tests of tests/gate/doubt on a small repository: entries, words and their laws, the table of conditions, and line counts."""
+import re
+
 from small_tree import SmallTree
 from support import content
 
@@ -127,8 +129,8 @@ There are {lines} lines of definitions and contracts.
 {words}
 ## 1. The sum
 
-- [shop/sum.rt](../crates/shop/src/sum.rt): `sum`
 - [shop/Order.antt](../crates/shop/specs/Order.antt): {names}
+- [shop/sum.rt](../crates/shop/src/sum.rt): `sum`
 """
 
 FORMAT = """\
@@ -144,12 +146,19 @@ There are {lines} lines of definitions and contracts.
 NO_FORMAT = FORMAT.format(lines=0, entries="")
 
 
-def listed(names):
-    return ", ".join(f"`{it}`" for it in names)
+def page(names, lines, words=""):
+    return PAGE.format(lines=lines, words=words, names=", ".join(f"`{it}`" for it in names))
 
 
 def word(name, law):
     return f"| [`{name}`](../{SPECS_PATH}) | [`{law}`](../{LAWS_PATH}) | all |\n"
+
+
+# pages that --write changes to the page of NAMES: a missing name (a field does not hide a definition), one that no contract needs,
+# one that is after its user, and a wrong number
+OTHER_PAGES = [page(names, lines) for names, lines in (
+    (["Order", "added", "total", "IsPaid"], 17), ([*NAMES, "AllArePaid"], 23), (["added", "Order", "paid", "total", "IsPaid"], 20),
+    (["Order", "IsPaid", "total", "AllArePaid", "none"], 3), (NAMES, 19))]
 
 
 class Doubt(SmallTree):
@@ -164,135 +173,98 @@ class Doubt(SmallTree):
         self.write("crates/oim_names/src/reason.rt", REASON)
         self.write("crates/oim_names/specs/Reasons.antt", REASONS)
 
-    def problems(self, names, lines, words="", form=NO_FORMAT):
-        """Runs tests/gate/doubt. DOUBT.md has these names, line count and words; FORMAT.md has the text `form`. Returns the status
-        and the lines on standard error."""
-        self.write("docs/DOUBT.md", PAGE.format(lines=lines, words=words, names=listed(names)))
+    def problems(self, doubt, form=NO_FORMAT, *words):
+        """Runs tests/gate/doubt on two pages. Returns the status and the lines on standard error."""
+        self.write("docs/DOUBT.md", doubt)
         self.write("docs/FORMAT.md", form)
-        status, _, found = self.run_script("--quiet")
-        return status, found
+        return self.run_script("--quiet", *words)[::2]
 
-    def page(self, name):
+    def expect_good(self, names, lines, doubt, form=NO_FORMAT, *words):
+        """Expects a page with as many names besides `sum`, and as many lines."""
+        status, found = self.problems(doubt, form, *words)
+        self.assertEqual((status, found[:1]), (0, [f"doubt: the headline has {names + 1} names and {lines} lines"]))
+
+    def written(self, name="DOUBT"):
         return content(self.path_of(f"docs/{name}.md"))
 
-    def test_a_complete_page_passes(self):
-        wanted = ["doubt: the headline has 6 names and 20 lines", "doubt: the format has 0 names and 0 lines"]
-        self.assertEqual(self.problems(NAMES, 20), (0, wanted))
-
-    def test_a_field_does_not_hide_a_definition_of_its_name(self):
-        found = [f"doubt: {SPECS_PATH}: `IsPaid` uses `paid` of {SPECS_PATH}, which is missing on the page"]
-        self.assertEqual(self.problems(["Order", "added", "total", "IsPaid"], 17), (1, found))
+    def test_the_page_that_write_makes_passes(self):
+        good = page(NAMES, 20)
+        self.expect_good(5, 20, good)
+        for other in OTHER_PAGES:
+            status, (line,) = self.problems(other)
+            self.assertEqual((status, line.startswith("doubt: docs/DOUBT.md: --write changes line ")), (1, True), line)
+            self.expect_good(5, 20, other, NO_FORMAT, "--write")
+            self.assertEqual(self.written(), good)
 
     def test_the_first_variable_of_a_capitalised_name_is_bound(self):
         record = "\n\n-- an order to some place\npub record IsSent (order : Order) : Type 0 where\n  pub place : ℕ\n"
         law = "\n-- it is sent\nabbrev pub Sends : ℕ → Order → Type 0\nSends place order = place ≡ total order\n"
         self.write(SPECS_PATH, SPECS + record + law)
         self.write("crates/shop/src/sum.rt", CODE.replace("IsPaid order.now", "Sends 0 order.now").replace("IsPaid,", "Sends,"))
-        wanted = ["doubt: the headline has 5 names and 16 lines", "doubt: the format has 0 names and 0 lines"]
-        self.assertEqual(self.problems(["Order", "added", "total", "Sends"], 16), (0, wanted))
-
-    def test_a_definition_that_no_contract_needs_is_named(self):
-        found = [f"doubt: {SPECS_PATH}: no contract of the page needs `AllArePaid`"]
-        self.assertEqual(self.problems([*NAMES, "AllArePaid"], 23), (1, found))
+        self.expect_good(4, 16, page(["Order", "added", "total", "Sends"], 16))
 
     def laws(self, *names):
         """Returns the text of docs/FORMAT.md with these laws, and with `SumsArePaid` if they include `sums_are_paid`."""
-        entries = f"- [shop/laws.rt](../{LAWS_PATH}): {listed(names)}"
+        entries = f"- [shop/laws.rt](../{LAWS_PATH}): " + ", ".join(f"`{it}`" for it in names)
         if "sums_are_paid" in names:
             entries += f"\n- [shop/Order.antt](../{SPECS_PATH}): `SumsArePaid`"
         return FORMAT.format(lines=3 * len(names) + 3 * ("sums_are_paid" in names), entries=entries)
 
-    def test_a_word_stays_unread_where_a_law_mentions_it(self):
-        status, found = self.problems(["Order", "total", "paid", "IsPaid"], 18, word("added", "sums_are_paid"), self.laws("sums_are_paid"))
-        self.assertEqual((status, found), (0, ["doubt: the headline has 5 names and 18 lines", "doubt: the format has 2 names and 6 lines"]))
-
-    def test_laws_of_words_that_are_none(self):
+    def test_words_need_laws_that_mention_them(self):
         names = ["Order", "total", "paid", "IsPaid"]
+        self.expect_good(4, 18, page(names, 18, word("added", "sums_are_paid")), self.laws("sums_are_paid"))
         for law, form, wrong in (
             ("sums_are_sums", NO_FORMAT, f"{LAWS_PATH} has no law `sums_are_sums`"),
             ("sums_are_paid", NO_FORMAT, "its law `sums_are_paid` is on no page"),
             ("nothing", self.laws("nothing"), "its law `nothing` does not mention it"),
         ):
             with self.subTest(law=law):
-                self.assertEqual(self.problems(names, 18, word("added", law), form), (1, [f"doubt: `added`: {wrong}"]))
+                self.assertEqual(self.problems(page(names, 18, word("added", law)), form), (1, [f"doubt: `added`: {wrong}"]))
+        # without `IsPaid`, no function that does something needs `paid`
+        self.write("crates/shop/src/sum.rt", CODE.replace(" × IsPaid order.now", ""))
+        found = self.problems(page(names[:2], 14, word("paid", "sums_are_paid")), self.laws("sums_are_paid"), "--write")
+        self.assertEqual(found, (1, ["doubt: `paid`: no contract but laws needs it"]))
 
     def test_a_clause_of_laws_only(self):
-        names = ["SumsArePaid", "added", "paid"]
-        page = PAGE.replace("sum.rt", "laws.rt").replace("`sum`", "`sums_are_paid`")
-        self.write("docs/DOUBT.md", page.format(lines=13, words="", names=listed(names)))
-        self.write("docs/FORMAT.md", NO_FORMAT)
-        found = ["doubt: no function of `1. The sum` does anything"]
-        self.assertEqual(self.run_script("--quiet")[::2], (1, found))
+        text = page(["added", "paid", "SumsArePaid"], 13).replace("sum.rt", "laws.rt").replace("`sum`", "`sums_are_paid`")
+        self.assertEqual(self.problems(text, NO_FORMAT, "--write"), (1, ["doubt: no function of `1. The sum` does anything"]))
         # a function with a result, or with an argument that it may change, does something
         for head in ("pub fn sums_are_paid() -> u64\n", "pub fn sums_are_paid(order: &mut Order)\n"):
             self.write(LAWS_PATH, LAWS.replace("pub fn sums_are_paid()\n", head))
             self.assertEqual(self.run_script("--quiet")[0], 0)
 
-    def test_a_word_that_only_laws_need(self):
-        # `paid` is used by `IsPaid` and by a law; without `IsPaid`, no function that does something needs it
-        self.write("crates/shop/src/sum.rt", CODE.replace(" × IsPaid order.now", ""))
-        names = ["Order", "added", "total"]
-        status, found = self.problems(names, 14, word("paid", "sums_are_paid"), self.laws("sums_are_paid"))
-        self.assertEqual((status, found[0]), (1, f"doubt: {SPECS_PATH}: no contract of the page needs `paid`"))
-        page = PAGE + f"- [shop/laws.rt](../{LAWS_PATH}): `sums_are_paid`\n- [shop/Order.antt](../{SPECS_PATH}): `SumsArePaid`\n"
-        self.write("docs/DOUBT.md", page.format(lines=21, words=word("paid", "sums_are_paid"), names=listed(names)))
-        self.write("docs/FORMAT.md", NO_FORMAT)
-        self.assertEqual(self.run_script("--quiet")[::2], (1, ["doubt: `paid`: only laws need it"]))
-
     def test_fields_and_views_name_types_and_definitions(self):
         self.write("crates/shop/src/bill.rt", BILL)
         self.write("crates/money/src/price.rt", PRICE)
         self.write(SPECS_PATH, "use Rattle.shop.specs.declared.bill.Bill.{Bill}\n\n" + SPECS.replace("prices : List ℕ\n", "prices : List Bill\n"))
-        missing = "doubt: {}: `{}` uses `{}` of {}, which is missing on the page"
-        bill, price = "crates/shop/src/bill.rt", "crates/money/src/price.rt"
-        lists = f"\n- [shop/bill.rt](../{bill}): `Bill`"
-        self.assertIn(missing.format(SPECS_PATH, "Order", "Bill", bill), self.problems(NAMES, 20)[1])
-        found = self.problems(NAMES, 25, lists)[1]
-        self.assertEqual(found, [missing.format(bill, "Bill", it, there) for it, there in (("Kind", bill), ("Price", price))])
-        lists = lists.replace("`Bill`", "`Bill`, `Kind`") + f"\n- [money/price.rt](../{price}): `Price`"
-        self.assertEqual(self.problems(NAMES, 34, lists)[1], [missing.format(price, "Price", "amount", "crates/money/specs/Amount.antt")])
-
-    def test_names_that_are_used_before_they_are_listed(self):
-        more = "".join(f"\n-- a name\nabbrev pub n{number} : ℕ\nn{number} = {number}\n" for number in range(9))
-        sums = "\n-- their sum\nabbrev pub sums : ℕ\nsums = n0 + n1 + n2 + n3 + n4 + n5 + n6 + n7 + n8\n"
-        self.write(SPECS_PATH, SPECS + more + sums)
-        self.write("crates/shop/src/sum.rt", CODE.replace("order.now }", "order.now × (sums ≡ 0) }").replace("total}", "total, sums}"))
-        late = [f"n{number}" for number in range(9)]
-        # `sum` uses three names that follow it, and `sums` nine
-        page = "doubt: docs/DOUBT.md: 12 names are used before they are listed, such as `sum` uses `total`; at most 10 may be"
-        self.assertEqual(self.problems([*NAMES, "sums", *late], 50), (1, [page]))
-        self.assertEqual(self.problems([*NAMES, *late, "sums"], 50)[0], 0)
+        self.expect_good(9, 37, page(NAMES, 20), NO_FORMAT, "--write")
+        entries = "shop/bill.rt Kind money/Amount.antt amount money/price.rt Price shop/bill.rt Bill shop/Order.antt " + " ".join(NAMES)
+        found = re.findall(r"^- \[(.*?)\].*: (.*)", self.written(), re.MULTILINE)
+        self.assertEqual(" ".join(f"{file} {names}" for file, names in found[:-1]).replace("`", "").replace(",", ""), entries)
 
     def test_a_headline_that_is_too_long(self):
         self.write(SPECS_PATH, SPECS.replace("-- one order\n", "-- one order\n" * 632))
         found = ["doubt: docs/DOUBT.md: the headline has 651 lines; at most 650 are allowed"]
-        self.assertEqual(self.problems(NAMES, 651), (1, found))
+        self.assertEqual(self.problems(page(NAMES, 651)), (1, found))
 
     def test_the_table_of_conditions_is_that_of_the_code(self):
         rows = ["| 0 | `NotPaid` | An order that is not paid. | shop | own |", "| 1 | `NoOrder` | There is an order. | shop | RFC 1 |"]
         form = FORMAT.format(lines=2, entries="\n".join(rows))
         mended = rows[1].replace("an order", "no order")
-        self.assertEqual(self.problems(NAMES, 20, form=form), (1, [f"doubt: docs/FORMAT.md: the table of conditions should have {mended}"]))
-        self.assertEqual(self.run_script("--quiet", "--write")[0], 0)
-        self.assertEqual(self.page("FORMAT"), form.replace(rows[1], mended))
+        self.assertEqual(self.problems(page(NAMES, 20), form), (1, [f"doubt: docs/FORMAT.md: --write changes line 8 to {mended}"]))
+        self.expect_good(5, 20, page(NAMES, 20), form, "--write")
+        self.assertEqual(self.written("FORMAT"), form.replace(rows[1], mended))
 
     def test_the_definitions_of_the_program_are_counted(self):
         self.write("crates/command_line/src/program.rt", CODE.replace("fn sum", "fn run"))
         stated = "\nOf the program they have {} lines, 3 of them in `command_line`.\n".format
-        wrong = "doubt: docs/DOUBT.md: of the program's definitions it should say that they have 20 lines, 3 of them in `command_line`"
-        self.assertEqual(self.problems(NAMES, 20, words=stated(19))[1], [wrong])
-        self.assertEqual(self.problems(NAMES, 20, words=stated(20))[0], 0)
-
-    def test_write_lists_each_name_before_its_users(self):
-        self.problems(["Order", "IsPaid", "total", "AllArePaid"], 3)
-        status, _, found = self.run_script("--quiet", "--write")
-        self.assertEqual((status, found[0]), (0, "doubt: the headline has 6 names and 20 lines"))
-        before, _, after = PAGE.partition("- [")
-        call, definitions = f"- [{after}".splitlines()
-        self.assertEqual(self.page("DOUBT"), f"{before}{definitions}\n{call}\n".format(lines=20, words="", names=listed(NAMES)))
+        self.assertEqual(self.problems(page(NAMES, 20, stated(19)))[0], 1)
+        self.expect_good(5, 20, page(NAMES, 20, stated(19)), NO_FORMAT, "--write")
+        self.assertEqual(self.written(), page(NAMES, 20, stated(20)))
 
     def test_write_mends_entries_of_the_format(self):
         entries = f"- [shop/laws.rt](../{LAWS_PATH}): `sums_are_paid`\n- [shop/Order.antt](../{SPECS_PATH}): `AllArePaid`, `SumsArePaid`"
-        self.problems(NAMES, 20, form=FORMAT.format(lines=3, entries=entries))
-        self.assertEqual(self.run_script("--quiet", "--write")[0], 0)
-        self.assertEqual(self.page("FORMAT"), FORMAT.format(lines=6, entries=entries.replace("`AllArePaid`, ", "")))
+        self.expect_good(5, 20, page(NAMES, 20), FORMAT.format(lines=3, entries=entries), "--write")
+        self.assertEqual(self.written("FORMAT"), FORMAT.format(lines=6, entries=entries.replace("`AllArePaid`, ", "")))
+        status, found = self.problems(page(NAMES, 20), FORMAT.format(lines=6, entries=entries.replace("AllArePaid", "SumsArePaid")))
+        self.assertEqual((status, found[-1]), (1, f"doubt: {SPECS_PATH}: `SumsArePaid` is on the pages twice"))
