@@ -1,6 +1,4 @@
 """Writes what the packages consist of, as SPDX 2.3: the packages, the crates with checksums of their proofs, and the kit."""
-from __future__ import annotations
-
 import hashlib
 import json
 import re

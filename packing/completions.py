@@ -1,6 +1,4 @@
 """Makes the completions for bash, zsh and fish from the program's help."""
-from __future__ import annotations
-
 import shlex
 
 from packing.files import File

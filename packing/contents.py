@@ -1,6 +1,4 @@
 """Lists what is installed: the program with the tools, the library, and the documents. Places are below the prefix."""
-from __future__ import annotations
-
 import os
 
 from packing.completions import completions

@@ -1,6 +1,4 @@
 """Makes the packages for Debian with dpkg-deb: the program with the tools, the library, its headers, and the Python module."""
-from __future__ import annotations
-
 import gzip
 import hashlib
 import io

@@ -1,6 +1,4 @@
 """Installs files below a prefix, and removes them again. A list below the prefix names what was installed."""
-from __future__ import annotations
-
 import contextlib
 import hashlib
 import os

@@ -1,7 +1,5 @@
 """Reads the versions and licences of the kit's crates. A crate that was ported from Rust has a page that names its version,
 and files with its licences."""
-from __future__ import annotations
-
 import glob
 import os
 import re

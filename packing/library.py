@@ -1,6 +1,4 @@
 """Links the static and the shared library for C, from the archive of the crate and the kit's allocator."""
-from __future__ import annotations
-
 import os
 
 from packing.contents import SHARED, pkg_config

@@ -1,6 +1,4 @@
 """Makes the man pages of the program, its commands and the tools from what they print for --help."""
-from __future__ import annotations
-
 import os
 import re
 import sys

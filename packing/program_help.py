@@ -1,6 +1,4 @@
 """Reads what the program prints for --help: its commands, their options and their arguments."""
-from __future__ import annotations
-
 import re
 from typing import NamedTuple
 

@@ -1,6 +1,4 @@
 """Makes all packages of a commit in a folder: all of them, or none."""
-from __future__ import annotations
-
 import hashlib
 import os
 import sys

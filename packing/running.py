@@ -1,6 +1,4 @@
 """Runs other programs."""
-from __future__ import annotations
-
 import os
 import subprocess  # nosec B404: it runs programs without a shell
 from typing import Mapping, Optional

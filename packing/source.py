@@ -1,6 +1,4 @@
 """What packages are made from: the built files, and the commit that they were built from."""
-from __future__ import annotations
-
 import os
 import re
 import shutil

@@ -1,6 +1,4 @@
 """Packs files as a .tar.xz whose bytes depend on nothing but the files and the time."""
-from __future__ import annotations
-
 import io
 import lzma
 import tarfile

@@ -1,6 +1,4 @@
 """The names of the tools."""
-from __future__ import annotations
-
 PROGRAM = "xbrlmerge"
 TOOLS = ("contradictions", "make_sheet", "normalise", "recheck", "respell")
 

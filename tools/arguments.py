@@ -1,6 +1,4 @@
 """Reads the arguments of a tool."""
-from __future__ import annotations
-
 import argparse
 import os
 import sys

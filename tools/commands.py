@@ -1,6 +1,4 @@
 """The version of the tools, and the names of their commands: tools/NAME in the repository, and xbrlmerge-NAME once installed."""
-from __future__ import annotations
-
 import os
 import re
 

@@ -96,8 +96,6 @@ Status 0: the files are written, and there is nothing to look at. 1: the files a
 2: invalid arguments. 3: not done, and standard error shows why. After status 2 or 3, no output has changed, unless a replaced
 file could not be restored.
 """
-from __future__ import annotations
-
 import sys
 
 sys.dont_write_bytecode = True

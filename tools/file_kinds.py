@@ -1,6 +1,4 @@
 """Guesses what a file is if it is not the report or the sheet that was expected, in the words of `xbrlmerge explain`."""
-from __future__ import annotations
-
 import codecs
 import re
 from typing import Any, Optional

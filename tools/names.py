@@ -1,6 +1,4 @@
 """Expanded names: a namespace and a local part."""
-from __future__ import annotations
-
 import re
 import sys
 from typing import Any, Mapping, NamedTuple, Optional

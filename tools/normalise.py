@@ -26,8 +26,6 @@ refused, no fact is dropped, and standard error shows why. The program should ha
 Status 0: nothing was lost. 1: something was lost. 2: invalid arguments. 3: not done, and standard error shows why. After
 status 2 or 3, no file has changed, unless a replaced file could not be restored; standard output may have a part of the output.
 """
-from __future__ import annotations
-
 import sys
 
 sys.dont_write_bytecode = True

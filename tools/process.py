@@ -1,6 +1,4 @@
 """Exit statuses, lines on standard error, and signals, as all tools handle them."""
-from __future__ import annotations
-
 import contextlib
 import enum
 import json

@@ -1,6 +1,4 @@
 """Runs the commands of `xbrlmerge`."""
-from __future__ import annotations
-
 import argparse
 import json
 import os

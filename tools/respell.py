@@ -18,8 +18,6 @@ the number of faults, and of the rules that were not judged without a sheet. --r
 Status 0: done, and there is nothing to look at. 1: --check found a fault, or standard error shows something about the taxonomy.
 2: invalid arguments. 3: not done, and standard error shows why. After status 2 or 3, no file has changed.
 """
-from __future__ import annotations
-
 import sys
 
 sys.dont_write_bytecode = True

@@ -3,8 +3,6 @@
 A sheet must satisfy the conditions of `xbrlmerge`, and list each concept in xbrlmerge:sets as a text. The types are in members
 that the program ignores: in the sheet, or in a file of its own beside it.
 """
-from __future__ import annotations
-
 from typing import Any, Dict, Mapping
 
 from names import PART, XBRL, Name, Uris, expanded, uris_of

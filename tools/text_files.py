@@ -1,6 +1,4 @@
 """Reads text files whole, within a limit. The path - means standard input."""
-from __future__ import annotations
-
 import functools
 import io
 import os

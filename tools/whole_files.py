@@ -1,6 +1,4 @@
 """How the tools write files: several files completely or not at all, through no link, and within a limit of bytes."""
-from __future__ import annotations
-
 import contextlib
 import os
 import re

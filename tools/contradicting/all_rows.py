@@ -2,8 +2,6 @@
 
 The lines are written to a temporary file while the rows are read, so that only contradictions are kept in memory.
 """
-from __future__ import annotations
-
 import collections
 import os
 from typing import Iterator, NamedTuple, Optional, Sequence

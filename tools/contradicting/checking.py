@@ -1,6 +1,4 @@
 """The command that checks a run with tools/recheck, and the files that it reads."""
-from __future__ import annotations
-
 import os
 import shlex
 import sys

@@ -1,6 +1,4 @@
 """The dimensions and the facts of a row, with expanded names and exact numbers."""
-from __future__ import annotations
-
 import datetime
 import functools
 from decimal import Decimal, getcontext

@@ -1,6 +1,4 @@
 """What there is to look at, by kind. --fail-on selects the kinds that give status 1."""
-from __future__ import annotations
-
 from typing import Container, Optional
 
 from process import Status

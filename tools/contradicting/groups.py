@@ -1,6 +1,4 @@
 """Groups the facts of a contradiction by agreement, so that the odd one out is seen."""
-from __future__ import annotations
-
 import itertools
 from decimal import Decimal
 from typing import Iterator, Mapping

@@ -1,6 +1,4 @@
 """Hints at why the facts of a contradiction differ. A hint is never a verdict."""
-from __future__ import annotations
-
 import itertools
 from decimal import Decimal
 from typing import Iterator, Mapping, NamedTuple, Optional

@@ -1,6 +1,4 @@
 """The inputs of a page: named files, or the program's output for reports."""
-from __future__ import annotations
-
 import argparse
 import os
 from dataclasses import dataclass, field

@@ -1,6 +1,4 @@
 """--latest: of a provider's reports, only the last that reports a row counts there. The output of the program names the rows."""
-from __future__ import annotations
-
 import collections
 from typing import Iterator, Mapping
 

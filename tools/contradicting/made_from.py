@@ -1,6 +1,4 @@
 """What a page was made from: the version of the program, and the files with their lengths and SHA-256."""
-from __future__ import annotations
-
 import html
 import os
 from typing import Iterator, NamedTuple

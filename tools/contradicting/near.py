@@ -1,6 +1,4 @@
 """Finds pairs of rows that may differ only by mistake."""
-from __future__ import annotations
-
 import datetime
 import itertools
 from typing import Iterator, Mapping, NamedTuple, Optional, Sequence, Union

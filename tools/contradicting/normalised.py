@@ -1,7 +1,5 @@
 """Normalises reports before the program reads them, by the rules of tools/normalise. Without --normalise, only sets of names are
 respelled, because the program would take two spellings of one set for two texts, or texts of two sets for one."""
-from __future__ import annotations
-
 import argparse
 import collections
 import itertools

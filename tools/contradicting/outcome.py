@@ -1,6 +1,4 @@
 """What a run found, with its lines for the user and its files."""
-from __future__ import annotations
-
 import argparse
 import functools
 import itertools

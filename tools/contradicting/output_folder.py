@@ -1,6 +1,4 @@
 """The output folder: made if needed, and used by one run at a time."""
-from __future__ import annotations
-
 import contextlib
 import fcntl
 import os

@@ -2,8 +2,6 @@
 
 The table has the first contradictions. The script of the page replaces them by rows that it draws from the page's data.
 """
-from __future__ import annotations
-
 import base64
 import hashlib
 import html

@@ -1,6 +1,4 @@
 """The rows of the page as JSON, which the script of the page draws. Names, texts and dimensions that rows share are written once."""
-from __future__ import annotations
-
 import json
 import os
 from typing import Any, Hashable, Iterable, Iterator, Sequence

@@ -1,6 +1,4 @@
 """Counts the hints of each provider, and finds providers that report the same facts."""
-from __future__ import annotations
-
 import collections
 import hashlib
 import itertools

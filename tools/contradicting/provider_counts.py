@@ -1,6 +1,4 @@
 """Counts of rows by agreement, counts for each provider, and the matrix of providers."""
-from __future__ import annotations
-
 import collections
 import itertools
 from typing import Iterator, NamedTuple, Sequence

@@ -1,6 +1,4 @@
 """The reports that the program refuses, and their faults."""
-from __future__ import annotations
-
 import argparse
 import json
 import os

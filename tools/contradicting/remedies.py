@@ -1,6 +1,4 @@
 """Finds the option that mends a fault, if there is one."""
-from __future__ import annotations
-
 import argparse
 import json
 import re

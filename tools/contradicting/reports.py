@@ -1,6 +1,4 @@
 """The reports on the command line, with their providers."""
-from __future__ import annotations
-
 import argparse
 import os
 import stat

@@ -1,6 +1,4 @@
 """The rows of a merged report, and their verdicts as `verdicts` printed them."""
-from __future__ import annotations
-
 import datetime
 import functools
 import itertools

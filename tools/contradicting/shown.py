@@ -1,6 +1,4 @@
 """A row as the page shows it. Each identifier, URI and text is cut to 80 characters, because the page repeats them."""
-from __future__ import annotations
-
 import functools
 import html
 import itertools

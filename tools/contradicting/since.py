@@ -1,6 +1,4 @@
 """Compares the contradictions of a run with those of an earlier one, by the dimensions of their rows."""
-from __future__ import annotations
-
 import csv
 import json
 import os

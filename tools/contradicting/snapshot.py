@@ -1,6 +1,4 @@
 """Copies of the inputs. The program and the tools read the copies, so a file that changes later changes nothing."""
-from __future__ import annotations
-
 import contextlib
 import fcntl
 import hashlib

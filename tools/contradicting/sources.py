@@ -1,6 +1,4 @@
 """Finds the providers of each fact of a merged report."""
-from __future__ import annotations
-
 import collections
 import itertools
 import json

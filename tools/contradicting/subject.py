@@ -1,6 +1,4 @@
 """What the page is about: the headline, the entities and the periods."""
-from __future__ import annotations
-
 import collections
 from typing import Iterator, Sequence
 

@@ -1,8 +1,6 @@
 """The cells of tables, and the table of contradictions. Names are written as {URI}local. A ' precedes anything that a
 spreadsheet might read as a formula.
 """
-from __future__ import annotations
-
 import functools
 import re
 from typing import Iterable, Iterator, Mapping, Sequence, Union

@@ -1,6 +1,4 @@
 """Reads merged reports, which may be large, fact by fact."""
-from __future__ import annotations
-
 import contextlib
 import json
 import re

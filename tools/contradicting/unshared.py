@@ -1,6 +1,4 @@
 """Providers that share almost no row with others, the likely causes, and the maps that would join them."""
-from __future__ import annotations
-
 import collections
 import datetime
 import itertools

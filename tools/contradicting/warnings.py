@@ -1,6 +1,4 @@
 """Warnings about facts that the program accepts, although they do not fit the types of the sheet. A warning is no verdict."""
-from __future__ import annotations
-
 import os
 from typing import Iterator, Optional
 

@@ -1,6 +1,4 @@
 """Writes the tables as one workbook, with the library XlsxWriter."""
-from __future__ import annotations
-
 import csv
 import importlib
 import re

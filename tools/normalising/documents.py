@@ -1,6 +1,4 @@
 """The rules for the parts of a report outside its facts, and for members that the format does not define."""
-from __future__ import annotations
-
 import argparse
 import itertools
 import re

@@ -3,8 +3,6 @@
 `json.loads` parses a text; its hooks keep the spelling of numbers and find repeated members. `pieces_of` writes JSON,
 because the encoder of `json` writes only ints and floats as numbers, and would change 1.50, -0 and 1e400.
 """
-from __future__ import annotations
-
 import json
 import re
 import sys

@@ -1,6 +1,4 @@
 """Replaces names by a map: the assumption that names of two taxonomies, schemes or units mean the same."""
-from __future__ import annotations
-
 import re
 import sys
 from typing import Any, Mapping, NamedTuple, Optional

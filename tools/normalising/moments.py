@@ -1,6 +1,4 @@
 """Rewrites the moments of a period: zero fractions, dates without a time, and time zones."""
-from __future__ import annotations
-
 import datetime
 import re
 from typing import Callable, Container, Iterator, Optional

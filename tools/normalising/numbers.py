@@ -1,6 +1,4 @@
 """The spelling of numbers, and exact arithmetic with powers of ten."""
-from __future__ import annotations
-
 import re
 from decimal import Decimal, InvalidOperation
 from typing import Optional

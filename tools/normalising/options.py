@@ -1,6 +1,4 @@
 """The options of tools/normalise that lose something."""
-from __future__ import annotations
-
 import argparse
 
 LOSSES = {

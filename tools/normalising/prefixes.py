@@ -1,6 +1,4 @@
 """The prefixes of one report, and names that are spelled with their namespace."""
-from __future__ import annotations
-
 import itertools
 import re
 from typing import Optional

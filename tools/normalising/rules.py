@@ -1,11 +1,9 @@
 """The rules that rewrite a report so that `xbrlmerge` can read it. docs/GUIDE.md describes them."""
-from __future__ import annotations
-
 import argparse
 import re
 from typing import Optional
 
-from names import SPACE, XBRL, Name, Uris, expanded, uris_of
+from names import SPACE, XBRL, Name, expanded, uris_of
 from normalising import moments, shapes
 from normalising.changes import Log, Part, Reason
 from normalising.documents import change_information, check_root, drop_unknown_members, facts_by_identifier

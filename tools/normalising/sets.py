@@ -1,6 +1,4 @@
 """Sets of names, and the spelling in which equal sets are equal texts."""
-from __future__ import annotations
-
 import functools
 import re
 from typing import Optional

@@ -1,6 +1,4 @@
 """The rules for facts whose members are in other places, or have other names, than xBRL-JSON defines."""
-from __future__ import annotations
-
 import argparse
 import re
 from decimal import Decimal, InvalidOperation

@@ -1,6 +1,4 @@
 """Reads the sheet for the rules of tools/normalise."""
-from __future__ import annotations
-
 import os
 from typing import Optional
 

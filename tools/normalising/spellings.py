@@ -1,6 +1,4 @@
 """The one spelling of a value, by its type in XML Schema 1.0 part 2. docs/GUIDE.md has a table of the types."""
-from __future__ import annotations
-
 import base64
 import datetime
 import re

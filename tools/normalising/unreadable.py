@@ -1,6 +1,4 @@
 """Asks `xbrlmerge` which facts of a report it refuses."""
-from __future__ import annotations
-
 from typing import NamedTuple
 
 from normalising.json_text import Tree, pieces_of

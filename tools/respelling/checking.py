@@ -1,6 +1,4 @@
 """Checks a report against the rules. The order of the faults is that of the report."""
-from __future__ import annotations
-
 import re
 from typing import Any, Iterator, Mapping, Optional
 

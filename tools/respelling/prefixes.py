@@ -1,6 +1,4 @@
 """Prefixes that OIM Common 1.0 reserves, and the prefixes of a respelled report."""
-from __future__ import annotations
-
 from typing import Iterable, Mapping
 
 from names import XBRL

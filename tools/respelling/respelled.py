@@ -1,6 +1,4 @@
 """Respells a merged report for other processors. The report is read and written as tools/recheck does it."""
-from __future__ import annotations
-
 import json
 import re
 from typing import Any, Mapping, Sequence

@@ -1,6 +1,4 @@
 """The rules that `--check` applies: those of the standards that can be judged without a taxonomy."""
-from __future__ import annotations
-
 from typing import NamedTuple
 
 

@@ -1,6 +1,4 @@
 """Finds and reads files on disk and in packages, if they may be read."""
-from __future__ import annotations
-
 import hashlib
 import os
 import pathlib

@@ -1,6 +1,4 @@
 """The limits for reading, and the message for a file that cannot be read."""
-from __future__ import annotations
-
 import contextlib
 from dataclasses import dataclass
 from typing import Iterator

@@ -1,6 +1,4 @@
 """Makes a sheet from taxonomies."""
-from __future__ import annotations
-
 from typing import Iterable
 
 from sheet_making.files import Files

@@ -1,6 +1,4 @@
 """A taxonomy package, which is a zip file."""
-from __future__ import annotations
-
 import contextlib
 import errno
 import functools

@@ -1,6 +1,4 @@
 """The prefixes that schemas and sheets bind to their namespaces."""
-from __future__ import annotations
-
 import re
 from typing import Iterable
 

@@ -1,6 +1,4 @@
 """Reads one schema: its declarations, and its references to other schemas."""
-from __future__ import annotations
-
 import functools
 import sys
 from dataclasses import dataclass

@@ -1,6 +1,4 @@
 """Writes the text of a sheet and of its file of types, and combines several sheets."""
-from __future__ import annotations
-
 import json
 import os
 from typing import Any, Iterable, Mapping

@@ -1,6 +1,4 @@
 """The declarations in the schemas of a taxonomy."""
-from __future__ import annotations
-
 import os
 from typing import Optional
 

@@ -3,8 +3,6 @@
 Prefixes are resolved here. expat would put the whole namespace into each name, so a long namespace could take quadratic
 memory.
 """
-from __future__ import annotations
-
 import sys
 from typing import Iterable, Optional, Sequence
 
