@@ -2,11 +2,9 @@
 import os
 
 from packing.completions import completions
-from packing.files import PLAIN, RUNS, File, read, read_below
-from packing.manual import pages
+from packing.files import PLAIN, RUNS, File, read, read_below, run_tool
+from packing.manual import PROGRAM, TOOLS, command_of, pages
 from packing.program_help import commands_of
-from packing.running import run_tool
-from packing.tools import PROGRAM, TOOLS, command_of
 
 # the version of the library's calls, which changes if a program that was linked before can no longer use the library
 INTERFACE = "0"

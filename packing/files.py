@@ -1,10 +1,11 @@
-"""The files that are installed or packed."""
+"""The files that are installed or packed, and the programs that make them."""
 from __future__ import annotations
 
 import os
+import subprocess  # nosec B404: it runs programs without a shell
 import sys
 from dataclasses import dataclass, replace
-from typing import Iterable
+from typing import Iterable, Mapping, Optional
 
 sys.path.append(os.path.join(os.path.dirname(os.path.dirname(os.path.abspath(__file__))), "tools"))
 from whole_files import below  # noqa: E402
@@ -74,3 +75,12 @@ def folders_of(files: Iterable[File]) -> list[str]:
             found.add(folder)
             folder = os.path.dirname(folder)
     return sorted(found)
+
+
+def run_tool(*words: str, variables: Optional[Mapping[str, str]] = None) -> str:
+    """Runs a command, with further environment variables, and returns its output. Errors: OSError with the command's message, if
+    it fails."""
+    done = subprocess.run(words, capture_output=True, text=True, env={**os.environ, **(variables or {})})  # nosec B603
+    if done.returncode != 0:
+        raise OSError(f"{words[0]} failed: {done.stderr.strip()[-500:]}")
+    return done.stdout

@@ -2,8 +2,7 @@
 import os
 
 from packing.contents import SHARED, pkg_config
-from packing.files import PLAIN, RUNS, File, put, read
-from packing.running import run_tool
+from packing.files import PLAIN, RUNS, File, put, read, run_tool
 
 # the names of the functions that the library exports begin with this
 EXPORTS = "xbrlmerge_"

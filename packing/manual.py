@@ -3,11 +3,11 @@ import os
 import re
 import sys
 
-from packing.files import File
+from packing.files import File, run_tool
 from packing.program_help import Command
-from packing.running import run_tool
-from packing.tools import TOOLS, command_of
 
+PROGRAM = "xbrlmerge"
+TOOLS = ("contradictions", "make_sheet", "normalise", "recheck", "respell")
 HEAD = """\
 .TH {title} 1 "" "xbrlmerge {version}" "User commands"
 .SH NAME
@@ -31,6 +31,11 @@ WIDE = "4000"
 # a line of options: the names and arguments, and after two spaces the meaning
 OPTION = re.compile(r"  (\S(?:.*?\S)?)(?:  +(\S.*))?")
 HELP = "-h, --help"
+
+
+def command_of(tool: str) -> str:
+    """Returns the name of a tool's command after installation."""
+    return f"{PROGRAM}-{tool.replace('_', '-')}"
 
 
 def help_of(top: str, tool: str) -> str:

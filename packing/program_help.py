@@ -2,7 +2,7 @@
 import re
 from typing import NamedTuple
 
-from packing.running import run_tool
+from packing.files import run_tool
 
 OPTION = re.compile(r"^  (?:(-\w), |    )(--[\w-]+)(?: <(\w+)>)?  +(.*)", re.MULTILINE)
 VALUES = re.compile(r" \[possible values: ([^]]*)\]")

@@ -6,11 +6,10 @@ import tempfile
 from dataclasses import replace
 
 from packing import bill, contents, debian
-from packing.files import File, read
-from packing.running import run_tool
+from packing.files import File, read, run_tool
+from packing.manual import PROGRAM
 from packing.source import Source, newest_libc
 from packing.tarball import tarball
-from packing.tools import PROGRAM
 
 SUMS = "SHA256SUMS"
 ABOUT = """\

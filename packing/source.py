@@ -6,8 +6,7 @@ import time
 from dataclasses import dataclass
 from typing import Mapping, Sequence
 
-from packing.files import MADE
-from packing.running import run_tool
+from packing.files import MADE, run_tool
 
 # what makes the packages, besides the kit
 NEEDED = ("git", "dpkg-deb", "gcc", "strip")

@@ -45,8 +45,8 @@ from typing import Iterator  # noqa: E402
 from arguments import Parser  # noqa: E402
 from process import NotDone, Status, print_lines, run  # noqa: E402
 from sheet_making.limits import Limits, reading  # noqa: E402
-from sheet_making.making import kinds_in  # noqa: E402
 from sheet_making.sheet_text import Texts, union  # noqa: E402
+from sheet_making.taxonomy import kinds_in  # noqa: E402
 from text_files import LONGEST, PIECE, STANDARD, opened  # noqa: E402
 from whole_files import OutputLimit, bytes_in, files_written, most_output, new_folder  # noqa: E402
 

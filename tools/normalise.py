@@ -39,9 +39,9 @@ from normalising.json_text import pieces_of, read_json_of_length  # noqa: E402
 from normalising.mapping import read_map  # noqa: E402
 from normalising.options import add_losses  # noqa: E402
 from normalising.rules import Normaliser  # noqa: E402
-from normalising.sheet_file import sheet_at  # noqa: E402
 from process import NotDone, Status, print_lines, run  # noqa: E402
 from program import Program, add_program, program_at  # noqa: E402
+from sheets import sheet_at  # noqa: E402
 from text_files import STANDARD, shown_path  # noqa: E402
 from whole_files import OutputLimit, bytes_in, files_written, most_output, new_folder  # noqa: E402
 

@@ -1,4 +1,4 @@
-"""Exit statuses, lines on standard error, and signals, as all tools handle them."""
+"""Exit statuses, lines and progress on standard error, and signals, as all tools handle them."""
 import contextlib
 import enum
 import json
@@ -9,6 +9,7 @@ from types import FrameType
 from typing import Callable, Iterable, Iterator, NoReturn, Optional
 
 STOPPING = (signal.SIGHUP, signal.SIGINT, signal.SIGTERM)
+CLEAR = "\r\x1b[K"  # erases a line on a terminal
 MOST_CHARACTERS = 80  # the most characters of a text in a line, as in `xbrlmerge explain`
 
 
@@ -167,3 +168,26 @@ def printable_json(text: str) -> str:
 def shortened(text: str) -> str:
     """Returns a text, or its first MOST_CHARACTERS characters and two dots if it is longer."""
     return text if len(text) <= MOST_CHARACTERS else text[:MOST_CHARACTERS] + ".."
+
+
+class Progress:
+    """A line on standard error, shown only on a terminal. The line is erased when the `with` block ends."""
+
+    def __init__(self) -> None:
+        self.is_shown = sys.stderr.isatty()
+
+    def show(self, text: str) -> None:
+        self.write(f"{CLEAR}{printable(text)} ..")
+
+    def clear(self) -> None:
+        self.write(CLEAR)
+
+    def write(self, text: str) -> None:
+        if self.is_shown:
+            print(text, end="", file=sys.stderr, flush=True)
+
+    def __enter__(self) -> "Progress":
+        return self
+
+    def __exit__(self, *_: object) -> None:
+        self.clear()

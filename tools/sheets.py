@@ -3,10 +3,14 @@
 A sheet must satisfy the conditions of `xbrlmerge`, and list each concept in xbrlmerge:sets as a text. The types are in members
 that the program ignores: in the sheet, or in a file of its own beside it.
 """
-from typing import Any, Dict, Mapping
+import os
+from typing import Any, Dict, Mapping, Optional
 
+from file_kinds import kind_of_sheet, looks_like
 from names import PART, XBRL, Name, Uris, expanded, uris_of
-from process import shortened
+from normalising.json_text import read_json
+from process import NotDone, shortened
+from text_files import STANDARD, shown_path
 
 SETS = "xbrlmerge:sets"  # a member that the program ignores
 TABLES = {"concepts": ("numeric", "text", "name"), "dimensions": ("explicit", "typed")}
@@ -103,3 +107,15 @@ class Sheet:
             if kinds.setdefault(name, kind) != kind:
                 raise ValueError(f"{name.shown()} is {kind}, but {kinds[name]} earlier")
         return kinds
+
+
+def sheet_at(path: Optional[str]) -> Sheet:
+    """Returns the sheet in a file, with the types in the file beside it, if there is one. Without a file, the sheet is empty.
+    Errors: NotDone."""
+    tree = {} if path is None else read_json(path, is_sheet=True)
+    beside = types_path(path or "")
+    has_types = path not in (None, STANDARD) and os.path.isfile(beside)
+    try:
+        return Sheet(tree, read_json(beside, is_sheet=True) if has_types else {})
+    except ValueError as fault:
+        raise NotDone(f"{shown_path(path or '')}: {shortened(str(fault))}{looks_like(kind_of_sheet(tree))}") from None

@@ -5,12 +5,11 @@ from dataclasses import dataclass, field
 from typing import Any, Iterator, Mapping, Optional
 
 from commands import with_commands
-from contradicting.checking import LINES, command, report_file
 from contradicting.findings import Findings, counted
 from contradicting.labels import Labelled, Labels
 from contradicting.latest import drop, superseded_in
 from contradicting.normalised import ChangeTable, Normalised
-from contradicting.progress import Progress
+from contradicting.output_folder import LINES, command, report_file
 from contradicting.refusals import Refusals, line_of
 from contradicting.remedies import FaultGroup
 from contradicting.reports import Report, check_files, maps_named, reports_named
@@ -19,13 +18,13 @@ from contradicting.since import Earlier
 from contradicting.snapshot import Snapshot, input_file
 from contradicting.sources import OwnTexts, Sources
 from contradicting.texts import Provider, Text, sheet_at
-from process import NotDone, shortened
+from process import NotDone, Progress, shortened
 from program import Program
 from respelling.respelled import respelled, text_of
 from sheet_making.files import Files
 from sheet_making.limits import Limits
-from sheet_making.making import kinds_from
 from sheet_making.sheet_text import Texts
+from sheet_making.taxonomy import kinds_from
 from sheets import Sheet, types_path
 from text_files import pieces_of_file
 

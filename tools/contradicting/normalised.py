@@ -14,9 +14,9 @@ from normalising.changes import Log
 from normalising.json_text import Number, Tree, pieces_of, read_json_of_length, text_of
 from normalising.mapping import read_map
 from normalising.rules import Normaliser
-from normalising.sheet_file import sheet_at
 from process import NotDone, sentence
 from program import Program
+from sheets import sheet_at
 from text_files import pieces_of_file
 
 VALUES = ("was", "now")  # JSON texts, so that 5 and "5" differ

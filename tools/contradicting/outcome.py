@@ -8,9 +8,8 @@ from typing import Iterable, Iterator
 from contradicting.all_rows import AllRows
 from contradicting.findings import KINDS, counted
 from contradicting.inputs import File, Inputs
-from contradicting.made_from import MadeFrom
 from contradicting.near import Near
-from contradicting.page import Found, page
+from contradicting.page import Found, MadeFrom, page
 from contradicting.page_data import PageData
 from contradicting.patterns import Patterns
 from contradicting.provider_counts import ProviderCounts

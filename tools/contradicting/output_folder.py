@@ -1,12 +1,17 @@
-"""The output folder: made if needed, and used by one run at a time."""
+"""The output folder: made if needed, and used by one run at a time. A command checks the run with the files in it."""
 import contextlib
 import fcntl
 import os
-from typing import Iterator
+import shlex
+import sys
+from typing import Iterable, Iterator
 
-from contradicting.checking import FOLDER
+from commands import command as command_of
 from process import NotDone
 from whole_files import remove_leftovers
+
+LINES = ("verdicts", "sources", "refusals")  # each is written as NAME.txt
+FOLDER = "reports"  # contains the normalised reports
 
 
 @contextlib.contextmanager
@@ -47,3 +52,23 @@ def locked(path: str) -> Iterator[None]:
         yield
     finally:
         os.close(folder)
+
+
+def report_file(number: int) -> str:
+    """Returns the name of the file with the normalised report of this number, from 1."""
+    return os.path.join(FOLDER, f"{number}.json")
+
+
+def command(folder: str, sheet: str, reports: Iterable[str]) -> str:
+    """Returns the command that checks the files in a folder, for a shell. Its paths start where this tool was started."""
+    files = {"sheet": sheet, "merged": os.path.join(folder, "merged.json")}
+    files.update((name, os.path.join(folder, f"{name}.txt")) for name in LINES)
+    program = os.path.join(os.path.dirname(sys.argv[0]), os.path.basename(command_of("recheck")))
+    return " ".join([quoted(program), *(f"--{name}={quoted(path)}" for name, path in files.items()), "--", *map(quoted, reports)])
+
+
+def quoted(word: str) -> str:
+    """Returns a word for a shell. A word that is not printable becomes $'..' with octal bytes, which bash and zsh read."""
+    if word.isprintable():
+        return shlex.quote(word)
+    return "$'%s'" % "".join(chr(byte) if 32 <= byte < 127 and byte not in b"'\\" else f"\\{byte:03o}" for byte in os.fsencode(word))

@@ -8,10 +8,9 @@ import html
 import os
 from dataclasses import dataclass, field
 from decimal import Decimal
-from typing import Iterator, Optional, Sequence
+from typing import Iterator, NamedTuple, Optional, Sequence
 
 from contradicting.labels import Labels
-from contradicting.made_from import MadeFrom
 from contradicting.page_data import PageData
 from contradicting.provider_counts import ProviderCounts
 from contradicting.refusals import Refusals
@@ -19,11 +18,13 @@ from contradicting.rows import Reader, Row
 from contradicting.sections import StaticRows
 from contradicting.shown import escaped, shown_row
 from contradicting.since import Since
+from contradicting.snapshot import InputFile
 from contradicting.subject import Subject
 from contradicting.warnings import Warnings
 from process import MOST_CHARACTERS, printable
 
 FIRST = 100  # contradictions that the page shows without its script
+MOST_FILES = 1_000  # that the page lists
 MOST_COLUMNS = 6  # providers that have a column; the values of more are in one column
 HERE = os.path.dirname(os.path.abspath(__file__))
 EXPLAINED = f"""<h2>Rows</h2>
@@ -33,6 +34,23 @@ The difference is that of the two facts that contradict each other, as a share o
 entity that nine in ten rows have is shown only in opened rows. Long texts are cut to {MOST_CHARACTERS} characters near the first
 difference; table.csv has them whole.</p>
 """
+
+
+class MadeFrom(NamedTuple):
+    """The first line that `xbrlmerge --version` prints, if the program was run, and the inputs."""
+
+    version: str = ""
+    files: tuple[InputFile, ...] = ()
+
+    def html(self) -> Iterator[str]:
+        count = f"{len(self.files)} input{'s' * (len(self.files) != 1)}"
+        by = f"Made by {escaped(self.version)} from {count}" if self.version else f"Made from {count}"
+        yield f'<details class="files"><summary>{by}</summary><table cellspacing="0"><tr><th>File<th>Bytes<th>SHA-256\n'
+        for file in self.files[:MOST_FILES]:
+            path = html.escape(printable(os.fsencode(file.path).decode(errors="backslashreplace")))
+            yield f'<tr><td data-name="File"><bdi>{path}</bdi><td data-name="Bytes">{file.length}<td data-name="SHA-256">{file.digest}\n'
+        more = len(self.files) - MOST_FILES
+        yield "</table>" + f"<p>and {more} more in summary.json</p>" * (more > 0) + "</details>\n"
 
 
 @dataclass

@@ -1,20 +1,19 @@
 """The rules that rewrite a report so that `xbrlmerge` can read it. docs/GUIDE.md describes them."""
 import argparse
 import re
-from typing import Optional
+from typing import NamedTuple, Optional
 
 from names import SPACE, XBRL, Name, expanded, uris_of
 from normalising import moments, shapes
 from normalising.changes import Log, Part, Reason
 from normalising.documents import change_information, check_root, drop_unknown_members, facts_by_identifier
-from normalising.json_text import Number, Tree, is_text, text_of
+from normalising.json_text import Number, Tree, is_text, pieces_of, text_of
 from normalising.mapping import NameMap, ReportMap
 from normalising.numbers import SCIENTIFIC, plain_number, scale_value, whole_number
 from normalising.prefixes import Prefixes
 from normalising.sets import ITEMS, full_name, set_of
 from normalising.shapes import CORE, PURE, core_spelling
 from normalising.spellings import spelling
-from normalising.unreadable import refused_in
 from program import Program
 from sheets import TYPES, Kinds, Sheet
 from whole_files import OutputLimit, most_output
@@ -304,3 +303,24 @@ def trimmed(key: str, text: str) -> str:
         return text.lstrip(SPACE)
     signs = {"period": "([/])", "unit": "([*/()])"}.get(key)
     return "".join(token.strip(SPACE) for token in (re.split(signs, text) if signs else [text]))
+
+
+class Refused(NamedTuple):
+    """The reasons why the program refuses a report."""
+
+    facts: dict[str, str]  # by identifier: the number and the name of the fact's first refusal
+    lines: list[str]  # messages about the refusal of the document
+
+
+def refused_in(tree: Tree, program: Program) -> Refused:
+    """Asks the program why it refuses a report. Errors: NotDone, OSError."""
+    with open(program.path_of("normalised"), "w", encoding="utf-8", newline="") as file:
+        file.writelines(pieces_of(tree))
+    refused = Refused({}, [])
+    for fault in program.faults(program.path_of("normalised")):
+        why = f"{fault['number']} {fault['name']}"
+        if fault["identifier"] is not None:
+            refused.facts.setdefault(fault["identifier"], why)
+        elif fault["place"] == "document":
+            refused.lines.append(f"the document is refused: {why}: {fault['sentence']}")
+    return refused

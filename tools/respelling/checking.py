@@ -7,8 +7,7 @@ import sheets
 from names import SPACE, XBRL, Name
 from normalising.changes import Path
 from normalising.json_text import Number, Tree, pointer_of
-from respelling.prefixes import RESERVED
-from respelling.rules import RULES
+from respelling.rules import RESERVED, RULES
 from sheets import Sheet
 
 TYPES = {dict: "object", list: "array", str: "text", bool: "boolean", type(None): "null"}

@@ -7,7 +7,7 @@ import recheck
 from file_kinds import kind_of_bytes, looks_like
 from names import PART, SPACE, XBRL
 from process import NotDone, shortened
-from respelling.prefixes import prefixes_for
+from respelling.rules import prefixes_for
 from sheets import Sheet
 
 Fact = Any  # a fact as `recheck` reads it

@@ -1,5 +1,7 @@
-"""The rules that `--check` applies: those of the standards that can be judged without a taxonomy."""
-from typing import NamedTuple
+"""The rules that `--check` applies: those of the standards that can be judged without a taxonomy. OIM Common 1.0 reserves prefixes."""
+from typing import Iterable, Mapping, NamedTuple
+
+from names import XBRL, Spelled
 
 
 class Rule(NamedTuple):
@@ -60,8 +62,36 @@ WITH_SHEET = {
     "duplicates": Rule("oime:disallowedDuplicateFacts", "OIM Common, xbrl:allowedDuplicates", "declare a looser level, or remove duplicates"),
 }
 RULES = {**ANY, **WITH_SHEET}
+ERRORS = {"oimce": "oim-common", "oime": "oim", "xbrlce": "xbrl-csv", "xbrlje": "xbrl-json"}  # the prefixes of error codes
+PREFIXES = {
+    "enum2": "http://xbrl.org/2020/extensible-enumerations-2.0",
+    "iso4217": "http://www.xbrl.org/2003/iso4217",
+    "utr": "http://www.xbrl.org/2009/utr",
+    "xbrl": XBRL,
+    "xbrli": "http://www.xbrl.org/2003/instance",
+    "xs": "http://www.w3.org/2001/XMLSchema",
+    **{prefix: f"{XBRL}/{part}/error" for prefix, part in ERRORS.items()},
+}
+# by the member of documentInfo that binds them
+RESERVED: Mapping[str, Mapping[str, str]] = {
+    "namespaces": PREFIXES,
+    "linkTypes": {
+        "footnote": "http://www.xbrl.org/2003/arcrole/fact-footnote",
+        "explanatoryFact": "http://www.xbrl.org/2009/arcrole/fact-explanatoryFact",
+    },
+    "linkGroups": {"_": "http://www.xbrl.org/2003/role/link"},
+}
 
 
 def listed() -> list[str]:
     """Returns a line for each rule."""
     return [f"{name} {rule.code} ({rule.source}{', with a sheet' if name in WITH_SHEET else ''}): {rule.advice}" for name, rule in RULES.items()]
+
+
+def prefixes_for(uris: Iterable[str], bound: Mapping[str, str]) -> dict[str, str]:
+    """Returns the prefix of each URI: the reserved one, or the sheet's (`bound`) if it is unique, or n and a number."""
+    spelled, own = Spelled(), {uri: prefix for prefix, uri in PREFIXES.items()}
+    for prefix, uri in bound.items():
+        if prefix not in PREFIXES:
+            spelled.add(prefix, uri)
+    return {uri: own.get(uri, prefix) for uri, prefix in spelled.for_uris(uris).items()}

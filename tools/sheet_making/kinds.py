@@ -5,8 +5,7 @@ import functools
 import re
 from typing import Callable, Iterator, Mapping, NamedTuple, Optional
 
-from names import XBRL, Name
-from sheet_making.prefixes import Spelled
+from names import XBRL, Name, Spelled
 from sheet_making.schemas import ANY_TYPE, XBRLDT, XBRLI, XS, Declaration, Derivation
 from sheets import GROUPS, ITEMS, PERIODS, TABLES, TYPES, Types
 

@@ -1,18 +1,18 @@
-"""The declarations in the schemas of a taxonomy."""
+"""The declarations in the schemas of a taxonomy, and the sheet that is made from them."""
 import os
-from typing import Optional
+from typing import Iterable, Optional
 
-from names import SPACE, Name
+from names import SPACE, Name, Spelled
 from process import NotDone, shortened
 from sheet_making.catalogs import Rewrites
 from sheet_making.files import Files
-from sheet_making.kinds import is_specification
-from sheet_making.limits import reading
-from sheet_making.prefixes import Spelled
+from sheet_making.kinds import Kinds, is_specification, kinds_of
+from sheet_making.limits import Limits, reading
 from sheet_making.schemas import Declaration, Derivation, Part, SchemaVisitor
 from sheet_making.xml_reading import Element, read_xml
 
 MOST_LINES = 100
+NO_NAMESPACE = "it has no namespace, and no schema with one refers to it"
 LINKBASE = Name("http://www.xbrl.org/2003/linkbase", "linkbaseRef")
 
 
@@ -139,3 +139,14 @@ def shown_lines(lines: list[str]) -> list[str]:
     """Returns the first MOST_LINES lines, and a line with the number of the others, if there are any."""
     more = len(lines) - MOST_LINES
     return lines if more <= 0 else [*lines[:MOST_LINES], f"and {more} more"]
+
+
+def kinds_in(inputs: Iterable[str], limits: Limits) -> tuple[Kinds, list[str]]:
+    """Returns the kinds of the concepts and dimensions in taxonomies, and a line for each part that is left out."""
+    return kinds_from(Taxonomy(Files(inputs, limits)))
+
+
+def kinds_from(taxonomy: Taxonomy) -> tuple[Kinds, list[str]]:
+    kinds, left_out = kinds_of(taxonomy.elements, taxonomy.types, taxonomy.typed_domains())
+    kinds.spelled = taxonomy.spelled
+    return kinds, [f"{path} is left out: {NO_NAMESPACE}" for path in taxonomy.without_namespace()] + left_out

@@ -6,7 +6,7 @@ import subprocess
 import unittest
 
 import in_process
-from contradicting.checking import command, quoted
+from contradicting.output_folder import command, quoted
 from support import content
 from test_contradictions_run import REPORTS, SCHEMA, SHEET, Stubbed
 from test_contradictions_sources import example

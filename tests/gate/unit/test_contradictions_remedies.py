@@ -9,7 +9,7 @@ from names import Name
 from normalising.json_text import Number
 from normalising.options import CHOICES, LOSSES
 from normalising.rules import Normaliser
-from normalising.sheet_file import sheet_at
+from sheets import sheet_at
 
 SHEET = {"namespaces": {"eg": "http://example.org/t"}, "concepts": {"eg:A": "numeric", "eg:Q": "name", "eg:T": "text"},
          "dimensions": {"eg:Reg": "explicit", "eg:Sku": "typed"}}

@@ -7,7 +7,7 @@ import sys
 import unittest
 
 from in_process import TOP, content
-from packing.tools import TOOLS
+from packing.manual import TOOLS
 
 
 def found(path, pattern):
