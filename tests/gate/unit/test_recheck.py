@@ -3,6 +3,8 @@ import contextlib
 import io
 import json
 import os
+import random
+import re
 import subprocess
 import sys
 import time
@@ -19,7 +21,6 @@ AGREE = "texts compared: %s\n4 reports, 1 refused report, 149 fact objects, 120 
 KEPT = "https://norlake.example/taxonomy/2023/norlake-2023.xsd"
 TEXT = content("examples/merged.json")
 LAST = TEXT[TEXT.index(',"f120"'):-2]
-PAIR = TEXT[TEXT.index('"f003"'):TEXT.index('"f005"')]
 GOODWILL = '"n6:Goodwill","entity":"n1:743700NORLAKEOYJ0017","period":"2024-01-01T00:00:00"'
 COST = '"unit":"n3:EUR/(n4:km*n4:t)"'
 UNJUDGED = object()
@@ -70,108 +71,25 @@ JSON = {b"-0": -0.0, b'{"a":1,"a":2}': {"a": 2}, b"18446744073709551615": (1 << 
         b"-9223372036854775809": -2.0 ** 63, b'"\\ud83d\\ude00"': "\U0001f600", b"\xef\xbb\xbf 1e-999": 0.0}
 HOSTILE = (b"[" * 1_000_000, b'{"a":' * 1_000_000, b'"' + b'\\"' * 1_000_000, b"1" * 1_000_000, b"\x00", b"null", b"\xff\n", b'{"concepts":{"a:b":{}}}')
 
-# single changes: what is replaced, once, and by what
-MERGED = {
-    "a digit of a number": ('"value":"41260"', '"value":"41261"'),
-    "a digit more": ('"value":"41260"', '"value":"412600"'),
-    "a sign": ('"value":"41260"', '"value":"-41260"'),
-    "a plus": ('"value":"41260"', '"value":"+41260"'),
-    "a leading zero": ('"value":"41260"', '"value":"041260"'),
-    "a trailing zero": ('"value":"0.05713"', '"value":"0.057130"'),
-    "a point without a fraction": ('"value":"41260"', '"value":"41260."'),
-    "no zero before the point": ('"value":"0.05713"', '"value":".05713"'),
-    "other decimals": ('"f018":{"decimals":0', '"f018":{"decimals":1'),
-    "no decimals": ('"f018":{"decimals":0,', '"f018":{'),
-    "decimals of an exact number": ('"f120":{"dim', '"f120":{"decimals":0,"dim'),
-    "a fact that is left out": (LAST, ""),
-    "a fact more": (LAST, LAST + LAST.replace("f120", "f121").replace("70100000", "70100001")),
-    "a fact twice": (LAST, LAST + LAST.replace("f120", "f121")),
-    "two facts swapped": ('"value":"41260"},"f019"', '"value":"41906"},"f019"'),
-    "two identifiers swapped": (PAIR, PAIR.replace("f003", "f00").replace("f004", "f003").replace("f00\"", "f004\"")),
-    "an identifier without its zeros": ('"f001"', '"f1"'),
-    "an identifier with a zero more": ('"f001"', '"f0001"'),
-    "an identifier that is skipped": ('"f120"', '"f121"'),
-    "a prefix of another name": ('"n1":"http', '"lei":"http'),
-    "a prefix with a zero": ('"n1":"http', '"n01":"http'),
-    "two prefixes swapped": ('"n1":"http://standards.iso.org/iso/17442","n2":"http://www.xbrl.org/2003/instance"',
-                             '"n1":"http://www.xbrl.org/2003/instance","n2":"http://standards.iso.org/iso/17442"'),
-    "a prefix that is not used": ('"xbrl":"https', '"n7":"https://z.example","xbrl":"https'),
-    "the prefix xbrl left out": (',"xbrl":"https://xbrl.org/2021"', ""),
-    "a URI": ('"https://norlake.example/taxonomy/2023"', '"https://norlake.example/taxonomy/2024"'),
-    "a stricter level": ('"xbrl:allowedDuplicates":"all"', '"xbrl:allowedDuplicates":"consistent"'),
-    "the strictest level": ('"xbrl:allowedDuplicates":"all"', '"xbrl:allowedDuplicates":"none"'),
-    "no level": ('"features":{"xbrl:allowedDuplicates":"all"},', ""),
-    "the document type": ("xbrl-json", "xbrl-csv"),
-    "a reference that is left out": (f'"{KEPT}",', ""),
-    "a reference more": (f'"{KEPT}"', f'"{KEPT}","https://norlake.example/taxonomy/2024.xsd"'),
-    "a character of a reference": (KEPT, KEPT.replace("2023.xsd", "2022.xsd")),
-    "white space": ('"facts":{', '"facts": {'),
-    "a line end": ('}}}', '}}}\n'),
-    "a byte order mark": ('{"documentInfo"', '\ufeff{"documentInfo"'),
-    "the last byte": ("70100000\"}}}", '70100000"}}'),
-    "members in another order": ('"decimals":0,"dimensions":{"concept":"n5:ScopeOne', '"dimensions":{"concept":"n5:ScopeOne'),
-    "an escape": ("n6:Goodwill", "n6:Good\\u0077ill"),
-    "an escaped slash": ('"http://', '"http:\\/\\/'),
-    "a second of a period": (GOODWILL, GOODWILL.replace("T00:00:00", "T00:00:01")),
-    "the end of the day before": (GOODWILL, GOODWILL.replace("2024-01-01T00", "2023-12-31T24")),
-    "an instant as a duration": (GOODWILL, GOODWILL.replace('"2024-01-01T00:00:00"', '"2024-01-01T00:00:00/2024-01-01T00:00:00"')),
-    "a unit without parentheses": (COST, '"unit":"n3:EUR/n4:km*n4:t"'),
-    "measures in another order": (COST, '"unit":"n3:EUR/(n4:t*n4:km)"'),
-    "pure as a unit": ('2024-01-01T00:00:00"},"value":"0.55"', '2024-01-01T00:00:00","unit":"n2:pure"},"value":"0.55"'),
-    "another unit": (COST, '"unit":"n3:SEK/(n4:km*n4:t)"'),
-    "a language in upper case": ('"language":"fi"', '"language":"FI"'),
-    "another language": ('"language":"fi"', '"language":"sv"'),
-    "a dimension that is left out": ('"n5:MillAxis":"Kaarna",', ""),
-    "another typed member": ('"n5:MillAxis":"Kaarna"', '"n5:MillAxis":"kaarna"'),
-    "another explicit member": ('"n6:SegmentsAxis":"n5:PulpMember"', '"n6:SegmentsAxis":"n6:PulpMember"'),
-    "a text for a nil member": ('"n5:MillAxis":null', '"n5:MillAxis":""'),
-    "another entity": ('"n1:743700NORLAKEOYJ0017"', '"n1:743700NORLAKEOYJ0018"'),
-    "a value for nil": ('"value":null', '"value":"0"'),
-    "nil for a value": ('"value":"41260"', '"value":null'),
-    "letter case in a text": ('"value":"Norlake Oyj"', '"value":"NORLAKE Oyj"'),
-    "another name": ('"value":"n5:LimitedAssurance"', '"value":"n5:ReasonableAssurance"'),
-    "another concept": ("n6:Goodwill", "n6:GrossProfit"),
-    "a concept that the sheet lacks": ("n6:Goodwill", "n6:Badwill"),
-    "a member that the format lacks": ('"value":"41260"', '"value":"41260","note":"a"'),
-    "an extension": ('"value":"41260"', '"value":"41260","n5:note":"a"'),
-    "a number for a text": ('"value":"41260"', '"value":41260'),
-}
-VERDICTS = {
-    "consistent for inconsistent": ("12 f018 f019 inconsistent apart f018 f019", "12 f018 f019 consistent common 41260 41260"),
-    "inconsistent for consistent": ("13 f020 f022 consistent common 0.057125 0.057135", "13 f020 f022 inconsistent apart f020 f022"),
-    "complete for consistent": ("3 f003 f004 consistent common 0.5535 0.5545", "3 f003 f004 complete"),
-    "the low end": ("0.057125 0.057135", "0.057115 0.057135"),
-    "the high end": ("0.057125 0.057135", "0.057125 0.057136"),
-    "the spelling of an end": ("0.057125 0.057135", "0.0571250 0.057135"),
-    "the pair swapped": ("apart f018 f019", "apart f019 f018"),
-    "another pair": ("apart f065 f066", "apart f065 f067"),
-    "the number of a row": ("2 f002 f002 complete", "3 f002 f002 complete"),
-    "the first fact": ("3 f003 f004", "3 f002 f004"),
-    "the last fact": ("3 f003 f004", "3 f003 f005"),
-    "a row left out": ("2 f002 f002 complete\n", ""),
-    "a row twice": ("2 f002 f002 complete\n", "2 f002 f002 complete\n2 f002 f002 complete\n"),
-    "two rows swapped": ("1 f001 f001 complete\n2 f002 f002 complete\n", "2 f002 f002 complete\n1 f001 f001 complete\n"),
-    "a space at the end": ("2 f002 f002 complete\n", "2 f002 f002 complete \n"),
-    "another line end": ("2 f002 f002 complete\n", "2 f002 f002 complete\r\n"),
-}
-SOURCES = {
-    "the fact": ('f001 1 "f7"', 'f002 1 "f7"'),
-    "the report": ('f001 1 "f7"', 'f001 2 "f7"'),
-    "the identifier": ('f001 1 "f7"', 'f001 1 "f8"'),
-    "an escape": ('f001 1 "f7"', 'f001 1 "\\u00667"'),
-    "a source left out": ('f001 1 "f7"\n', ""),
-    "a source twice": ('f001 1 "f7"\n', 'f001 1 "f7"\nf001 1 "f7"\n'),
-    "two sources swapped": ('f001 1 "f7"\nf001 3 "TS08185"\n', 'f001 3 "TS08185"\nf001 1 "f7"\n'),
-}
-REFUSALS = {
-    "the number": ("13 UnboundPrefix", "12 UnboundPrefix"),
-    "the name": ("UnboundPrefix", "NameForm"),
-    "the fact": ("fact 15", "fact 14"),
-    "the place": ("fact 15", "document"),
-    "the report": ("report 4", "report 3"),
-    "a refusal left out": ("report 4: 13 UnboundPrefix at fact 15\n", ""),
-    "a refusal more": ("report 4", "report 1: 1 NotJson at document\nreport 4"),
-}
+NUMBER, REFERENCE = '"value":"41260"', "https://norlake.example/taxonomy/2024.xsd"
+# other bytes of the merged text, with the same meaning or nearly so: what is replaced, once, and by what
+RESPELLED = (
+    *((NUMBER, f'"value":"{text}"') for text in ("+41260", "041260", "41260.0", "41260.")), ('"value":"0.05713"', '"value":".05713"'),
+    (f'{NUMBER}}},"f019"', '"value":"41906"},"f019"'), ('"f001"', '"f1"'), ('"f120"', '"f121"'), (LAST, ""), (LAST, LAST + LAST.replace("f120", "f121")),
+    (LAST, LAST + LAST.replace("f120", "f121").replace("70100000", "70100001")), ('"f018":{"decimals":0,', '"f018":{'),
+    ('"n1":"http', '"lei":"http'), ('"n1":"http', '"n01":"http'), ('"xbrl":"https', '"n7":"https://z.example","xbrl":"https'),
+    ('"n1":"http://standards.iso.org/iso/17442","n2":"http://www.xbrl.org/2003/instance"',
+     '"n1":"http://www.xbrl.org/2003/instance","n2":"http://standards.iso.org/iso/17442"'),
+    (',"xbrl":"https://xbrl.org/2021"', ""), ('"features":{"xbrl:allowedDuplicates":"all"},', ""),
+    *(('"xbrl:allowedDuplicates":"all"', f'"xbrl:allowedDuplicates":"{level}"') for level in ("consistent", "none")),
+    (f'"{KEPT}",', ""), (f'"{KEPT}"', f'"{KEPT}","{REFERENCE}"'), ('"facts":{', '"facts": {'), ("}}}", "}}}\n"), ('{"documentInfo"', '\ufeff{"documentInfo"'),
+    ('"decimals":0,"dimensions":{"concept":"n5:ScopeOne', '"dimensions":{"concept":"n5:ScopeOne'), ("n6:Goodwill", "n6:Good\\u0077ill"),
+    ('"http://', '"http:\\/\\/'), (GOODWILL, GOODWILL.replace("2024-01-01T00", "2023-12-31T24")),
+    (GOODWILL, GOODWILL.replace('"2024-01-01T00:00:00"', '"2024-01-01T00:00:00/2024-01-01T00:00:00"')),
+    *((COST, f'"unit":"{unit}"') for unit in ("n3:EUR/n4:km*n4:t", "n3:EUR/(n4:t*n4:km)")), ('"language":"fi"', '"language":"FI"'),
+    ('2024-01-01T00:00:00"},"value":"0.55"', '2024-01-01T00:00:00","unit":"n2:pure"},"value":"0.55"'), ('"n5:MillAxis":null', '"n5:MillAxis":""'),
+    (NUMBER, f'{NUMBER},"note":"a"'), (NUMBER, f'{NUMBER},"n5:note":"a"'), (NUMBER, '"value":41260'), ("n6:Goodwill", "n6:Badwill"),
+)
 # changes of a report or of the sheet, and the text that differs first
 INPUTS = {
     "a value in a report": ("issuer", '"value":"41260"', '"value":"41270"', "merged"),
@@ -182,6 +100,16 @@ INPUTS = {
     "a kind in the sheet": ("sheet", '"ifrs-full:Goodwill":"numeric"', '"ifrs-full:Goodwill":"text"', "merged"),
     "a concept that the sheet no longer lists": ("sheet", '"ifrs-full:Goodwill":"numeric",', "", "merged"),
 }
+
+
+def drawn_changes(text):
+    """Yields changes of the start of a text: a text in quotes, a word or another character is left out, repeated, lengthened, or swapped
+    with the next one."""
+    parts, chance = re.findall(r'"[^"]*"|\w+|.', text, re.DOTALL), random.Random(7)
+    for place in chance.sample(range(len(parts) - 1), min(len(parts) - 1, 6)):
+        start, (one, other) = "".join(parts[:place]), parts[place : place + 2]
+        for new in {other, one * 2 + other, one[:-1] + "0" + one[-1:] + other, other + one} - {one + other}:
+            yield start + one + other, start + new
 
 
 class Examples(in_process.RoomTest):
@@ -217,11 +145,13 @@ class Changes(Examples):
         self.assertEqual(self.run_on(*self.words(lines=["sources"])), (0, AGREE % "merged, sources"))
 
     def test_each_change_of_a_text_is_found(self):
-        texts = {"merged": MERGED, "verdicts": VERDICTS, "sources": SOURCES, "refusals": REFUSALS}
-        self.assertGreaterEqual(sum(map(len, (*texts.values(), INPUTS))), 60)
-        for name, kind in ((name, kind) for name, changes in texts.items() for kind in changes):
-            with self.subTest(kind, text=name):
-                status, lines = self.changed(name, *texts[name][kind])
+        changes = [("merged", self.files["merged"], change) for change in RESPELLED]
+        changes += [(name, text, change) for name, text in self.files.items() if name in ("merged", *LINES) for change in drawn_changes(text)]
+        self.assertGreaterEqual(len(changes), 100)
+        for name, text, (old, new) in changes:
+            with self.subTest(name, old=old[-40:], new=new[-40:]):
+                self.assertIn(old, text)
+                status, lines = self.changed(name, old, new)
                 self.assertEqual(status, 1)
                 self.assertTrue(all(line.startswith((f"{name}: ", "report ")) for line in lines), lines)
                 self.assertTrue(any(line.startswith(f"{name}: line ") for line in lines), lines)
@@ -269,8 +199,8 @@ class Others(Examples):
             self.assertEqual(recheck.read_urls({"baseURL": base})[1:], ([6], []) if found is None else ([], [(6, base)] * (found == UNJUDGED)), base)
 
     def test_a_reference_more_is_found(self):
-        _, lines = self.changed("merged", *MERGED["a reference more"])
-        self.assertEqual(lines[0], "merged: its reference https://norlake.example/taxonomy/2024.xsd is in no report")
+        _, lines = self.changed("merged", f'"{KEPT}"', f'"{KEPT}","{REFERENCE}"')
+        self.assertEqual(lines[0], f"merged: its reference {REFERENCE} is in no report")
 
     def test_json_and_csv_are_compared(self):
         report = self.write('a "b".json', json.dumps(SMALL))
