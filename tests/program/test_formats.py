@@ -1,11 +1,10 @@
-"""Compares the formats of `verdicts` and `sources` with the lines and the merged text.
+"""Compares the formats of `verdicts` and `sources` with those that tools/recheck computes.
 
-The program runs on the examples, on texts with quotes, line ends and formulas, and on drawn reports. This module computes the output
-of `--format json` and `--format csv` from the lines and from the output of `merge`. The program's output must be the same, byte for
-byte. `--format lines` must print the same as no `--format`. `--spreadsheet` must begin with a byte order mark, and may only add a ' to
-cells. It must guard a text as tools/contradictions does: exactly so if the text is ASCII, otherwise at least so. SQLite joins the
-sources of the examples to their verdicts: each pair must have the concept and the value that the report's file has. Last, the
-program runs on reports whose output repeats a long URI, with and without `--most-output`.
+The program runs on the examples, on texts with quotes, line ends and formulas, and on drawn reports. The output of `--format json`,
+`--format csv`, `--format lines` and no `--format` must be that of tools/recheck, byte for byte. `--spreadsheet` must begin with a byte
+order mark, and may only add a ' to cells. It must guard a text as tools/contradictions does: exactly so if the text is ASCII, otherwise
+at least so. SQLite joins the sources of the examples to their verdicts: each pair must have the concept and the value that the report's
+file has. Last, the program runs on reports whose output repeats a long URI, with and without `--most-output`.
 """
 import csv
 import decimal
@@ -20,10 +19,9 @@ from running import TOP, cases, run, write
 from strategies import simple_report, simple_sheet
 from support import bytes_of, content
 from contradicting.tables import safe
+import recheck
 
 EXAMPLES = [f"{TOP}/examples/{name}.json" for name in ("issuer", "ledgerline", "statfeed", "oldharbour")]
-CORE = ("concept", "entity", "period", "unit", "language")
-COLUMNS = ["row", "verdict", "fact", *CORE, "dimensions", "value", "nil", "decimals", "common_low", "common_high", "apart_first", "apart_second"]
 TEXTS = ["=1+1", "-2", "+3", "@SUM(A1)", "plain", 'a "word", and more', "two\nlines", "three\r\nlines", "", "'=1", "\t=1", "\u00a0=1", "\uff1d1", "\u3000-1",
          "\ufeff=1", "\u00e9=1", "1=1", "a", "\u0001", "x;=cmd|'/C calc'!A0", "x;1", "x| -1", "x\t+1", "x\r\n@1", ";;=1", "x;\t'\"=1", "x,=1",
          "\u00e9;\u00a0=1", "x;\uff1d1"]
@@ -37,100 +35,6 @@ def printed(command, sheet, reports, *words):
 
 def lines_of(text):
     return text.split("\n")[:-1]
-
-
-def compact(tree):
-    return json.dumps(tree, ensure_ascii=False, separators=(",", ":"))
-
-
-def table(rows):
-    made = io.StringIO()
-    csv.writer(made).writerows(rows)
-    return made.getvalue()
-
-
-class Merged:
-    """A merged text. Its methods return names with their URIs instead of prefixes."""
-
-    def __init__(self, text, sheet):
-        tree = json.loads(text)
-        self.facts = tree["facts"]
-        self.prefixes = tree["documentInfo"]["namespaces"]
-        uris = sheet["namespaces"]
-        full = {kind: {f"{{{uris[name.split(':')[0]]}}}{name.split(':')[1]}": what for name, what in sheet.get(kind, {}).items()}
-                for kind in ("concepts", "dimensions")}
-        self.concepts, self.axes = full["concepts"], full["dimensions"]
-
-    def name(self, text):
-        prefix, local = text.split(":", 1)
-        return f"{{{self.prefixes[prefix]}}}{local}"
-
-    def unit(self, text):
-        sides = text.split("/")
-        return "/".join(self.side(side) for side in sides)
-
-    def side(self, side):
-        inner = side.strip("()")
-        names = "*".join(map(self.name, inner.split("*")))
-        return f"({names})" if side.startswith("(") else names
-
-    def dimensions(self, given):
-        """Returns a fact's dimensions with full names, in the order of the merged text."""
-        made = {}
-        for key, text in given.items():
-            if key in ("concept", "entity"):
-                made[key] = self.name(text)
-            elif key in ("period", "language"):
-                made[key] = text
-            elif key == "unit":
-                made[key] = self.unit(text)
-            else:
-                axis = self.name(key)
-                made[axis] = self.name(text) if text is not None and self.axes[axis] == "explicit" else text
-        return made
-
-    def numbers(self):
-        """Returns the values of all numeric facts."""
-        kinds = ((self.concepts[self.name(fact["dimensions"]["concept"])], fact["value"]) for fact in self.facts.values())
-        return {value for kind, value in kinds if kind == "numeric"}
-
-    def value(self, fact):
-        is_name = self.concepts[self.name(fact["dimensions"]["concept"])] == "name"
-        return self.name(fact["value"]) if is_name and fact["value"] is not None else fact["value"]
-
-
-def rows_of(lines, merged):
-    """Yields the JSON object that each row should have, computed from the row's line and the merged text."""
-    names = list(merged.facts)
-    for line in lines:
-        number, first, last, verdict, *shown = line.split(" ")
-        these = names[names.index(first) : names.index(last) + 1]
-        facts = [{"fact": name, "value": merged.value(merged.facts[name]),
-                  **{key: merged.facts[name][key] for key in ("decimals",) if key in merged.facts[name]}} for name in these]
-        row = {"row": int(number), "verdict": verdict, "dimensions": merged.dimensions(merged.facts[first]["dimensions"]), "facts": facts}
-        if verdict == "consistent":
-            row["evidence"] = {"common": {"low": shown[1], "high": shown[2]}}
-        elif verdict == "inconsistent":
-            row["evidence"] = {"apart": shown[1:]}
-        yield row
-
-
-def records_of(row):
-    """Yields the CSV record that each fact of a row should have."""
-    given, evidence = row["dimensions"], row.get("evidence", {})
-    defined = {name: member for name, member in given.items() if name not in CORE}
-    common = evidence.get("common", {})
-    shown = [common.get("low", ""), common.get("high", ""), *evidence.get("apart", ["", ""])]
-    for fact in row["facts"]:
-        is_nil = fact["value"] is None
-        yield [row["row"], row["verdict"], fact["fact"], *(given.get(name, "") for name in CORE), compact(defined) if defined else "",
-               "" if is_nil else fact["value"], "true" if is_nil else "", fact.get("decimals", ""), *shown]
-
-
-def sources_of(lines, files):
-    for line in lines:
-        fact, report, identifier = line.split(" ", 2)
-        yield {"report": int(report), "file": files[int(report) - 1], "identifier": json.loads(identifier), "fact": fact}
 
 
 def is_within(part, whole):
@@ -153,23 +57,15 @@ def is_guarded(plain, guarded, numbers):
 
 
 def expect_formats(sheet, reports):
-    def asked(command, *words):
-        return printed(command, sheet, reports, *words)
-
-    merged = Merged(asked("merge"), json.loads(bytes_of(sheet)))
-    rows, sources = list(rows_of(lines_of(asked("verdicts")), merged)), list(sources_of(lines_of(asked("sources")), reports))
-    facts = [cells for row in rows for cells in records_of(row)]
-    wanted = {
-        ("verdicts", "json"): "".join(f"{compact(row)}\n" for row in rows),
-        ("verdicts", "csv"): table([COLUMNS, *facts]),
-        ("sources", "json"): "".join(f"{compact(source)}\n" for source in sources),
-        ("sources", "csv"): table([["report", "file", "identifier", "fact"], *(source.values() for source in sources)]),
-    }
-    for (command, form), text in wanted.items():
-        assert asked(command, "--format", form) == text, (command, form)
+    for form in ("lines", "json", "csv"):
+        wanted = recheck.Run(bytes_of(sheet), reports, {}, form=form)
+        for command in ("verdicts", "sources"):
+            for words in ((), ("--format", form)) if form == "lines" else (("--format", form),):
+                assert printed(command, sheet, reports, *words) == wanted.texts[command], (command, form)
+    numbers = {recheck.plain(value.content) for _, value in wanted.facts if value.kind == 1}
     for command in ("verdicts", "sources"):
-        assert asked(command, "--format", "lines") == asked(command)
-        assert is_guarded(wanted[command, "csv"], asked(command, "--format", "csv", "--spreadsheet"), merged.numbers()), command
+        guarded = printed(command, sheet, reports, "--format", "csv", "--spreadsheet")
+        assert is_guarded(wanted.texts[command], guarded, numbers), command
 
 
 @cases(300)

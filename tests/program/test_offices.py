@@ -2,10 +2,9 @@
 
 Three offices, each with its own folder, use only `merge` and `check`. They take reports, of which some are refused, and exchange
 texts, which arrive late, repeated or reordered; an office may lose everything. A sent text must be canonical and declare the strictest
-level that its facts satisfy; this module computes the level too. Some texts are then sent in the earlier form, without a level.
+level that its facts satisfy; tools/recheck computes the level too. Some texts are then sent in the earlier form, without a level.
 In the end, tools/recheck must agree with the text of each office.
 """
-import fractions
 import json
 import os
 import re
@@ -14,8 +13,9 @@ import subprocess
 import sys
 
 from running import TOP, cases, counts, expect_all, merged, note, run, write
-from strategies import SIMPLE, simple_report, simple_sheet
+from strategies import simple_report, simple_sheet
 from support import bytes_of
+import recheck
 
 RECHECK = os.path.join(TOP, "tools", "recheck.py")
 OFFICES = (1, 2, 3)
@@ -26,25 +26,9 @@ DECLARED = re.compile(rb'"features":\{"xbrl:allowedDuplicates":"\w+"\},|,?"xbrl"
 
 
 def level_of(texts):
-    """Returns the strictest level that the facts of reports satisfy, computed from the definition. Equal facts count as one."""
-    rows = {}
-    for text in texts:
-        tree = json.loads(text)
-        prefix = next(iter(tree["documentInfo"]["namespaces"]))
-        for made in tree["facts"].values():
-            kind = SIMPLE[made["dimensions"]["concept"].partition(":")[2]]
-            value = fractions.Fraction(made["value"]) if kind == "numeric" else made["value"].removeprefix(f"{prefix}:")
-            rows.setdefault(json.dumps(made["dimensions"], sort_keys=True).replace(f'"{prefix}:', '"'), set()).add((value, made.get("decimals")))
-    several = [row for row in rows.values() if len(row) > 1]
-    return "none" if not several else "consistent" if all(map(do_meet, several)) else "all"
-
-
-def do_meet(row):
-    """Returns whether the rounding intervals of all facts in a row have a common number. Different texts never meet."""
-    if any(isinstance(value, str) for value, _ in row):
-        return False
-    ends = [(value, 0 if places is None else fractions.Fraction(10) ** -places / 2) for value, places in row]
-    return max(value - half for value, half in ends) <= min(value + half for value, half in ends)
+    """Returns the strictest level that the facts of reports satisfy, as tools/recheck computes it. Equal facts count as one."""
+    sheet = recheck.read_sheet(bytes_of("sheet"))
+    return recheck.level_of({fact for text in texts for fact in recheck.read_report(text, sheet)[0].values()})
 
 
 class Schedule:
