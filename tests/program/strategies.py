@@ -12,52 +12,6 @@ REASONS = """NotJson MemberForm UnknownMember DocumentType Namespace BaseUrl Tax
     UnitForm UnitOnOther LanguageForm LanguageOnNumeric ValueForm NumberForm NumberDigits DecimalsForm DecimalsRange
     DecimalsOnOther DisallowedDuplicates SheetKind""".split()
 
-# ---- reports that overlap, agree, contradict each other, or are refused
-
-URI, DOCUMENT_TYPE = "https://made.example/2024", "https://xbrl.org/2021/xbrl-json"
-SIMPLE = {**{f"A{n}": "numeric" for n in range(12)}, **{f"T{n}": "text" for n in range(3)}, "N0": "name"}
-
-
-def simple_sheet():
-    concepts = {f"m:{name}": kind for name, kind in SIMPLE.items()}
-    return {"namespaces": {"m": URI}, "concepts": concepts, "dimensions": {"m:RegionAxis": "explicit", "m:MillAxis": "typed"}}
-
-
-def simple_fact(chance, prefix, concepts):
-    """Draws a fact. There are few dimension sets and few values, so different reports have facts with the same dimensions."""
-    concept = chance.choice(sorted(concepts))
-    dimensions = {"concept": f"{prefix}:{concept}", "entity": f"e:{chance.choice('PQ')}"}
-    dimensions["period"] = f"{chance.randint(2020, 2024)}-12-31T24:00:00"
-    if chance.random() < 0.4:
-        dimensions[f"{prefix}:RegionAxis"] = f"{prefix}:{chance.choice(['North', 'South'])}"
-    if chance.random() < 0.2:
-        dimensions[f"{prefix}:MillAxis"] = chance.choice(["Kaarna", "\u00d6sth\u00e4lsinge", None])
-    if SIMPLE[concept] != "numeric":
-        text = f"text {chance.randint(0, 9)} \"\u20ac\""
-        return {"dimensions": dimensions, "value": f"{prefix}:B" if concept[0] == "N" else text}
-    dimensions["unit"] = chance.choice(["c:EUR", "c:EUR/x:shares"])
-    made = {"dimensions": dimensions, "value": f"{chance.randint(980, 1020)}.{chance.randint(0, 9)}0"}
-    # four in five decimals are -2 to 1, near the digits in which values differ, so only some facts agree; the rest are -18 to 18
-    places = chance.randint(-2, 1) if chance.random() < 0.8 else chance.randint(-18, 18)
-    return {**made, "decimals": places} if chance.random() < 0.8 else made
-
-
-def simple_report(chance, is_refused=0, most=20, concepts=tuple(SIMPLE)):
-    """Draws a report of at most `most` facts with one of three prefixes. `is_refused` is the number of a fault (1 to 3), or 0 for none."""
-    prefix = chance.choice(["m", "made", "x-1"])
-    uris = {prefix: URI, "e": "http://standards.iso.org/iso/17442"}
-    uris.update({"c": "http://www.xbrl.org/2003/iso4217", "x": "http://www.xbrl.org/2003/instance"})
-    facts = {f"{chance.randint(0, 10**9)}": simple_fact(chance, prefix, concepts) for _ in range(chance.randint(1, most))}
-    references = [f"{URI}/{chance.randint(0, 2)}.xsd"]
-    info = {"documentType": DOCUMENT_TYPE, "namespaces": uris, "taxonomy": references}
-    if is_refused == 1:
-        uris[prefix] = URI + "/other"
-    elif is_refused == 2:
-        next(iter(facts.values()))["decimals"] = 99
-    text = json.dumps({"documentInfo": info, "facts": facts}, ensure_ascii=chance.random() < 0.5, indent=chance.choice([None, 1]))
-    return text[: len(text) // 2] if is_refused == 3 else text
-
-
 # ---- a base: a merged text with its verdicts and sources
 
 URIS = {"n1": "http://made.example/2024", "n2": "http://other.example", "n3": "HTTP://other.example"}
@@ -98,7 +52,8 @@ def base(chance):
 
 # ---- reports of all forms, mostly without faults
 
-OTHER, XBRL = "http://example.org/u", "https://xbrl.org/2021"
+URI, OTHER, XBRL = "https://made.example/2024", "http://example.org/u", "https://xbrl.org/2021"
+DOCUMENT_TYPE = f"{XBRL}/xbrl-json"
 PREFIXES = {"m": URI, "made": URI, "x": OTHER, "a": "a", "xbrli": "http://www.xbrl.org/2003/instance", "xbrl": XBRL, "own": XBRL}
 KINDS = {"A": "numeric", "B": "numeric", "T": "text", "Q": "name"}
 DAYS = ("2023-12-31T24:00:00", "2024-01-01T00:00:00", "2023-12-31T23:59:59", "2024-02-28T24:00:00", "2024-02-29T00:00:00",
@@ -198,6 +153,24 @@ def report_tree(chance):
     if facts and chance.random() < 0.2:
         facts["again"] = chance.choice([*facts.values()])
     return {"documentInfo": info, "facts": facts, **more}
+
+
+def simple_sheet():
+    return sheet_tree()
+
+
+def simple_report(chance, is_refused=0, most=20):
+    """Draws a report of at most `most` facts that overlap with those of others. `is_refused` is the number of a fault (1 to 3), or 0 for
+    none."""
+    facts = {f"{chance.randint(0, 10**9)}": drawn_fact(chance) for _ in range(chance.randint(1, most))}
+    info = {"documentType": DOCUMENT_TYPE, "namespaces": dict(PREFIXES), "taxonomy": [f"{URI}/{chance.randint(0, 2)}.xsd"]}
+    if is_refused == 1:
+        info["namespaces"] |= {"m": f"{URI}/other", "made": f"{URI}/other"}
+    elif is_refused == 2:
+        next(iter(facts.values()))["decimals"] = 99
+    text = json.dumps({"documentInfo": info, "facts": facts}, ensure_ascii=chance.random() < 0.5, indent=chance.choice([None, 1]))
+    text = text.replace("\ud83d\ude00", "\U0001f600")
+    return text[: len(text) // 2] if is_refused == 3 else text
 
 
 def nested(depth):

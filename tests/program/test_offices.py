@@ -42,7 +42,7 @@ class Schedule:
             os.mkdir(folder)
         write("sheet", json.dumps(simple_sheet()))
         for name, is_refused in self.is_refused.items():
-            write(name, simple_report(chance, chance.randint(1, 3) if is_refused else 0, 3, ("A0", "T0")))
+            write(name, simple_report(chance, chance.randint(1, 3) if is_refused else 0, 3))
 
     def present(self, office):
         """Returns the text of an office. If the office has none, writes a text without facts for it first."""
