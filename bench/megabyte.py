@@ -1,9 +1,11 @@
-"""Runs each shape of bench/shaped.py once at a size of about a megabyte, and measures processor seconds and peak memory."""
+"""Measures programs. Runs each shape of bench/shaped.py once at a size of about a megabyte, and measures processor seconds and peak memory."""
 import json
 import multiprocessing
 import os
+import re
 import resource
 import subprocess
+import tempfile
 
 from shaped import SENT, SHAPES, expected
 
@@ -66,13 +68,41 @@ def limit():
     resource.setrlimit(resource.RLIMIT_AS, (BYTES_LIMIT, BYTES_LIMIT))
 
 
-def measure(command, folder):
-    """Returns processor seconds, peak memory in kilobytes, and whether the command ended as it must."""
-    nothing = subprocess.DEVNULL
-    child = subprocess.Popen(command, cwd=folder, stdin=nothing, stdout=nothing, stderr=nothing, preexec_fn=limit)
+class Failure(Exception):
+    """A measurement failed, or a shape, a program or an argument is wrong."""
+
+
+def ended(command, folder, given=subprocess.DEVNULL, **more):
+    """Runs a command in a folder. Returns its status and the resources that it used."""
+    child = subprocess.Popen(command, cwd=folder, stdin=given, **{"stdout": subprocess.DEVNULL, "stderr": subprocess.DEVNULL, **more})
     _, status, used = os.wait4(child.pid, 0)
     child.returncode = os.waitstatus_to_exitcode(status)
-    return used.ru_utime + used.ru_stime, used.ru_maxrss, child.returncode == expected(command)
+    return child.returncode, used
+
+
+def run(command, folder, status=0, given=subprocess.DEVNULL, taken=subprocess.DEVNULL):
+    """Runs a command that must end with this status. Returns its standard error and the resources that it used. Errors: Failure."""
+    with tempfile.TemporaryFile() as errors:
+        found, used = ended(command, folder, given, stdout=taken, stderr=errors)
+        errors.seek(0)
+        said = errors.read().decode(errors="replace")
+    if found != status:
+        raise Failure(f"{' '.join(command)[:200]} in {folder} ended with status {found}: {said[-400:]}")
+    return said, used
+
+
+def instructions(command, folder, status=0, given=subprocess.DEVNULL):
+    counter = ["valgrind", "--tool=callgrind", "--callgrind-out-file=/dev/null", "--"]
+    counted = re.search(r"Collected : (\d+)", run([*counter, *command], folder, status, given)[0])
+    if counted is None:
+        raise Failure("valgrind counted nothing")
+    return int(counted[1])
+
+
+def measure(command, folder):
+    """Returns processor seconds, peak memory in kilobytes, and whether the command ended as it must."""
+    status, used = ended(command, folder, preexec_fn=limit)
+    return used.ru_utime + used.ru_stime, used.ru_maxrss, status == expected(command)
 
 
 def too_costly(shapes, program, folder):
