@@ -2,6 +2,7 @@
 import base64
 import hashlib
 import html.parser
+import itertools
 import json
 import os
 import re
@@ -11,7 +12,7 @@ import sys
 import in_process
 import lines_of_verdicts
 from names import Name
-from support import content, table_in
+from support import content, table_in, write
 
 from contradicting import tables
 from contradicting.facts import Dimensions
@@ -23,16 +24,15 @@ COMPARED = re.compile(r" reports no fact$| shares .* with another provider| of \
 
 
 class Seen(html.parser.HTMLParser):
-    """The tags, the texts and the titles of a page. An event handler, a `src` or a link out of the page fails the test."""
+    """The tags and the texts of a page. An event handler, a `src` or a link out of the page fails the test."""
 
     def __init__(self, page):
         super().__init__()
-        self.tags, self.texts, self.titles = [], [], set()
+        self.tags, self.texts = [], []
         self.feed(page)
 
     def handle_starttag(self, tag, attributes):
         self.tags.append(tag)
-        self.titles.update(value for key, value in attributes if key == "title")
         for key, value in attributes:
             if key.startswith("on") or key == "src" or key == "href" and not value.startswith("#"):
                 raise AssertionError(f"{tag} has {attributes}")
@@ -57,6 +57,17 @@ class ToolTest(in_process.RoomTest):
 
     def cells(self, name):
         return table_in(os.path.join(self.output, name))
+
+    def expect_kept(self, folder, *names):
+        """Compares output files with those in a folder here, apart from styles, scripts and the paths of folders. KEEP=1 writes them."""
+        for name in names:
+            path, text = os.path.join(in_process.HERE, folder, name), content(os.path.join(self.output, name))
+            text = re.sub("(?s)(?<=<style>).*?(?=</style>)|(?<=<script>).*?(?=</script>)|(?<='sha256-)[^']*", "", text)
+            text = text.replace(self.scratch, "SCRATCH").replace(in_process.TOP, "TOP").replace(os.path.realpath(in_process.TOP), "TOP")
+            if "KEEP" in os.environ:
+                write(path, text)
+            pairs = itertools.zip_longest(text.split("\n"), content(path).split("\n"))
+            self.assertEqual([(line, other) for line, other in pairs if line != other][:1], [], path)
 
     @staticmethod
     def other_lines(text):
@@ -89,74 +100,24 @@ class Pages(ToolTest):
     def setUp(self):
         super().setUp()
         self.text, self.cells = self.written(MERGED, SHEET, VERDICTS)
-        self.seen = Seen(self.text)
-        self.shown = re.sub("[ \n]+", " ", "".join(self.seen.texts))
 
-    def test_the_fixture_is_what_the_rules_say(self):
+    def test_the_page_and_the_tables(self):
+        """The texts of the report have tags, signs of formulas, and numbers on lines and with gaps."""
         self.assertEqual(lines_of_verdicts.lines(content(MERGED)), content(VERDICTS))
-
-    def test_counts_come_first(self):
-        start = self.shown.index("6contradictions")
-        self.assertIn("6contradictions2no contradiction", self.shown)
-        self.assertLess(start, self.shown.index("Auditor"))
-
-    def test_periods_are_shown_by_days(self):
-        self.assertIn("2023-01-01 to 2023-12-31", self.shown)
-        self.assertIn("at the end of 2023-12-31", self.shown)
-        self.assertNotIn("2024-01-01", self.shown)
-
-    def test_intervals_and_gaps_are_exact(self):
-        for text in ("4.805", "4.815", "\u22121\u202f200.5", "exact", "4.75 NOK / shares4.95 NOK / shares"):
-            self.assertIn(text, self.shown)
-        self.assertIn("No number fits both: there is a gap of 0.115 NOK / shares between 4.815 and 4.93.", self.shown)
-        self.assertIn("there is a gap of 2\u202f399 NOK between \u22121\u202f199.5 and 1\u202f199.5.", self.shown)
-
-    def test_only_numbers_have_a_line(self):
-        self.assertEqual(self.seen.tags.count("svg"), 4 + 2 + 2 + 1)
-        self.assertEqual(self.text.count("<i>not reported as a number</i>"), 1)
-        # on a line from 4.75 to 4.95, the gap from 4.815 to 4.93 extends from 32.5% to 90%
-        self.assertEqual(self.text.count('style="--a:32.50%;--b:90.00%"'), 4)
-        self.assertIn('<line x1="27.50%" x2="32.50%" y1="13" y2="13"/><circle cx="30.00%" cy="13" r="5"/>', self.text)
-
-    def test_uris_stand_behind_local_names(self):
-        self.assertIn("https://norlake.example/2023", self.seen.titles)
-        self.assertIn("http://www.xbrl.org/2003/iso4217", self.seen.titles)
-
-    def test_the_namespace_of_a_concept_is_in_its_opened_row(self):
-        self.assertEqual(re.findall(r"<dt>Concept<dd><bdi>(\S+) ", self.text), ["https://norlake.example/2023"] * 6)
-
-    def test_the_data_have_each_row_and_each_fact(self):
-        data, facts = data_of(self.text), json.loads(content(MERGED))["facts"]
-        self.assertEqual(sorted(row[0] for row in data["rows"]), [*range(1, 9)])
-        self.assertEqual(sorted(fact[0] for row in data["rows"] for fact in row[6]), sorted(facts))
-        found = {fact[0]: fact[1:3] for row in data["rows"] for fact in row[6]}
-        self.assertEqual((found["f06"], found["f09"], data["leftOut"]), (["4.81", 2], ["-1200", 0], 0))
+        self.expect_kept("norlake", "page.html", "contradictions.csv", "table.csv")
 
     def test_strangers_texts_are_texts(self):
-        self.assertIn("EY <script>alert(1)</script> AS", self.seen.texts)
-        self.assertIn("pulp & <b>paper</b>", self.seen.texts)
-        self.assertFalse({"img", "iframe", "object", "link", "form"} & set(self.seen.tags))
-        self.assertEqual(self.seen.tags.count("script"), 2)  # its own, and the data block with all rows
-        self.assertIn("default-src 'none'", self.text)
+        seen = Seen(self.text)
+        self.assertIn("EY <script>alert(1)</script> AS", seen.texts)
+        self.assertIn("pulp & <b>paper</b>", seen.texts)
+        self.assertFalse({"img", "iframe", "object", "link", "form"} & set(seen.tags))
+        self.assertEqual(seen.tags.count("script"), 2)  # its own, and the data block with all rows
 
     def test_the_script_that_may_run_is_that_of_the_page(self):
         script = self.text.split("<script>")[1].split("</script>")[0]
         known = base64.b64encode(hashlib.sha256(script.encode()).digest()).decode()
         self.assertIn(f"script-src 'sha256-{known}'\"", self.text)
-        self.assertIn('<div class="controls" hidden>', self.text)
-
-    def test_the_page_has_a_dark_look(self):
         self.assertIn("prefers-color-scheme: dark", self.text)
-
-    def test_the_table_has_expanded_names_and_no_formula(self):
-        self.assertEqual([cell["fact"] for cell in self.cells], "f01 f02 f03 f04 f05 f06 f07 f08 f09 f10 f11 f12 f15 f16".split())
-        self.assertEqual(self.cells[0]["value"], "'=HYPERLINK(\"http://evil.example\")")
-        self.assertEqual(self.cells[2]["value"], "{https://norlake.example/2023}EUR")
-        dividend = self.cells[5]
-        self.assertEqual((dividend["value"], dividend["decimals"], dividend["low"], dividend["high"]), ("4.81", "2", "4.805", "4.815"))
-        self.assertEqual(dividend["unit"], "{http://www.xbrl.org/2003/iso4217}NOK/{http://www.xbrl.org/2003/instance}shares")
-        self.assertEqual([cell["evidence"] for cell in self.cells[4:8]], ["", "pair", "", "pair"])
-        self.assertEqual(self.cells[8]["value"], "-1200")
 
 
 class Providers(ToolTest):

@@ -110,13 +110,8 @@ class Files(Stubbed):
                          ["contradictions.csv", "merged.json", "page.html", "providers.csv", "refusals.csv", "refusals.txt", "sources.txt",
                           "summary.json", "table.csv", "verdicts.txt", "warnings.csv"])
         self.assertEqual(content(os.path.join(self.output, "merged.json")), content(example("merged.json")))
-        self.assertEqual(len(self.cells("table.csv")), 64)
-        found = {cell["fact"]: (cell["identifiers"], cell["reported_by"]) for cell in self.cells("contradictions.csv")}
-        self.assertEqual(found["f066"], ("issuer: f33; statfeed: TS08474", "2 of 3"))
         self.assertEqual(self.log(), [(command, REPORTS) for command in ("merge", "verdicts", "sources", "explain")])
-        for text in ("<title>Contradictions</title>", "three providers: 3 contradictions in 64 rows</h1>", "<b>3</b>contradictions",
-                     "<b>3</b>reported by one provider", "<b>13</b>agree exactly", "<b>45</b>agree within rounding", "<dt>Reported by<dd>2 of 3"):
-            self.assertIn(text, content(self.page))
+        self.expect_kept("examples", "page.html", "contradictions.csv", "table.csv", "providers.csv")
         self.run_on("--respell", *REPORTS)
         report = json.loads(content(os.path.join(self.output, "report.json")))
         self.assertEqual(sorted(report["documentInfo"]["namespaces"]), ["ifrs-full", "iso4217", "n1", "norlake", "utr", "xbrl", "xbrli"])
@@ -135,13 +130,6 @@ class Files(Stubbed):
         done = self.run_on(*REPORTS)
         self.assertEqual((done.returncode, done.stderr), (1, ""))
         self.assertTrue(done.stdout.endswith("a\\udcff\\n/page.html\n"), done.stdout)
-
-    def test_a_nil_against_a_number_has_a_bar(self):
-        self.run_on(*REPORTS)
-        section = next(part for part in content(self.page).split("<section")[1:] if "<i>nil</i>" in part)
-        self.assertIn("not reported as a number", section)
-        self.assertIn('<circle cx="50%"', section)
-        self.assertIn("A nil value contradicts every number.", section)
 
     def test_the_status_is_zero_without_a_contradiction_or_with_an_option(self):
         self.assertEqual(self.run_on(*REPORTS, "--exit-zero").returncode, 0)
@@ -320,16 +308,6 @@ class Prepared(Stubbed):
             done = self.run_on(*REPORTS, sheet=["--taxonomy", named])
             self.assertEqual((done.returncode, done.stderr, ">Sales &amp; label</bdi>" in content(self.page)), (1, line, is_found))
         self.assertIn(f"<bdi>{named}</bdi><td data-name=\"Bytes\">{os.path.getsize(named)}<td", content(self.page))
-
-    def test_the_page_lists_the_version_and_the_files(self):
-        self.run_on(*REPORTS)
-        page = content(self.page)
-        self.assertIn("<summary>Made by xbrlmerge of the tests from 4 inputs</summary>", page)
-        for path in (SHEET, *REPORTS):
-            data = content(path).encode()
-            self.assertIn(f"<bdi>{path}</bdi><td data-name=\"Bytes\">{len(data)}<td data-name=\"SHA-256\">{hashlib.sha256(data).hexdigest()}", page)
-        self.run_on(*REPORTS)
-        self.assertEqual(content(self.page), page)
 
     def test_reports_are_normalised_first(self):
         self.prints_nothing()
