@@ -8,8 +8,10 @@ import os
 import re
 import subprocess
 import sys
+import types
 
 import in_process
+import contradictions
 import lines_of_verdicts
 from names import Name
 from support import content, table_in, write
@@ -20,6 +22,8 @@ from contradicting.facts import Dimensions
 TOOL = os.path.join(in_process.TOOLS, "contradictions.py")
 NORLAKE = os.path.join(in_process.HERE, "norlake")
 MERGED, SHEET, VERDICTS = (os.path.join(NORLAKE, name) for name in ("merged.json", "sheet.json", "verdicts.txt"))
+URIS = {"n1": "http://example.org/t"}
+KINDS = {"namespaces": URIS, "concepts": {"n1:A": "numeric", "n1:T": "text"}, "dimensions": {"n1:Reg": "typed"}}
 COMPARED = re.compile(r" reports no fact$| shares .* with another provider| of \d+ rows that others report| report exactly the same facts:")
 
 
@@ -44,6 +48,11 @@ class Seen(html.parser.HTMLParser):
 def data_of(page):
     """Returns the data of a page, which its script draws."""
     return json.loads(page.split('<script type="application/json" id="data">')[1].split("</script>")[0])
+
+
+def fact(value, decimals=None, concept="n1:A", **dimensions):
+    made = {"value": value, "dimensions": {"concept": concept, **dimensions}}
+    return made if decimals is None else {**made, "decimals": decimals}
 
 
 class ToolTest(in_process.RoomTest):
@@ -74,9 +83,19 @@ class ToolTest(in_process.RoomTest):
         """Returns the lines on standard error, without those about what providers share."""
         return [line for line in text.splitlines() if not COMPARED.search(line)]
 
+    def inputs(self, facts, sheet, lines=None, reports=(), names=""):
+        """Writes a merged report with these facts, a sheet, and the lines of verdicts. If `reports` has the numbers of the reports with
+        each fact, also writes the sources. Returns the words that name these files after --from."""
+        named = {f"f{rank:0{len(str(len(facts)))}}": fact for rank, fact in enumerate(facts, 1)}
+        text = json.dumps({"documentInfo": {"namespaces": sheet["namespaces"]}, "facts": named})
+        lines = lines_of_verdicts.lines(text) if lines is None else lines
+        sources = "".join(f'{name} {number} "i{number}{name}"\n' for name, numbers in zip(named, reports) for number in numbers)
+        words = [self.write("merged.json", text), self.write("sheet.json", json.dumps(sheet)), self.write("lines", lines)]
+        return [*words, *["--sources", self.write("sources", sources), "--names", names] * bool(reports)]
+
     def run_tool(self, *inputs):
-        words = ["--from", *inputs[:3], "-o", self.output, *inputs[3:]]
-        return subprocess.run([sys.executable, TOOL, *words], capture_output=True)
+        status, errors, out = in_process.run_whole(contradictions, "--from", *inputs[:3], "-o", self.output, *inputs[3:])
+        return types.SimpleNamespace(returncode=status, stdout=out, stderr=errors.encode())
 
     def written(self, *inputs):
         done = self.run_tool(*inputs)
@@ -149,76 +168,52 @@ class Providers(ToolTest):
 
 
 class Texts(ToolTest):
-    """Small merged reports with facts of one numeric concept, eg:A, and one text concept, eg:T."""
-
-    def merged(self, *facts):
-        width = len(str(len(facts)))
-        named = {f"f{rank:0{width}}": fact for rank, fact in enumerate(facts, 1)}
-        info = {"documentType": "https://xbrl.org/2021/xbrl-json", "namespaces": {"n1": "http://example.org/t"}}
-        return self.write("merged.json", json.dumps({"documentInfo": info, "facts": named}))
-
-    def sheet(self):
-        return self.write("sheet.json", '{"namespaces":{"eg":"http://example.org/t"},"concepts":{"eg:A":"numeric","eg:T":"text"}}')
-
-    @staticmethod
-    def number(value, decimals=None):
-        fact = {"value": value, "dimensions": {"concept": "n1:A"}}
-        return fact if decimals is None else {**fact, "decimals": decimals}
-
-    @staticmethod
-    def text(value):
-        return {"value": value, "dimensions": {"concept": "n1:T"}}
+    """Small merged reports with facts of one numeric concept and one text concept."""
 
     def table_of(self, *facts):
-        merged = self.merged(*facts)
-        lines = self.write("lines", lines_of_verdicts.lines(content(merged)))
-        return self.written(merged, self.sheet(), lines)
+        return self.written(*self.inputs(facts, KINDS))
 
     def test_no_fact_and_no_contradiction(self):
         self.assertEqual(self.table_of()[1], [])
-        page, cells = self.table_of(self.number("100", 0), self.number("101", 0))
+        page, cells = self.table_of(fact("100", 0), fact("101", 0))
         self.assertEqual(cells, [])
         self.assertIn("<b>0</b>contradictions", page)
 
     def test_the_pair_is_that_of_the_evidence(self):
-        cells = self.table_of(self.number("100", 0), self.number("101", 0), self.number("102", 0))[1]
+        cells = self.table_of(fact("100", 0), fact("101", 0), fact("102", 0))[1]
         self.assertEqual([cell["evidence"] for cell in cells], ["pair", "", "pair"])
 
     def test_a_nil_behind_a_number(self):
-        page, cells = self.table_of(self.number("7", 0), self.number(None))
+        page, cells = self.table_of(fact("7", 0), fact(None))
         self.assertEqual([(cell["value"], cell["nil"]) for cell in cells], [("7", "false"), ("", "true")])
         self.assertIn("A nil value contradicts every number.", page)
 
     def test_nil_facts_are_listed_without_providers(self):
-        self.table_of(self.number("7", 0), self.number(None))
+        self.table_of(fact("7", 0), fact(None))
         self.assertEqual([(row["values"], row["nil_by"]) for row in self.cells("table.csv")], [("7", "f2")])
 
     def test_numbers_of_eighteen_digits_are_exact(self):
-        cells = self.table_of(self.number("0.000000000000000001", 18), self.number("999999999999999999", -18))[1]
+        cells = self.table_of(fact("0.000000000000000001", 18), fact("999999999999999999", -18))[1]
         self.assertEqual(cells[0]["low"], "0.0000000000000000005")
         self.assertEqual(cells[1]["high"], "1499999999999999999")
-        cells = self.table_of(self.number("-999999999999999999"), self.number("999999999999999999"))[1]
+        cells = self.table_of(fact("-999999999999999999"), fact("999999999999999999"))[1]
         self.assertEqual([cell["decimals"] for cell in cells], ["exact", "exact"])
 
     def test_no_cell_is_a_formula(self):
         texts = ["=1+1", "+1", "-1", "@A1", "\t=1", "\n=1", " =1", "x;=1", "x\n=1", '"=1', "\uff1d1", "'=1", "a=b", "1-2"]
-        cells = self.table_of(*map(self.text, texts))[1]
+        cells = self.table_of(*(fact(text, None, "n1:T") for text in texts))[1]
         safe = ["'" + text for text in texts]
         safe[4:6], safe[7:9], safe[12:] = ["'\t'=1", "'\n'=1"], ["x;'=1", "x\n'=1"], texts[12:]
         self.assertEqual([cell["value"] for cell in cells], safe)
 
     def test_a_text_of_any_characters_stays_one(self):
         odd = "</td></table></style><!--\u202e\x00\x1b]]>&amp;'\""
-        page, cells = self.table_of(self.text(odd), self.text("x"))
+        page, cells = self.table_of(fact(odd, None, "n1:T"), fact("x", None, "n1:T"))
         self.assertIn(odd, "".join(Seen(page).texts))
         self.assertEqual(cells[0]["value"], odd)
 
 
-class BadInputs(Texts):
-    def setUp(self):
-        super().setUp()
-        self.inputs = [self.merged(self.number("1"), self.number("2"), self.text("x")), self.sheet()]
-
+class BadInputs(ToolTest):
     def test_a_truncated_text(self):
         text = content(MERGED)
         for length in (0, 1, len(text) // 2, len(text) - 1):
@@ -236,7 +231,7 @@ class BadInputs(Texts):
         os.mkdir(self.output)
         for path in (self.page, self.table):
             self.write(path, "of a run before")
-        self.check_refused("merged.json", MERGED, self.inputs[1], VERDICTS)
+        self.check_refused("merged.json", MERGED, self.inputs([], KINDS)[1], VERDICTS)
         self.assertEqual((content(self.page), content(self.table)), ("of a run before",) * 2)
 
     def test_inputs_that_are_missing(self):
@@ -247,7 +242,7 @@ class BadInputs(Texts):
             self.check_refused("nowhere", *inputs)
 
     def test_lines_of_another_run(self):
-        self.write("lines", "")
+        facts = fact("1"), fact("2"), fact("x", None, "n1:T")
         for lines in (
             "",
             "1 f1 f2 inconsistent apart f1 f2",
@@ -264,17 +259,16 @@ class BadInputs(Texts):
             "1 f1 f1 complete\n2 f2 f3 complete\n",
             "1 f1 f2 inconsistent apart f1 f2 \n2 f3 f3 complete\n",
         ):
-            self.check_refused("lines", *self.inputs, self.write("lines", lines))
+            self.check_refused("lines", *self.inputs(facts, KINDS, lines))
 
     def test_a_sheet_of_other_concepts(self):
-        self.check_refused("merged.json", MERGED, self.inputs[1], VERDICTS)
+        self.check_refused("merged.json", MERGED, self.inputs([], KINDS)[1], VERDICTS)
 
     def test_what_is_no_merged_text(self):
-        lines = self.write("lines", "1 f1 f1 complete\n")
-        self.check_refused("merged.json", self.merged(self.number("1e5")), self.inputs[1], lines)
-        self.check_refused("merged.json", self.merged(self.number("1", 0.5)), self.inputs[1], lines)
-        self.check_refused("merged.json", self.merged(self.text("\ud800")), self.inputs[1], lines)
-        self.check_refused("other.json", self.write("other.json", "[" * 100_000), self.inputs[1], lines)
+        for bad in (fact("1e5"), fact("1", 0.5), fact("\ud800", None, "n1:T")):
+            self.check_refused("merged.json", *self.inputs([bad], KINDS, "1 f1 f1 complete\n"))
+        words = self.inputs([], KINDS)
+        self.check_refused("merged.json", self.write("merged.json", "[" * 100_000), *words[1:])
 
     def test_a_folder_that_cannot_be_made(self):
         self.set_output(os.path.join(self.scratch, "no", "out"))

@@ -1,20 +1,15 @@
 """Tests of the groups, the hints, the counts of providers and the files of tools/contradictions, on small merged reports."""
-import json
 import re
 import subprocess
 import sys
 import unittest
 from decimal import Decimal
 
-import lines_of_verdicts
-from test_contradictions import TOOL, ToolTest, data_of
+from test_contradictions import KINDS, TOOL, ToolTest, data_of, fact
 from support import content
 
 from contradicting import all_rows, groups, hints
 from contradicting.facts import Fact
-
-URIS = {"n1": "http://example.org/t"}
-SHEET = {"namespaces": URIS, "concepts": {"n1:A": "numeric", "n1:T": "text"}, "dimensions": {"n1:Reg": "typed"}}
 
 
 def number(value, decimals=None):
@@ -95,24 +90,14 @@ class GroupsAndHints(unittest.TestCase):
 class Reported(ToolTest):
     """Runs the tool on facts that say who reports them. The providers are Alpha, Beta with two reports, and Gamma."""
 
-    FILES = ("alpha.json", "half.json", "annual.json", "gamma.json")
     NAMES = ("Alpha", "Beta", "Beta", "Gamma")
 
     def run_on(self, rows, *options):
         """Runs the tool on rows. Each row is a list of pairs: a value with its decimals, and the numbers of its reports."""
-        facts, sources = {}, []
-        count = sum(map(len, rows))
-        for index, row in enumerate(rows):
-            for fact, reports in row:
-                name = f"f{len(facts) + 1:0{len(str(count))}}"
-                concept = "T" if isinstance(fact, str) else "A"
-                members = {"value": fact} if concept == "T" else {"value": fact[0], **({} if fact[1] is None else {"decimals": fact[1]})}
-                facts[name] = {**members, "dimensions": {"concept": f"n1:{concept}", "n1:Reg": f"{index:03}"}}
-                sources += [f'{name} {report} "i{report}{name}"\n' for report in reports]
-        merged = self.write("merged.json", json.dumps({"documentInfo": {"namespaces": URIS}, "facts": facts}))
-        lines = self.write("lines", lines_of_verdicts.lines(content(merged)))
-        words = ["--from", merged, self.write("sheet.json", json.dumps(SHEET)), lines, "--sources", self.write("sources", "".join(sources))]
-        done = subprocess.run([sys.executable, TOOL, *words, "--names", ",".join(self.NAMES), "-o", self.output, *options], capture_output=True)
+        pairs = [(index, *pair) for index, row in enumerate(rows) for pair in row]
+        facts = [fact(given, None, "n1:T", **{"n1:Reg": f"{index:03}"}) if isinstance(given, str) else fact(*given, **{"n1:Reg": f"{index:03}"})
+                 for index, given, _ in pairs]
+        done = self.run_tool(*self.inputs(facts, KINDS, reports=[numbers for *_, numbers in pairs], names=",".join(self.NAMES)), *options)
         self.assertEqual((done.returncode, self.other_lines(done.stderr.decode())), (1, []))
         return content(self.page), self.cells("contradictions.csv"), self.cells("table.csv")
 

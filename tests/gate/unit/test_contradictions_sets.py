@@ -3,6 +3,7 @@ that do not fit the types of the sheet."""
 import json
 import os
 
+from test_contradictions import fact
 from test_contradictions_run import Stubbed
 from support import content
 
@@ -63,12 +64,11 @@ class Sets(Stubbed):
             self.assertEqual(b"a set that is not written as URI#LOCAL" in done.stderr, status == 3)
 
 
-TYPED = {"namespaces": {"eg": "http://a.example"}, "concepts": {"eg:B": "text", "eg:M": "numeric", "eg:P": "numeric", "eg:S": "numeric"},
-         "dimensions": {"eg:D": "typed"}, "xbrlmerge:types": {"boolean": ["eg:B"], "date": ["eg:D"]},
-         "xbrlmerge:periods": {"instant": ["eg:M"], "duration": ["eg:B", "eg:S"]},
-         "xbrlmerge:items": {"monetary": ["eg:M"], "pure": ["eg:P"], "shares": ["eg:S"]}}
-INSTANT, DURATION = "2024-01-01T00:00:00", "2023-01-01T00:00:00/2024-01-01T00:00:00"
 URIS = {"n1": "http://a.example", "n2": "http://www.xbrl.org/2003/instance", "n3": "http://www.xbrl.org/2003/iso4217"}
+TYPED = {"namespaces": URIS, "concepts": {"n1:B": "text", "n1:M": "numeric", "n1:P": "numeric", "n1:S": "numeric"}, "dimensions": {"n1:D": "typed"},
+         "xbrlmerge:types": {"boolean": ["n1:B"], "date": ["n1:D"]}, "xbrlmerge:periods": {"instant": ["n1:M"], "duration": ["n1:B", "n1:S"]},
+         "xbrlmerge:items": {"monetary": ["n1:M"], "pure": ["n1:P"], "shares": ["n1:S"]}}
+INSTANT, DURATION = "2024-01-01T00:00:00", "2023-01-01T00:00:00/2024-01-01T00:00:00"
 VALUE, PERIOD, UNIT = "the value is not a valid boolean", "the period is not a", "the unit is not"
 # for each fact: the concept, other dimensions, the value, and the warnings
 FACTS = (
@@ -84,11 +84,10 @@ FACTS = (
 
 class Warned(Stubbed):
     def test_facts_that_do_not_fit_their_types(self):
-        facts = {f"f{n:02}": {"dimensions": {"concept": f"n1:{concept}", **more}, "value": value}
-                 for n, (concept, more, value, _) in enumerate(FACTS, 1)}
-        merged = self.write("merged.json", json.dumps({"documentInfo": {"namespaces": URIS}, "facts": facts}))
-        texts = merged, self.write("sheet.json", json.dumps(TYPED)), self.write("verdicts", "".join(f"{n} {f} {f} complete\n" for n, f in enumerate(facts, 1)))
-        wanted = [(name, warning) for name, fact in zip(facts, FACTS) for warning in fact[3]]
+        facts = [fact(value, None, f"n1:{concept}", **more) for concept, more, value, _ in FACTS]
+        names = [f"f{n:02}" for n in range(1, len(facts) + 1)]
+        texts = self.inputs(facts, TYPED, "".join(f"{n} {name} {name} complete\n" for n, name in enumerate(names, 1)))
+        wanted = [(name, warning) for name, each in zip(names, FACTS) for warning in each[3]]
         done = self.run_tool(*texts)
         self.assertEqual((done.returncode, [(cell["fact"], cell["warning"]) for cell in self.cells("warnings.csv")]), (0, wanted), done.stderr)
         lines = done.stderr.decode().splitlines()
