@@ -1,13 +1,12 @@
 """Tests of tools/make_sheet on the taxonomies beside this file, on bad inputs and on sheets."""
 import json
 import os
-import subprocess
-import sys
+import types
 
 import in_process
+import make_sheet
 from support import bytes_of, content
 
-TOOL = os.path.join(in_process.TOOLS, "make_sheet.py")
 TOY = os.path.join(in_process.HERE, "taxonomy")
 EXTENSION = os.path.join(in_process.HERE, "extension", "extension.xsd")
 DOUBTFUL = os.path.join(in_process.HERE, "doubtful", "doubtful.xsd")
@@ -26,7 +25,8 @@ ITEM = '<xs:element name="%s" type="xbrli:%sItemType" substitutionGroup="xbrli:i
 
 
 def run(*words):
-    return subprocess.run([sys.executable, TOOL, *words], capture_output=True)
+    status, errors, out = in_process.run_whole(make_sheet, *words)
+    return types.SimpleNamespace(returncode=status, stdout=out, stderr=errors.encode())
 
 
 # bytes of a package that are replaced: where, from its directory of files or its start, by what, and the sentence
@@ -40,13 +40,12 @@ DAMAGES = (
 
 
 class ToolTest(in_process.RoomTest):
-    def check_refused(self, status, wanted, *words):
-        """Runs the tool, which must end with this status, print the reason, and print no sheet. Returns its lines."""
+    def check_refused(self, wanted, *words, lines=1):
+        """Runs the tool, which must end with status 3, print the reason in so many lines, and print no sheet."""
         done = run(*words)
-        self.assertEqual((done.returncode, done.stdout), (status, b""), done.stderr)
+        self.assertEqual((done.returncode, done.stdout, done.stderr.count(b"\n")), (3, b"", lines), done.stderr)
         self.assertIn(wanted, done.stderr.decode())
         self.assertTrue(all(line.startswith(b"make_sheet: ") for line in done.stderr.splitlines()), done.stderr)
-        return done.stderr.decode().splitlines()
 
     def sheet_of(self, text, *words, status=0):
         """Returns the sheet of a schema, and the lines on standard error."""
@@ -86,7 +85,7 @@ class Taxonomies(ToolTest):
         self.assertEqual(run(TOY, EXTENSION).stdout, run(EXTENSION, package).stdout)
 
     def test_a_missing_import_is_reported(self):
-        self.assertEqual(len(self.check_refused(3, "http://toy.example/2024/core.xsd", EXTENSION)), 1)
+        self.check_refused("http://toy.example/2024/core.xsd", EXTENSION)
 
     def test_what_is_in_doubt_is_left_out_with_a_line_each(self):
         done = run(DOUBTFUL)
@@ -199,7 +198,7 @@ class TypesOfValues(ToolTest):
         for wrong, line in (({"xbrlmerge:types": {"gDay": ["this:date"]}}, "is date in xbrlmerge:types, but gDay earlier"),
                             ({"xbrlmerge:items": {"money": []}}, "has the group money"), ({"xbrlmerge:periods": []}, "is not an object of lists")):
             other = self.write("other.json", json.dumps({**sheet, **wrong}))
-            self.check_refused(3, line, "--union", other, whole)
+            self.check_refused(line, "--union", other, whole)
 
     def test_types_make_a_large_sheet_at_most_a_tenth_longer(self):
         texts = "".join(ITEM % (f"Abcdefgh{number}", "string") for number in range(20_000))
@@ -223,34 +222,33 @@ class TypesOfValues(ToolTest):
 
 class BadInputs(ToolTest):
     def test_no_xml_and_no_schema(self):
-        self.check_refused(3, "not well-formed", self.write("a.xsd", "{}"))
-        self.check_refused(3, "unclosed token", self.write("b.xsd", SCHEMA[:30]))
-        self.check_refused(3, "not a schema: name the package", self.write("c.xsd", "<a/>"))
-        self.check_refused(3, "nowhere.xsd", self.path_of("nowhere.xsd"))
-        self.check_refused(3, "there is no such file", "")
-        self.check_refused(3, "no element found", TOY, self.write("d.xsd", ""))
-        lines = self.check_refused(3, "xsd", TOY, self.write("e.xsd", "no XML"), self.write("f.xsd", "nor this"))
-        self.assertEqual(len(lines), 1)
-        self.check_refused(3, "not well-formed", self.write("g.xsd", SCHEMA % ITEM % ("A", "string") + "&"))
-        self.check_refused(3, "a.xsd", self.write("a.xsd", b"\xff\xfe\x00"))
+        self.check_refused("not well-formed", self.write("a.xsd", "{}"))
+        self.check_refused("unclosed token", self.write("b.xsd", SCHEMA[:30]))
+        self.check_refused("not a schema: name the package", self.write("c.xsd", "<a/>"))
+        self.check_refused("nowhere.xsd", self.path_of("nowhere.xsd"))
+        self.check_refused("there is no such file", "")
+        self.check_refused("no element found", TOY, self.write("d.xsd", ""))
+        self.check_refused("xsd", TOY, self.write("e.xsd", "no XML"), self.write("f.xsd", "nor this"))
+        self.check_refused("not well-formed", self.write("g.xsd", SCHEMA % ITEM % ("A", "string") + "&"))
+        self.check_refused("a.xsd", self.write("a.xsd", b"\xff\xfe\x00"))
 
     def test_an_entity_is_not_read(self):
         secret = self.write("secret", "monetary")
         for encoding in ("utf-8", "utf-16"):
             text = f'<?xml version="1.0" encoding="{encoding}"?><!DOCTYPE a [<!ENTITY e SYSTEM "{secret}">]>' + SCHEMA
             path = self.write("a.xsd", (text % "<xs:annotation>&e;</xs:annotation>").encode(encoding))
-            self.assertEqual(len(self.check_refused(3, "document type", path)), 1)
+            self.check_refused("document type", path)
         imported = self.write("b.xsd", SCHEMA % '<xs:include schemaLocation="a.xsd"/>')
-        self.check_refused(3, "a.xsd: it has a document type", imported)
-        self.check_refused(3, "document type", self.pack({"a.xsd": bytes_of(path)}))
+        self.check_refused("a.xsd: it has a document type", imported)
+        self.check_refused("document type", self.pack({"a.xsd": bytes_of(path)}))
 
     def test_a_package_keeps_to_itself(self):
         outside = self.write("outside.xsd", SCHEMA % ITEM % ("A", "string"))
         for name in ("../b.xsd", "a/../../b.xsd", outside):
-            self.assertEqual(len(self.check_refused(3, "outside", self.pack({name: SCHEMA % ""}))), 1)
+            self.check_refused("outside", self.pack({name: SCHEMA % ""}))
         self.assertEqual(sorted(os.listdir(self.scratch)), ["a.zip", "outside.xsd"])  # nothing is unpacked
         package = self.pack({"b.xsd": SCHEMA % '<xs:include schemaLocation="../outside.xsd"/>'})
-        self.check_refused(3, "../outside.xsd is not in the named files", package)
+        self.check_refused("../outside.xsd is not in the named files", package)
 
     def test_a_damaged_package(self):
         package = self.pack({"t.xsd": SCHEMA % ITEM % ("A", "string")}, "p.zip")
@@ -260,15 +258,15 @@ class BadInputs(ToolTest):
             changed = bytearray(data)
             changed[listed * bool(is_listed) + place] = byte
             self.write("p.zip", bytes(changed) if is_listed is not None else data[:20] + data[listed:])
-            self.check_refused(3, f"/{wanted}", package)
+            self.check_refused(f"/{wanted}", package)
 
     def test_a_package_in_a_package_is_named(self):
         package = self.pack({"inner.zip": b"PK"}, "p.zip")
-        self.check_refused(3, "p.zip/inner.zip: not read, because it is in a folder or a package", package)
+        self.check_refused("p.zip/inner.zip: not read, because it is in a folder or a package", package, lines=2)
 
     def test_two_declarations_of_one_name(self):
         path = self.write("a.xsd", SCHEMA % (ITEM % ("A", "string") + ITEM % ("A", "monetary")))
-        self.check_refused(3, "declared in two ways", path)
+        self.check_refused("declared in two ways", path)
 
     def test_names_cannot_break_a_line(self):
         text = SCHEMA.replace("http://made", "http://made&#10;&#27;[31m") % ITEM % ("A", "fraction")
@@ -302,7 +300,7 @@ class Unions(ToolTest):
             self.assertEqual(sheet["concepts"], {"p:A": "text", "p:B": "text"})
         self.assertNotIn("xbrlmerge:sets", json.loads(run("--union", second).stdout))
         numeric = self.write("c.json", json.dumps({**concepts, "concepts": {"p:A": "numeric"}}))
-        self.check_refused(3, "{http://a.example}A is set, but numeric", "--union", numeric, first)
+        self.check_refused("{http://a.example}A is set, but numeric", "--union", numeric, first)
 
     def test_a_prefix_is_kept_if_it_is_the_only_one_of_its_namespace_and_of_no_other(self):
         bindings = {"a": "u:1", "b": "u:2", "c": "u:2", "n7": "u:3", "é": "u:4", "x" * 41: "u:5", "y.Z-1": "u:6"}
@@ -315,10 +313,10 @@ class Unions(ToolTest):
     def test_a_concept_of_two_kinds_is_named(self):
         first = self.sheet("a.json", "http://a.example", {"p:A": "numeric"}, {})
         second = self.sheet("b.json", "http://a.example", {"p:A": "text"}, {})
-        self.check_refused(3, "{http://a.example}A is text, but numeric", "--union", first, second)
+        self.check_refused("{http://a.example}A is text, but numeric", "--union", first, second)
 
     def test_what_is_no_sheet(self):
         texts = ["", "[]", "{", '{"facts":{}}', '{"concepts":{"p:A":"text"}}', '{"concepts":[]}']
         texts += ['{"namespaces":{"p":"u"},"concepts":{"%s":"%s"}}' % each for each in (("A", "text"), ("p:A", "explicit"))]
         for text in texts:
-            self.check_refused(3, "a.json", "--union", self.write("a.json", text))
+            self.check_refused("a.json", "--union", self.write("a.json", text))

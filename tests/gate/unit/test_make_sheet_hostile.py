@@ -2,8 +2,6 @@
 other files, or to make it fail."""
 import json
 import os
-import resource
-import signal
 import subprocess
 import sys
 import time
@@ -14,7 +12,7 @@ from unittest import mock
 import in_process
 import make_sheet
 import process
-from test_make_sheet import ITEM, SCHEMA, TOOL, ToolTest, run
+from test_make_sheet import ITEM, SCHEMA, ToolTest, run
 
 from contradicting.labels import Labelled, Labels
 from sheet_making import files, packages
@@ -51,21 +49,6 @@ def long_uri(size):
     return "http://made.example/" + "m" * 10 * size
 
 
-def rewrites_and_imports(size):
-    return {
-        "META-INF/catalog.xml": CATALOG % each(REWRITE, size, "http://{0:05}/", "../"),
-        "a.xsd": SCHEMA % each(INCLUDE, size, "http://{0:05}/a.xsd"),
-    }
-
-
-def rewrites_of_each_length(size):
-    lengths = range(1, min(size, 900))
-    return {
-        "META-INF/catalog.xml": CATALOG % "".join(REWRITE.format("b:" + "b" * length, "../") for length in lengths),
-        "a.xsd": SCHEMA % each(INCLUDE, size // 3, "c:" + "c" * 900 + "/{0}/../../a.xsd"),
-    }
-
-
 # for each case: the files of a package of a given size
 LONG = {
     "chains of heads": lambda size: {"a.xsd": SCHEMA % each(HEAD, size, "C{0}", "this:C{1}")},
@@ -80,8 +63,14 @@ LONG = {
     "nested prefixes": lambda size: {
         "a.xsd": SCHEMA % ((f'<a xmlns:p="{"u" * (size // 10)}">' * 900 + "</a>" * 900) + each(ITEM.replace("%s", "{}"), size, "C{0}", "string"))
     },
-    "rewrites and imports": rewrites_and_imports,
-    "rewrites of each length": rewrites_of_each_length,
+    "rewrites and imports": lambda size: {
+        "META-INF/catalog.xml": CATALOG % each(REWRITE, size, "http://{0:05}/", "../"),
+        "a.xsd": SCHEMA % each(INCLUDE, size, "http://{0:05}/a.xsd")
+    },
+    "rewrites of each length": lambda size: {
+        "META-INF/catalog.xml": CATALOG % "".join(REWRITE.format("b:" + "b" * length, "../") for length in range(1, min(size, 900))),
+        "a.xsd": SCHEMA % each(INCLUDE, size // 3, "c:" + "c" * 900 + "/{0}/../../a.xsd")
+    },
     "imports that are missing": lambda size: {"a.xsd": SCHEMA % each(IMPORT, size, "http://n{0}", "n{0}.xsd")},
     "a long namespace": lambda size: {
         "a.xsd": (SCHEMA % each(HEAD, size, "C{0}", "xbrli:item")).replace("http://made.example", long_uri(size))
@@ -100,15 +89,7 @@ LONG = {
 }
 
 
-class HostileTest(ToolTest):
-    def refused(self, wanted, *words):
-        """Runs the tool in this process. It must end with status 3 and print one line with the reason."""
-        status, lines = in_process.run(make_sheet, *words)
-        self.assertEqual((status, len(lines.splitlines())), (3, 1), lines)
-        self.assertIn(wanted, lines)
-
-
-class Long(HostileTest):
+class Long(ToolTest):
     def test_time_is_in_proportion(self):
         for name, made in LONG.items():
             with self.subTest(name):
@@ -148,15 +129,15 @@ class Long(HostileTest):
 
         sheet = json.loads(run(made(4)).stdout)
         self.assertEqual((len(sheet["namespaces"]), len(sheet["concepts"])), (4, 400))
-        self.refused("more than 62500 bytes of schemas without a namespace are read again", made(20), "--megabytes", "1")
+        self.check_refused("more than 62500 bytes of schemas without a namespace are read again", made(20), "--megabytes", "1")
 
     def test_zips_of_blanks(self):
         blanks = self.pack({"a.xsd": SCHEMA % (" " * 1_000_000)})
         self.assertLess(os.path.getsize(blanks), 10_000)
         self.assertEqual(in_process.run(make_sheet, blanks), (0, ""))
-        self.refused("a.zip/a.xsd: it is longer than 1 MB (make_sheet --megabytes)", blanks, "--megabytes", "1")
+        self.check_refused("a.zip/a.xsd: it is longer than 1 MB (make_sheet --megabytes)", blanks, "--megabytes", "1")
         many = self.pack({f"{number}.xsd": SCHEMA % (" " * 900_000) for number in range(9)})
-        self.refused("with it, the package unpacks to more than 100 times its size plus 1 MB", many, "--megabytes", "1")
+        self.check_refused("with it, the package unpacks to more than 100 times its size plus 1 MB", many, "--megabytes", "1")
         self.assertEqual(in_process.run(make_sheet, many), (0, ""))
 
     def test_zips_of_tags(self):
@@ -164,20 +145,20 @@ class Long(HostileTest):
         for text in (tags, attributes):
             package = self.pack({"a.xsd": SCHEMA % text})
             self.assertLess(os.path.getsize(package), 40_000)
-            self.refused("with it, the package has more than 100000 tags and one for each 4 bytes of its size, counting 4 attributes as"
+            self.check_refused("with it, the package has more than 100000 tags and one for each 4 bytes of its size, counting 4 attributes as"
                          " a tag (make_sheet --tags)", package)
             self.assertEqual(in_process.run(make_sheet, package, "--tags", "120000"), (0, ""))
         several = self.pack({f"{number}.xsd": SCHEMA % tags[:200_000] for number in range(3)})
-        self.refused("2.xsd: with it, the package has more than", several)
+        self.check_refused("2.xsd: with it, the package has more than", several)
         with self.assertRaisesRegex(process.NotDone, "more than 100000 tags"):
             labels_of(self.pack({"a.xsd": SCHEMA % "", "a.xml": LINKBASE % tags}))
 
     def test_a_long_tag_or_comment(self):
         for text in (f"<!--{'x' * 9_000_000}-->", f'<a b="{"x" * 9_000_000}"/>'):
             package = self.pack({"a.xsd": SCHEMA % text})
-            most = in_process.peak(self.refused, "a.xsd: it has a tag or a comment of more than 8000000 bytes", package)
+            most = in_process.peak(self.check_refused, "a.xsd: it has a tag or a comment of more than 8000000 bytes", package)
             self.assertLess(most, 40_000_000)  # expat keeps the tag
-            self.refused("a tag or a comment", self.write("a.xsd", SCHEMA % text))
+            self.check_refused("a tag or a comment", self.write("a.xsd", SCHEMA % text))
         self.assertEqual(in_process.run(make_sheet, self.pack({"a.xsd": SCHEMA % f"<!--{'x' * 7_000_000}-->"})), (0, ""))
 
     def test_levels(self):
@@ -186,14 +167,14 @@ class Long(HostileTest):
 
         self.assertEqual(in_process.run(make_sheet, nested(999)), (0, ""))
         for levels in (1_000, 300_000):
-            most = in_process.peak(self.refused, "it has more than 1000 levels", nested(levels), "--tags", "1000000")
+            most = in_process.peak(self.check_refused, "it has more than 1000 levels", nested(levels), "--tags", "1000000")
             self.assertLess(most, 80_000_000)  # expat reads its input to the end; the longest is 2 MB
 
     def test_files_of_a_package(self):
         package = self.pack({f"{number}.xsd": SCHEMA % "" for number in range(5)})
         with mock.patch.object(packages, "MOST_ENTRIES", 4):
-            self.refused("more than 4 files", package)
-        self.refused("a path of more than 1024 characters", self.pack({"a" * 1_100 + ".xsd": SCHEMA % ""}))
+            self.check_refused("more than 4 files", package)
+        self.check_refused("a path of more than 1024 characters", self.pack({"a" * 1_100 + ".xsd": SCHEMA % ""}))
 
     def test_rules_and_references_are_no_product(self):
         references = each(INCLUDE, 200, f"b:{'b' * 100}{{0}}.xsd")
@@ -217,7 +198,7 @@ class Long(HostileTest):
                 self.assertEqual(os.path.relpath(found, package), path)
 
 
-class Packages(HostileTest):
+class Packages(ToolTest):
     def test_entries_of_the_package_itself(self):
         package = self.pack({"./": "", "./a.xsd": SCHEMA % (ITEM % ("A", "string") + INCLUDE.format("b/B.XSD"))})
         with zipfile.ZipFile(package, "a") as made:
@@ -233,7 +214,7 @@ class Packages(HostileTest):
     def test_a_rewrite_without_a_start(self):
         for rule in ('<rewriteURI rewritePrefix="../"/>', REWRITE.format("", "../"), '<rewriteURI uriStartString="a"/>'):
             package = self.pack({"META-INF/catalog.xml": CATALOG % rule, "a.xsd": SCHEMA % INCLUDE.format("a.xsd")})
-            self.refused("catalog.xml: a rewriteURI lacks uriStartString or rewritePrefix", package)
+            self.check_refused("catalog.xml: a rewriteURI lacks uriStartString or rewritePrefix", package)
 
     def test_a_catalog_rewrites_no_relative_reference(self):
         package = self.pack(self.typed("A", "types", "types", "decimal"))
@@ -272,17 +253,17 @@ class Packages(HostileTest):
     def test_methods_that_unpack_without_a_limit(self):
         for method in (zipfile.ZIP_BZIP2, zipfile.ZIP_LZMA):
             package = self.pack({"a.xsd": SCHEMA % ""}, method=method)
-            self.refused("a.xsd: it is compressed by a method other than deflate", package)
+            self.check_refused("a.xsd: it is compressed by a method other than deflate", package)
 
     def test_a_document_type_in_any_encoding(self):
         for encoding in ("utf-8", "utf-16", "latin-1", "cp1252"):
             text = f'<?xml version="1.0" encoding="{encoding}"?><!DOCTYPE a [<!ENTITY e "x">]>' + SCHEMA % "&e;"
-            self.refused("it has a document type", self.pack({"a.xsd": text.encode(encoding)}))
+            self.check_refused("it has a document type", self.pack({"a.xsd": text.encode(encoding)}))
         comment = self.pack({"a.xsd": SCHEMA % "<!-- <!DOCTYPE a> -->"})
         self.assertEqual(in_process.run(make_sheet, comment), (0, ""))
 
 
-class Folders(HostileTest):
+class Folders(ToolTest):
     def folder(self, **texts):
         """Writes files to the folder `folder`, and returns its path. Each `_` in the name of an argument means a dot."""
         folder = self.path_of("folder")
@@ -298,13 +279,13 @@ class Folders(HostileTest):
         self.assertEqual(run(folder).returncode, 0)  # the FIFO and the device are not read
         fifo = os.path.join(folder, "b.xsd")
         os.mkfifo(fifo)
-        self.refused("folder/b.xsd: it is not a regular file", folder)
-        self.refused("folder/b.xsd: it is not a file", fifo)
+        self.check_refused("folder/b.xsd: it is not a regular file", folder)
+        self.check_refused("folder/b.xsd: it is not a file", fifo)
         os.unlink(fifo)
         os.symlink("/dev/zero", os.path.join(folder, "c.xsd"))
-        self.refused("folder/c.xsd: it is outside the named folders (make_sheet --outside)", folder)
-        self.refused("folder/c.xsd: it is not a regular file", folder, "--outside")
-        self.refused("/dev/zero: it is not a file", "/dev/zero")
+        self.check_refused("folder/c.xsd: it is outside the named folders (make_sheet --outside)", folder)
+        self.check_refused("folder/c.xsd: it is not a regular file", folder, "--outside")
+        self.check_refused("/dev/zero: it is not a file", "/dev/zero")
 
     def test_references_stay_in_the_named_folders(self):
         outside = self.write("outside.xsd", SCHEMA % ITEM % ("Secret", "string"))
@@ -320,12 +301,12 @@ class Folders(HostileTest):
             for named in (folder, os.path.join(folder, "a.xsd")):
                 if location.startswith("http") and named != folder:
                     continue  # the catalog is read only if its folder is named
-                self.refused(": it is outside the named folders (make_sheet --outside)", named)
+                self.check_refused(": it is outside the named folders (make_sheet --outside)", named)
                 done = run("--outside", named)
                 self.assertEqual(list(json.loads(done.stdout)["concepts"]), ["this:Secret"], done.stderr)
             if location == "link.xsd":
                 os.unlink(link)
-        self.refused("/etc/passwd", self.folder(a_xsd=SCHEMA % INCLUDE.format("/etc/passwd")))
+        self.check_refused("/etc/passwd", self.folder(a_xsd=SCHEMA % INCLUDE.format("/etc/passwd")))
 
     def test_a_file_in_a_named_folder_may_be_referred_to_from_another(self):
         self.folder(a_xsd=SCHEMA % INCLUDE.format("../other/b.xsd"))
@@ -335,55 +316,41 @@ class Folders(HostileTest):
         self.assertEqual((done.returncode, list(json.loads(done.stdout)["concepts"])), (0, ["this:B"]))
 
     def test_a_long_file(self):
-        self.refused("a.xsd: it is longer than 1 MB", self.folder(a_xsd=SCHEMA % (" " * 1_000_000)), "--megabytes", "1")
-        self.refused("a.json: it is longer than 1 MB", "--union", self.write("a.json", " " * 1_000_001), "--megabytes", "1")
+        self.check_refused("a.xsd: it is longer than 1 MB", self.folder(a_xsd=SCHEMA % (" " * 1_000_000)), "--megabytes", "1")
+        self.check_refused("a.json: it is longer than 1 MB", "--union", self.write("a.json", " " * 1_000_001), "--megabytes", "1")
 
     @unittest.skipUnless(os.geteuid(), "root reads each folder")
     def test_a_folder_that_cannot_be_read(self):
         os.makedirs(os.path.join(self.folder(a_xsd=SCHEMA % ""), "b"), mode=0)
-        self.refused("folder/b: Permission denied", self.folder())
+        self.check_refused("folder/b: Permission denied", self.folder())
 
 
-class Statuses(HostileTest):
-    def shell(self, redirected, *words, **options):
-        command = " ".join([sys.executable, TOOL, *words, redirected])
-        return subprocess.run(["bash", "-c", command], capture_output=True, **options)
-
-    def large(self):
-        return self.write("a.xsd", SCHEMA % (each(HEAD, 5_000, "C{0}", "xbrli:item") + HEAD.format("Lost", "this:head")))
-
-    def test_a_full_device(self):
-        limit = lambda: resource.setrlimit(resource.RLIMIT_FSIZE, (65_536, 65_536))  # noqa: E731
-        for unbuffered in ("", "1"):
-            options = {"env": {**os.environ, "PYTHONUNBUFFERED": unbuffered}, "preexec_fn": limit}
-            done = self.shell(f">{self.scratch}/sheet", self.large(), **options)
-            self.assertEqual((done.returncode, done.stderr.splitlines()[-1]), (3, b"make_sheet: standard output: File too large"))
-
-    def test_standard_error_full_or_closed(self):
-        for redirected in ("2>/dev/full", "2>&-"):
-            done = self.shell(redirected, self.large())
-            self.assertEqual((done.returncode, done.stdout, done.stderr), (3, b"", b""))
-        good = self.write("a.xsd", SCHEMA % ITEM % ("A", "string"))
-        self.assertEqual(json.loads(self.shell("2>&-", good).stdout)["concepts"], {"this:A": "text"})
-        self.assertEqual(self.shell("2>&-", self.path_of("nowhere")).returncode, 3)
+class Statuses(ToolTest):
+    def test_devices_that_are_full_or_closed(self):
+        """test_process.py has more of them."""
+        large = self.write("a.xsd", SCHEMA % (each(HEAD, 5_000, "C{0}", "xbrli:item") + HEAD.format("Lost", "this:head")))
+        good, tool = self.write("b.xsd", SCHEMA % ITEM % ("A", "string")), os.path.join(in_process.TOOLS, "make_sheet.py")
+        for words, status, line in (
+            (f"{large} >/dev/full", 3, b"make_sheet: standard output: No space left on device"), (f"{large} 2>/dev/full", 3, None),
+            (f"{large} 2>&-", 3, None), (f"{good} 2>&-", 0, None), (f"{self.path_of('nowhere')} 2>&-", 3, None),
+        ):
+            done = subprocess.run(["bash", "-c", f"{sys.executable} {tool} {words}"], capture_output=True)
+            self.assertEqual((done.returncode, bool(done.stdout), done.stderr.splitlines()[-1:]), (status, not status, [line] * bool(line)), words)
 
     def test_what_input_can_raise(self):
-        self.refused("a.json: nested too deeply", "--union", self.write("a.json", '{"x:x":' * 100_000))
+        self.check_refused("a.json: nested too deeply", "--union", self.write("a.json", '{"x:x":' * 100_000))
         path = self.write("a.xsd", SCHEMA % "")
         with mock.patch.object(files, "read_regular", side_effect=MemoryError):
-            self.refused("a.xsd: out of memory", path)
-        self.refused("there is no such file", self.path_of("no\0where"))
+            self.check_refused("a.xsd: out of memory", path)
+        self.check_refused("there is no such file", self.path_of("no\0where"))
 
     def test_usage(self):
         for words in ((), ("--megabytes", "0", "a"), ("--megabytes", "x", "a"), ("--unknown",)):
             self.assertEqual(run(*words).returncode, 2)
         self.assertEqual(run("--help").returncode, 0)
 
-    def test_signals(self):
-        self.assertEqual(signal.getsignal(signal.SIGTERM), signal.SIG_DFL)  # a tool that runs in this process does not set a handler
 
-
-class Unions(HostileTest):
+class Unions(ToolTest):
     def sheet(self, namespaces={"p": "http://a.example"}, name="p:A", kind="text", **more):
         return self.write("a.json", json.dumps({"namespaces": namespaces, "concepts": {name: kind}, **more}))
 
@@ -399,7 +366,7 @@ class Unions(HostileTest):
         ):
             for parts in sheets:
                 with self.subTest(parts):
-                    self.refused(wanted, "--union", self.sheet(**parts))
+                    self.check_refused(wanted, "--union", self.sheet(**parts))
         for parts in ({"namespaces": {"p": "https://xbrl.org/2021/"}}, {"name": "p:{A}\u00a0"}):
             self.assertEqual(run("--union", self.sheet(**parts)).returncode, 0)
 
