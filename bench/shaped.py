@@ -198,8 +198,7 @@ def entities_of_two_long_uris(n, size=25_000):
 
 
 def names_and_bytes_of_a_uri(n):
-    """n names that share a URI of about 20 n bytes. If each name cost a comparison of URIs, four times n would cost sixteen
-    times as much."""
+    """n names that share a URI of about 20 n bytes: if each name cost a comparison of URIs, costs would be quadratic."""
     return merging(*long_uri(n, 20 * n))
 
 

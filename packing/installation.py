@@ -83,8 +83,7 @@ def uninstall(prefix: str) -> list[str]:
 
 
 def remove(entries: Iterable[Entry], prefix: str) -> list[str]:
-    """Removes installed files, and then folders that are empty, each before the folder that contains it. Returns the removed
-    paths."""
+    """Removes installed files, and then empty folders, each before the one that contains it. Returns the removed paths."""
     removed = []
     for it in sorted(entries, key=lambda it: (it.is_folder, -it.target.count("/"), it)):
         path = below(prefix, it.target)

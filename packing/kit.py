@@ -1,5 +1,4 @@
-"""Reads the versions and licences of the kit's crates. A crate that was ported from Rust has a page that names its version,
-and files with its licences."""
+"""Reads the versions and licences of the kit's crates, from the pages and licence files of those ported from Rust."""
 import glob
 import os
 import re

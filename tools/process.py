@@ -67,8 +67,7 @@ def finished(main: Callable[[], Status]) -> Status:
 
 
 def outcome(main: Callable[[], Status]) -> tuple[Status, tuple[str, ...]]:
-    """Runs a tool. Returns its status, and the reasons if it failed. An exception keeps the tool's objects in memory, so it is
-    dropped before the reasons are printed."""
+    """Runs a tool. Returns its status, and the reasons if it failed, but not the exception, which keeps memory."""
     try:
         status = status_of(main)
         sys.stdout.flush()

@@ -44,8 +44,7 @@ class Program:
         self.path, self.sheet, self.folder = path, os.path.abspath(sheet), folder
 
     def shortest(self, path: str) -> str:
-        """Returns the path of a file for the program, which runs in the folder: relative if the file is there. Then the name of
-        the folder may be anything."""
+        """Returns the path of a file for the program, which runs in the folder: relative if the file is there, whatever its name."""
         whole = os.path.abspath(path)
         return os.path.relpath(whole, self.folder) if whole.startswith(os.path.join(self.folder, "")) else whole
 
@@ -66,8 +65,7 @@ class Program:
         return lines[0] if lines and done.returncode == 0 else ""
 
     def read_reports(self, command: str, paths: Iterable[str]) -> dict[int, str]:
-        """Runs a command on reports. Returns the refusals by the number of the report, from 1. Errors: NotDone,
-        OSError."""
+        """Runs a command on reports. Returns the refusals by the number of the report, from 1. Errors: NotDone, OSError."""
         self.write_names(paths)
         status, lines = self.run(command, ["--reports-from", "reports", "--null"])
         found = [REFUSAL.fullmatch(line) for line in lines]
@@ -105,8 +103,7 @@ class Program:
             yield int(fault["report"]) - 1, fault
 
     def explained(self, words: Sequence[str]) -> Iterator[dict[str, Any]]:
-        """Yields the faults that `explain` prints. Numbers keep their spelling. Errors: NotDone, also if it prints more than
-        MOST_EXPLAINED bytes; OSError."""
+        """Yields the faults that `explain` prints, with the spelling of numbers. Errors: NotDone, OSError."""
         status, lines = self.run("explain", ["--format", "json", "--most-output", str(MOST_EXPLAINED), *words])
         if status not in (0, 1) or lines:
             raise NotDone(*self.reasons("explain", status, lines))

@@ -42,8 +42,7 @@ class Types(Dict[str, Dict[Name, str]]):
 
 
 def types_of(*trees: Any) -> Types:
-    """Returns the types in sheets and in files of types. Errors: ValueError if a member is not as GROUPS has it, or if a name is
-    in two groups."""
+    """Returns the types in sheets and in files of types. Errors: ValueError, also if a name is in two groups."""
     types = Types()
     for tree in trees:
         members = {member: tree.get(member, {}) for member in GROUPS}
@@ -74,8 +73,7 @@ def name_in(uris: Uris, spelled: Any) -> Name:
 
 
 class Sheet:
-    """The kinds of concepts and dimensions, the concepts whose values are sets of names, and the types. `beside` is the file of
-    types beside the sheet. Errors: ValueError."""
+    """The kinds of names, the concepts with sets, and the types, also of the file `beside` the sheet. Errors: ValueError."""
 
     def __init__(self, tree: Any, beside: Any = None) -> None:
         if not isinstance(tree, dict) or any(":" not in key and key not in MEMBERS for key in tree):
@@ -110,8 +108,7 @@ class Sheet:
 
 
 def sheet_at(path: Optional[str]) -> Sheet:
-    """Returns the sheet in a file, with the types in the file beside it, if there is one. Without a file, the sheet is empty.
-    Errors: NotDone."""
+    """Returns the sheet in a file, with the types in the file beside it; an empty sheet without a file. Errors: NotDone."""
     tree = {} if path is None else read_json(path, is_sheet=True)
     beside = types_path(path or "")
     has_types = path not in (None, STANDARD) and os.path.isfile(beside)

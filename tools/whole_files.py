@@ -169,8 +169,7 @@ def copy_permissions(path: str, file: int) -> None:
 
 
 def put_in_place(outputs: list[Output]) -> None:
-    """Moves all outputs to their paths. If a move fails, undoes the earlier moves, and raises OSError. Also raises OSError if
-    two outputs have one path."""
+    """Moves all outputs to their paths. Errors: OSError if two have one path, or a move fails; then others are undone."""
     if len({output.path for output in outputs}) < len(outputs):
         raise OSError("two outputs are one file")
     for output in outputs[:-1]:  # the last move is never undone, because none follows it

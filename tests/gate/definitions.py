@@ -69,8 +69,7 @@ class Specs:
                     self.types[crate, name] = path
 
     def owner(self, path, word):
-        """Returns the definition, type or limit that a word in a file means. For a word of the kit, returns its full name; for
-        others, returns None."""
+        """Returns the definition, type or limit that a word in a file means, the full name of a word of the kit, or None."""
         word, *rest = word.split(".")
         if (path, word) in self.owners:
             return self.owners[path, word]
@@ -100,8 +99,7 @@ class Specs:
 
 
 def of_code(path, name):
-    """Returns the text of a type with its view, a limit or the contract of a function, with its comment; None if the file lacks
-    it."""
+    """Returns the text of a type with its view, of a limit or of a contract, with its comment, or None."""
     lines = content(path).split("\n")
     head = re.compile(rf"\s*pub fn {name.split('::')[-1]}\b|(?:pub )?(?:struct|enum|const) {name}\b")
     index = next((n for n, it in enumerate(lines) if head.match(it)), None)

@@ -160,8 +160,7 @@ def simple_sheet():
 
 
 def simple_report(chance, is_refused=0, most=20):
-    """Draws a report of at most `most` facts that overlap with those of others. `is_refused` is the number of a fault (1 to 3), or 0 for
-    none."""
+    """Draws a report of at most `most` facts that overlap with others. `is_refused` is its fault, from 1 to 3, or 0."""
     facts = {f"{chance.randint(0, 10**9)}": drawn_fact(chance) for _ in range(chance.randint(1, most))}
     info = {"documentType": DOCUMENT_TYPE, "namespaces": dict(PREFIXES), "taxonomy": [f"{URI}/{chance.randint(0, 2)}.xsd"]}
     if is_refused == 1:
@@ -411,8 +410,7 @@ def perhaps_broken(chance, text, other, breaks):
 
 
 def split_at_tags(chance, text, _):
-    """Replaces an attribute's value, a name or a piece of text by one of XML_PIECES. Without such a part, replaces a drawn
-    part."""
+    """Replaces an attribute's value, a name or a piece of text or, if there is none, a drawn part by one of XML_PIECES."""
     return replaced(chance, text, rb'(?<=")[^"<>]*(?=")|(?<=[</ ])[\w:]+|(?<=>)[^<]*(?=<)', XML_PIECES)
 
 
@@ -426,8 +424,7 @@ def reworded(chance, text, _):
 
 
 def dropped(chance, text, _):
-    """Removes a drawn member whose value is a text, an integer, a boolean or null. Without such a member, removes a drawn
-    part."""
+    """Removes a drawn member whose value is a text, an integer, a boolean or null or, if there is none, a drawn part."""
     return replaced(chance, text, rb'"[\w:]+": ?(?:"[^"\\]*"|null|true|false|-?\d+)(?:, ?)?', (b"",))
 
 

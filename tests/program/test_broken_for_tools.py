@@ -96,8 +96,7 @@ def present_files():
 
 
 def expecting(tool):
-    """Returns the tool, changed so that an unexpected exception fails the case. The unchanged tool prints a line and ends with
-    status 3."""
+    """Returns the tool, changed so that an unexpected exception, which would become a line and status 3, fails the case."""
     def main():
         try:
             return tool.main()
@@ -174,8 +173,7 @@ def expect_sheet(status, out):
 
 @cases(1400)
 def test_reports(chance):
-    """Runs normalise on a report with a sheet. One of the two may be broken. Unless the run ends with status 3, normalises its
-    output too."""
+    """Runs normalise on a report with a sheet. One may be broken. Unless the status is 3, normalises the output too."""
     drawn = drawn_reports.untidy(chance).encode() if chance.random() < 0.7 else report_bytes(chance)
     sheet = json.dumps(drawn_reports.SHEET).encode()
     if chance.random() < 0.8:

@@ -211,8 +211,7 @@ def test_odd_names():
 
 
 def test_stopped_nodes():
-    """Checks that a stopped node stops its program and leaves no files, and that no file name contains the node's process
-    number."""
+    """Checks that a stopped node stops its program, leaves no files, and has no process number in the name of a file."""
     write("slow", "#!/bin/sh\nls -A >names\necho $$ >number.part\nmv number.part number\nexec sleep 60\n")
     os.chmod("slow", 0o755)
     for kind in (signal.SIGTERM, signal.SIGHUP, signal.SIGINT):

@@ -79,8 +79,7 @@ def test_examples():
 
 
 def odd_report(prefix):
-    """Returns a report with a fact for each of TEXTS. The fact's value and identifier begin with the text. The fact's typed
-    member is the text, or `none` for an empty text."""
+    """Returns a report with a fact for each of TEXTS: in its value, its identifier and, unless empty, its typed member."""
     info = {"documentType": "https://xbrl.org/2021/xbrl-json", "namespaces": {"eg": "http://example.org/t"}}
     facts = {f"{text}{prefix}{index}": {"value": f"{text}{prefix}", "dimensions": {"concept": "eg:T", "eg:Sku": text or "none"}}
              for index, text in enumerate(TEXTS)}
@@ -118,8 +117,7 @@ def joined(*tables):
 
 
 def is_pair(own, concept, value):
-    """Returns whether a report's own fact has this concept and value. Numbers may be spelled differently, and names have their
-    own prefixes."""
+    """Returns whether a report's own fact, with its prefixes and spelling of numbers, has this concept and value."""
     if own["dimensions"]["concept"].split(":")[1] != concept.split("}")[1]:
         return False
     try:

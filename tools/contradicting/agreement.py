@@ -12,8 +12,7 @@ from contradicting.sources import names_of
 
 
 class Agreement(enum.Enum):
-    """The kind of a row: a contradiction, or how its providers agree. NONE_KNOWN is a row without a contradiction if no provider
-    is known."""
+    """The kind of a row: a contradiction, or how its providers agree. NONE_KNOWN is for rows without known providers."""
 
     CONTRADICTION = "contradiction"
     ONE_PROVIDER = "reported by one provider"

@@ -91,8 +91,7 @@ class AllRows:
             yield from self.column_cells(name, columns[name]) if name in columns else [""] * (2 + (name in self.several))
 
     def column_cells(self, name: str, given: list[Given]) -> Iterator[str]:
-        """Yields values and their decimals, and the files if the provider has several reports. A single value is a whole cell, so
-        that a number stays one."""
+        """Yields values, decimals and, of several reports, the files. A single value is a whole cell: a number stays one."""
         values = [each.fact for each in given if each.fact.value is not None]
         if len(values) == 1:
             yield cell(values[0].value)

@@ -13,8 +13,7 @@ Value = Union[Decimal, Name, str, None]
 
 
 class Dimensions(NamedTuple):
-    """The dimensions of a row with expanded names; an absent dimension is empty or None. A unit has a tuple of numerators and, if
-    there are any, a tuple of denominators."""
+    """The dimensions of a row with expanded names; absent ones are empty or None. A unit has a tuple for each of its sides."""
 
     concept: Name
     entity: Optional[Name]

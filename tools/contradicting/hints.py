@@ -116,8 +116,7 @@ def is_smaller(facts: Facts, one: Group, other: Group) -> bool:
 
 
 def is_last_place(facts: Facts, one: Group, other: Group) -> bool:
-    """Returns whether all facts of one group are less than 1 away from those of the other, in the last place of the coarser fact.
-    Both facts of a pair must not be exact."""
+    """Returns whether all facts of two groups, none two exact, are less than 1 apart in the last place of the coarser."""
     if len(one) * len(other) > MOST_PAIRS:
         return False
     return all(is_near(facts[first], facts[second]) for first, second in itertools.product(one, other))

@@ -63,8 +63,7 @@ class Patterns:
         return sorted(found, key=lambda each: (-each.rows, each))
 
     def lines(self, counts: ProviderCounts) -> Iterator[tuple[str, bool]]:
-        """Yields a line for each hint that most of the rows have that a provider shares with others, and whether most rows with the
-        hint are no contradictions."""
+        """Yields a line for each hint in most rows that a provider shares with others, and whether most of these rows agree."""
         for each in self.counts():
             shared = counts.shared[each.provider]
             if each.rows >= LEAST_ROWS and each.rows * 2 > shared:

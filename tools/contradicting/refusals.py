@@ -47,8 +47,7 @@ class Refused(NamedTuple):
 
 
 class Refusals:
-    """The refused reports, and the concepts and dimensions in them that the sheet lacks. `table` is the path of a file with a line
-    for each fault."""
+    """The refused reports, and the names in them that the sheet lacks. The file `table` has a line for each fault."""
 
     def __init__(self, advice: str = "", options: Optional[argparse.Namespace] = None, concepts: Iterable[Name] = (),
                  table: str = os.devnull) -> None:

@@ -25,8 +25,7 @@ def reports_named(options: argparse.Namespace) -> list[Report]:
 
 
 def maps_named(options: argparse.Namespace) -> list[tuple[str, str]]:
-    """Returns the providers of --map and their maps. Errors: ValueError if a part of PROVIDER=MAP is empty, if a provider has two
-    maps, or if it has no report."""
+    """Returns the providers of --map and their maps. Errors: ValueError if one is empty, has two maps or has no report."""
     maps = [word.partition("=")[::2] for word in options.map]
     providers = [written(provider) for provider, _ in maps]
     if not all(provider and path for provider, path in maps) or len({*providers}) < len(providers):

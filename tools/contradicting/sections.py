@@ -144,8 +144,7 @@ def below(line: NumberLine, unit: str) -> Iterator[str]:
 
 
 def drawn(fact: Fact, line: NumberLine) -> str:
-    """Returns the drawing of a fact's interval on a number line, to scale, with the gap if there is one. A nil fact gets a note
-    instead."""
+    """Returns the drawing of a fact's interval on a number line, with the gap if there is one; for a nil fact, a note."""
     if not isinstance(fact.value, Decimal):
         return '<td class="line nil"><i>not reported as a number</i>'
     low, high = fact.interval()

@@ -26,8 +26,7 @@ class InputFile(NamedTuple):
 
 
 class Snapshot:
-    """Copies of files in a temporary folder, by the paths of the files. `files` lists what was read, and `normalised` the normalised
-    texts of reports."""
+    """Copies of files by their paths. `files` lists what was read, and `normalised` the normalised texts of reports."""
 
     def __init__(self, folder: str) -> None:
         self.folder = folder

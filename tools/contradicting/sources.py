@@ -86,8 +86,7 @@ class Sources:
 
 
 def files_of(reports: list[Report]) -> list[str]:
-    """Returns the name of the file for each report whose provider has several, and an empty text for the others. A name that the
-    provider's files share is replaced by the path."""
+    """Returns the file for each report whose provider has several, as name or, if shared, path; else an empty text."""
     counts = collections.Counter(report.provider for report in reports)
     names = collections.Counter((report.provider, os.path.basename(report.path)) for report in reports)
     files = (os.path.basename(path) if names[provider, os.path.basename(path)] == 1 else path for provider, path in reports)
@@ -95,8 +94,7 @@ def files_of(reports: list[Report]) -> list[str]:
 
 
 class OwnTexts:
-    """The merged report of each provider's own reports. The identifiers that facts have in the original reports are not known,
-    because a merged report does not contain them."""
+    """The merged report of each provider's own reports, which does not contain the identifiers of facts in those reports."""
 
     def __init__(self, providers: list[Provider]) -> None:
         self.providers, self.names = providers, [provider.name for provider in providers]

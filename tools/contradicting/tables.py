@@ -36,8 +36,7 @@ def lines_of(table: Iterable[Sequence[str]]) -> Iterator[str]:
 
 
 def line_of(cells: Iterable[str]) -> str:
-    """Returns a line of a table of several columns, as `csv.writer` writes it. The writer looks at each character by itself, which
-    takes ten times as long for names with long URIs."""
+    """Returns a line of a table as `csv.writer` writes it, which takes ten times as long for names with long URIs."""
     return ",".join(map(quoted, cells)) + "\r\n"
 
 

@@ -54,8 +54,7 @@ def key_of(of: Dimensions, aspects: Sequence[str]) -> tuple[object, ...]:
 
 
 class Cause(NamedTuple):
-    """Why a provider shares no row: the aspects in which rows differ, how many rows match without them, and for each aspect the
-    values that match."""
+    """Why a provider shares no row: the aspects in which rows differ, how many match, and the values that match."""
 
     aspects: tuple[str, ...]
     rows: int

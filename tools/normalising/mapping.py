@@ -23,8 +23,7 @@ class Measure(NamedTuple):
 
 
 class NameMap:
-    """The tables of a map. A name that its table does not list gets a new namespace, and is then looked up again. Errors:
-    ValueError."""
+    """The tables of a map. A name that its table lacks gets a new namespace, and is looked up again. Errors: ValueError."""
 
     def __init__(self, tree: Tree) -> None:
         if not isinstance(tree, dict) or not all(key in PARTS and isinstance(part, dict) for key, part in tree.items()):

@@ -15,8 +15,7 @@ DIGITS = 18  # the most digits of a number written without its exponent, counted
 
 
 def scale_value(fact: Part, scale: int) -> None:
-    """Multiplies a value by ten to the power of `scale`, exactly. Errors: NotDone if that is not possible within the digits and
-    decimals that the program reads."""
+    """Multiplies a value by ten to the power of `scale`. Errors: NotDone if the program cannot read the result."""
     value, decimals = fact.get("value"), fact.get("decimals")
     if value is None:
         return

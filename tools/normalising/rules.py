@@ -297,8 +297,7 @@ def kind_of(name: Optional[Name], kinds: Kinds) -> Optional[str]:
 
 
 def trimmed(key: str, text: str) -> str:
-    """Returns a text without white space around its tokens. White space at the end of an entity stays: it belongs to the
-    identifier."""
+    """Returns a text without white space around its tokens. At the end of an entity it belongs to the identifier, and stays."""
     if key == "entity":
         return text.lstrip(SPACE)
     signs = {"period": "([/])", "unit": "([*/()])"}.get(key)

@@ -78,8 +78,7 @@ def has_no_target(links: Tree) -> bool:
 
 
 def apply_scale(fact: Part, options: argparse.Namespace) -> None:
-    """With --scale=ix, multiplies a value by ten to the power of its `scale`, and gives it its `sign`, as Inline XBRL does. A scale
-    of 0 changes nothing, so it is removed."""
+    """With --scale=ix, applies `scale` and `sign` to a value as Inline XBRL does. A scale of 0 is always removed."""
     given = [key for key in ("scale", "sign") if key in fact.members]
     scale = fact.members.get("scale", "0")
     power = whole_number(scale) if isinstance(scale, str) else None
@@ -104,8 +103,7 @@ def scaled(value: Tree, power: Optional[str], sign: Tree) -> Optional[str]:
 
 
 def infer_decimals(fact: Part) -> None:
-    """Replaces the precision of a number by decimals, as XBRL 2.1 infers them: section 4.6.6. From a precision of 0, nothing can
-    be inferred, and a zero is exact."""
+    """Replaces the precision of a number, unless 0, by decimals, as XBRL 2.1 infers them (4.6.6). A zero is exact."""
     given, value = fact.get("precision"), fact.get("value")
     if "precision" not in fact.members:
         return

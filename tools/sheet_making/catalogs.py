@@ -88,8 +88,7 @@ class Rewrites(Visitor):
         self.rules_around = functools.lru_cache(maxsize=None)(self.rules_at)
 
     def open(self, catalog: str) -> Rewrites:
-        """Returns itself, and adds the rules that it then visits to those of this catalog. Open all catalogs before the first
-        call of `paths_of`."""
+        """Returns itself, and adds rules that it then visits to this catalog. Open all catalogs before calling `paths_of`."""
         self.catalog = catalog
         self.own[os.path.dirname(os.path.dirname(catalog))] = Rules(self.tries)
         return self

@@ -142,8 +142,7 @@ class SchemaVisitor(Visitor):
         part.facet_level = level + (2 if element.name == SIMPLE else 3)
 
     def look_for_base(self, element: Element, level: int, part: Part) -> None:
-        """Opens a type inside an element, or records what the open type is made of. A derivation is a child of the type, or of
-        its simpleContent or complexContent."""
+        """Opens a type in an element, or records what a type is made of: in a child, or in one of its simple- or complexContent."""
         if level == 3 and not part.is_type and element.name in TYPES:
             self.open_type(element, level, part)
         elif part.type_level and element.name in DERIVATIONS:
@@ -158,8 +157,7 @@ class SchemaVisitor(Visitor):
             part.space = element.get("value")
 
     def expanded(self, element: Element, key: str) -> Optional[Name]:
-        """Returns the expanded name in an attribute, or None if the attribute is missing. If neither the name nor the schema has
-        a namespace, the name is in the wanted namespace."""
+        """Returns the name in an attribute, or None. Without a namespace, also of the schema, it is in the wanted one."""
         text = element.get(key)
         return None if text is None else self.expanded_text(text.strip(SPACE), element)
 

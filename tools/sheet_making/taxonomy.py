@@ -61,8 +61,7 @@ class Taxonomy:
         namespaces.add(visitor.namespace)
 
     def refer(self, location: str, base: str, wanted: str) -> None:
-        """Schedules the schema at `location`, to which the document at `base` refers. A missing schema is recorded, unless it
-        is wanted for the namespace of a specification."""
+        """Schedules the schema at `location`, or records that it is missing, unless the namespace is of a specification."""
         found = self.found_at(location, base)
         if found:
             self.waiting.append((found, wanted))

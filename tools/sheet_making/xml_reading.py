@@ -113,8 +113,7 @@ def read_xml(pieces: Iterable[bytes], visitor: Visitor) -> int:
 
 
 def parsed(parser: expat.XMLParserType, pieces: Iterable[bytes]) -> int:
-    """Lets expat parse a document, and returns how many bytes the document has. expat keeps a tag or comment until it ends.
-    Errors: as in `read_xml`."""
+    """Lets expat parse a document, and returns its length. expat keeps a tag until it ends. Errors: as in `read_xml`."""
     length = 0
     try:
         for piece in pieces:

@@ -1,5 +1,4 @@
-"""Draws tidy reports, which xbrlmerge accepts, and untidy reports. xbrlmerge must accept an untidy report once it is
-normalised with all lossy options."""
+"""Draws tidy reports, which xbrlmerge accepts, and untidy ones, which it must accept once normalised with all lossy options."""
 import json
 
 SHEET = {
@@ -137,8 +136,7 @@ PREFIXES = ["eg", "toy-1.x", "iso4217", "utr", "n2", "xbrl", "xs", "\u00e9"]  # 
 
 
 def for_others(chance):
-    """Returns the texts of a sheet and of tidy reports, in namespaces that have reserved prefixes or not. The standards allow them:
-    a name has no language."""
+    """Returns the texts of a sheet and of tidy reports that the standards allow, some in namespaces with reserved prefixes."""
     uris = {U: chance.choice([U, *RESERVED]), T: chance.choice([T, T, V, RESERVED[0]])}
     texts = [json.dumps(SHEET).replace('"eg', f'"{chance.choice(PREFIXES)}')]
     for _ in range(chance.randrange(1, 4)):

@@ -61,8 +61,7 @@ class Hostile(ToolTest):
         self.near = self.path_of("near.csv")
 
     def words(self, facts, is_near=False, lines=None):
-        """Writes a merged text of the facts, its verdicts and its sources. Two providers report the rows in turn. Returns the
-        arguments of a run."""
+        """Writes the texts of a run in which two providers report the rows in turn. Returns the arguments of a run on them."""
         rows = [[*row] for _, row in itertools.groupby(facts, lambda each: each.get("dimensions"))]
         reports, made, start = [[1 + rank % 2] for rank, row in enumerate(rows, 1) for _ in row], "", 1
         for rank, row in enumerate(rows, 1):

@@ -1,5 +1,4 @@
-"""Tests of tools/contradictions on sets of names (two spellings of a set are one value, and two sets are never one), and on facts
-that do not fit the types of the sheet."""
+"""Tests of tools/contradictions on sets of names, each of which is one value, and on facts that do not fit their types."""
 import json
 import os
 

@@ -1,5 +1,4 @@
-"""Tests of tools/make_sheet, and of the labels of tools/contradictions, on files designed to take long, to make a tool read
-other files, or to make it fail."""
+"""Tests of tools/make_sheet, and of the labels of tools/contradictions, on files that take long, leave their folder or fail."""
 import json
 import os
 import subprocess
@@ -40,8 +39,7 @@ def labels_of(path: str) -> Labels:
 
 
 def each(form, size, *more):
-    """Returns `size` copies of the form, filled with the texts of `more`. In these texts, {0} is the number of the copy,
-    from 0, and {1} is the next number."""
+    """Returns copies of a form, filled with the texts of `more`, in which {0} is the copy's number, and {1} the next."""
     return "".join(form.format(*(spelled.format(number, number + 1) for spelled in more)) for number in range(size))
 
 

@@ -50,8 +50,7 @@ class ToolTest(in_process.RoomTest):
         return in_process.run(normalise, *words)
 
     def refusing(self, faults, **also):
-        """Makes a stub program that refuses facts and, if `also` is given, the document. Returns the options that use the
-        program."""
+        """Makes a stub program that refuses facts and, if `also` is given, the document. Returns the options that use it."""
         os.makedirs(self.path_of("bin"), exist_ok=True)
         explained = [{"place": "fact 1", "identifier": fact, **dict(zip(("number", "name"), why.split()))} for fact, why in faults.items()]
         self.write("bin/explain.out", "".join(json.dumps(fault) + "\n" for fault in [*explained, *[also] * bool(also)]))

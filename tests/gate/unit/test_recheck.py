@@ -103,8 +103,7 @@ INPUTS = {
 
 
 def drawn_changes(text):
-    """Yields changes of the start of a text: a text in quotes, a word or another character is left out, repeated, lengthened, or swapped
-    with the next one."""
+    """Yields changes of the start of a text: a part is left out, repeated, lengthened, or swapped with the next one."""
     parts, chance = re.findall(r'"[^"]*"|\w+|.', text, re.DOTALL), random.Random(7)
     for place in chance.sample(range(len(parts) - 1), min(len(parts) - 1, 6)):
         start, (one, other) = "".join(parts[:place]), parts[place : place + 2]

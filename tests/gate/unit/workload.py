@@ -26,8 +26,7 @@ def dimensions_of(chance, rank):
 
 
 def values_of(chance, dimensions, is_apart):
-    """Returns the values of a row with their decimals: nil first, then in ascending order. If `is_apart`, some of them contradict
-    each other."""
+    """Returns the values of a row with their decimals, nil first, then in order. If `is_apart`, some contradict others."""
     if dimensions["concept"] == "n3:Text":
         texts = sorted(TEXT.format(number, chance.randrange(99)) * 3 for number in range(2 if is_apart else 1))
         return [(text, None) for text in texts]
