@@ -106,12 +106,11 @@ import re  # noqa: E402
 from decimal import Decimal  # noqa: E402
 from arguments import Parser  # noqa: E402
 from contradicting.findings import KINDS, kinds_named  # noqa: E402
-from contradicting.inputs import Inputs, Run, inputs_named, snapshot_of  # noqa: E402
+from contradicting.inputs import Run, inputs_named, snapshot_of  # noqa: E402
 from contradicting.output_folder import FOLDER, LINES, locked, output_folder, report_file  # noqa: E402
 from contradicting.outcome import Outcome  # noqa: E402
 from contradicting.reports import maps_named, reports_named  # noqa: E402
 from contradicting.since import Earlier  # noqa: E402
-from contradicting.snapshot import Snapshot  # noqa: E402
 from contradicting.unshared import FOLDER as MAPS  # noqa: E402
 from contradicting.workbook import library  # noqa: E402
 from normalising.options import add_losses, loses  # noqa: E402
@@ -228,17 +227,13 @@ def main() -> Status:
             snapshot = snapshot_of(options, folder)
             with snapshot.names_restored():
                 earlier = Earlier(options.since, snapshot) if options.since else None
-                inputs = inputs_for(options, snapshot, folder, progress)
+                if options.texts:
+                    inputs = inputs_named(options, snapshot)
+                else:
+                    inputs = Run(program_at(options.program), options, snapshot, folder, progress).inputs()
                 inputs.earlier = earlier
                 progress.show("reading the rows")
                 return write(Outcome(inputs, options, snapshot, folder), progress)
-
-
-def inputs_for(options: argparse.Namespace, snapshot: Snapshot, folder: str, progress: Progress) -> Inputs:
-    """Returns the named inputs, or the program's output for the named reports."""
-    if options.texts:
-        return inputs_named(options, snapshot)
-    return Run(program_at(options.program), options, snapshot, folder, progress).inputs()
 
 
 def write(outcome: Outcome, progress: Progress) -> Status:

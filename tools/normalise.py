@@ -61,7 +61,8 @@ def read_options() -> argparse.Namespace:
     options.REPORT, options.OUT, options.CHANGES = names
     if (options.drop_unknown or options.drop_unreadable or options.map) and not options.sheet:
         parser.error("--drop-unknown, --drop-unreadable and --map need --sheet")
-    if options.drop_unreadable and (options.sheet == STANDARD or is_stream(options.sheet)):
+    # a second reader of something that is no regular file might wait forever
+    if options.drop_unreadable and (options.sheet == STANDARD or os.path.exists(options.sheet) and not os.path.isfile(options.sheet)):
         parser.error("--drop-unreadable needs a sheet in a file")
     inputs = [options.REPORT, *(path for path in (options.sheet, options.map) if path)]
     outputs = [options.OUT, options.CHANGES]
@@ -69,11 +70,6 @@ def read_options() -> argparse.Namespace:
     if len({*files}) < len(files) or inputs.count(STANDARD) > 1 or outputs.count(STANDARD) > 1:
         parser.error("REPORT, OUT, CHANGES, SHEET and MAP must be different files")
     return options
-
-
-def is_stream(path: str) -> bool:
-    """Returns whether something that is not a regular file has this name. A second reader might wait for it forever."""
-    return os.path.exists(path) and not os.path.isfile(path)
 
 
 @contextlib.contextmanager

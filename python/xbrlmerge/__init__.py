@@ -255,11 +255,6 @@ def _each(reports: Iterable[Given]) -> List[bytes]:
     return [_bytes(it) for it in _listed(reports)]
 
 
-def _file(given: Given) -> Optional[str]:
-    """Returns the path of a report that was given as a path."""
-    return None if isinstance(given, (bytes, bytearray, memoryview)) else os.fspath(given)
-
-
 def _refusal(record: _library.Record) -> Refusal:
     report, fact, number = record
     return Refusal(report, number, _library.refusal_name(number), fact or None)
@@ -317,7 +312,8 @@ def _source(line: str) -> Source:
 
 
 def _source_row(source: Dict[str, Any], reports: List[Given]) -> Tuple[Any, ...]:
-    file = _file(reports[source["report"] - 1])
+    given = reports[source["report"] - 1]
+    file = None if isinstance(given, (bytes, bytearray, memoryview)) else os.fspath(given)
     return source["report"], file, source["identifier"], source["fact"]
 
 

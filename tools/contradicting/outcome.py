@@ -2,6 +2,7 @@
 import argparse
 import functools
 import itertools
+import json
 import os
 from typing import Iterable, Iterator
 
@@ -21,7 +22,7 @@ from contradicting.snapshot import Snapshot
 from contradicting.subject import Subject
 from contradicting.summary import summary
 from contradicting.tables import cell, lines_of, table
-from contradicting.unshared import UnsharedFinder, map_path, map_pieces
+from contradicting.unshared import UnsharedFinder, map_path
 from contradicting.warnings import Warnings
 from contradicting.workbook import Table, lines_in, write_workbook
 from process import Status
@@ -114,7 +115,7 @@ class Outcome:
         yield from [("since.csv", lines_of(self.since.table()))] if self.since else []
         yield "summary.json", summary(self)
         yield from inputs.files
-        yield from ((map_path(each.provider), map_pieces(each.map)) for each in self.unshared if each.map)
+        yield from ((map_path(each.provider), iter([json.dumps(each.map, ensure_ascii=False, indent=1) + "\n"])) for each in self.unshared if each.map)
 
     def texts(self) -> Iterator[tuple[str, Iterable[Piece]]]:
         """Yields the paths and the pieces of all files."""

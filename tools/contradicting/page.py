@@ -86,7 +86,7 @@ def page(found: Found) -> Iterator[str]:
     numbers = "".join(f"<span{' class=apart' * bool(count and words.startswith('contradiction'))}><b>{count}</b>{words}</span>" for count, words in [*found.counts.lines(), *refused_count])
     yield f"""<!DOCTYPE html><html lang="en"><head><meta charset="utf-8"><title>Contradictions</title>
 <meta http-equiv="Content-Security-Policy" content="{policy}">
-<meta name="viewport" content="width=device-width"><style>{part("page.css")}</style></head><body>{heading_of(found)}<p class="counts">{numbers}</p>
+<meta name="viewport" content="width=device-width"><style>{part("page.css")}</style></head><body>{"".join(found.subject.html(found.counts, len(found.rows)))}<p class="counts">{numbers}</p>
 """
     if found.superseded:
         yield f"<p>Facts left out because a later report of the same provider supersedes them: {found.superseded}, listed in changes.csv.</p>\n"
@@ -101,10 +101,6 @@ def page(found: Found) -> Iterator[str]:
         yield '<details class="check"><summary>Check this run with a second program</summary>\n'
         yield f"<p>Run this command in the folder where the page was made:</p><pre>{html.escape(found.check)}</pre></details>\n"
     yield f"<script>{script}</script></body></html>\n"
-
-
-def heading_of(found: Found) -> str:
-    return "".join(found.subject.html(found.counts, len(found.rows)))
 
 
 def refused(refusals: Refusals) -> Iterator[str]:

@@ -139,10 +139,6 @@ def for_period(part: Any) -> Optional[Remedy]:
     return FRACTION if any(moment and moment["part"] for moment in found) else WHITE
 
 
-def for_value(part: Any) -> Optional[Remedy]:
-    return NUMBER if is_number(part) else None
-
-
 def for_member(part: Any) -> Optional[Remedy]:
     members = [*part.values()] if isinstance(part, dict) else []
     if len(members) != 1:
@@ -165,31 +161,15 @@ def for_number(part: Any) -> Optional[Remedy]:
     return for_white(part, PLAIN)
 
 
-def for_name(part: Any) -> Optional[Remedy]:
-    return EMPTY if part == "" else MISPLACED if part == "pure" else for_white(part, NAME)
-
-
 def for_member_name(part: Any) -> Optional[Remedy]:
     if part in documents.HARMLESS:
         return HARMLESS
     return SCALE if part in ("scale", "sign") else ELSEWHERE if part in MEANING else UNKNOWN
 
 
-def for_prefix(part: Any) -> Optional[Remedy]:
-    return SPELLED if isinstance(part, str) and prefixes.Prefixes(None, {}).named(part) else None
-
-
-def for_document_type(part: Any) -> Optional[Remedy]:
-    return DRAFT if isinstance(part, str) and documents.DRAFT_TYPE.fullmatch(part) else None
-
-
 def for_white(part: Any, form: re.Pattern[str]) -> Optional[Remedy]:
     """Returns the remedy for a text that has the form without the white space around it."""
     return WHITE if isinstance(part, str) and part != part.strip(SPACE) and form.fullmatch(part.strip(SPACE)) else None
-
-
-def for_empty(part: Any) -> Optional[Remedy]:
-    return EMPTY if part == "" else None
 
 
 def for_reserved(part: Any) -> Optional[Remedy]:
@@ -203,11 +183,15 @@ def is_number(part: Any) -> bool:
 
 
 FOR_NAMES: Mapping[str, Callable[[Any], Optional[Remedy]]] = {
-    "PeriodForm": for_period, "ValueForm": for_value, "DimensionValue": for_member, "DecimalsForm": for_decimals,
-    "NumberForm": for_number, "NameForm": for_name, "ReservedNamespace": for_reserved, "Notes": lambda _: NOTE,
-    "Links": lambda part: ELSEWHERE if has_no_target(part) else LINKS, "UnitForm": for_empty, "LanguageForm": for_empty,
+    "PeriodForm": for_period, "ValueForm": lambda part: NUMBER if is_number(part) else None, "DimensionValue": for_member,
+    "DecimalsForm": for_decimals, "NumberForm": for_number, "ReservedNamespace": for_reserved, "Notes": lambda _: NOTE,
+    "NameForm": lambda part: EMPTY if part == "" else MISPLACED if part == "pure" else for_white(part, NAME),
+    "Links": lambda part: ELSEWHERE if has_no_target(part) else LINKS,
+    **dict.fromkeys(("UnitForm", "LanguageForm"), lambda part: EMPTY if part == "" else None),
     "UnitOnOther": lambda part: MISPLACED if isinstance(part, str) and part.endswith(":pure") else None,
-    "LanguageOnNumeric": lambda _: MISPLACED, "DecimalsOnOther": lambda _: MISPLACED, "UnboundPrefix": for_prefix,
-    "DocumentType": for_document_type, "BaseUrl": lambda part: ELSEWHERE if part == "" or str(part).lower().startswith("file:") else None,
+    "LanguageOnNumeric": lambda _: MISPLACED, "DecimalsOnOther": lambda _: MISPLACED,
+    "UnboundPrefix": lambda part: SPELLED if isinstance(part, str) and prefixes.Prefixes(None, {}).named(part) else None,
+    "DocumentType": lambda part: DRAFT if isinstance(part, str) and documents.DRAFT_TYPE.fullmatch(part) else None,
+    "BaseUrl": lambda part: ELSEWHERE if part == "" or str(part).lower().startswith("file:") else None,
     "UnknownMember": for_member_name, "UnknownConcept": lambda _: CONCEPT, "UnknownDimension": lambda _: DIMENSION,
 }

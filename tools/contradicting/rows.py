@@ -129,7 +129,8 @@ class Reader:
         with using(self.text.path):
             is_numeric = [self.kind(tree) == "numeric" for tree in facts.values()][0]
         names = [*facts]
-        said = said_of(line, f"{number} {names[0]} {names[-1]} ")
+        start = f"{number} {names[0]} {names[-1]} "
+        said = EVIDENCE.fullmatch(line, len(start), len(line) - 1) if line.startswith(start) else None
         holders = {name: self.sources.holders(name, tree) for name, tree in facts.items()}
         if said is None:
             return None
@@ -170,7 +171,8 @@ class Reader:
         members = sorted((name(axis), member) for axis, member in given.items())
         explicit = (member and self.sheet.dimensions[axis] == "explicit" for axis, member in members)
         named = tuple((axis, name(member) if has_name else member) for (axis, member), has_name in zip(members, explicit))
-        check_texts(language, *(member for axis, member in members if member is not None))
+        if not all(isinstance(text, str) for text in (language, *(member for axis, member in members if member is not None))):
+            raise ValueError("it has a dimension that is not a text")
         return Dimensions(name(concept), name(entity) if entity else None, checked_period(period), units, language, named)
 
     def fact_of(self, tree: Tree, kind: str) -> Fact:
@@ -178,11 +180,6 @@ class Reader:
         if kind == "numeric" and value is not None:
             return Fact(Decimal(value), tree.get("decimals"))
         return Fact(self.text.name(value) if kind == "name" and value is not None else value, None)
-
-
-def check_texts(*values: Any) -> None:
-    if not all(isinstance(value, str) for value in values):
-        raise ValueError("it has a dimension that is not a text")
 
 
 def checked_period(period: str) -> str:
@@ -201,10 +198,6 @@ def zip_all(groups: Iterable[Any], lines: Iterable[str]) -> Iterator[tuple[Any, 
         if group is None or line is None or not line.endswith("\n"):
             raise ValueError("it does not have one line for each row of the merged report")
         yield group, line
-
-
-def said_of(line: str, start: str) -> Optional[re.Match[str]]:
-    return EVIDENCE.fullmatch(line, len(start), len(line) - 1) if line.startswith(start) else None
 
 
 def is_common(said: re.Match[str], facts: Mapping[str, Fact]) -> bool:

@@ -28,7 +28,8 @@ class StaticRows(NamedTuple):
     def html(self, row: ShownRow, is_open: bool) -> Iterator[str]:
         """Yields the line of a row in the table, and its opened part."""
         concept = self.bdi(row.concept) + "".join(f"<small>{each}</small>" for each in self.about(row))
-        values = ("; ".join(value(fact) for fact in row.facts if is_of(fact, name)) for name in self.columns)
+        values = ("; ".join(value(fact) for fact in row.facts if not name or name in {holder.provider for holder in fact.holders})
+                  for name in self.columns)
         cells = [("number", str(row.row.number)), ("concept", concept), ("period", html.escape(row.period)), *(("value", each) for each in values),
                  ("difference", percent(row)), *[("reported", self.reported_by(row))] * bool(self.reader.providers),
                  ("verdict", row.agreement.value), ("hint", "; ".join(bdi(Words(hint)) for hint in row.hints))]
@@ -72,10 +73,6 @@ class StaticRows(NamedTuple):
             yield "Files", "; ".join(bdi(Words(file)) for file in files)
         if row.hints:
             yield "Hint", "; ".join(bdi(Words(hint)) for hint in row.hints)
-
-
-def is_of(fact: ShownFact, provider: str) -> bool:
-    return not provider or any(holder.provider == provider for holder in fact.holders)
 
 
 def value(fact: ShownFact) -> str:

@@ -186,7 +186,7 @@ class Provider:
         dimensions = {}
         for key, member in tree["dimensions"].items():
             if key not in CORE:
-                member = self.spelled(member) if self.is_explicit(key) else member
+                member = self.spelled(member) if self.sheet.dimensions[self.text.name(key)] == "explicit" else member
                 key = self.spelled(key)
             elif key == "unit":
                 member = self.spelled_unit(member)
@@ -197,9 +197,6 @@ class Provider:
         if value is not None and self.sheet.concepts[self.text.name(tree["dimensions"]["concept"])] == "name":
             value = self.spelled(value)
         return {**tree, "dimensions": dimensions, "value": value}
-
-    def is_explicit(self, axis: str) -> bool:
-        return bool(self.sheet.dimensions[self.text.name(axis)] == "explicit")
 
     def spelled(self, text: str) -> str:
         """Returns a name or an entity with the prefix that the full merged report gives its namespace."""

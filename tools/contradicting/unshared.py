@@ -2,7 +2,6 @@
 import collections
 import datetime
 import itertools
-import json
 import os
 from typing import Callable, Dict, Iterable, Iterator, NamedTuple, Optional, Sequence, Union
 
@@ -157,15 +156,11 @@ class UnsharedFinder:
             match, other = min(rows.get(key_of(of, aspects), ()), key=lambda each: days_between(of, each[0]), default=(None, ""))
             if match:
                 matching[other] += 1
-                note_replaced(replaced, of, match)
+                for aspect, found in replaced.items():
+                    for old, new in zip(ASPECTS[aspect][1](of), ASPECTS[aspect][1](match)):
+                        found[old][new] += 1
         other = max(others, key=lambda each: matching[each])
         return Cause(aspects, sum(matching.values()), other, replaced)
-
-
-def note_replaced(replaced: dict[str, Replaced], one: Dimensions, other: Dimensions) -> None:
-    for aspect, found in replaced.items():
-        for old, new in zip(ASPECTS[aspect][1](one), ASPECTS[aspect][1](other)):
-            found[old][new] += 1
 
 
 def days_between(one: Dimensions, other: Dimensions) -> int:
@@ -185,7 +180,3 @@ def spelled(name: Value) -> str:
 
 def shown(value: Value) -> str:
     return value.shown() if isinstance(value, Name) else shortened(value) if value else "none"
-
-
-def map_pieces(tree: dict[str, object]) -> Iterator[str]:
-    yield json.dumps(tree, ensure_ascii=False, indent=1) + "\n"
