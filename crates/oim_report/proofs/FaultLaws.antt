@@ -210,24 +210,16 @@ refused_where_held sheet bytes r = ((λ e. held_by_read sheet bytes (json bytes)
 object_first : (sheet : Sheet) (bs : List Binding) (d : Data) → first (told (holds sheet bs d)) ≡ result_err (fact_outcome sheet bs d)
 object_first sheet bs d = first_told (holds sheet bs d) ∙ answered_is_least sheet bs d
 
-by_told : (place : Place) (rs : List Reason) (r : Refusal) → first_of (map (at place) rs) ≡ Some r → first rs ≡ Some r.reason
-by_told place [] r e = absurd (cc)
-by_told place (s ∷ rs) r e = let same : at place s ≡ r = cc in ap (λ (x : Refusal). Some x.reason) same
-
-pub refused_by_first : (sheet : Sheet) (bs : List Binding) (d : Data) (place : Place) (r : Refusal) → first_of (map (at place) (told (holds sheet bs d))) ≡ Some r → fact_outcome sheet bs d ≡ Err r.reason
-refused_by_first sheet bs d place r e =
-    ap (λ o. fact_or o (option_and_then (said_fact sheet bs) (fact_parts d))) (sym (first_told (holds sheet bs d)) ∙ by_told place (told (holds sheet bs d)) r e)
+pub refused_least : (sheet : Sheet) (bs : List Binding) (d : Data) (r : Reason) → least (holds sheet bs d) ≡ Some r → fact_outcome sheet bs d ≡ Err r
+refused_least sheet bs d r is = ap (λ o. fact_or o (option_and_then (said_fact sheet bs) (fact_parts d))) is
 
 no_told : (place : Place) (rs : List Reason) → first_of (map (at place) rs) ≡ None → first rs ≡ None
 no_told place [] e = refl
 no_told place (r ∷ rs) e = absurd (cc)
 
--- an object of no fact has a fault
-pub some_fault : (sheet : Sheet) (bs : List Binding) (d : Data) (place : Place) → ((f : Fact) → fact_outcome sheet bs d ≢ Ok f) → first_of (map (at place) (told (holds sheet bs d))) ≡ None → ⊥
-some_fault sheet bs d place never none =
-    let least_none = sym (first_told (holds sheet bs d)) ∙ no_told place (told (holds sheet bs d)) none in
-    let said = free_is_said sheet bs d ((none_is (holds sheet bs d)).0 least_none) in
-    never said.0 said.1
+-- a condition applies to an object of no fact
+pub some_least : (sheet : Sheet) (bs : List Binding) (d : Data) → ((f : Fact) → fact_outcome sheet bs d ≢ Ok f) → least (holds sheet bs d) ≡ None → ⊥
+some_least sheet bs d never none = let said = free_is_said sheet bs d ((none_is (holds sheet bs d)).0 none) in never said.0 said.1
 
 pub no_document_fault : (tree : Data) → map (at AtDocument) (told (document_holds tree)) ≡ [] → document_refusal tree ≡ None
 no_document_fault tree none = sym (first_told (document_holds tree)) ∙ no_told AtDocument (told (document_holds tree)) (ap first_of none)

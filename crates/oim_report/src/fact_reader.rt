@@ -8,7 +8,9 @@ ghost use Rattle.oim_report.specs.code.JsonMember.{seen};
 ghost use Rattle.oim_report.specs.code.TextCache.{concept_with};
 ghost use Rattle.oim_report.specs.code.Ranks.{IsRank};
 ghost use Rattle.oim_report.specs.code.SeenMembers.{seen_defined, seen_dimensions, seen_parts};
+ghost use Rattle.oim_report.specs.Holds.{holds};
 ghost use Rattle.oim_report.specs.Info.{facts_of};
+ghost use Rattle.oim_report.specs.Least.{least};
 ghost use Rattle.oim_report.specs.Outcome.{at, fact_outcome, facts_said};
 ghost use Rattle.oim_report.specs.Said.{concept_kind, fact_of, said_concept, said_dimensions, said_member, said_members};
 ghost use Rattle.oim_report.specs.Names.{named};
@@ -20,13 +22,13 @@ mod text_cache;
 
 use crate::concept_kind::ConceptKind;
 use crate::dimension_kind::DimensionKind;
+use crate::fact::fact_faults::least_of_fact;
 use crate::fact::fact_members::{DimensionMembers, FactMembers, well_formed};
 use crate::fact::fact_part::FactInScope;
 use crate::fact_reader::fact_content::{
     cached_entity, cached_language, cached_name, cached_period, cached_unit, read_value,
 };
 use crate::fact_reader::text_cache::TextCaches;
-use crate::fault_list::Faults;
 use crate::json_values::json_member::JsonMember;
 use crate::json_values::json_tree::object_at;
 use crate::place::Place;
@@ -125,31 +127,37 @@ impl<'s> FactReader<'s> {
             ⊎ (fact_outcome self.old.sheet self.old.aliases (view object.now) ≡ Err r)) }
     {
         let Some(parts) = FactMembers::of(self.alloc, object)? else {
-            return Err(self.least_fault(object)?);
+            return Err(self.refusal_of(object)?);
         };
         match self.read_parts(&parts) {
             Ok(found) => Ok(found),
             Err(Unread::OutOfMemory) => Err(Reason::OutOfMemory),
-            Err(Unread::NeedsTree) => Err(self.least_fault(object)?),
+            Err(Unread::NeedsTree) => Err(self.refusal_of(object)?),
         }
     }
 
-    fn least_fault(&self, object: &Value) -> Result<Reason, AllocError>
+    fn refusal_of(&self, object: &Value) -> Result<Reason, AllocError>
         requires { (f : AFact) → fact_outcome self.now.sheet self.now.aliases (view object.now) ≢ Ok f }
         ensures { IfOk result (λ r. fact_outcome self.now.sheet self.now.aliases (view object.now) ≡ Err r) }
     {
-        let mut faults = Faults::new(self.alloc);
+        match self.least_fault(object)? {
+            Some(reason) => Ok(reason),
+            // the object is not that of a fact, so a condition applies
+            None => unreachable!(),
+        }
+    }
+
+    /// Returns the lowest-numbered condition that applies to the JSON value of a fact, or `None` if
+    /// no condition applies.
+    pub(crate) fn least_fault(&self, object: &Value) -> Result<Option<Reason>, AllocError>
+        ensures { IfOk result (λ found. found ≡ least (holds self.now.sheet self.now.aliases (view object.now))) }
+    {
         let fact = FactInScope {
             sheet: self.sheet,
             aliases: &self.aliases,
             object,
         };
-        faults.add_fact(&fact, Place::Document)?;
-        match faults.as_slice().first() {
-            Some(fault) => Ok(fault.refusal.reason),
-            // the object is not that of a fact, so a condition applies
-            None => unreachable!(),
-        }
+        least_of_fact(self.alloc, &fact)
     }
 
     /// Reads a fact from the parts of its object. Returns the fact with the rank of its concept in

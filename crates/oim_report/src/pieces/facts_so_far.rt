@@ -172,7 +172,10 @@ fn read_fact(
         Err(Unread::NeedsTree) => {}
     }
     let tree = tree_of(reader.alloc(), object, MOST_MEMBER_LEVELS)?;
-    read_tree(reader, &tree)
+    match reader.least_fault(&tree)? {
+        Some(reason) => Ok(Err(reason)),
+        None => read_tree(reader, &tree),
+    }
 }
 
 fn read_tree(

@@ -4,8 +4,8 @@ use Rattle.oim_report.specs.Outcome.{fact_outcome}
 use Rattle.oim_report.specs.code.SeenMembers.{seen_parts}
 use Rattle.oim_report.proofs.fact_reader.FactReader.read.Goals as goal
 
-pub least_fault-requires-in-Err-NeedsTree : goal.least_fault-requires-in-Err-NeedsTree
-least_fault-requires-in-Err-NeedsTree c = λ f said.
+pub refusal_of-requires-in-Err-NeedsTree : goal.refusal_of-requires-in-Err-NeedsTree
+refusal_of-requires-in-Err-NeedsTree c = λ f said.
     let object = view c.args.object.now in
     let are = sym c.in_ok-parts.ensures ∙ ap (option_map seen_parts) c.in-Some.is in
     let here = ap (λ s. fact_outcome s.sheet s.aliases object) (sym c.in-Err-NeedsTree.ensures.same) ∙ said in

@@ -1,0 +1,10 @@
+use Rattle.std.proofs.Common.{◌≡◌, drop}
+use Rattle.std.specs.List.{find}
+use Rattle.serde_json.specs.View.{view}
+use Rattle.oim_report.specs.Holds.{holds}
+use Rattle.oim_report.proofs.fact.fact_faults.first_of_fact.Given as goal
+
+abbrev pub invariant-loop-reason : goal.invariant-loop-reason
+invariant-loop-reason l =
+    let first = find (holds l.fact.sheet.now l.fact.aliases.now (view l.fact.object.now)) in
+    first (drop l.reason-index l.reasons) ≡ first l.reasons
