@@ -24,9 +24,6 @@ pub const PIECE_BYTES: usize = 65_536;
 /// is inserted into a sorted list, so the time grows with the square of their number.
 pub const MOST_INSERTED: usize = 64;
 
-/// The greatest number of levels of an extension's value that is skipped on a tape.
-pub const MOST_SKIPPED_LEVELS: usize = 16;
-
 /// The greatest capacity in bytes of a text buffer that a `ReportReader` keeps for later reports.
 /// The scratch memory of the tape, which it also keeps, has at most about ten times as many bytes.
 pub const MOST_KEPT_BYTES: usize = 4 * PIECE_BYTES;

@@ -41,20 +41,20 @@ pub record IsRead (n : ℕ) (v : json.Json) : Type 0 where
   pub reads : of_json v ≡ Some found
   pub flat : depth v ≤ n
 
--- the value has 16 levels at most; if ascending members have the parts `old`, they have the parts `new` after the value is put
+-- the value has 124 levels at most; if ascending members have the parts `old`, they have the parts `new` after the value is put
 -- at the key
 pub record IsPut (key : List ℕ) (v : json.Json) (old new : FactMembers) : Type 0 where
   pub found : Data
   pub reads : of_json v ≡ Some found
-  pub flat : depth v ≤ 16
+  pub flat : depth v ≤ 124
   pub puts : (ms : Members) → Ascends ms → IsSoFar ms old → IsSoFar (put key found ms) new
 
--- the value is an object of 17 levels at most, and is read as a fact object with these parts
+-- the value is an object of 125 levels at most, and is read as a fact object with these parts
 pub record IsFactObject (v : json.Json) (parts : FactMembers) : Type 0 where
   pub found : Data
   pub reads : of_json v ≡ Some found
   pub are : fact_parts found ≡ Some parts
-  pub flat : depth v ≤ 17
+  pub flat : depth v ≤ 125
 
 -- the value is read as this data and has n levels at most
 pub record IsReadAs (n : ℕ) (v : json.Json) (found : Data) : Type 0 where

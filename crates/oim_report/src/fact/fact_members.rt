@@ -18,7 +18,7 @@ ghost use Rattle.oim_report.specs.code.TapeValues.{Ascends, AreDimensions, IsFac
 use crate::json_values::json_member::JsonMember;
 use crate::json_values::json_tree::{has_colon, has_member, is_no_object, unknown_in};
 use crate::json_values::skipped::skip_value;
-use crate::limits::{MOST_INSERTED, MOST_SKIPPED_LEVELS};
+use crate::limits::{MOST_INSERTED, MOST_MEMBER_LEVELS};
 use crate::unread::Unread;
 use json::Element;
 use serde_json::{Map, Value};
@@ -287,7 +287,7 @@ impl<'a> FactMembers<'a> {
             "decimals" => self.decimals = JsonMember::of_element(member)?,
             "dimensions" => self.dimensions = Some(DimensionMembers::of_element(alloc, member)?),
             "links" if is_empty_object(member) => {}
-            key if has_colon(key) => skip_value(member, MOST_SKIPPED_LEVELS)?,
+            key if has_colon(key) => skip_value(member, MOST_MEMBER_LEVELS - 1)?,
             _ => return Err(Unread::NeedsTree),
         }
         Ok(())

@@ -35,7 +35,7 @@ const LEVELS: [(usize, Level, &str); 6] = [
         All,
         r#"{"documentInfo":{"documentType":"https://xbrl.org/2021/xbrl-json","namespaces":{"eg":"http://example.org/t"}},"facts":{"f,":{"value":"@},","dimensions":{"concept":"eg:T"}},"f}":{"value":"@\"","dimensions":{"concept":"eg:T"}},"f},":{"value":"@\\","dimensions":{"concept":"eg:T"}},"f\"":{"value":"@},\"","dimensions":{"concept":"eg:T"}},"f}},":{"value":"@\\\"","dimensions":{"concept":"eg:T"}},"f{":{"value":"@:{","dimensions":{"concept":"eg:T"}},"f},\"":{"value":"@[","dimensions":{"concept":"eg:T"}},"f}":{"value":"}},","dimensions":{"concept":"eg:T"}}}}"#,
     ),
-    // no tape gives a fact with an extension of 18 levels
+    // an extension may have many levels
     (
         3,
         All,
