@@ -1,13 +1,11 @@
 -- The facts of a report that were read so far (own).
-use Rattle.std.specs.Prelude.{◌≡◌, ◌≤◌, ℕ, List, Result}
+use Rattle.std.specs.Prelude.{◌≡◌, ℕ, List, Result}
 use Rattle.oim_report.specs.Refusal.{map_ok}
 use Rattle.oim_names.specs.Bindings.{Binding}
 use Rattle.oim_names.specs.declared.reason.Reason.{Reason}
 use Rattle.oim_dims.specs.declared.fact.Fact.{Fact}
 use Rattle.json.specs.Json as json
-use Rattle.json.specs.Tree.{depth}
-use Rattle.serde_json.specs.Data.{Data, Members, no_members, member}
-use Rattle.serde_json.specs.Read.{of_json}
+use Rattle.serde_json.specs.Data.{Members, no_members, member}
 use Rattle.oim_report.specs.Outcome.{fact_outcome}
 use Rattle.oim_report.specs.Pieces.{put_all}
 use Rattle.oim_report.specs.Sheet.{Sheet}
