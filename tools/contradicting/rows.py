@@ -11,7 +11,7 @@ from contradicting.groups import Group, groups_of, odd_facts, weights_of
 from contradicting.hints import Hint, hints_of, restatements
 from contradicting.sources import Holders
 from contradicting.texts import CORE, Text, Tree, using
-from normalising.sets import is_spelled
+from normalising.prefixes import is_spelled
 from process import shortened
 from sheets import Sheet
 

@@ -9,7 +9,6 @@ from contradicting.rows import Row
 from contradicting.shown import escaped
 from contradicting.snapshot import Snapshot
 from contradicting.sources import providers
-from contradicting.summary import FORMAT
 from contradicting.tables import DIMENSIONS, cell, dimension_cells, value_cells
 from process import NotDone
 from text_files import LONGEST
@@ -18,6 +17,7 @@ COLUMNS = ["change", "row", *DIMENSIONS, "now", "facts_before", "facts_now"]
 CHANGES = ("new", "changed", "open", "gone")
 SHOWN = ("new", "changed", "gone")  # on the page
 MOST_SHOWN = 100
+FORMAT = 1  # of summary.json; another number means that a member changed its meaning or is gone; members may be added
 ABSENT = "not reported"
 FACT = ("value", "nil", "decimals", "providers")
 

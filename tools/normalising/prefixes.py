@@ -1,4 +1,5 @@
-"""The prefixes of one report, and names that are spelled with their namespace."""
+"""The prefixes of one report, names that are spelled with their namespace, and the one spelling of a set of names."""
+import functools
 import itertools
 import re
 from typing import Optional
@@ -6,6 +7,7 @@ from typing import Optional
 from names import PART, SPACE, XBRL, Uris, expanded
 from normalising.json_text import Tree
 
+ITEMS = re.compile(rf"[^{SPACE}]+")
 SPELLED = (re.compile(rf"\{{([^{SPACE}{{}}]+)\}}({PART.pattern})"), re.compile(rf"([^{SPACE}:#]+:[^{SPACE}]*)#([^{SPACE}:#]+)"))
 
 
@@ -42,3 +44,29 @@ class Prefixes:
 
     def unused(self, stem: str) -> str:
         return next(prefix for prefix in (f"{stem}{number}" for number in self.numbers) if prefix not in self.namespaces)
+
+
+def is_spelled(text: str) -> bool:
+    """Returns whether a text is a set as the rule `set` writes it: each item as URI#LOCAL, sorted, none repeated."""
+    return text == set_of({full_name(item, {}) or ("", item) for item in ITEMS.findall(text)})
+
+
+def set_of(names: set[tuple[str, str]]) -> str:
+    """Returns the spelling of a set of names, each a URI and a local part."""
+    return " ".join(sorted(map("#".join, names)))
+
+
+def full_name(item: str, uris: Uris) -> Optional[tuple[str, str]]:
+    """Returns the URI and the local part of an item, which must have the form PREFIX:LOCAL or URI#LOCAL. Returns None for other
+    items, and if the prefix is not bound, or its URI is empty or contains white space."""
+    if "#" in item:
+        uri, _, local = item.rpartition("#")
+        return (uri, local) if uri and local else None
+    name = expanded(item, uris)
+    return name if name and not has_space(name.uri) else None
+
+
+@functools.lru_cache(maxsize=None)
+def has_space(uri: str) -> bool:
+    """Returns whether a URI has white space. Each URI is searched once, since it may be long and have many names."""
+    return any(sign in uri for sign in SPACE)

@@ -10,8 +10,7 @@ from normalising.documents import change_information, check_root, drop_unknown_m
 from normalising.json_text import Number, Tree, is_text, pieces_of, text_of
 from normalising.mapping import NameMap, ReportMap
 from normalising.numbers import SCIENTIFIC, plain_number, scale_value, whole_number
-from normalising.prefixes import Prefixes
-from normalising.sets import ITEMS, full_name, set_of
+from normalising.prefixes import ITEMS, Prefixes, full_name, set_of
 from normalising.shapes import CORE, PURE, core_spelling
 from normalising.spellings import spelling
 from program import Program

@@ -5,7 +5,6 @@ import re
 import subprocess
 import unittest
 
-import in_process
 from contradicting.output_folder import command, quoted
 from support import content
 from test_contradictions_run import REPORTS, SCHEMA, SHEET, Stubbed
