@@ -7,19 +7,23 @@ import hashlib
 import os
 import re
 import stat
+import sys
 import zipfile
-from typing import Dict, List, Optional, Tuple
+from typing import Dict, List, Optional
 
 HERE = os.path.dirname(os.path.abspath(__file__))
-LIBRARY = os.path.join(HERE, "..", "lib", "libxbrlmerge.so")
+TOP = os.path.dirname(HERE)
+sys.path.append(TOP)
+from packing import contents  # noqa: E402
+from packing.files import File, read  # noqa: E402
+from packing.manual import TOOLS, command_of  # noqa: E402
+
+LIBRARY = os.path.join(TOP, "lib", "libxbrlmerge.so")
 # the C library and the dynamic linker
 SYSTEM = {b"libc.so.6", b"ld-linux-x86-64.so.2"}
 # the oldest minor version of the C library that a manylinux tag can name
 OLDEST = 5
 TIME = (1980, 1, 1, 0, 0, 0)
-TOOLS = "xbrlmerge_tools"
-# folders with files that were made, as .gitignore has them
-MADE = ("__pycache__", "out")
 # the permissions of a regular file: without its kind, pip would not make the program executable
 PLAIN, RUNS = stat.S_IFREG | 0o644, stat.S_IFREG | 0o755
 
@@ -37,20 +41,6 @@ def _project(key: str) -> str:
     return _texts(key)[0]
 
 
-def _read(path: str) -> bytes:
-    with open(path, "rb") as file:
-        return file.read()
-
-
-def _below(folder: str, endings: Tuple[str, ...]) -> List[str]:
-    """Returns the paths of the files below a folder whose names end as named, sorted, without those in MADE."""
-    found = []
-    for at, folders, names in os.walk(folder):
-        folders[:] = [it for it in folders if it not in MADE]
-        found += [os.path.join(at, it) for it in names if it.endswith(endings)]
-    return sorted(found)
-
-
 def _platform(binaries: List[bytes]) -> str:
     """Returns the platform tag: manylinux with the newest version of the C library that a library or program needs, but at least
     2.5. The tag is linux if one needs a library that SYSTEM lacks, or if no version is found."""
@@ -60,25 +50,11 @@ def _platform(binaries: List[bytes]) -> str:
     return f"manylinux_2_{max([OLDEST, *minors])}_x86_64" if is_plain and minors else "linux_x86_64"
 
 
-def _module(library: str) -> Dict[str, bytes]:
-    """Returns the module with the library beside it, by path."""
-    name = _project("name")
-    files = {f"{name}/libxbrlmerge.so": _read(library)}
-    for path in _below(os.path.join(HERE, name), (".py", "py.typed")):
-        files[f"{name}/{os.path.basename(path)}"] = _read(path)
-    return files
-
-
-def _commands(program: str, info: str) -> Dict[str, bytes]:
-    """Returns the program and the tools, by path, and the names of the tools' commands."""
-    tools = os.path.join(HERE, "..", "tools")
-    files = {f"{TOOLS}/{os.path.relpath(it, tools)}": _read(it) for it in _below(tools, (".py", ".css", ".js"))}
-    files[f"{TOOLS}/__init__.py"] = _read(f"{HERE}/{TOOLS}/__init__.py")
-    names = re.findall(r"^def ([a-z]\w*)\(", files[f"{TOOLS}/__init__.py"].decode(), re.MULTILINE)
-    lines = [f"xbrlmerge-{it.replace('_', '-')} = {TOOLS}:{it}" for it in names]
-    files[f"{info}/entry_points.txt"] = "\n".join(["[console_scripts]", *lines, ""]).encode()
-    files[f"{info[: -len('.dist-info')]}.data/scripts/xbrlmerge"] = _read(program)
-    return files
+def _commands(program: str, info: str) -> List[File]:
+    """Returns the program, the tools, and the names of the tools' commands."""
+    points = "".join(f"{command_of(it)} = {contents.TOOL_PACKAGE}:{it}\n" for it in TOOLS)
+    return [*contents.tool_package(TOP, ""), File(f"{info}/entry_points.txt", f"[console_scripts]\n{points}".encode()),
+            read(program, f"{info[: -len('.dist-info')]}.data/scripts/xbrlmerge")]
 
 
 def _information(tag: str, info: str) -> Dict[str, bytes]:
@@ -98,15 +74,13 @@ def _record(files: Dict[str, bytes], info: str) -> str:
     return "".join(line(*it) for it in files.items()) + f"{info}/RECORD,,\n"
 
 
-def _tag(library: str, program: Optional[str]) -> str:
-    return "py3-none-" + _platform([_read(it) for it in (library, program) if it])
-
-
 def make_wheel(folder: str, library: str = LIBRARY, program: Optional[str] = None) -> str:
     """Makes the wheel in a folder, and returns its name. With a program, it contains the program and the tools."""
-    stem, tag = f"{_project('name')}-{_project('version')}", _tag(library, program)
+    binaries = [read(it, "").content for it in (library, program) if it]
+    stem, tag = f"{_project('name')}-{_project('version')}", f"py3-none-{_platform(binaries)}"
     info = f"{stem}.dist-info"
-    files = {**_module(library), **(_commands(program, info) if program else {}), **_information(tag, info)}
+    packed = [read(library, "xbrlmerge/libxbrlmerge.so"), *contents.python_module(TOP, ""), *(_commands(program, info) if program else [])]
+    files = {**{it.target: it.content for it in packed}, **_information(tag, info)}
     files[f"{info}/RECORD"] = _record(files, info).encode()
     name = f"{stem}-{tag}.whl"
     with zipfile.ZipFile(os.path.join(folder, name), "w", zipfile.ZIP_DEFLATED) as wheel:

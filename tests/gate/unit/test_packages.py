@@ -223,7 +223,7 @@ class Archives(Packages):
             shutil.copytree(os.path.join(TOP, folder), os.path.join(top, folder))
         self.write(os.path.join(top, "tools", "out", "made.py"), "")
         names = [wheel_of_library.make_wheel(self.scratch, self.path_of(contents.SHARED), self.path_of("program"))]
-        with mock.patch.object(wheel_of_library, "HERE", os.path.join(top, "python")):
+        with mock.patch.multiple(wheel_of_library, HERE=os.path.join(top, "python"), TOP=top):
             names.append(wheel_of_library.make_wheel(top, self.path_of(contents.SHARED), self.path_of("program")))
         self.assertEqual(*map(bytes_of, (self.path_of(names[0]), os.path.join(top, names[1]))))
 
