@@ -43,7 +43,6 @@ Sheet = Mapping[str, Mapping[Name, str]]  # the kinds of the concepts and of the
 COMMAND = "xbrlmerge-recheck" if Path(__file__).resolve().parent.name == "xbrlmerge_tools" else "tools/recheck"
 OWN_NAME, TEXTS = os.path.basename(COMMAND), ("merged", "verdicts", "sources", "refusals")
 
-
 # ---- Accepted or refused
 class Refused(Exception):
     """The number and the name of a refusal, and its place."""
@@ -71,7 +70,6 @@ def refuse_lowest(conditions: Iterable[tuple[int, bool]], where: str, on_trust: 
     number = min((number for number, applies in conditions if applies), default=0)
     if number:
         raise (RefusedOnTrust if number == on_trust else Refused)(f"{number} {REASONS[number]}{where}")
-
 
 # ---- Conditions
 REASONS = """OutOfMemory NotJson MemberForm UnknownMember DocumentType Namespace BaseUrl TaxonomyUrl Feature Links Notes
@@ -134,7 +132,6 @@ def read_fact(fact: Tree, uris: Mapping[str, str], sheet: Sheet, where: str) -> 
     unit = tuple(tuple(sorted(side)) for side in unit)
     return (concept, entity, period, () if unit == PURE else unit, language, tuple(sorted(defined))), value
 
-
 # ---- What each member means
 class Value(NamedTuple):
     """A value. Values sort by kind, content and decimals: finite ones, (0, decimals), before those of an exact number, (1, 0)."""
@@ -167,7 +164,6 @@ def read_value(kind: Optional[str], value: Tree, decimals: Tree, uris: Mapping[s
     places = decimals if type(decimals) is int and -18 <= decimals <= 18 else None
     half = Fraction() if places is None else Fraction(10) ** -places / 2
     return Value(1, number, (1, 0) if places is None else (0, places), number - half, number + half), fault
-
 
 # ---- JSON
 TOKEN = re.compile(r'"[^"\\]*(?:\\.[^"\\]*)*"|[][{}]', re.DOTALL)
@@ -205,7 +201,6 @@ def are_no_objects(*trees: Tree) -> bool:
 def has_unknown(tree: Tree, known: Sequence[str]) -> bool:
     return any(":" not in key and key not in known for key in members(tree))
 
-
 # ---- Outside the facts
 DOCUMENT_TYPE, XBRL = "https://xbrl.org/2021/xbrl-json", "https://xbrl.org/2021"
 
@@ -216,7 +211,6 @@ def declared_levels(info: Tree) -> list[Tree]:
     """Returns the values of the features `allowedDuplicates` with a prefix that is bound to xBRL's own namespace."""
     keys = {f"{prefix}:allowedDuplicates" for prefix, uri in members(at(info, "namespaces")).items() if uri == XBRL}
     return [level for key, level in members(at(info, "features")).items() if key in keys]
-
 
 # ---- URLs
 PORTS, SPECIAL = {"http": "80", "https": "443"}, ("ftp", "file", "ws", "wss")  # the default ports, and the other special schemes
@@ -307,7 +301,6 @@ def without_dots(segments: Sequence[str]) -> str:  # the path
         kept += [segment] if dots not in (".", "..") else [""] * (number == len(segments))
     return "".join(f"/{segment}" for segment in kept)
 
-
 # ---- Names
 PART = re.compile(r"[^ \t\r\n:]+")
 NAME, ENTITY = re.compile(rf"({PART.pattern}):({PART.pattern})"), re.compile(rf"({PART.pattern}):(.+)", re.DOTALL)
@@ -316,7 +309,6 @@ def read_name(text: str, uris: Mapping[str, str], form: re.Pattern[str] = NAME) 
     parts = form.fullmatch(text)
     uri = uris.get(parts[1]) if parts else None
     return 12 if not parts else 13 if not isinstance(uri, str) else 14 if uri == XBRL else (uri, parts[2])
-
 
 # ---- Periods, units and languages
 MOMENT = re.compile(r"(\d{4}-\d\d-\d\dT)(24:00:00|\d\d:\d\d:\d\d)", re.ASCII)
@@ -340,7 +332,6 @@ def read_moment(text: str) -> Optional[datetime]:
     except (ValueError, OverflowError):  # no such date or time, or not in the years 0001 to 9999
         return None
 
-
 # ---- Numbers
 NUMBER = re.compile(r"([+-]?)([0-9]*)(?:\.([0-9]*))?")
 
@@ -359,7 +350,6 @@ def plain(number: Fraction) -> str:
     digits = str(int(abs(number) * 10 ** 19)).zfill(20)
     return f"{'-' * (number < 0)}{digits[:-19]}.{digits[-19:].rstrip('0')}".rstrip(".")
 
-
 # ---- Duplicates
 RANKS = ["none", "complete", "consistent", "all"]  # the levels
 
@@ -375,7 +365,6 @@ def level_of_row(row: Sequence[Value]) -> str:
 def level_of(facts: Iterable[Fact]) -> str:
     """Returns the strictest level that allows each pair of facts in each row."""
     return max((level_of_row([value for _, value in row]) for row in rows_of(facts)), key=RANKS.index, default="none")
-
 
 # ---- The sheet
 KINDS = {"concepts": ("numeric", "text", "name"), "dimensions": ("explicit", "typed")}
@@ -394,7 +383,6 @@ def read_sheet(content: bytes) -> Sheet:
         (32, any(len({name for name, _ in each}) < len(each) for each in found)),
     ], "")
     return {key: {read_name(text, uris): kind for text, kind in each.items()} for key, each in listed.items()}
-
 
 # ---- What is written
 def canonical_text(facts: Sequence[Fact], references: Iterable[str]) -> str:
@@ -430,7 +418,6 @@ def numbered(letter: str, count: int) -> list[str]:  # all of one width
 
 def json_text(tree: Tree, sort_keys: bool = False) -> str:
     return json.dumps(tree, ensure_ascii=False, separators=(",", ":"), sort_keys=sort_keys)
-
 
 # ---- Rows and printed lines
 class Row(NamedTuple):
@@ -510,7 +497,6 @@ class Run:
         columns = COLUMNS if form == "csv" and self.sheet else ("", "")
         self.texts = {"verdicts": columns[0] + "".join(verdict_text(form, row) for row in self.rows), "sources": columns[1] + "".join(sources),
                       "refusals": "".join([*self.refused, *(f"too loose: row {number}\n" for number in self.too_loose)])}
-
 
 # ---- The comparison
 def differences(given: Mapping[str, bytes], run: Run) -> Iterator[str]:

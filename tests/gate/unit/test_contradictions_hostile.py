@@ -5,13 +5,11 @@ import itertools
 import json
 import os
 import shutil
-import subprocess
-import sys
 
 import in_process
 import contradictions
 from support import content, table_in
-from test_contradictions import TOOL, ToolTest, data_of, fact
+from test_contradictions import ToolTest, data_of, fact
 
 from contradicting.tables import cell, line_of
 from names import Name
@@ -228,11 +226,3 @@ class Hostile(ToolTest):
                 words = self.words([case, case, other], is_near, "1 f1 f2 inconsistent apart f1 f2\n2 f3 f3 complete\n")
                 status, errors = in_process.run(contradictions, *words)
                 self.assertEqual((status, len(errors.splitlines())), (3, 1), (case, errors))
-
-    def test_statuses_are_those_of_the_process(self):
-        apart, one = self.kept_words([number(1), number(2)], False), self.kept_words([number(1)], False)
-        nowhere = self.path_of("nowhere")
-        for status, words in ((0, one), (1, apart), (0, ["--exit-zero", *apart[2:]]), (2, one[:-1]), (3, [*one[:-1], nowhere]),
-                              (3, [*apart[:-1], one[-1]]), (3, ["--exit-zero", *apart[2:-1], one[-1]])):
-            done = subprocess.run([sys.executable, TOOL, *words], capture_output=True)
-            self.assertEqual((done.returncode, b"Traceback" in done.stderr), (status, False), (words, done.stderr))

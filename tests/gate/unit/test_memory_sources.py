@@ -1,7 +1,6 @@
 """Tests of tests/gate/memory_sources on small files: which lines make want of memory from nothing or from another error."""
 import unittest
 
-import in_process  # noqa: F401 (lets this test import support)
 from support import script
 
 memory_sources = script("tests/gate/memory_sources")

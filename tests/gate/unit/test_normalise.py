@@ -4,7 +4,6 @@ import os
 import random
 import subprocess
 import sys
-from decimal import Decimal
 from unittest import mock
 
 import drawn_reports
@@ -110,13 +109,10 @@ SHEET = {
 
 
 class Drawn(ToolTest):
-    """Tests on drawn reports, which must also pass the checks of `normalised`."""
-
-    def setUp(self):
-        super().setUp()
-        self.sheet = self.write("sheet.json", json.dumps(drawn_reports.SHEET))
+    """Tests on drawn reports, which must also pass the checks of `normalised`. tests/program/test_normalised.py has more of them."""
 
     def test_untidy_reports_with_drawn_options(self):
+        sheet = self.write("sheet.json", json.dumps(drawn_reports.SHEET))
         for seed in range(100):
             chance = random.Random(seed)
             with self.subTest(seed=seed):
@@ -124,42 +120,9 @@ class Drawn(ToolTest):
                 lossy = [word for word in drawn_reports.OPTIONS if chance.random() < 0.3]
                 refused = ["f1", "f3"] if seed % 4 == 0 else []
                 options = [*lossy, *(self.refusing(dict.fromkeys(refused, "26 NumberForm")) if refused else [])]
-                _, _, out, changes = self.normalised(report, "--sheet", self.sheet, *options)
+                _, _, out, changes = self.normalised(report, "--sheet", sheet, *options)
                 self.assertTrue(options or not any(change["loss"] for change in changes))
                 self.assertFalse(self.tree_of(out)["facts"].keys() & {*refused})
-
-    def test_a_report_within_the_profile_is_the_same(self):
-        for seed in range(100):
-            with self.subTest(seed=seed):
-                report = self.write("report.json", drawn_reports.tidy(random.Random(seed)))
-                status, errors, out, changes = self.normalised(report, "--sheet", self.sheet, *drawn_reports.OPTIONS)
-                self.assertEqual((status, errors, changes), (0, "", []))
-                self.assertEqual(out, text_of(read_json(report)) + "\n")
-
-    def test_rough_spellings_come_to_the_tidy_report(self):
-        for seed in range(100):
-            with self.subTest(seed=seed):
-                chance = random.Random(seed)
-                tidy = drawn_reports.tidy(chance)
-                rough = self.write("report.json", drawn_reports.roughened(chance, tidy))
-                status, errors, out, _ = self.normalised(rough, "--sheet", self.sheet)
-                self.assertEqual((status, errors), (0, ""))
-                self.assertEqual(*(self.numbers_read(self.tree_of(text)) for text in (out, tidy)))
-
-    def numbers_read(self, tree):
-        """Returns the facts of a report, with the values of numeric facts as numbers."""
-        for fact in tree["facts"].values():
-            if fact["value"] and fact["dimensions"]["concept"] in ("eg:A", "eg:B"):
-                fact["value"] = Decimal(fact["value"])
-        return tree["facts"]
-
-    def test_without_a_sheet_no_kind_is_guessed(self):
-        kinds = {"exponent", "set"}
-        for seed in range(60):
-            report = self.write("report.json", drawn_reports.untidy(random.Random(seed)))
-            for change in self.normalised(report)[3]:
-                self.assertNotIn(change["rule"], kinds)
-                self.assertTrue(change["rule"] != "white-space" or "/dimensions/" in change["pointer"])
 
 
 BEYOND = "/facts/f/value is left: written without an exponent, it has more than 18 digits"
@@ -210,6 +173,11 @@ class Texts(ToolTest):
                 fact, errors = self.fact_of('{"value":%s,"dimensions":{"concept":"eg:A"}}' % token, "--sheet", sheet)
                 self.assertEqual(text_of(fact["value"]), token if made is None else f'"{made}"')
                 self.assertTrue(line in errors and (line or not errors or made is None), errors)
+
+    def test_without_a_sheet_no_kind_is_guessed(self):
+        for value in ("1E5", " 5 ", "eg:B eg:A", "1"):
+            fact, _ = self.fact_of('{"value":"%s","dimensions":{"concept":"eg:A"}}' % value)
+            self.assertEqual(fact["value"], value)
 
     def test_periods(self):
         for options, periods in PERIODS.items():

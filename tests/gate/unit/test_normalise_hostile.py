@@ -3,15 +3,13 @@ import json
 import os
 import random
 import re
-import subprocess
-import sys
 import unittest
 from decimal import Context, Decimal
 
 import in_process
 from drawn_reports import OPTIONS as ALL
 from support import content
-from test_normalise import TOOL, ToolTest, normalise
+from test_normalise import ToolTest, normalise
 
 from normalising.numbers import SCIENTIFIC, plain_number
 
@@ -176,19 +174,6 @@ class Exact(HostileTest):
         errors = self.run_on(facts)[1]
         self.assertIn("/facts/\\u009b/dimensions/period is left", errors)
         self.assertTrue(errors.replace("\n", "").isprintable())
-
-    def test_statuses_are_those_of_the_process(self):
-        deep = self.write("deep.json", '{"a:a":' * 100_000)
-        good = self.write("good.json", report({"f": fact(period="2023-12-31")}))
-        for status, words in (
-            (0, [good, self.out, self.changes]),
-            (1, [good, self.out, self.changes, "--dates=xbrl21"]),
-            (2, [good, self.out]),
-            (3, [deep, self.out, self.changes]),
-            (3, [good, self.scratch, self.changes]),
-        ):
-            done = subprocess.run([sys.executable, TOOL, *words], capture_output=True)
-            self.assertEqual((done.returncode, b"Traceback" in done.stderr), (status, False), words)
 
 
 CONVERT = "convert it to xBRL-JSON with another program"

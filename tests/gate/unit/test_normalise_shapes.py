@@ -1,12 +1,9 @@
 """Tests of tools/normalise on the shapes of report_shapes.py: no shape changes its meaning unless the change is called a loss."""
 import collections
 import json
-import random
 import re
-from decimal import Decimal
 
 import in_process
-import drawn_pairs
 import normalise
 import report_shapes
 from normalising.json_text import read_json, text_of
@@ -54,37 +51,3 @@ class Shapes(in_process.RoomTest):
         readable = [before for before, each in marks.items() if each & {"=", "!", "left"}]
         lost = [before for before, each in marks.items() if before not in readable and each != {"guess"}]
         self.assertLessEqual(7 * len(lost), len(readable) + len(lost), lost)
-
-
-class Pairs(in_process.RoomTest):
-    """Drawn pairs of facts. tests/program/test_normalised.py compares more of them with the program."""
-
-    def normalised(self, text):
-        sheet = self.write("sheet.json", json.dumps(drawn_pairs.SHEET))
-        out = self.path_of("out.json")
-        self.assertEqual(in_process.run(normalise, self.write("report.json", text), out, self.path_of("changes"), "--sheet", sheet), (0, ""))
-        tree = json.loads(content(out))
-        return [self.meaning(fact, tree["documentInfo"]["namespaces"]) for fact in tree["facts"].values()]
-
-    def meaning(self, fact, uris):
-        """Returns a fact as the program compares it: with expanded names, and with other texts as they are."""
-        def name(text):
-            return uris[text.partition(":")[0]], text.partition(":")[2]
-
-        dimensions = {key if ":" not in key else name(key): member for key, member in fact["dimensions"].items()}
-        concept = name(dimensions["concept"])
-        member = dimensions.get(("http://t.example", "member"))
-        value = {"name": name, "number": Decimal}.get(concept[1], str)(fact["value"])
-        texts = [text for key, text in dimensions.items() if isinstance(key, tuple) and key[1] != "member"]
-        if concept[1] == "set":
-            self.assertTrue(all("#" in item for item in value.split()), value)
-        return concept, name(dimensions["entity"]), member and name(member), texts, value
-
-    def test_two_facts_are_equal_if_their_values_are(self):
-        equal = 0
-        for seed in range(20):
-            reports, are_equal = drawn_pairs.drawn_pairs(random.Random(seed), 50)
-            one, other = map(self.normalised, reports)
-            self.assertEqual([first == second for first, second in zip(one, other)], are_equal)
-            equal += sum(are_equal)
-        self.assertTrue(400 < equal < 800, equal)
