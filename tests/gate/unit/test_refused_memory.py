@@ -32,12 +32,6 @@ class FirstRuns(in_process.RoomTest):
                 self.assertEqual(len(self.counted(lines, is_program).wrong), count)
 
 
-class Tasks(unittest.TestCase):
-    def test_each_request_is_refused_once(self):
-        tasks = refused_memory.shared_out("", None, 2 * refused_memory.SHARE + 1)
-        self.assertEqual([number for _, _, numbers in tasks for number in numbers], list(range(1, 2 * refused_memory.SHARE + 2)))
-
-
 class Harmless(unittest.TestCase):
     """A run that ends as if nothing was refused is a fault, unless the refused request was of a kind that has a name."""
 

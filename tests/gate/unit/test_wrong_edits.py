@@ -73,30 +73,18 @@ class Alone(WithProver):
         return status, [it for it in lines if not it.startswith("must-fail ")] + errors
 
     def test_the_crates_whose_files_or_edits_differ(self):
+        refused = "{}: 1 of 1 refused, 0 by names alone".format
         self.assertEqual(self.tried("--changed", "HEAD"), (0, ["no crate with edits differs from HEAD"]))
         self.write("crates/low/src/lib.rt", "// changed, and not committed\n")
         self.write("crates/high/specs/New.antt", "-- a file that git does not know\n")
         self.write("crates/middle/out/left_by_rt", "")
         self.write("crates/bare/src/lib.rt", "// it has no edits\n")
-        high, low = "high: 1 of 1 refused, 0 by names alone", "low: 1 of 1 refused, 0 by names alone"
-        self.assertEqual(self.tried("--changed", "HEAD"), (0, [high, low]))
+        self.assertEqual(self.tried("--changed", "HEAD"), (0, [refused("high"), refused("low")]))
         self.write("wrong_edits/middle.edits", edit("one", "a", "b") + "\n" + edit("two", "a", "c"))
-        middle = "middle: 2 of 2 refused, 0 by names alone"
-        self.assertEqual(self.tried("--changed", "HEAD"), (0, [high, low, middle]))
-
-    def test_a_moved_file_counts_in_both_crates(self):
-        os.rename(self.path_of("crates/low/src/lib.rt"), self.path_of("crates/middle/src/moved.rt"))
-        self.git("add", "--all")
-        lines = [f"{crate}: 1 of 1 refused, 0 by names alone" for crate in ("low", "middle")]
-        self.assertEqual(self.tried("--changed", "HEAD"), (0, lines))
-
-    def test_a_crate_that_lost_its_edits(self):
-        os.remove(self.path_of("wrong_edits/low.edits"))
-        self.assertEqual(self.tried("--changed", "HEAD"), (1, ["low: no such crate, or no edits in wrong_edits/low.edits"]))
-
-    def test_a_revision_that_does_not_exist(self):
+        os.remove(self.path_of("wrong_edits/high.edits"))
+        lines = ["high: no such crate, or no edits in wrong_edits/high.edits", refused("low"), "middle: 2 of 2 refused, 0 by names alone"]
+        self.assertEqual(self.tried("--changed", "HEAD"), (1, lines))
         self.assertEqual(self.tried("--changed", "none"), (1, ["no revision none"]))
-        self.assertEqual(self.tried("--changed"), (1, ["no revision "]))
 
 
 class Together(WithProver):
@@ -117,24 +105,16 @@ class Together(WithProver):
                             (edit("second_calls_the_first", "second", "calls"), 1 + 2 + 2)):  # runs of the prover so far
             self.assertEqual(self.tried(edit("first_is_wrong", "first", "wrong"), other), (0, ["low: 2 of 2 refused"], runs))
 
-    def test_functions_of_one_name_are_edited_in_turn(self):
+    def test_edits_that_are_not_refused(self):
         self.write("crates/low/src/other.rt", "fn one() {\n    third\n}\n")
-        edits = edit("first_is_wrong", "first", "wrong"), edit("third_is_wrong", "third", "wrong", "src/other.rt")
-        lines = ["low/third_is_wrong: `one` does not lose its own proof", "low: 1 of 2 refused"]
-        self.assertEqual(self.tried(*edits), (1, lines, 2))
-
-    def test_an_edit_that_is_not_refused(self):
-        edits = edit("first_is_wrong", "first", "wrong"), edit("second_is_other", "second", "other")
-        lines = ["low/second_is_other: `two` does not lose its own proof", "low: 1 of 2 refused"]
-        self.assertEqual(self.tried(*edits), (1, lines, 1))
-
-    def test_edits_that_cannot_be_made_or_do_not_compile(self):
-        edits = [edit("first_is_wrong", "first", "wrong"), edit("second_is_unknown", "second", "unknown"), edit("third_is_wrong", "third", "wrong")]
-        lines = ["low/second_is_unknown: does not compile", "low/third_is_wrong: cannot be made", "low: 1 of 3 refused"]
-        self.assertEqual(self.tried(*edits), (1, lines, 3))
-
-    def test_a_crate_without_edits(self):
-        self.assertEqual(self.run_script("low", env=self.env)[:2], (1, ["low: no such crate, or no edits in wrong_edits/low.edits"]))
+        first = edit("first_is_wrong", "first", "wrong")
+        for other, line, runs in (  # functions of one name are edited in turn
+            (edit("third_is_wrong", "third", "wrong", "src/other.rt"), "third_is_wrong: `one` does not lose its own proof", 2),
+            (edit("second_is_other", "second", "other"), "second_is_other: `two` does not lose its own proof", 3),
+            (edit("second_is_unknown", "second", "unknown"), "second_is_unknown: does not compile", 6),
+            (edit("absent_is_wrong", "absent", "wrong"), "absent_is_wrong: cannot be made", 7),
+        ):
+            self.assertEqual(self.tried(first, other), (1, [f"low/{line}", "low: 1 of 2 refused"], runs))
 
 
 class Edits(unittest.TestCase):
