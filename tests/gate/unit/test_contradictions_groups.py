@@ -87,6 +87,18 @@ class GroupsAndHints(unittest.TestCase):
         self.assertEqual([hint.phrase for hint in found], ["1,000 times smaller"])
 
 
+LONG = "The group recognises revenue when control of the goods passes to the customer, on delivery in "
+# rows: for each fact, a text, or a number with its decimals, and the numbers of the reports that have it
+ROWS = (
+    # two rows with one hint, a row without one, and one with two
+    *([((value, 0), (2,)), ((f"{value}000", -3), (1, 4))] for value in ("4321", "4322")), [(("5", 0), (1, 2)), (("7", 0), (4,))],
+    [(("1", 0), (1,)), (("1000", 0), (2,)), (("1000000", 0), (4,))],
+    # long texts are cut near their difference; a provider restates a number; nil is not the text nil
+    [(LONG + "Oslo", (1,)), (LONG + "Rome", (2,))], [(("1", 0), (2,)), (("9", 0), (1, 3))], [(("5", 0), (1,)), (("7", 0), (2, 3))], [("x", (2,))],
+    [((None, None), (1,)), (("9", 0), (2,))], [("nil", (1,)), ("x", (2,))], [("", (1,)), ("x", (2,))],
+)
+
+
 class Reported(ToolTest):
     """Runs the tool on facts that say who reports them. The providers are Alpha, Beta with two reports, and Gamma."""
 
@@ -101,45 +113,9 @@ class Reported(ToolTest):
         self.assertEqual((done.returncode, self.other_lines(done.stderr.decode())), (1, []))
         return content(self.page), self.cells("contradictions.csv"), self.cells("table.csv")
 
-    def test_groups_and_hints_are_in_the_tables_and_on_the_page(self):
-        page, cells, rows = self.run_on([[(("4321", 0), (2,)), (("4321000", -3), (1, 4))], [(("5", 0), (1, 2)), (("7", 0), (4,))]])
-        self.assertEqual([(cell["fact"], cell["group"], cell["evidence"], cell["hint"]) for cell in cells],
-                         [("f1", "2", "pair", "1,000 times smaller"), ("f2", "1", "pair", ""), ("f3", "1", "pair", ""), ("f4", "2", "pair", "")])
-        self.assertEqual([row["hint"] for row in rows], ["Beta: 1,000 times smaller", ""])
-        section = page.split('id="row1"')[1].split("</section>")[0]
-        self.assertEqual(re.findall(r"<tr( class=odd)?><td>(\w)<td><bdi>(f\d)</bdi>", section), [("", "A", "f2"), (" class=odd", "B", "f1")])
-        self.assertIn("<dt>Hint<dd><bdi>Beta: 1,000 times smaller</bdi>", section)
-
-    def test_each_hint_of_a_fact_is_in_the_table(self):
-        _, cells, _ = self.run_on([[(("1", 0), (1,)), (("1000", 0), (2,)), (("1000000", 0), (4,))]])
-        self.assertEqual(cells[0]["hint"], "1,000 times smaller; 1,000,000 times smaller")
-
-    def test_long_texts_are_cut_near_their_difference(self):
-        texts = ["The group recognises revenue when control of the goods passes to the customer, on delivery in " + place for place in ("Oslo", "Rome")]
-        page, *_ = self.run_on([[(text, (number,)) for number, text in enumerate(texts, 1)]])
-        self.assertEqual([fact[1][-8:] for fact in data_of(page)["rows"][0][6]], [" in Oslo", " in Rome"])
-
-    def test_rows_with_the_same_hint_share_its_text(self):
-        scaled = [[((f"{4321 + row}", 0), (2,)), ((f"{4321 + row}000", -3), (1, 4))] for row in range(20)]
-        page, *_ = self.run_on([*scaled, [(("5", 0), (1,)), (("7", 0), (4,))]])
-        data = data_of(page)
-        hint = data["texts"].index("Beta: 1,000 times smaller")
-        self.assertEqual(sorted(row[8] for row in data["rows"]), [[], *[[hint]] * 20])
-        self.assertEqual(page.count("<dt>Hint<dd><bdi>Beta: 1,000 times smaller</bdi>"), 20)
-
-    def test_providers_are_counted(self):
-        page, *_ = self.run_on([[(("1", 0), (1, 2)), (("9", 0), (4,))], [(("5", 0), (1,)), (("7", 0), (2, 3))], [("x", (2,))]])
-        table = page.split('<table class="providers"')[1].split("</table>")[0]
-        rows = [re.findall(r"<bdi>(\w+)</bdi>|>(\d+)(?=<|\n)", row) for row in table.split("<tr>")[2:]]
-        found = [[name or count for name, count in row] for row in rows]
-        self.assertEqual(found, [["Alpha", "2", "1", "1", "0"], ["Beta", "3", "1", "0", "0"], ["Gamma", "1", "1", "2", "0"]])
-
-    def test_the_file_of_a_restatement_is_shown(self):
-        page, cells, rows = self.run_on([[(("1", 0), (2,)), (("9", 0), (1, 3))]])
-        self.assertEqual([cell["identifiers"] for cell in cells], ["Beta: i2f1", "Alpha: i1f2; Beta: i3f2"])
-        self.assertEqual(rows[0]["provider: Beta"], "1; 9")
-        self.assertEqual(rows[0]["decimals: Beta"], "0; 0")
-        self.assertIn("<bdi>Beta i2f1</bdi>", page)
+    def test_the_page_and_the_tables(self):
+        self.run_on(ROWS)
+        self.expect_kept("reported", "page.html", "contradictions.csv", "table.csv", "providers.csv")
 
     def test_without_columns_of_providers_all_values_are_in_one(self):
         rows = [[(("1", 0), (1,)), (("9", 2), (2,))], [("x", (1,))]]
@@ -171,9 +147,3 @@ class Reported(ToolTest):
         for share in ("x", "-1", "1e3", "", "%", "\u0661%"):
             words = ["--sheet", "s", "-o", self.output, "a.json", f"--at-least={share}"]
             self.assertEqual(subprocess.run([sys.executable, TOOL, *words], capture_output=True).returncode, 2)
-
-    def test_nil_is_not_the_text_nil(self):
-        _, cells, rows = self.run_on([[((None, None), (1,)), (("9", 0), (2,))], [("nil", (1,)), ("x", (2,))], [("", (1,)), ("x", (2,))]])
-        self.assertEqual([(cell["value"], cell["nil"]) for cell in cells[::2]], [("", "true"), ("nil", "false"), ("", "false")])
-        found = [(row["provider: Alpha"], row["nil_by"], row["not_reported_by"]) for row in rows]
-        self.assertEqual(found, [("", "Alpha", "Gamma"), ("nil", "", "Gamma"), ("", "", "Gamma")])
