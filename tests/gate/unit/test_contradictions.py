@@ -167,6 +167,12 @@ class Providers(ToolTest):
         self.check_refused("a fact does not match", MERGED, SHEET, VERDICTS, "A=" + self.write("own.json", json.dumps(tree)))
 
 
+# values of rows with their decimals: numbers, nil behind a number, numbers of eighteen digits, and texts with signs of formulas
+NUMBERS = (("100", 0), ("101", 0), ("102", 0)), (("7", 0), (None,)), (("0.000000000000000001", 18), ("999999999999999999", -18)), (
+    ("-999999999999999999",), ("999999999999999999",))
+FORMULAS = ("=1+1", "+1", "-1", "@A1", "\t=1", "\n=1", " =1", "x;=1", "x\n=1", '"=1', "\uff1d1", "'=1", "a=b", "1-2")
+
+
 class Texts(ToolTest):
     """Small merged reports with facts of one numeric concept and one text concept."""
 
@@ -179,32 +185,10 @@ class Texts(ToolTest):
         self.assertEqual(cells, [])
         self.assertIn("<b>0</b>contradictions", page)
 
-    def test_the_pair_is_that_of_the_evidence(self):
-        cells = self.table_of(fact("100", 0), fact("101", 0), fact("102", 0))[1]
-        self.assertEqual([cell["evidence"] for cell in cells], ["pair", "", "pair"])
-
-    def test_a_nil_behind_a_number(self):
-        page, cells = self.table_of(fact("7", 0), fact(None))
-        self.assertEqual([(cell["value"], cell["nil"]) for cell in cells], [("7", "false"), ("", "true")])
-        self.assertIn("A nil value contradicts every number.", page)
-
-    def test_nil_facts_are_listed_without_providers(self):
-        self.table_of(fact("7", 0), fact(None))
-        self.assertEqual([(row["values"], row["nil_by"]) for row in self.cells("table.csv")], [("7", "f2")])
-
-    def test_numbers_of_eighteen_digits_are_exact(self):
-        cells = self.table_of(fact("0.000000000000000001", 18), fact("999999999999999999", -18))[1]
-        self.assertEqual(cells[0]["low"], "0.0000000000000000005")
-        self.assertEqual(cells[1]["high"], "1499999999999999999")
-        cells = self.table_of(fact("-999999999999999999"), fact("999999999999999999"))[1]
-        self.assertEqual([cell["decimals"] for cell in cells], ["exact", "exact"])
-
-    def test_no_cell_is_a_formula(self):
-        texts = ["=1+1", "+1", "-1", "@A1", "\t=1", "\n=1", " =1", "x;=1", "x\n=1", '"=1', "\uff1d1", "'=1", "a=b", "1-2"]
-        cells = self.table_of(*(fact(text, None, "n1:T") for text in texts))[1]
-        safe = ["'" + text for text in texts]
-        safe[4:6], safe[7:9], safe[12:] = ["'\t'=1", "'\n'=1"], ["x;'=1", "x\n'=1"], texts[12:]
-        self.assertEqual([cell["value"] for cell in cells], safe)
+    def test_values(self):
+        numbers = [fact(*value, **{"n1:Reg": f"{index}"}) for index, row in enumerate(NUMBERS) for value in row]
+        self.table_of(*numbers, *(fact(text, None, "n1:T") for text in FORMULAS))
+        self.expect_kept("values", "page.html", "contradictions.csv", "table.csv")
 
     def test_a_text_of_any_characters_stays_one(self):
         odd = "</td></table></style><!--\u202e\x00\x1b]]>&amp;'\""
