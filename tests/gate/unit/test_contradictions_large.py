@@ -55,61 +55,38 @@ class Labels(test_contradictions.ToolTest):
 INPUTS = (test_contradictions.MERGED, test_contradictions.SHEET, test_contradictions.VERDICTS)
 
 
+URIS = {"n1": "http://a.example", "n2": "https://a.example", "n3": "http://b.example/t"}
+KINDS = {"namespaces": URIS, "concepts": {"n3:A": "numeric", "n2:A": "numeric", "n3:T": "text"},
+         "dimensions": {"n3:Reg": "explicit", "n3:Sku": "typed", "n3:Case": "typed"}}
+CORE = {"concept": "n3:A", "entity": "n1:X", "period": "2024-01-01T00:00:00", "unit": "n1:EUR"}
+# a dimension, and its values in two rows that may differ by mistake only, and in two others
+SLIPS = (
+    ("entity", "n1:X", "n2:X"), ("entity", "n1:x1", "n1:X1"), ("period", "2023-12-31T00:00:00", "2024-01-01T00:00:00"),
+    ("period", "2023-01-01T00:00:00/2023-12-31T00:00:00", "2023-01-01T00:00:00/2024-01-01T00:00:00"), ("unit", "n1:EUR", "n1:USD"),
+    ("unit", "n1:EUR", None), ("concept", "n2:A", "n3:A"), ("n3:Reg", "n1:North", "n3:North"), ("n3:Reg", "n1:North", None), ("n3:Sku", "Mill 7", "mill  7"),
+)
+OTHERS = (
+    ("period", "2023-12-30T00:00:00", "2024-01-01T00:00:00"), ("period", "2023-12-31T00:00:00/2024-01-01T00:00:00", "2024-01-01T00:00:00"),
+    ("entity", "n1:X", "n1:Y"), ("n3:Reg", "n3:South", "n3:North"), ("concept", "n3:A", "n3:T"),
+)
+
+
 class Nearby(test_contradictions.ToolTest):
-    """Tests of --near on rows that differ in their dimensions. Provider A, provider B or both report each row."""
-
-    URIS = {"n1": "http://a.example", "n2": "https://a.example", "n3": "http://b.example/t"}
-    SHEET = {"namespaces": URIS, "concepts": {"n3:A": "numeric", "n2:A": "numeric", "n3:T": "text"}, "dimensions": {"n3:Reg": "explicit", "n3:Sku": "typed"}}
-    CORE = {"concept": "n3:A", "entity": "n1:X", "period": "2024-01-01T00:00:00", "unit": "n1:EUR"}
-
-    def near(self, one, other, others=()):
-        """Returns the records that --near writes. A reports the row `one`, B reports `other`, and both report `others`."""
-        rows = sorted([(one, [1]), (other, [2]), *((each, [1, 2]) for each in others)], key=lambda row: self.order(row[0]))
-        lines = "".join(f"{n} f{n} f{n} complete\n" for n in range(1, len(rows) + 1))
-        facts = [{"dimensions": dimensions, "value": "1"} for dimensions, _ in rows]
-        done = self.run_tool(*self.inputs(facts, self.SHEET, lines, [reports for _, reports in rows], "A,B"), "--near", self.path_of("near.csv"))
-        self.assertEqual((done.returncode, self.other_lines(done.stderr.decode())), (int(not others), []))  # without `others`, the two share no row
-        return self.cells("../near.csv")
-
-    @staticmethod
-    def order(dimensions):
-        return [dimensions.get(key) or "" for key in ("concept", "entity", "period", "unit", "n3:Reg", "n3:Sku")]
-
-    def test_slips_in_one_dimension(self):
-        for axis, one, other in (
-            ("entity", "n1:X", "n2:X"),
-            ("entity", "n1:x1", "n1:X1"),
-            ("period", "2023-12-31T00:00:00", "2024-01-01T00:00:00"),
-            ("period", "2023-01-01T00:00:00/2023-12-31T00:00:00", "2023-01-01T00:00:00/2024-01-01T00:00:00"),
-            ("unit", "n1:EUR", "n1:USD"),
-            ("unit", "n1:EUR", None),
-            ("concept", "n2:A", "n3:A"),
-            ("n3:Reg", "n1:North", "n3:North"),
-            ("n3:Reg", "n1:North", None),
-            ("n3:Sku", "Mill 7", "mill  7"),
-        ):
-            rows = [{key: each for key, each in {**self.CORE, axis: value}.items() if each} for value in (one, other)]
-            lines = self.near(*rows)
-            with self.subTest(axis=axis, one=one):
-                self.assertEqual([line["pair"] for line in lines], ["1", "1"])
-                self.assertEqual({line["providers"] for line in lines}, {"A", "B"})
-                uri, _, local = axis.rpartition(":")
-                self.assertEqual(lines[0]["differs"], f"{{{self.URIS[uri]}}}{local}" if uri else axis)
-
-    def test_what_is_no_slip(self):
-        for axis, one, other in (
-            ("period", "2023-12-30T00:00:00", "2024-01-01T00:00:00"),
-            ("period", "2023-12-31T00:00:00/2024-01-01T00:00:00", "2024-01-01T00:00:00"),
-            ("entity", "n1:X", "n1:Y"),
-            ("n3:Reg", "n3:South", "n3:North"),
-            ("concept", "n3:A", "n3:T"),
-        ):
-            self.assertEqual(self.near({**self.CORE, axis: one}, {**self.CORE, axis: other}), [], (axis, one))
-        self.assertEqual(self.near(self.CORE, {**self.CORE, "entity": "n2:X", "unit": "n1:USD"}), [])
-
-    def test_a_provider_that_has_both_means_both(self):
-        other = {**self.CORE, "entity": "n2:X"}
-        self.assertEqual(self.near({**self.CORE, "unit": "n2:V"}, {**self.CORE, "period": "1999-01-01T00:00:00"}, [self.CORE, other]), [])
+    def test_near_rows(self):
+        """Tests --near on rows that differ in their dimensions. Provider A reports the first row of a case, and B the second."""
+        rows = [({**CORE, axis: value, "n3:Case": str(case)}, [number]) for case, (axis, one, other) in enumerate((*SLIPS, *OTHERS))
+                for number, value in ((1, one), (2, other))]
+        rows += [({**CORE, **more, "n3:Case": "two"}, [number]) for number, more in ((1, {}), (2, {"entity": "n2:X", "unit": "n1:USD"}))]
+        # a provider that has both rows means both
+        both = ([1], {"unit": "n2:V"}), ([2], {"period": "1999-01-01T00:00:00"}), ([1, 2], {}), ([1, 2], {"entity": "n2:X"})
+        rows += [({**CORE, **more, "n3:Case": "both"}, numbers) for numbers, more in both]
+        facts = [{"dimensions": {key: member for key, member in dimensions.items() if member}, "value": "1"} for dimensions, _ in rows]
+        lines = "".join(f"{n} f{n:02} f{n:02} complete\n" for n in range(1, len(rows) + 1))
+        done = self.run_tool(*self.inputs(facts, KINDS, lines, [reports for _, reports in rows], "A,B"), "--near", self.path_of("near.csv"))
+        self.assertEqual((done.returncode, self.other_lines(done.stderr.decode())), (0, []))
+        found = [(line["pair"], line["providers"], line["differs"].rpartition("}")[2]) for line in self.cells("../near.csv")]
+        wanted = [(str(rank), name, axis.rpartition(":")[2]) for rank, (axis, _, _) in enumerate(SLIPS, 1) for name in "AB"]
+        self.assertEqual(found, wanted)
 
 
 class Large(test_contradictions.ToolTest):
