@@ -1,123 +1,11 @@
 """Tests of tests/gate/doubt on a small repository: entries, words and their laws, the table of conditions, and line counts."""
 import re
 
-from small_tree import SmallTree
+from small_tree import SmallTree, tree
 from support import content
 
-CODE = """\
-ghost use Rattle.shop.specs.Order.{Order, IsPaid, total};
-
-/// The sum of an order.
-pub fn sum(order: &Order) -> u64
-    ensures is { result ≡ total order.now × IsPaid order.now }
-{
-    order.sum
-}
-"""
-
-LAWS = """\
-ghost use Rattle.shop.specs.Order.{SumsArePaid};
-
-/// A law of sums.
-pub fn sums_are_paid()
-    ensures { SumsArePaid }
-{}
-
-/// It mentions nothing.
-pub fn nothing()
-    ensures { Nothing }
-{}
-"""
-
-SPECS = """\
--- Orders (own).
-use Rattle.std.specs.Prelude.{◌≡◌, ◌+◌, ℕ, List, [], ◌∷◌}
-
--- one order
-pub record Order : Type 0 where
-  pub prices : List ℕ
-
--- the sum of prices
-abbrev pub added : List ℕ → ℕ
-added [] = 0
-added (p ∷ ps) = p + added ps
-
--- the sum of an order
-abbrev pub total : Order → ℕ
-total order = added order.prices
-
--- the sum of two prices
-abbrev pub paid : ℕ → ℕ → ℕ
-paid a b = a + b
-
--- an order is paid: a field has the name of a definition
-pub record IsPaid (order : Order) : Type 0 where
-  pub first : ℕ
-  pub paid : paid first 0 ≡ total order
-
--- each sum of prices is paid
-abbrev pub SumsArePaid : Type 0
-SumsArePaid = (prices : List ℕ) → paid (added prices) 0 ≡ added prices
-
--- the same of any order; no contract needs it
-abbrev pub AllArePaid : Type 0
-AllArePaid = (order : Order) → IsPaid order
-"""
-
-REASONS = """\
--- what a report of a refusal prints
-abbrev pub entry_of : Reason → Entry
-entry_of NotPaid = record { number = 0; name = codes "NotPaid" }
-entry_of NoOrder = record { number = 1; name = codes "NoOrder" }
-"""
-
-REASON = """\
-pub enum Reason {
-    /// An order that
-    /// is not paid.
-    NotPaid,
-    /// There is no order.
-    NoOrder,
-}
-"""
-
-BILL = """\
-use money::{Price};
-
-enum Kind {
-    Paid,
-}
-
-/// What is paid.
-pub struct Bill {
-    kind: Kind,
-    price: Option<Price>,
-}
-"""
-
-PRICE = """\
-/// A price.
-pub struct Price<T: Ord> {
-    cents: u64,
-}
-
-impl<T: Ord> Model for Price<T> {
-    ghost use Rattle.money.specs.Amount.{amount};
-
-    ghost Value = { ℕ };
-
-    ghost view = { λ a. amount a.cents };
-
-    ghost invariant = { λ a. hidden a };
-}
-"""
-
-AMOUNT = """\
--- an amount
-abbrev pub amount : ℕ → ℕ
-amount n = n
-"""
-
+TREE = tree("doubt")
+CODE, LAWS, SPECS, *_ = TREE.values()
 NAMES = ["Order", "added", "total", "paid", "IsPaid"]
 SPECS_PATH, LAWS_PATH = "crates/shop/specs/Order.antt", "crates/shop/src/laws.rt"
 
@@ -162,16 +50,7 @@ OTHER_PAGES = [page(names, lines) for names, lines in (
 
 
 class Doubt(SmallTree):
-    SCRIPT, MODULES = "tests/gate/doubt", ("tests/gate/definitions.py",)
-
-    def setUp(self):
-        super().setUp()
-        self.write("crates/shop/src/sum.rt", CODE)
-        self.write(LAWS_PATH, LAWS)
-        self.write(SPECS_PATH, SPECS)
-        self.write("crates/money/specs/Amount.antt", AMOUNT)
-        self.write("crates/oim_names/src/reason.rt", REASON)
-        self.write("crates/oim_names/specs/Reasons.antt", REASONS)
+    SCRIPT, MODULES, TREE = "tests/gate/doubt", ("tests/gate/definitions.py",), TREE
 
     def problems(self, doubt, form=NO_FORMAT, *words):
         """Runs tests/gate/doubt on two pages. Returns the status and the lines on standard error."""
@@ -234,8 +113,8 @@ class Doubt(SmallTree):
             self.assertEqual(self.run_script("--quiet")[0], 0)
 
     def test_fields_and_views_name_types_and_definitions(self):
-        self.write("crates/shop/src/bill.rt", BILL)
-        self.write("crates/money/src/price.rt", PRICE)
+        for path, text in tree("doubt_types").items():
+            self.write(path, text)
         self.write(SPECS_PATH, "use Rattle.shop.specs.declared.bill.Bill.{Bill}\n\n" + SPECS.replace("prices : List ℕ\n", "prices : List Bill\n"))
         self.expect_good(9, 37, page(NAMES, 20), NO_FORMAT, "--write")
         entries = "shop/bill.rt Kind money/Amount.antt amount money/price.rt Price shop/bill.rt Bill shop/Order.antt " + " ".join(NAMES)

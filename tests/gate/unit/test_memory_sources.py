@@ -1,47 +1,12 @@
 """Tests of tests/gate/memory_sources on small files: which lines make want of memory from nothing or from another error."""
 import unittest
 
-import in_process  # noqa: F401 (lets this test import support)
+from small_tree import tree
 from support import script
 
 memory_sources = script("tests/gate/memory_sources")
 
-RECEIVED = """\
-use std::alloc::{AllocError, AllocFailed};
-
-pub enum Fault {
-    OutOfMemory(u64),
-}
-
-impl From<AllocError> for Fault {
-    ghost from_gives = { λ _ made. made ≡ OutOfMemory 0 };
-
-    fn from(_: AllocError) -> Fault {
-        Fault::OutOfMemory(0)
-    }
-}
-
-fn read(bytes: &[u8]) -> Result<Tree, Reason>
-    ensures errors { IfErr result (λ e. e ≡ Reason.OutOfMemory) }
-{
-    if bytes.len() == usize::from(u8::MAX) && reason != Reason::OutOfMemory {
-        return Err(Reason::NotJson);
-    }
-    let found: Result<(), AllocError> = step(|refused: AllocError| Reason::from(refused))?;
-    if let Err(AllocError) = found {
-        return Err(Reason::OutOfMemory);
-    }
-    match parse(bytes) {
-        Ok(tree) => Ok(tree),
-        Err(error) if error.is_memory() => Err(Reason::OutOfMemory),
-        Err(Error::OutOfMemory | Error::Memory(AllocError)) => Err(Reason::OutOfMemory),
-        Err(refusal) if refusal.reason == Reason::OutOfMemory => {
-            return Err(Reason::OutOfMemory);
-        }
-        Err(_) => Err(Reason::NotJson),
-    }
-}
-"""
+RECEIVED = tree("memory_sources")["received.rt"]
 
 
 def lines_of(text, *stay):
