@@ -20,25 +20,9 @@ INSTANCE, MONEY, TOY, OTHER = "http://www.xbrl.org/2003/instance", "http://www.x
 SHEET = {"namespaces": {"toy": TOY, "o": OTHER}, "xbrlmerge:sets": ["toy:S"],
          "concepts": {"toy:A": "numeric", "toy:Q": "name", "toy:S": "text", "toy:T": "text"},
          "dimensions": {"toy:Reg": "explicit", "toy:Sku": "typed"}}
-REPORT = {
-    "documentInfo": {"documentType": recheck.DOCUMENT_TYPE, "namespaces": {"a": TOY, "b": OTHER, "i": INSTANCE, "m": MONEY}, "taxonomy": ["t.xsd"]},
-    "facts": {
-        "1": {"value": "1", "decimals": 0, "dimensions": {"concept": "a:A", "unit": "(m:EUR*b:t)/i:shares", "a:Reg": "b:N", "a:Sku": "x"}},
-        "2": {"value": "b:C", "dimensions": {"concept": "a:Q", "entity": "b:1:2"}},
-        "3": {"value": f"{OTHER}#C {TOY}#B {TOY}/x#D", "dimensions": {"concept": "a:S", "language": "en"}},
-    },
-}
-RESPELLED = {
-    "documentInfo": {
-        "documentType": recheck.DOCUMENT_TYPE, "features": {"xbrl:allowedDuplicates": "none"},
-        "namespaces": {"iso4217": MONEY, "n3": f"{TOY}/x", "o": OTHER, "toy": TOY, "xbrl": "https://xbrl.org/2021", "xbrli": INSTANCE},
-        "taxonomy": ["t.xsd"]},
-    "facts": {
-        "f1": {"dimensions": {"concept": "toy:A", "toy:Reg": "o:N", "toy:Sku": "x", "unit": "(iso4217:EUR*o:t)/xbrli:shares"}, "value": "1", "decimals": 0},
-        "f2": {"dimensions": {"concept": "toy:Q", "entity": "o:1:2"}, "value": "o:C"},
-        "f3": {"dimensions": {"concept": "toy:S", "language": "en"}, "value": "o:C toy:B n3:D"},
-    },
-}
+# a report, what its merge becomes, and a report without faults, in which others are planted: the rule that must be told, the place of
+# the fault, and what stands there, or nothing
+REPORT, RESPELLED, SOUND, PLANTED = json.loads(in_process.content("tests/gate/unit/respell.json")).values()
 
 
 def merged(sheet, texts):
@@ -129,73 +113,16 @@ class Respelled(ToolTest):
         self.assertEqual(len(in_process.run_whole(respell, "--rules")[2].splitlines()), len(RULES))
 
 
-# a report without faults, in which the faults are planted
-SOUND = {
-    "documentInfo": {
-        "documentType": recheck.DOCUMENT_TYPE, "features": {"xbrl:allowedDuplicates": "none", "xbrl:canonicalValues": False},
-        "namespaces": {"xbrl": "https://xbrl.org/2021", "toy": TOY, "iso4217": MONEY, "xbrli": INSTANCE},
-        "linkTypes": {"footnote": "http://www.xbrl.org/2003/arcrole/fact-footnote"}, "linkGroups": {"_": "http://www.xbrl.org/2003/role/link"},
-        "taxonomy": ["t.xsd"], "baseURL": "http://toy.example/"},
-    "facts": {
-        "a": {"value": "1E3", "decimals": -3, "links": {"footnote": {"_": ["n"]}}, "toy:x": 5,
-              "dimensions": {"concept": "toy:A", "unit": "(iso4217:EUR*toy:t)/xbrli:shares", "period": "2020-01-01T00:00:00.5Z"}},
-        "q": {"value": "toy:C", "dimensions": {"concept": "toy:Q", "entity": "toy:1", "toy:Reg": "toy:N", "toy:Sku": None}},
-        "s": {"value": "toy:B toy:A", "dimensions": {"concept": "toy:S", "period": "2020-01-01T00:00:00/2021-01-01T00:00:00"}},
-        "t": {"value": None, "dimensions": {"concept": "toy:T", "language": "en-gb"}},
-        "n": {"value": "x", "dimensions": {"concept": "xbrl:note", "noteId": "n", "language": "en"}},
-    },
-}
-GONE, I, F = object(), "documentInfo/", "facts/"
-# the rule that must be told, the place of the fault, and what stands there
-PLANTED = [
-    ("required-member", "documentInfo", GONE), ("required-member", "facts", GONE), ("required-member", I + "documentType", GONE),
-    ("required-member", I + "taxonomy", GONE), ("required-member", F + "a/value", GONE), ("required-member", F + "a/dimensions", GONE),
-    ("member-type", "documentInfo", []), ("member-type", "facts", []), ("member-type", F + "a", None), ("member-type", F + "a/value", 1),
-    ("member-type", F + "a/decimals", "0"), ("member-type", F + "a/decimals", 1.5), ("member-type", F + "a/links", []),
-    ("member-type", F + "a/links/footnote/_", "n"), ("member-type", I + "namespaces/toy2", 1), ("member-type", I + "taxonomy/0", None),
-    ("member-type", F + "q/dimensions/toy:Sku", 5), ("member-type", F + "q/dimensions/entity", None),
-    ("unknown-member", "id", 1), ("unknown-member", I + "generator", "x"), ("unknown-member", F + "a/id", "7"),
-    ("unknown-member", F + "a/dimensions/colour", "red"), ("document-type", I + "documentType", "https://xbrl.org/2021/xbrl-csv"),
-    ("prefix-form", I + "namespaces/1a", "u:1"), ("prefix-form", I + "namespaces/", "u:1"), ("uri-form", I + "namespaces/a", ""),
-    ("uri-form", I + "namespaces/a", "u 1"), ("reserved-prefix", I + "namespaces/utr", "u:1"),
-    ("reserved-prefix", I + "linkTypes/footnote", "u:1"), ("reserved-uri", I + "namespaces/n2", MONEY),
-    ("reserved-uri", I + "linkGroups/g", "http://www.xbrl.org/2003/role/link"), ("unbound-prefix", I + "q:x", 1),
-    ("unbound-prefix", F + "a/q:x", 1), ("unbound-prefix", F + "a/dimensions/concept", "q:A"), ("unbound-prefix", I + "features/q:x", 1),
-    ("unbound-prefix", F + "a/dimensions/unit", "q:a"), ("taxonomy-empty", I + "taxonomy", []),
-    ("feature-value", I + "features/xbrl:allowedDuplicates", "some"), ("feature-value", I + "features/xbrl:canonicalValues", "true"),
-    ("concept-missing", F + "a/dimensions", {}), ("name-form", F + "a/dimensions/concept", "A"), ("name-form", F + "a/dimensions/toy:1", "x"),
-    ("entity-form", F + "q/dimensions/entity", "toy:"), ("repeated-dimension", I + "namespaces/again", TOY),
-    ("period-form", F + "a/dimensions/period", "2020-01-01"), ("period-form", F + "a/dimensions/period", "2020-02-30T00:00:00"),
-    ("period-order", F + "s/dimensions/period", "2021-01-01T00:00:00/2021-01-01T00:00:00"), ("unit-form", F + "a/dimensions/unit", "toy:a/"),
-    ("unit-parentheses", F + "a/dimensions/unit", "(toy:a*toy:b)"), ("unit-parentheses", F + "a/dimensions/unit", "toy:a*toy:b/toy:c"),
-    ("unit-order", F + "a/dimensions/unit", "toy:b*toy:a"), ("unit-pure", F + "a/dimensions/unit", "xbrli:pure"),
-    ("language-form", F + "t/dimensions/language", "en_gb"), ("language-case", F + "t/dimensions/language", "en-GB"),
-    ("decimals-on-nil", F + "a/value", None), ("note-id-missing", F + "n/dimensions/noteId", GONE),
-    ("note-id-misplaced", F + "t/dimensions/noteId", "t"), ("note-id-value", F + "n/dimensions/noteId", "m"),
-    ("note-dimension", F + "n/dimensions/entity", "toy:1"), ("note-language", F + "n/dimensions/language", GONE),
-    ("link-type", I + "linkTypes", {}), ("link-type", I + "linkGroups", {}), ("link-target", F + "a/links/footnote/_", ["z"]),
-    ("link-note", F + "a/links/footnote/_", ["q"]), ("unknown-concept", F + "a/dimensions/concept", "toy:Z"),
-    ("unknown-dimension", F + "a/dimensions/toy:Z", "x"), ("explicit-member", F + "q/dimensions/toy:Reg", "North"),
-    ("explicit-member", F + "q/dimensions/toy:Reg", None), ("misplaced-unit", F + "t/dimensions/unit", "iso4217:EUR"),
-    ("misplaced-language", F + "a/dimensions/language", "en"), ("misplaced-language", F + "q/dimensions/language", "en"),
-    ("misplaced-decimals", F + "s/decimals", 0), ("number-form", F + "a/value", "1,5"), ("name-value", F + "q/value", "C"),
-    ("set-value", F + "s/value", f"{TOY}#B"), ("set-value", F + "s/value", "toy:B toy:B"),
-    ("duplicates", F + "u", {"value": "x", "dimensions": {"concept": "toy:T", "language": "en-gb"}}),
-]
-
-
-def planted(place, what):
+def planted(place, *what):
     tree = copy.deepcopy(SOUND)
     *way, key = place.split("/")
     part = tree
     for each in way:
         part = part[each]
-    if what is GONE:
-        del part[key]
-    elif isinstance(part, list):
-        part[int(key)] = what
+    if what:
+        part[int(key) if isinstance(part, list) else key] = what[0]
     else:
-        part[key] = what
+        del part[key]
     if key == "again":
         tree["facts"]["q"]["dimensions"]["again:Reg"] = "toy:N"
     return json.dumps(tree)
@@ -208,13 +135,13 @@ class Checked(ToolTest):
 
     def test_each_planted_fault_is_found(self):
         self.assertGreaterEqual(len(PLANTED), 60)
-        self.assertEqual({rule for rule, _, _ in PLANTED} | {"repeated-member"}, {*RULES})
-        for rule, place, what in PLANTED:
-            status, lines = self.check(planted(place, what), json.dumps(SHEET))
+        self.assertEqual({rule for rule, *_ in PLANTED} | {"repeated-member"}, {*RULES})
+        for rule, place, *what in PLANTED:
+            status, lines = self.check(planted(place, *what), json.dumps(SHEET))
             self.assertEqual((status, rule in [line.split()[0] for line in lines]), (1, True), (place, what, lines))
 
     def test_a_line_has_the_rule_the_place_and_what_to_do(self):
-        _, lines = self.check(planted(F + "t/dimensions/language", "en-GB"))
+        _, lines = self.check(planted("facts/t/dimensions/language", "en-GB"))
         self.assertEqual(lines[0], "language-case xbrlje:invalidLanguageCodeCase at /facts/t/dimensions/language: write the language in lower case")
 
     def test_repeated_members(self):
