@@ -1,18 +1,6 @@
 -- The items of a union, and look-ups in sets and maps.
-use Rattle.std.proofs.Common.{◌≡◌, Bool, true, false, cond, List, [], ◌∷◌, Option, Some, None, refl, sym, ap, ◌∙◌, inl, inr, ⊎_elim, ℕ, zero, suc, ◌<◌, length, get_or, subst, arith}
-use mathlib.Core.Bool.{◌||◌, true≢false}
-use Rattle.std.specs.Prelude.{Contains, is_some, unwrap_or}
-use Rattle.std.specs.Option.{option_map}
-use Rattle.std.specs.List.{list_any}
-use Rattle.std.specs.Ordering.{eq_by_cmp, is_eq}
-use Rattle.std.specs.declared.cmp.Ordering.{Ordering}
-use Rattle.std.specs.declared.cmp.Ordering.TheVariants.{Equal}
-use Rattle.std.specs.Cmp.{IsTotalOrder, Equal-is, eq_by_cmp_equiv, tied_itself}
+use Rattle.merge_laws.proofs.Shared.{◌≡◌, Bool, true, false, cond, List, [], ◌∷◌, Option, Some, None, refl, sym, ap, ◌∙◌, inl, inr, ⊎_elim, ℕ, zero, suc, ◌<◌, length, get_or, subst, arith, ◌||◌, true≢false, Contains, is_some, unwrap_or, option_map, list_any, eq_by_cmp, is_eq, Ordering, Equal, IsTotalOrder, Equal-is, eq_by_cmp_equiv, tied_itself, or_cases, or_left, or_right, IsSet, item_at, has_key, itself, entry_key, value_at, IsRising, either_or_both, older, merged_entries, set_with, set_union, IsSetOfBoth, SetUnionHasBoth, SetWithHasItem, MapTellsEntry, MapUnionHasBoth, MapWithMerges, SetTellsItem, alone, rises_with, rises_union, item_at-with, item_at-union}
 use Rattle.std.proofs.lemmas.Map.Views.{Contains-from_any, list_any-from_Contains}
-use Rattle.std.proofs.lemmas.Bool.{or_cases, or_left, or_right}
-use Rattle.merge_laws.specs.Sorted.{IsSet, item_at, has_key, itself, entry_key, value_at, IsRising}
-use Rattle.merge_laws.specs.Union.{either_or_both, older, merged_entries, set_with, set_union, IsSetOfBoth, SetUnionHasBoth, SetWithHasItem, MapTellsEntry, MapUnionHasBoth, MapWithMerges, SetTellsItem}
-use Rattle.merge_laws.specs.code.Items.{alone, rises_with, rises_union, item_at-with, item_at-union}
 use Rattle.merge_laws.proofs.Edits.{item_found}
 use Rattle.merge_laws.proofs.Indices.{found_here}
 

@@ -1,17 +1,6 @@
 -- Edits at the index that a search found.
-use Rattle.std.proofs.Common.{◌≡◌, ℕ, suc, ◌+◌, Bool, true, false, not, cond, List, [], ◌∷◌, ◌++◌, get_or, set, take, drop, Option, Some, None, Result, Ok, Err, refl, sym, ap, ◌∙◌, arith}
-use Rattle.std.specs.Prelude.{is_some}
-use Rattle.std.specs.declared.cmp.Ordering.{Ordering}
-use Rattle.std.specs.declared.cmp.Ordering.TheVariants.{Less, Equal, Greater}
-use Rattle.std.specs.Ordering.{is_lt, is_eq, match_ordering}
-use Rattle.std.specs.Cmp.{IsTotalOrder, tied_back}
-use Rattle.std.specs.List.{insert}
+use Rattle.merge_laws.proofs.Shared.{◌≡◌, ℕ, suc, ◌+◌, Bool, true, false, not, cond, List, [], ◌∷◌, ◌++◌, get_or, set, take, drop, Option, Some, None, Result, Ok, Err, refl, sym, ap, ◌∙◌, arith, is_some, Ordering, Less, Equal, Greater, is_lt, is_eq, match_ordering, IsTotalOrder, tied_back, insert, true≢false, found_at, new_item, new_value, shared_value, index_of, IsRising, item_at, has_key, entry_key, with_item, Below, below_less, none_below, turned_less, turned_greater}
 use Rattle.std.specs.List.Sorted.{IsStrictlySortedBy}
-use mathlib.Core.Bool.{true≢false}
-use Rattle.merge_laws.specs.code.Insertions.{found_at, new_item, new_value, shared_value, index_of}
-use Rattle.merge_laws.specs.Sorted.{IsRising, item_at, has_key, entry_key}
-use Rattle.merge_laws.specs.Union.{with_item}
-use Rattle.merge_laws.specs.code.Items.{Below, below_less, none_below, turned_less, turned_greater}
 
 -- the result of a search shows whether the list has the key, and the index of the key or of its insertion
 pub tells_ok : (b : Bool) (p i : ℕ) → ◌≡◌ {A = Result ℕ ℕ} (Ok i) (cond b (Ok p) (Err p)) → (b ≡ true) × (p ≡ i)

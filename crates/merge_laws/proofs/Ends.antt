@@ -1,16 +1,8 @@
 -- The contents of a summary.
-use Rattle.std.proofs.Common.{◌≡◌, ℕ, zero, suc, ◌<◌, Bool, true, false, List, [], ◌∷◌, length, get_or, Option, Some, None, refl, sym, ap, subst, ◌∙◌, arith}
-use mathlib.Core.Bool.{◌||◌, true≢false}
-use Rattle.std.specs.Prelude.{Contains, IfSome, is_some}
-use Rattle.std.specs.List.{list_any}
-use Rattle.oim_value.specs.Interval.{common_part, interval}
+use Rattle.merge_laws.proofs.Shared.{◌≡◌, ℕ, zero, suc, ◌<◌, Bool, true, false, List, [], ◌∷◌, length, get_or, Option, Some, None, refl, sym, ap, subst, ◌∙◌, arith, ◌||◌, true≢false, Contains, IfSome, is_some, list_any, common_part, interval, Value, ends_of_one, ends_of_more, summary_of_all, SummaryTellsAll, either_or_both}
 use Rattle.oim_value.specs.declared.interval.Interval.{Interval}
-use Rattle.oim_value.specs.declared.value.Value.{Value}
 use Rattle.oim_value.specs.declared.value.Value.TheVariants.{Nil, Number}
 use Rattle.oim_value.specs.Ends.{AreEnds, intervals_of, has_interval}
-use Rattle.oim_value.proofs.Ends.{ends_of_one, ends_of_more}
-use Rattle.merge_laws.specs.Ends.{summary_of_all, SummaryTellsAll}
-use Rattle.merge_laws.specs.Union.{either_or_both}
 
 -- the recorded ends are the ends of the intervals; if no ends are recorded, there is no interval
 abbrev Kept : Option Interval → List Interval → Type 0

@@ -1,21 +1,7 @@
 -- The result of a search in an ascending list.
-use Rattle.std.proofs.Common.{◌≡◌, ℕ, zero, suc, ◌+◌, ◌<◌, ◌≤◌, ◌-◌, true, false, not, cond, List, [], ◌∷◌, length, get_or, Some, None, Ok, Err, refl, sym, ap, subst, ◌∙◌, arith, inl, inr}
-use Rattle.std.specs.Prelude.{is_some}
-use mathlib.Core.Bool.{true≢false}
-use Rattle.std.specs.declared.cmp.Ordering.{Ordering}
-use Rattle.std.specs.declared.cmp.Ordering.TheVariants.{Less, Equal, Greater}
-use Rattle.std.specs.Ordering.{is_lt, is_eq, ordering_index}
-use Rattle.std.specs.Cmp.{IsTotalOrder, Equal-is, alike_right, tied_back}
-use Rattle.std.specs.List.{AllWithin}
+use Rattle.merge_laws.proofs.Shared.{◌≡◌, ℕ, zero, suc, ◌+◌, ◌<◌, ◌≤◌, ◌-◌, true, false, not, cond, List, [], ◌∷◌, length, get_or, Some, None, Ok, Err, refl, sym, ap, subst, ◌∙◌, arith, inl, inr, is_some, true≢false, Ordering, Less, Equal, Greater, is_lt, is_eq, ordering_index, IsTotalOrder, Equal-is, alike_right, tied_back, AllWithin, cases_lt, get_or_default, searchable_from_sorted, Less-from_sorted, found_at, index_of, IsRising, item_at, has_key, turned_less, turned_greater}
 use Rattle.std.specs.List.Sorted.{IsNonDecreasingBy, IsPartitionPoint}
-use Rattle.std.proofs.lemmas.Bool.{cases_lt}
-use Rattle.std.proofs.lemmas.List.{get_or_default}
 use Rattle.std.proofs.lemmas.List.Sums.{position_or_len_is}
-use Rattle.std.proofs.lemmas.List.Sorted.{searchable_from_sorted}
-use Rattle.std.proofs.lemmas.Map.Keys.{Less-from_sorted}
-use Rattle.merge_laws.specs.code.Insertions.{found_at, index_of}
-use Rattle.merge_laws.specs.Sorted.{IsRising, item_at, has_key}
-use Rattle.merge_laws.specs.code.Items.{turned_less, turned_greater}
 use Rattle.merge_laws.proofs.Edits.{item_found, tells_ok}
 
 pub less : (r : Ordering) → true ≡ is_lt r → r ≡ Less

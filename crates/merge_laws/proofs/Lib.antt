@@ -1,3 +1,4 @@
+pub mod Shared
 pub mod Both
 mod Edits
 pub mod Ends

@@ -1,13 +1,5 @@
 -- New items at the end of a list, and the list of the indices that all items belong at, both written from the end.
-use Rattle.std.proofs.Common.{◌≡◌, ℕ, zero, suc, ◌+◌, ◌-◌, ◌<◌, ◌≤◌, ◌++◌, List, [], ◌∷◌, All, IsPermutation, append-nil, append_assoc, get_or, length, map, take, drop, refl, sym, ap, subst, ◌∙◌, arith}
-use Rattle.std.specs.Prelude.{min, reverse}
-use Rattle.std.specs.List.{AllByRecursion, range_with_len}
-use Rattle.std.proofs.lemmas.List.{ext_get_or, get_or_append_left, get_or-append-add, get_or-drop, get_or-map, length-append, length-drop, length-map, length-take, map-append, reverse-append, take-append-drop, take-append-le}
-use Rattle.std.proofs.lemmas.List.Elements.{All-from_get_or}
-use Rattle.std.proofs.lemmas.List.FromFn.{get_or-map-range_with_len, get_or-range_with_len, length-map-range_with_len, length-range_with_len}
-use Rattle.std.proofs.lemmas.List.Sorted.{All-permutation, IsPermutation-append_right, IsPermutation-cons, IsPermutation-refl, IsPermutation-to_front, IsPermutation-trans}
-use Rattle.merge_laws.specs.Picked.{picked}
-use Rattle.merge_laws.specs.code.Insertions.{inserted}
+use Rattle.merge_laws.proofs.Shared.{◌≡◌, ℕ, zero, suc, ◌+◌, ◌-◌, ◌<◌, ◌≤◌, ◌++◌, List, [], ◌∷◌, All, IsPermutation, append-nil, append_assoc, get_or, length, map, take, drop, refl, sym, ap, subst, ◌∙◌, arith, min, reverse, AllByRecursion, range_with_len, ext_get_or, get_or_append_left, get_or-append-add, get_or-drop, get_or-map, length-append, length-drop, length-map, length-take, map-append, reverse-append, take-append-drop, take-append-le, All-from_get_or, get_or-map-range_with_len, get_or-range_with_len, length-map-range_with_len, length-range_with_len, All-permutation, IsPermutation-append_right, IsPermutation-cons, IsPermutation-refl, IsPermutation-to_front, IsPermutation-trans, picked, inserted}
 use Rattle.merge_laws.proofs.Lists.{all_back, all_front}
 
 pub range_down : (a b m n : ℕ) → b ≡ a + 1 → m ≡ suc n → range_with_len a m ≡ a ∷ range_with_len b n
@@ -30,10 +22,6 @@ pub from_default : {E : Type 0} (xs ys : List E) → ((d : E) → xs ≡ ys) →
 from_default [] [] same = refl
 from_default [] (y ∷ ys) same = same y
 from_default (x ∷ xs) ys same = same x
-
-pub none_left : {E : Type 0} (xs : List E) → length xs ≡ 0 → xs ≡ []
-none_left [] e = refl
-none_left (x ∷ xs) e = absurd (omega (arith, e))
 
 -- a lower bound of all new items bounds the last one and the others
 pub last_least : {E : Type 0} (low : ℕ) (news fewer : List (ℕ × E)) (index : ℕ) (item : E) → news ≡ fewer ++ (index, item) ∷ [] → AllByRecursion (λ n. low ≤ n.0) news → (low ≤ index) × AllByRecursion (λ n. low ≤ n.0) fewer

@@ -1,15 +1,6 @@
 -- Lists that are split before their last item, and parts of ascending lists.
-use Rattle.std.proofs.Common.{◌≡◌, ℕ, ◌+◌, ◌<◌, get_or, List, [], ◌∷◌, ◌++◌, append-nil, take, length, Option, Some, None, refl, sym, ap, subst, ◌∙◌}
-use Rattle.std.specs.Prelude.{reverse}
-use Rattle.std.specs.Option.{option_or}
-use Rattle.std.specs.List.{AllByRecursion, flat_map}
+use Rattle.merge_laws.proofs.Shared.{◌≡◌, ℕ, ◌+◌, ◌<◌, get_or, List, [], ◌∷◌, ◌++◌, append-nil, take, length, Option, Some, None, refl, sym, ap, subst, ◌∙◌, every_append, reverse, option_or, AllByRecursion, flat_map, Ordering, Less, IsTotalOrder, reverse-append, reverse-reverse, take_more, flat_map-append, IsRising}
 use Rattle.std.specs.List.Sorted.{IsStrictlySortedBy}
-use Rattle.std.specs.declared.cmp.Ordering.{Ordering}
-use Rattle.std.specs.declared.cmp.Ordering.TheVariants.{Less}
-use Rattle.std.specs.Cmp.{IsTotalOrder}
-use Rattle.std.proofs.lemmas.List.{reverse-append, reverse-reverse, take_more}
-use Rattle.std.proofs.lemmas.Grind.{flat_map-append}
-use Rattle.merge_laws.specs.Sorted.{IsRising}
 
 -- induction from the end of a list
 pub from_end : {A : Type 0} (P : List A → Type 0) → P [] → ((xs : List A) (x : A) → P xs → P (xs ++ x ∷ [])) → (xs : List A) → P xs
@@ -18,10 +9,6 @@ from_end {A} P none more xs = subst P (reverse-reverse xs) (turned (reverse xs))
     turned : (ys : List A) → P (reverse ys)
     turned [] = none
     turned (y ∷ ys) = subst P (sym (reverse-append (y ∷ []) ys)) (more (reverse ys) y (turned ys))
-
-pub all_both : {A : Type 0} (P : A → Type 0) (xs ys : List A) → AllByRecursion P xs → AllByRecursion P ys → AllByRecursion P (xs ++ ys)
-all_both P [] ys h g = g
-all_both P (x ∷ xs) ys h g = (h.0, all_both P xs ys h.1 g)
 
 pub all_front : {A : Type 0} (P : A → Type 0) (xs ys : List A) → AllByRecursion P (xs ++ ys) → AllByRecursion P xs
 all_front P [] ys h = tt
@@ -36,7 +23,7 @@ all_weaker P Q [] f h = tt
 all_weaker P Q (x ∷ xs) f h = (f x h.0, all_weaker P Q xs f h.1)
 
 pub all_more : {A : Type 0} (P : A → Type 0) (xs : List A) (i : ℕ) (x : A) → i < length xs → x ≡ get_or xs i x → AllByRecursion P (take i xs) → P x → AllByRecursion P (take (i + 1) xs)
-all_more P xs i x within is all p = subst (AllByRecursion P) (sym (take_more xs i x within ∙ ap (λ y. take i xs ++ y ∷ []) (sym is))) (all_both P (take i xs) (x ∷ []) all (p, tt))
+all_more P xs i x within is all p = subst (AllByRecursion P) (sym (take_more xs i x within ∙ ap (λ y. take i xs ++ y ∷ []) (sym is))) (every_append P (take i xs) (x ∷ []) all (p, tt))
 
 pub flat_map_more : {A B : Type 0} (f : A → List B) (xs : List A) (i : ℕ) (x : A) → i < length xs → x ≡ get_or xs i x → flat_map f (take (i + 1) xs) ≡ flat_map f (take i xs) ++ f x
 flat_map_more f xs i x within is =
@@ -75,6 +62,6 @@ module _ {K E : Type 0} {R : K → K → Ordering} (key : E → K) (o : IsTotalO
   unfolding IsStrictlySortedBy
   rises_around [] y zs h below above g = (above, g)
   rises_around (x ∷ xs) y zs h below above g = (
-    all_both (λ f. R (key x) (key f) ≡ Less) xs (y ∷ zs) h.0 (below.0, all_weaker (λ f. R (key y) (key f) ≡ Less) (λ f. R (key x) (key f) ≡ Less) zs (λ f. o.trans (key x) (key y) (key f) below.0) above),
+    every_append (λ f. R (key x) (key f) ≡ Less) xs (y ∷ zs) h.0 (below.0, all_weaker (λ f. R (key y) (key f) ≡ Less) (λ f. R (key x) (key f) ≡ Less) zs (λ f. o.trans (key x) (key y) (key f) below.0) above),
     rises_around xs y zs h.1 below.1 above g,
   )

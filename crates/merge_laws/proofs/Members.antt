@@ -1,28 +1,9 @@
 -- Proofs of the laws of sets, maps and summaries.
-use Rattle.std.proofs.Common.{◌≡◌, ℕ, zero, suc, ◌<◌, true, false, Bool, cond, List, [], ◌∷◌, length, get_or, Option, Some, None, refl, sym, ap, subst, ◌∙◌, arith}
-use Rattle.std.specs.Prelude.{Contains, IsTrue, is_some}
-use Rattle.std.specs.Option.{option_map}
-use Rattle.std.specs.List.{All, AllByRecursion}
-use Rattle.std.specs.Cmp.{IsTotalOrder, Equal-is}
-use Rattle.std.specs.Ordering.{is_eq, match_ordering}
-use Rattle.std.specs.declared.cmp.Ordering.{Ordering}
-use Rattle.std.specs.declared.cmp.Ordering.TheVariants.{Less, Equal, Greater}
+use Rattle.merge_laws.proofs.Shared.{◌≡◌, ℕ, zero, suc, ◌<◌, true, false, cond, List, [], ◌∷◌, length, get_or, Option, Some, None, refl, sym, ap, subst, ◌∙◌, arith, Contains, IsTrue, is_some, option_map, All, AllByRecursion, IsTotalOrder, Equal-is, both_ways, is_eq, match_ordering, Ordering, Less, Equal, Greater, common_part, Value, Summarised, summary_of, both_summaries, summary_of_all, alone, same_items, item_at, has_key, itself, entry_key, value_at, merged_entries, map_with, map_union, set_with, set_union, All-from_recursion, recursion_from_All}
 use Rattle.std.proofs.Math.Bool.{or-false}
-use Rattle.oim_value.specs.Interval.{common_part}
-use Rattle.oim_value.specs.declared.value.Value.{Value}
-use Rattle.merge_laws.specs.Ends.{Summarised, summary_of, both_summaries, summary_of_all}
-use Rattle.merge_laws.specs.code.Items.{alone, same_items}
 use Rattle.merge_laws.specs.Members.{SetIsItsMembers, MapIsItsValues, MapUnionKeeps, MapWithKeeps, SummaryOfOne, SummaryOfBoth, SummaryOfUnion, SummaryOfMembers}
-use Rattle.merge_laws.specs.Sorted.{item_at, has_key, itself, entry_key, value_at}
 use Rattle.merge_laws.specs.code.SummaryLaws.{summary_associates, summary_commutes, summary_idempotent}
-use Rattle.merge_laws.specs.Union.{merged_entries, map_with, map_union, set_with, set_union}
 use Rattle.merge_laws.proofs.Both.{set_tells_item}
-use Rattle.std.proofs.lemmas.List.Elements.{All-from_recursion, recursion_from_All}
-
-same_tests : (a b : Bool) → (a ≡ true → b ≡ true) → (b ≡ true → a ≡ true) → a ≡ b
-same_tests true b f g = sym (f refl)
-same_tests false true f g = g refl
-same_tests false false f g = refl
 
 module _ {K : Type 0} {R : K → K → Ordering} (o : IsTotalOrder R) (exact : (x y : K) → R x y ≡ Equal → x ≡ y) where
   itself_found : (q : K) (xs : List K) → item_at R itself q xs ≡ cond (has_key R itself q xs) (Some q) None
@@ -34,7 +15,7 @@ module _ {K : Type 0} {R : K → K → Ordering} (o : IsTotalOrder R) (exact : (
 
   pub set_is_its_members : SetIsItsMembers R
   set_is_its_members xs ys g h same = same_items itself o xs ys g h (λ q.
-      let there : has_key R itself q xs ≡ has_key R itself q ys = same_tests _ _
+      let there : has_key R itself q xs ≡ has_key R itself q ys = both_ways _ _
       (λ l. (set_tells_item o exact ys q).1 ((same q).0 ((set_tells_item o exact xs q).0 l)))
       (λ r. (set_tells_item o exact xs q).1 ((same q).1 ((set_tells_item o exact ys q).0 r))) in
       itself_found q xs ∙ ap (λ b. cond b (Some q) None) there ∙ sym (itself_found q ys))

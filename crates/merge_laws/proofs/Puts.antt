@@ -1,13 +1,5 @@
 -- The changes that `put` makes to a map.
-use Rattle.std.proofs.Common.{◌≡◌, ℕ, ◌<◌, List, length, get_or, set, Result, Ok, Err, OnOk, OnErr, refl, sym, ap, subst, ◌∙◌}
-use Rattle.std.specs.declared.cmp.Ordering.{Ordering}
-use Rattle.std.specs.Cmp.{IsTotalOrder}
-use Rattle.std.proofs.lemmas.List.{set-get_or}
-use Rattle.merge_laws.specs.code.Insertions.{found_at, index_of}
-use Rattle.merge_laws.specs.Sorted.{IsRising, IsMap, has_key, entry_key}
-use Rattle.merge_laws.specs.Union.{map_with, merged_entries}
-use Rattle.merge_laws.specs.code.Items.{rises_with}
-use Rattle.merge_laws.specs.code.UnionLaws.{all_with}
+use Rattle.merge_laws.proofs.Shared.{◌≡◌, ℕ, ◌<◌, List, length, get_or, set, Result, Ok, Err, OnOk, OnErr, refl, sym, ap, subst, ◌∙◌, Ordering, IsTotalOrder, set-get_or, found_at, index_of, IsRising, IsMap, has_key, entry_key, map_with, merged_entries, rises_with, all_with}
 use Rattle.merge_laws.proofs.Edits.{replaced, tells_ok}
 
 module _ {K V : Type 0} {R : K → K → Ordering} (o : IsTotalOrder R) (P : V → Type 0) (merged : V → V → V) where

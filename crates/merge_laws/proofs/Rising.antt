@@ -1,11 +1,6 @@
 -- Ascending lists that are built by appending items, for calls of `of_rising`.
-use Rattle.std.proofs.Common.{◌≡◌, List, [], ◌∷◌, ◌++◌}
-use Rattle.std.specs.declared.cmp.Ordering.{Ordering}
-use Rattle.std.specs.declared.cmp.Ordering.TheVariants.{Less}
-use Rattle.std.specs.List.{AllByRecursion}
+use Rattle.merge_laws.proofs.Shared.{◌≡◌, List, [], ◌∷◌, ◌++◌, every_append, Ordering, Less, AllByRecursion, IsRising}
 use Rattle.std.specs.List.Sorted.{IsStrictlySortedBy}
-use Rattle.merge_laws.specs.Sorted.{IsRising}
-use Rattle.merge_laws.proofs.Lists.{all_both}
 
 module _ {K E : Type 0} (R : K → K → Ordering) (key : E → K) where
   pub none_rise : IsRising R key []
@@ -19,4 +14,4 @@ module _ {K E : Type 0} (R : K → K → Ordering) (key : E → K) where
   pub rises_behind : (es : List E) (x : E) → IsRising R key es → AllByRecursion (λ e. R (key e) (key x) ≡ Less) es → IsRising R key (es ++ x ∷ [])
   unfolding IsStrictlySortedBy
   rises_behind [] x h below = (tt, tt)
-  rises_behind (e ∷ es) x h below = (all_both (λ f. R (key e) (key f) ≡ Less) es (x ∷ []) h.0 (below.0, tt), rises_behind es x h.1 below.1)
+  rises_behind (e ∷ es) x h below = (every_append (λ f. R (key e) (key f) ≡ Less) es (x ∷ []) h.0 (below.0, tt), rises_behind es x h.1 below.1)

@@ -1,15 +1,8 @@
 -- Items of a list that swaps bring into the order of a list of indices.
-use Rattle.std.proofs.Common.{◌≡◌, ◌≢◌, ℕ, zero, suc, ◌+◌, ◌-◌, ◌<◌, ◌≤◌, ◌==◌, true, false, cond, List, [], ◌∷◌, All, IsPermutation, get_or, length, map, take, set, swap, eqb, refl, sym, ap, subst, ◌∙◌, arith, get_or-set_other, eq-eqb, ne_eqb, inl, inr, lt_trans}
-use Rattle.std.specs.List.{IsDistinct, range_with_len}
+use Rattle.merge_laws.proofs.Shared.{◌≡◌, ◌≢◌, ℕ, zero, suc, ◌+◌, ◌-◌, ◌<◌, ◌≤◌, ◌==◌, true, false, cond, List, [], ◌∷◌, All, IsPermutation, get_or, length, map, take, set, swap, eqb, refl, sym, ap, subst, ◌∙◌, arith, get_or-set_other, eq-eqb, ne_eqb, inl, inr, lt_trans, IsDistinct, range_with_len, ext_get_or, get_or_append_left, get_or-append-add, get_or_default, get_or-map, get_or-take, length-append, length-map, length-set, length-take-le, All-from_get_or, get_or-range_with_len, length-range_with_len, All-permutation, IsPermutation-refl, IsPermutation-swap, IsPermutation-trans, length_permutation, IsDistinct-IsPermutation, IsDistinct-from_apart, apart_from_distinct, picked}
 use Rattle.std.proofs.lemmas.Bool.{cases_eq, cases_lt, cases_order, both_ways}
 use Rattle.std.proofs.lemmas.Cmp.{nat_eq_equiv}
-use Rattle.std.proofs.lemmas.List.{ext_get_or, get_or_append_left, get_or-append-add, get_or_default, get_or-map, get_or-take, length-append, length-map, length-set, length-take-le}
 use Rattle.std.proofs.lemmas.List.Edits.{length-swap, swap_is, swapped_from_swap}
-use Rattle.std.proofs.lemmas.List.Elements.{All-from_get_or}
-use Rattle.std.proofs.lemmas.List.FromFn.{get_or-range_with_len, length-range_with_len}
-use Rattle.std.proofs.lemmas.List.Sorted.{All-permutation, IsPermutation-refl, IsPermutation-swap, IsPermutation-trans, length_permutation}
-use Rattle.std.proofs.lemmas.Map.Keys.{IsDistinct-IsPermutation, IsDistinct-from_apart, apart_from_distinct}
-use Rattle.merge_laws.specs.Picked.{picked}
 
 -- ---- indices at the wrong place
 

@@ -1,22 +1,8 @@
 -- Inserting all new items at the indices that searches found, the last item first, gives the union.
-use Rattle.std.proofs.Common.{◌≡◌, suc, ◌+◌, ◌≤◌, arith, true, false, not, cond, List, [], ◌∷◌, ◌++◌, append-nil, take, drop, take-append-drop, Option, Some, None, refl, sym, ap, subst, ◌∙◌, ℕ}
-use Rattle.std.specs.Prelude.{reverse, is_some}
-use Rattle.std.specs.Option.{option_or}
-use Rattle.std.specs.declared.cmp.Ordering.{Ordering}
-use Rattle.std.specs.declared.cmp.Ordering.TheVariants.{Less, Equal, Greater}
-use Rattle.std.specs.Ordering.{is_lt, is_eq}
-use Rattle.std.specs.Cmp.{IsTotalOrder, Equal-is, alike_right}
-use Rattle.std.specs.List.{AllByRecursion}
+use Rattle.merge_laws.proofs.Shared.{◌≡◌, suc, ◌+◌, ◌≤◌, arith, true, false, not, cond, List, [], ◌∷◌, ◌++◌, append-nil, take, drop, take-append-drop, Option, Some, None, refl, sym, ap, subst, ◌∙◌, ℕ, every_append, reverse, is_some, option_or, Ordering, Less, Equal, Greater, is_lt, is_eq, IsTotalOrder, Equal-is, alike_right, AllByRecursion, true≢false, flat_map-append, reverse-append, find-append, IsFirstLeast, inserted, new_item, new_items, index_of, IsRising, item_at, has_key, Below, none_below, none_tied, below_less, same_found, turned_less, turned_greater}
 use Rattle.std.specs.List.Sorted.{IsStrictlySortedBy}
-use mathlib.Core.Bool.{true≢false}
-use Rattle.std.proofs.lemmas.Grind.{flat_map-append}
-use Rattle.std.proofs.lemmas.List.{reverse-append}
-use Rattle.std.proofs.lemmas.List.Folds.{find-append}
-use Rattle.merge_laws.specs.code.Insertions.{IsFirstLeast, inserted, new_item, new_items, index_of}
-use Rattle.merge_laws.specs.Sorted.{IsRising, item_at, has_key}
-use Rattle.merge_laws.specs.code.Items.{Below, none_below, none_tied, below_less, same_found, turned_less, turned_greater}
 use Rattle.merge_laws.proofs.Edits.{index_behind, index_here, not_here, below_rest, rest_rises}
-use Rattle.merge_laws.proofs.Lists.{AllBelow, from_end, all_both, all_front, all_back, or_none, rises_front, rises_back, below_last, rises_around}
+use Rattle.merge_laws.proofs.Lists.{AllBelow, from_end, all_front, all_back, or_none, rises_front, rises_back, below_last, rises_around}
 
 absent_below : {A : Type 0} (a b : Option A) → option_or (option_or a b) None ≡ option_or (option_or a None) (option_or b None)
 absent_below None None = refl
@@ -153,7 +139,7 @@ module _ {K E : Type 0} {R : K → K → Ordering} (key : E → K) (o : IsTotalO
             ∙ (λ n. option_or (sym (parts q (key f) es) n) (sym (find-append (λ e. is_eq (R q (key e))) fs (f ∷ [])) n));
         below = λ k low_es low_fs.
             let each = subst (AllBelow key o k) (sym whole) low_es in
-            all_both (λ e. R (key e) k ≡ Less) out (f ∷ drop i es)
+            every_append (λ e. R (key e) k ≡ Less) out (f ∷ drop i es)
             (taken.below k (all_front (λ e. R (key e) k ≡ Less) (take i es) (drop i es) each) (all_front (λ e. R (key e) k ≡ Less) fs (f ∷ []) low_fs))
             ((all_back (λ e. R (key e) k ≡ Less) fs (f ∷ []) low_fs).0, all_back (λ e. R (key e) k ≡ Less) (take i es) (drop i es) each);
       }

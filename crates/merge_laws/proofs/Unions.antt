@@ -1,16 +1,5 @@
 -- The result of a merge is the union.
-use Rattle.std.proofs.Common.{◌≡◌, ℕ, cond, List, [], ◌∷◌, ◌++◌, length, arith, Option, Some, None, Result, Ok, Err, OnOk, OnErr, refl, sym, ap, subst, ◌∙◌}
-use Rattle.std.specs.Prelude.{reverse}
-use Rattle.std.specs.Option.{option_or}
-use Rattle.std.specs.declared.cmp.Ordering.{Ordering}
-use Rattle.std.specs.declared.cmp.Ordering.TheVariants.{Equal}
-use Rattle.std.specs.Cmp.{IsTotalOrder}
-use Rattle.merge_laws.specs.code.Insertions.{inserted, new_items, new_values, with_values}
-use Rattle.merge_laws.specs.Sorted.{IsRising, IsSet, IsMap, item_at, itself, entry_key}
-use Rattle.merge_laws.specs.Union.{either_or_both, older, merged_entries, set_union, map_union}
-use Rattle.merge_laws.specs.code.Items.{same_items, rises_union, item_at-union}
-use Rattle.merge_laws.specs.code.UnionLaws.{set_closed, map_closed, map_commutes}
-use Rattle.std.proofs.lemmas.Result.{on_ok_weaker}
+use Rattle.merge_laws.proofs.Shared.{◌≡◌, ℕ, cond, List, [], ◌∷◌, ◌++◌, length, arith, Option, Some, None, Result, Ok, Err, OnOk, OnErr, refl, sym, ap, subst, ◌∙◌, reverse, option_or, Ordering, Equal, IsTotalOrder, inserted, new_items, new_values, with_values, IsRising, IsSet, IsMap, item_at, itself, entry_key, either_or_both, older, merged_entries, set_union, map_union, same_items, rises_union, item_at-union, set_closed, map_closed, map_commutes, on_ok_weaker}
 use Rattle.merge_laws.proofs.Rising.{none_rise}
 use Rattle.merge_laws.proofs.Taking.{takes_all}
 use Rattle.merge_laws.proofs.Values.{revalued, IsRevalued, revalues_all}

@@ -1,19 +1,6 @@
 -- Replacing the values at the keys that both maps have.
-use Rattle.std.proofs.Common.{◌≡◌, ℕ, zero, suc, ◌+◌, ◌<◌, true, false, not, cond, List, [], ◌∷◌, ◌++◌, append-nil, length, get_or, set, Option, Some, None, refl, sym, ap, subst, ◌∙◌, arith}
-use Rattle.std.specs.Prelude.{is_some}
-use Rattle.std.specs.Option.{option_or}
-use Rattle.std.specs.declared.cmp.Ordering.{Ordering}
-use Rattle.std.specs.declared.cmp.Ordering.TheVariants.{Less, Equal, Greater}
-use Rattle.std.specs.Ordering.{is_lt, is_eq, ordering_reverse}
-use Rattle.std.specs.Cmp.{IsTotalOrder, Equal-is, tied_back, alike_right}
-use Rattle.std.specs.List.{AllByRecursion}
+use Rattle.merge_laws.proofs.Shared.{◌≡◌, ℕ, zero, suc, ◌+◌, ◌<◌, true, false, not, cond, List, [], ◌∷◌, ◌++◌, append-nil, length, get_or, set, Option, Some, None, refl, sym, ap, subst, ◌∙◌, arith, is_some, option_or, Ordering, Less, Equal, Greater, is_lt, is_eq, ordering_reverse, IsTotalOrder, Equal-is, tied_back, alike_right, AllByRecursion, true≢false, flat_map-append, find-append, new_value, new_values, shared_value, with_value, with_values, index_of, IsRising, item_at, has_key, entry_key, Below, none_below, same_found}
 use Rattle.std.specs.List.Sorted.{IsStrictlySortedBy}
-use mathlib.Core.Bool.{true≢false}
-use Rattle.std.proofs.lemmas.Grind.{flat_map-append}
-use Rattle.std.proofs.lemmas.List.Folds.{find-append}
-use Rattle.merge_laws.specs.code.Insertions.{new_value, new_values, shared_value, with_value, with_values, index_of}
-use Rattle.merge_laws.specs.Sorted.{IsRising, item_at, has_key, entry_key}
-use Rattle.merge_laws.specs.code.Items.{Below, none_below, same_found}
 use Rattle.merge_laws.proofs.Edits.{index_behind, index_here, not_here, below_rest, rest_rises}
 use Rattle.merge_laws.proofs.Lists.{AllBelow, from_end, or_none, rises_front, below_last}
 

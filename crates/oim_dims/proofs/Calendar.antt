@@ -1,20 +1,9 @@
 -- The day numbers of the years 0001 to 9999.
-use Rattle.std.proofs.Common.{◌≡◌, ℕ, ◌<◌, ◌≤◌, refl, sym, ap, ◌∙◌, inl, inr, arith, rules, ℤ, pos, negsuc, neg_ℤ, ◌≤ℤ◌, to_z, w8, w16}
-use Rattle.std.specs.Prelude.{nat_le, int_le, unsigned_abs, ◌&&◌, Bool, true, false, zero, suc, ◌<ℤ◌}
-use Rattle.std.proofs.lemmas.Bool.{cases_lt}
+use Rattle.oim_dims.proofs.Shared.{◌≡◌, ℕ, ◌<◌, ◌≤◌, refl, sym, ap, ◌∙◌, inl, inr, arith, rules, ℤ, pos, negsuc, neg_ℤ, ◌≤ℤ◌, to_z, w8, w16, nat_le, int_le, unsigned_abs, ◌&&◌, Bool, true, false, zero, suc, ◌<ℤ◌, cases_lt, is_in_range, ints, by_lt_z, nat_tests, IsYmd, epoch_day, civil, days_in_month, day_count, days_from_civil, IsCivilDate, IsBetween, day_count-lt_year, day_count-last_of_year, days_in_year_bounds, days_from_civil-day_count, day_count_bounds, day_count-day_of_year, day_count-lt_month, day_count-day, days_in_month_bounds, day_count-epoch, signed_arith, le_to}
 use Rattle.oim_dims.specs.DateTime.{greatest, year_of, month_of, day_of, date_text}
 use Rattle.jiff.specs.Words.{date_text as jiff_date_text}
-use Rattle.std.specs.Int.{is_in_range}
-use Rattle.std.proofs.lemmas.Int.{ints, by_lt_z}
-use Rattle.std.proofs.lemmas.Bool.Decides.{nat_tests}
 use Rattle.jiff_core.specs.declared.civil.date.Date.{Date}
-use Rattle.jiff_core.specs.Date.{IsYmd, epoch_day}
-use Rattle.jiff_core.proofs.DateLemmas.{civil}
-use Rattle.jiff_core.specs.Calendar.{days_in_month, day_count, days_from_civil, IsCivilDate, IsBetween}
 use Rattle.jiff_core.proofs.MarchLemmas.{day_count-early}
-use Rattle.jiff_core.proofs.CalendarLemmas.{day_count-lt_year, day_count-last_of_year, days_in_year_bounds, days_from_civil-day_count, day_count_bounds, day_count-day_of_year, day_count-lt_month, day_count-day, days_in_month_bounds, day_count-epoch}
-use Rattle.jiff_core.proofs.SignedLemmas.{signed_arith}
-use Rattle.oim_value.proofs.Ends.{le_to}
 
 pub first_day : day_count (pos 1) 1 1 ≡ 3_652_791
 first_day = day_count-early (pos 1) 10000 1 1 refl (omega arith) (omega arith) (omega arith)

@@ -1,8 +1,5 @@
 -- Texts that are cut at their first separator.
-use Rattle.std.proofs.Common.{◌≡◌, ℕ, suc, ◌+◌, ◌<◌, Bool, true, false, List, [], ◌∷◌, ◌++◌, length, drop, refl, arith}
-use mathlib.Core.Bool.{◌||◌}
-use Rattle.std.specs.List.{position_or_len, before_first, after_first, list_any}
-use Rattle.std.proofs.Math.Seq.{take-append_seam}
+use Rattle.oim_dims.proofs.Shared.{◌≡◌, ℕ, suc, ◌+◌, ◌<◌, Bool, true, false, List, [], ◌∷◌, ◌++◌, length, drop, refl, arith, ◌||◌, position_or_len, before_first, after_first, list_any, take-append_seam}
 
 pub none_passes : (p : ℕ → Bool) (xs : List ℕ) → position_or_len p xs ≡ length xs → list_any p xs ≡ false
 none_passes p [] h = refl

@@ -1,14 +1,7 @@
 -- Each day of the years 0001 to 9999 has a date.
-use Rattle.std.proofs.Common.{◌≡◌, ℕ, zero, suc, ◌+◌, ◌<◌, ◌≤◌, Bool, true, false, refl, sym, ◌∙◌, inl, inr, arith, ℤ, pos, neg_ℤ, ◌+ℤ◌, ◌≤ℤ◌, ◌<ℤ◌}
-use Rattle.std.specs.Prelude.{int_le}
-use Rattle.std.proofs.lemmas.Bool.{cases_lt, false≢true}
-use Rattle.std.proofs.lemmas.Int.{ints}
-use Rattle.jiff_core.specs.Calendar.{days_from_civil, days_in_month, days_in_year, IsCivilDate, IsBetween}
-use Rattle.jiff_core.proofs.CalendarLemmas.{day_count-next_year, day_count-next_month, day_count-last_of_year, day_count-day, days_in_month_bounds, days_from_civil-day_count, day_count-end}
-use Rattle.jiff_core.proofs.SignedLemmas.{signed_arith}
+use Rattle.oim_dims.proofs.Shared.{◌≡◌, ℕ, zero, suc, ◌+◌, ◌<◌, ◌≤◌, Bool, true, false, refl, sym, ◌∙◌, inl, inr, arith, ℤ, pos, neg_ℤ, ◌+ℤ◌, ◌≤ℤ◌, ◌<ℤ◌, int_le, cases_lt, false≢true, ints, days_from_civil, days_in_month, days_in_year, IsCivilDate, IsBetween, day_count-next_year, day_count-next_month, day_count-last_of_year, day_count-day, days_in_month_bounds, days_from_civil-day_count, day_count-end, signed_arith, le_from, le_to}
 use Rattle.oim_dims.specs.DateTime.{greatest, year_of, month_of, day_of}
 use Rattle.oim_dims.proofs.Calendar.{first_day}
-use Rattle.oim_value.proofs.Ends.{le_from, le_to}
 
 -- g is the greatest number from k to n that passes the test
 record IsGreatest (p : ℕ → Bool) (n k g : ℕ) : Type 0 where

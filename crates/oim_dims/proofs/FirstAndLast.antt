@@ -1,11 +1,5 @@
 -- The first and the last moment.
-use Rattle.std.proofs.Common.{◌≡◌, true, List, ℕ, refl, arith, ℤ, pos, neg_ℤ, ◌+ℤ◌, ◌*ℤ◌}
-use Rattle.std.specs.Prelude.{Some, None, codes, int_le, if◌then◌else◌}
-use Rattle.jiff_core.specs.Calendar.{days_from_civil}
-use Rattle.jiff_core.proofs.CalendarLemmas.{days_from_civil-day_count}
-use Rattle.jiff_core.proofs.DateLemmas.{days_from_civil-max}
-use Rattle.jiff_core.proofs.SignedLemmas.{signed_arith}
-use Rattle.oim_dims.specs.declared.limits.TheConstants.{DAY_SECONDS, LAST_MOMENT}
+use Rattle.oim_dims.proofs.Shared.{◌≡◌, true, List, ℕ, refl, arith, ℤ, pos, neg_ℤ, ◌+ℤ◌, ◌*ℤ◌, Some, None, codes, int_le, if◌then◌else◌, days_from_civil, days_from_civil-day_count, days_from_civil-max, signed_arith, DAY_SECONDS, LAST_MOMENT}
 use Rattle.oim_dims.specs.DateTime.{has_picture, has_date, has_time, day_number, second_of_day, moment_of}
 use Rattle.oim_dims.specs.Limits.{LimitsAre}
 use Rattle.oim_dims.proofs.Calendar.{first_day}

@@ -1,9 +1,5 @@
 -- A search through one list and then another.
-use Rattle.std.proofs.Common.{◌≡◌, List, [], ◌∷◌, ◌++◌, Bool, true, false, ◌||◌, cond, refl, sym, ap, ◌∙◌}
-use Rattle.std.specs.Prelude.{Option, Some, None, is_some, option_map}
-use Rattle.std.specs.Option.{option_or}
-use Rattle.std.specs.List.{find, list_any}
-use Rattle.std.proofs.lemmas.List.Folds.{find-append}
+use Rattle.oim_dims.proofs.Shared.{◌≡◌, List, [], ◌∷◌, ◌++◌, Bool, true, false, ◌||◌, cond, refl, sym, ap, ◌∙◌, Option, Some, None, is_some, option_map, option_or, find, list_any, find-append}
 
 pub some_found : {B : Type 0} (test : B → Bool) (xs : List B) → is_some (find test xs) ≡ list_any test xs
 some_found test [] = refl

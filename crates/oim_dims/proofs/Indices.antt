@@ -1,19 +1,6 @@
 -- The index at which a member is inserted among members in the order of names.
-use Rattle.std.proofs.Common.{◌≡◌, ◌⊎◌, inl, inr, ℕ, zero, suc, ◌<◌, true, false, List, [], ◌∷◌, ◌++◌, length, get_or, take, drop, refl, subst, sym, ap, ◌∙◌, arith}
-use Rattle.std.specs.Prelude.{if◌then◌else◌, Result, Ok, Err, OnOk, OnErr, Contains, IsTrue}
-use Rattle.std.proofs.lemmas.Bool.{and_parts, false_from_ne_true}
-use Rattle.std.specs.List.{insert}
-use Rattle.std.specs.Ordering.{is_lt, is_eq, ordering_reverse}
-use Rattle.std.specs.declared.cmp.Ordering.{Ordering}
-use Rattle.std.specs.declared.cmp.Ordering.TheVariants.{Less, Equal, Greater}
-use Rattle.std.specs.Cmp.{tied_itself}
-use Rattle.std.proofs.Math.Seq.{drop-cons}
-use Rattle.std.proofs.Math.Bool.{or-true}
-use Rattle.oim_names.specs.QName.{QName, exact_name}
-use Rattle.oim_names.specs.contracts.name.NameOrd.TheImpl.Laws.{total-law as name_total}
-use Rattle.oim_dims.specs.declared.member.Member.{Member}
-use Rattle.oim_value.specs.ValueOrder.{name_cmp}
-use Rattle.oim_dims.specs.DimensionSet.{is_below, rises, has_name, with_member, MembersGrow, NamesAreThere}
+use Rattle.oim_dims.proofs.Shared.{◌≡◌, ◌⊎◌, inl, inr, ℕ, zero, suc, ◌<◌, true, false, List, [], ◌∷◌, ◌++◌, length, get_or, take, drop, refl, subst, sym, ap, ◌∙◌, arith, if◌then◌else◌, Result, Ok, Err, OnOk, OnErr, Contains, IsTrue, and_parts, false_from_ne_true, insert, is_lt, is_eq, ordering_reverse, Ordering, Less, Equal, Greater, tied_itself, drop-cons, or-true, QName, exact_name, name_total, Member, name_cmp, is_below, rises, has_name, with_member, MembersGrow, NamesAreThere}
+use Rattle.oim_value.proofs.Members.{first_or_later, later_there}
 
 -- the name belongs at index i or later
 pub record IsPast (n : QName) (es : List (QName × Member)) (i : ℕ) : Type 0 where
@@ -90,27 +77,17 @@ here_at n (e ∷ es) m (suc k) within is = rw (here_at n es m k (omega arith) is
 pub names_are_there : NamesAreThere
 names_are_there n es = (there n es, λ found. here_at n es found.0 found.1.0 found.1.1 found.1.2)
 
-head_or_tail : (e f : QName × Member) (es : List (QName × Member)) → Contains (e ∷ es) f → (e ≡ f) ⊎ Contains es f
-head_or_tail e f es c = at c.0 c.1 c.2
-  where
-    at : (k : ℕ) → k < length (e ∷ es) → get_or (e ∷ es) k f ≡ f → (e ≡ f) ⊎ Contains es f
-    at zero within is = inl is
-    at (suc k) within is = inr (k, omega arith, is)
-
 head_is : (e f : QName × Member) (es : List (QName × Member)) → e ≡ f → Contains (e ∷ es) f
 head_is e f es is = (0, omega arith, is)
 
-tail_has : (e f : QName × Member) (es : List (QName × Member)) → Contains es f → Contains (e ∷ es) f
-tail_has e f es c = (suc c.0, omega (arith, c.1), c.2)
-
 pub old_or_new : (n : QName) (m : Member) (f : QName × Member) (es : List (QName × Member)) → Contains (with_member n m es) f → Contains es f ⊎ (f ≡ (n, m))
-old_or_new n m f [] c = elim (head_or_tail (n, m) f [] c) [ inl is ↦ inr (sym is) | inr none ↦ absurd (omega (arith, none.1)) ]
+old_or_new n m f [] c = elim (first_or_later (n, m) [] f c) [ inl is ↦ inr (sym is) | inr none ↦ absurd (omega (arith, none.1)) ]
 old_or_new n m f (e ∷ es) c =
     elim (is_lt (name_cmp n e.0)) as (λ b. Contains (if b then (n, m) ∷ e ∷ es else e ∷ with_member n m es) f → Contains (e ∷ es) f ⊎ (f ≡ (n, m))) [
-      | true ↦ λ d. elim (head_or_tail (n, m) f (e ∷ es) d) [ inl is ↦ inr (sym is) | inr old ↦ inl old ]
-      | false ↦ λ d. elim (head_or_tail e f (with_member n m es) d) [
+      | true ↦ λ d. elim (first_or_later (n, m) (e ∷ es) f d) [ inl is ↦ inr (sym is) | inr old ↦ inl old ]
+      | false ↦ λ d. elim (first_or_later e (with_member n m es) f d) [
         | inl is ↦ inl (head_is e f es is)
-        | inr more ↦ elim (old_or_new n m f es more) [ inl old ↦ inl (tail_has e f es old) | inr is ↦ inr is ]
+        | inr more ↦ elim (old_or_new n m f es more) [ inl old ↦ inl (later_there e es f old) | inr is ↦ inr is ]
       ]
     ] c
 
@@ -118,8 +95,8 @@ pub old_is_kept : (n : QName) (m : Member) (f : QName × Member) (es : List (QNa
 old_is_kept n m f [] c = absurd (omega (arith, c.1))
 old_is_kept n m f (e ∷ es) c =
     elim (is_lt (name_cmp n e.0)) as (λ b. Contains (if b then (n, m) ∷ e ∷ es else e ∷ with_member n m es) f) [
-      | true ↦ tail_has (n, m) f (e ∷ es) c
-      | false ↦ elim (head_or_tail e f es c) [ inl is ↦ head_is e f (with_member n m es) is | inr old ↦ tail_has e f (with_member n m es) (old_is_kept n m f es old) ]
+      | true ↦ later_there (n, m) (e ∷ es) f c
+      | false ↦ elim (first_or_later e es f c) [ inl is ↦ head_is e f (with_member n m es) is | inr old ↦ later_there e (with_member n m es) f (old_is_kept n m f es old) ]
     ]
 
 pub new_is_there : (n : QName) (m : Member) (es : List (QName × Member)) → Contains (with_member n m es) (n, m)
@@ -127,7 +104,7 @@ new_is_there n m [] = head_is (n, m) (n, m) [] refl
 new_is_there n m (e ∷ es) =
     elim (is_lt (name_cmp n e.0)) as (λ b. Contains (if b then (n, m) ∷ e ∷ es else e ∷ with_member n m es) (n, m)) [
       | true ↦ head_is (n, m) (n, m) (e ∷ es) refl
-      | false ↦ tail_has e (n, m) (with_member n m es) (new_is_there n m es)
+      | false ↦ later_there e (with_member n m es) (n, m) (new_is_there n m es)
     ]
 
 pub members_grow : MembersGrow

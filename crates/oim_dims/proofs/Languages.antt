@@ -1,11 +1,6 @@
 -- A language in lower case is read without a change.
-use Rattle.std.proofs.Common.{◌≡◌, ℕ, suc, Bool, true, false, cond, List, [], ◌∷◌, map, take, refl, sym, ap, ◌∙◌, arith}
-use Rattle.std.specs.List.{list_all, slice_split, onto_first, position_or_len}
-use Rattle.std.specs.Char.{is_ascii_alphabetic, is_ascii_alphanumeric, to_ascii_lowercase}
-use Rattle.std.specs.Str.{str_to_ascii_lowercase}
-use Rattle.std.proofs.lemmas.Bool.Decides.{nat_tests}
-use Rattle.std.proofs.lemmas.List.{length-map}
-use Rattle.oim_dims.specs.Language.{is_hyphen, is_group, is_language, LanguagesAreKept}
+use Rattle.oim_dims.proofs.Shared.{◌≡◌, ℕ, suc, Bool, true, false, cond, List, [], ◌∷◌, map, take, refl, sym, ap, ◌∙◌, arith, list_all, slice_split, onto_first, position_or_len, is_ascii_alphabetic, is_ascii_alphanumeric, to_ascii_lowercase, str_to_ascii_lowercase, nat_tests, length-map, is_hyphen, is_group, is_language, LanguagesAreKept}
+use Rattle.std.proofs.lemmas.Str.Ascii.{lowercase-lowercase}
 
 lower_hyphen : (c : ℕ) → is_hyphen (to_ascii_lowercase c) ≡ is_hyphen c
 lower_hyphen c = grind (arith, nat_tests)
@@ -15,9 +10,6 @@ lower_letter c = grind (arith, nat_tests)
 
 lower_letter_or_digit : (c : ℕ) → is_ascii_alphanumeric (to_ascii_lowercase c) ≡ is_ascii_alphanumeric c
 lower_letter_or_digit c = grind (arith, nat_tests)
-
-lower_twice : (c : ℕ) → to_ascii_lowercase (to_ascii_lowercase c) ≡ to_ascii_lowercase c
-lower_twice c = grind (arith, nat_tests)
 
 lower_all : (p : ℕ → Bool) → ((c : ℕ) → p (to_ascii_lowercase c) ≡ p c) → (xs : List ℕ) → list_all p (str_to_ascii_lowercase xs) ≡ list_all p xs
 lower_all p same [] = refl
@@ -56,7 +48,7 @@ lower_language t = rw (lower_split t, lower_groups (slice_split is_hyphen t), lo
 
 pub lower_again : (t : List ℕ) → str_to_ascii_lowercase (str_to_ascii_lowercase t) ≡ str_to_ascii_lowercase t
 lower_again [] = refl
-lower_again (c ∷ cs) = rw (lower_twice c, lower_again cs) refl
+lower_again (c ∷ cs) = rw (lowercase-lowercase c, lower_again cs) refl
 
 pub language_kept : LanguagesAreKept
 language_kept t h = record { language = lower_language t ∙ h; same = lower_again t }

@@ -1,3 +1,4 @@
+pub mod Shared
 pub mod Picture
 pub mod Calendar
 pub mod DateOfDay

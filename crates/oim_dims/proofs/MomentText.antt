@@ -1,20 +1,9 @@
 -- The text of a moment denotes that moment.
-use Rattle.std.proofs.Common.{◌≡◌, ℕ, ◌+◌, ◌*◌, ◌/◌, ◌%◌, ◌<◌, true, List, ◌∷◌, ◌++◌, refl, arith, ℤ, pos, negsuc, neg_ℤ, ◌+ℤ◌, ◌*ℤ◌}
-use Rattle.std.specs.Prelude.{false, Some, unsigned_abs, nat_le, ◌&&◌}
-use Rattle.std.specs.Int.{int_div_euclid, int_rem_euclid}
-use Rattle.std.proofs.lemmas.Bool.Decides.{nat_tests}
-use Rattle.std.specs.List.{list_any}
-use Rattle.std.specs.Char.{digit_value}
-use Rattle.jiff_core.specs.Calendar.{days_from_civil, IsBetween}
-use Rattle.jiff_core.proofs.CalendarLemmas.{days_in_month_bounds}
-use Rattle.jiff_core.proofs.SignedLemmas.{signed_arith}
-use Rattle.oim_dims.specs.declared.limits.TheConstants.{DAY_SECONDS, LAST_MOMENT}
-use Rattle.oim_dims.specs.Separators.{is_slash}
+use Rattle.oim_dims.proofs.Shared.{◌≡◌, ℕ, ◌+◌, ◌*◌, ◌/◌, ◌%◌, ◌<◌, true, List, ◌∷◌, ◌++◌, refl, arith, ℤ, pos, negsuc, neg_ℤ, ◌+ℤ◌, ◌*ℤ◌, false, Some, unsigned_abs, nat_le, ◌&&◌, int_div_euclid, int_rem_euclid, nat_tests, list_any, digit_value, days_from_civil, IsBetween, days_in_month_bounds, signed_arith, DAY_SECONDS, LAST_MOMENT, is_slash, le_to}
 use Rattle.oim_dims.specs.DateTime.{two_digits, four_digits, has_picture, has_date, has_time, day_number, second_of_day, number, moment_of, moment_text, date_text, time_text, year_of, month_of, day_of, IsMoment}
 use Rattle.oim_dims.proofs.Calendar.{is_real}
 use Rattle.oim_dims.proofs.DateOfDay.{IsDateOf, date_of_day}
 use Rattle.oim_value.proofs.PlainLemmas.{digit_of as is_digit}
-use Rattle.oim_value.proofs.Ends.{le_to}
 
 abbrev spelled : ℕ → ℕ → ℕ → ℕ → ℕ → ℕ → List ℕ
 spelled y m d h n s = four_digits y ++ 45 ∷ two_digits m ++ 45 ∷ two_digits d ++ 84 ∷ two_digits h ++ 58 ∷ two_digits n ++ 58 ∷ two_digits s

@@ -1,19 +1,6 @@
 -- If a text is not refused as a unit, its pieces expand to names that can be measures.
-use Rattle.std.proofs.Common.{◌≡◌, ◌≢◌, ◌⊎◌, inl, inr, ◌∙◌, ℕ, zero, suc, ◌<◌, Bool, true, false, cond, List, [], ◌∷◌, length, drop, get_or, refl, sym, ap, arith}
-use Rattle.std.specs.Prelude.{Option, Some, None, All, IsTrue, not, if◌then◌else◌, ◌&&◌, ◌==◌}
-use Rattle.std.proofs.lemmas.Bool.{and_parts, or_parts, not-true}
-use Rattle.std.proofs.lemmas.Bool.Decides.{nat_tests}
-use Rattle.std.specs.List.{AllZip, list_all, list_any, slice_split, onto_first}
-use Rattle.std.proofs.lemmas.List.Elements.{All-cons}
-use Rattle.oim_names.specs.QName.{QName, is_name, is_part, prefix_part, local_part}
-use Rattle.oim_names.specs.Bindings.{Binding, AreBindings}
+use Rattle.oim_dims.proofs.Shared.{◌≡◌, ◌≢◌, ◌⊎◌, inl, inr, ◌∙◌, ℕ, zero, suc, ◌<◌, Bool, true, false, cond, List, [], ◌∷◌, length, drop, get_or, refl, sym, ap, arith, Option, Some, None, All, IsTrue, not, if◌then◌else◌, ◌&&◌, ◌==◌, and_parts, or_parts, not-true, nat_tests, AllZip, list_all, list_any, slice_split, onto_first, All-cons, QName, is_name, is_part, prefix_part, local_part, Binding, AreBindings, Expands, name_refusal, is_unbound, is_reserved, lacks_form, lacks_binding, lies_in_reserved, Reason, OutOfMemory, NameForm, UnboundPrefix, ReservedNamespace, UnitForm, is_star, is_mark, is_piece, is_unit_text, some_piece, unit_refusal, numerator_pieces, denominator_pieces, IsMeasure, AllZip-long}
 use Rattle.oim_names.proofs.Lookups.{bound_filled}
-use Rattle.oim_names.specs.Expansion.{Expands, name_refusal, is_unbound, is_reserved, lacks_form, lacks_binding, lies_in_reserved}
-use Rattle.oim_names.specs.declared.reason.Reason.{Reason}
-use Rattle.oim_names.specs.declared.reason.Reason.TheVariants.{OutOfMemory, NameForm, UnboundPrefix, ReservedNamespace, UnitForm}
-use Rattle.oim_dims.specs.Separators.{is_star}
-use Rattle.oim_dims.specs.Unit.{is_mark, is_piece, is_unit_text, some_piece, unit_refusal, numerator_pieces, denominator_pieces, IsMeasure}
-use Rattle.std.proofs.lemmas.Slice.Zip.{AllZip-long}
 
 -- the refusal of a name in terms of its three tests
 abbrev first_of_three : Bool → Bool → Bool → Option Reason

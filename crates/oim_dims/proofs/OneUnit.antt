@@ -1,19 +1,6 @@
 -- A text that denotes a unit is not refused, and it denotes only one unit that satisfies `IsUnit`.
-use Rattle.std.proofs.Common.{◌≡◌, ◌≢◌, ◌⊎◌, inl, inr, ℕ, suc, false, List, [], ◌∷◌, refl, subst, sym, ap, ◌∙◌, arith}
-use Rattle.std.specs.Prelude.{Some, None, All}
-use Rattle.std.specs.List.{AllZip, list_any}
-use Rattle.std.specs.List.Sorted.{IsSorted}
-use Rattle.std.specs.Cmp.{tied_itself}
-use Rattle.std.specs.declared.cmp.Ordering.TheVariants.{Less, Equal, Greater}
-use Rattle.std.proofs.lemmas.List.Sorted.{IsPermutation-refl}
-use Rattle.oim_names.specs.QName.{QName, is_name, exact_name}
-use Rattle.oim_names.specs.Bindings.{Binding}
-use Rattle.oim_names.specs.Expansion.{Expands, name_refusal, reserved_uri, lacks_form, lacks_binding, lies_in_reserved}
-use Rattle.oim_names.specs.contracts.name.NameOrd.TheImpl.Laws.{total-law as name_total}
-use Rattle.oim_names.proofs.Bytes.{bytes_not_eq}
+use Rattle.oim_dims.proofs.Shared.{◌≡◌, ◌≢◌, ◌⊎◌, inl, inr, ℕ, suc, false, List, [], ◌∷◌, refl, subst, sym, ap, ◌∙◌, arith, Some, None, All, AllZip, list_any, IsSorted, tied_itself, Less, Equal, Greater, IsPermutation-refl, QName, is_name, exact_name, Binding, Expands, name_refusal, reserved_uri, lacks_form, lacks_binding, lies_in_reserved, name_total, bytes_not_eq, name_cmp, Measures, NamesEach, HasMeasures, unit_refusal, pure_name, pure_alone, numerator_pieces, denominator_pieces, UnitsAreNotRefused, OthersAreRefused, TextsDenoteOneUnit}
 use Rattle.oim_names.proofs.Refusals.{kept_named, names_one}
-use Rattle.oim_value.specs.ValueOrder.{name_cmp}
-use Rattle.oim_dims.specs.Unit.{Measures, NamesEach, HasMeasures, unit_refusal, pure_name, pure_alone, numerator_pieces, denominator_pieces, UnitsAreNotRefused, OthersAreRefused, TextsDenoteOneUnit}
 use Rattle.oim_dims.proofs.Naming.{unit_named}
 use Rattle.oim_dims.proofs.SortedOnce.{sorted_once}
 
@@ -38,7 +25,7 @@ one_unit_of bs t m n a b mu md nu nd =
 alone_sorted : (n : QName) → IsSorted name_cmp (n ∷ [])
 alone_sorted n k d low within = absurd (omega arith)
 
-none_sorted : IsSorted name_cmp []
+pub none_sorted : IsSorted name_cmp []
 none_sorted k d low within = absurd (omega arith)
 
 pub one_unit : TextsDenoteOneUnit

@@ -1,27 +1,17 @@
 -- The derived orders of periods, members, dimension sets and facts equal the orders in the specifications.
-use Rattle.std.proofs.Common.{◌≡◌, refl, subst, ◌∙◌}
-use Rattle.std.specs.Ordering.{nat_cmp, ordering_then}
-use Rattle.std.specs.Option.{option_cmp}
+use Rattle.oim_dims.proofs.Shared.{◌≡◌, refl, subst, ◌∙◌, nat_cmp, ordering_then, option_cmp, IsTotalOrder, Equal, QName, name_cmp, Member, Period, Forever, Instant, Duration, DimensionSet}
 use Rattle.std.specs.Cmp.Lexicographic.{slice_cmp}
-use Rattle.std.specs.Cmp.{IsTotalOrder}
-use Rattle.std.specs.declared.cmp.Ordering.TheVariants.{Equal}
 use Rattle.oim_dims.specs.contracts.dimensions.DimensionsOrd.TheImpl.Laws.{total-law as dimensions_total}
 use Rattle.oim_dims.specs.contracts.dimensions.DimensionsKey.TheImpl.Laws.{exact-law as exact_dimensions}
 use Rattle.oim_dims.specs.contracts.fact.FactOrd.TheImpl.Laws.{total-law as facts_total}
 use Rattle.oim_dims.specs.contracts.fact.FactKey.TheImpl.Laws.{exact-law as exact_fact}
-use Rattle.oim_names.specs.QName.{QName}
-use Rattle.oim_value.specs.ValueOrder.{name_cmp}
 use Rattle.oim_value.proofs.ValueOrders.{values_agree}
 use Rattle.oim_dims.specs.contracts.fact.FactOrd.TheImpl.{cmp-value as derived_fact}
 use Rattle.oim_dims.specs.declared.fact.Fact.{Fact}
 use Rattle.oim_dims.specs.contracts.dimensions.DimensionsOrd.TheImpl.{cmp-value as derived_dimensions}
 use Rattle.oim_dims.specs.contracts.member.MemberOrd.TheImpl.{cmp-value as derived_member}
 use Rattle.oim_dims.specs.contracts.period.PeriodOrd.TheImpl.{cmp-value as derived_period}
-use Rattle.oim_dims.specs.declared.member.Member.{Member}
 use Rattle.oim_dims.specs.declared.member.Member.TheVariants.{Nil, Text as AText, Name as AName}
-use Rattle.oim_dims.specs.declared.period.Period.{Period}
-use Rattle.oim_dims.specs.declared.period.Period.TheVariants.{Forever, Instant, Duration}
-use Rattle.oim_dims.specs.DimensionSet.{DimensionSet}
 use Rattle.oim_dims.specs.FactOrder.{period_cmp, unit_cmp, member_cmp, dimensions_cmp, fact_cmp}
 
 periods_agree : (p q : Period) → derived_period.it p q ≡ period_cmp p q

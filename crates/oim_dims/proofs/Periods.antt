@@ -1,14 +1,5 @@
 -- Texts of periods.
-use Rattle.std.proofs.Common.{◌≡◌, ℕ, true, false, List, ◌∷◌, ◌++◌, length, refl, sym, subst, arith, ℤ, ◌<ℤ◌}
-use Rattle.std.specs.Prelude.{Option, Some, Ok, int_lt, IfSome}
-use Rattle.std.specs.List.{position_or_len, list_any}
-use Rattle.std.proofs.lemmas.List.{take_all}
-use Rattle.std.proofs.lemmas.Int.{ints}
-use Rattle.oim_dims.specs.declared.period.Period.{Period}
-use Rattle.oim_dims.specs.declared.period.Period.TheVariants.{Forever, Instant, Duration}
-use Rattle.oim_dims.specs.DateTime.{moment_of, moment_text, IsMoment}
-use Rattle.oim_dims.specs.Separators.{is_slash}
-use Rattle.oim_dims.specs.Period.{start_part, period_of, period_text, HasMoments, EndsAfterStart, PeriodsReadBack}
+use Rattle.oim_dims.proofs.Shared.{◌≡◌, ℕ, true, false, List, ◌∷◌, ◌++◌, length, refl, sym, subst, arith, ℤ, ◌<ℤ◌, Option, Some, Ok, int_lt, IfSome, position_or_len, list_any, take_all, ints, Period, Forever, Instant, Duration, moment_of, moment_text, IsMoment, is_slash, start_part, period_of, period_text, HasMoments, EndsAfterStart, PeriodsReadBack}
 use Rattle.oim_dims.proofs.Cuts.{none_passes, no_index, cut}
 use Rattle.oim_dims.proofs.MomentText.{moment_back, moment_has_no}
 

@@ -1,13 +1,5 @@
 -- The form of a date-time, and the digits of its parts.
-use Rattle.std.proofs.Common.{◌≡◌, ℕ, zero, suc, ◌+◌, ◌-◌, ◌<◌, true, false, List, [], ◌∷◌, length, get_or, take, drop, refl, sym, ◌∙◌, add-one, arith}
-use Rattle.std.specs.Prelude.{◌==◌, slice_range}
-use Rattle.std.proofs.lemmas.Bool.{and_parts}
-use mathlib.Core.Bool.{◌&&◌}
-use Rattle.std.proofs.lemmas.Bool.Decides.{nat_tests}
-use Rattle.std.specs.Char.{is_ascii_digit}
-use Rattle.std.specs.List.{list_all, zip}
-use Rattle.std.proofs.Math.Seq.{drop-cons}
-use Rattle.std.proofs.Math.Bool.{and-false}
+use Rattle.oim_dims.proofs.Shared.{◌≡◌, ℕ, zero, suc, ◌+◌, ◌-◌, ◌<◌, true, false, List, [], ◌∷◌, length, get_or, take, drop, refl, sym, ◌∙◌, add-one, arith, ◌==◌, slice_range, and_parts, ◌&&◌, nat_tests, is_ascii_digit, list_all, zip, drop-cons, and-false}
 use Rattle.oim_dims.specs.DateTime.{matches_picture, picture, has_picture}
 
 digit_there : (sign c : ℕ) → matches_picture (sign, c) ≡ true → (sign == 48) ≡ true → is_ascii_digit c ≡ true

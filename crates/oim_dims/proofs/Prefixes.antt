@@ -1,11 +1,5 @@
 -- The prefix that is found for a URI is bound to that URI.
-use Rattle.std.proofs.Common.{◌≡◌, ◌≢◌, ℕ, suc, true, false, cond, List, [], ◌∷◌, refl, sym, ap, ◌∙◌, arith}
-use Rattle.std.specs.Prelude.{Some, All, AllPairs}
-use Rattle.std.specs.Option.{option_map}
-use Rattle.std.specs.List.{find}
-use Rattle.std.specs.Str.{bytes_eq}
-use Rattle.oim_names.specs.Bindings.{Binding, uri_of, prefix_of}
-use Rattle.oim_names.proofs.Bytes.{same_bytes, bytes_eq-refl, bytes_not_eq}
+use Rattle.oim_dims.proofs.Shared.{◌≡◌, ◌≢◌, ℕ, suc, true, false, cond, List, [], ◌∷◌, refl, sym, ap, ◌∙◌, arith, Some, All, AllPairs, option_map, find, bytes_eq, Binding, uri_of, prefix_of, same_bytes, bytes_eq-refl, bytes_not_eq}
 
 differs : (bs : List Binding) (p u k : List ℕ) → uri_of bs p ≡ Some u → All (λ b. k ≢ b.prefix) bs → k ≢ p
 differs [] p u k e each = absurd (cc)

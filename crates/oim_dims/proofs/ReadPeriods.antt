@@ -1,25 +1,8 @@
 -- The moments of a period that was read are in range, and a duration ends after its start.
-use Rattle.std.proofs.Common.{◌≡◌, ℕ, ◌<◌, ◌≤◌, true, false, List, length, refl, subst, arith, ℤ, pos, neg_ℤ, ◌<ℤ◌}
-use Rattle.std.specs.Prelude.{Option, Some, Result, Ok, Err, nat_le, int_le, int_lt, ◌&&◌, if◌then◌else◌, slice_range}
-use Rattle.std.proofs.lemmas.Bool.{and_parts, leb-true}
-use Rattle.std.specs.Int.{is_in_range}
-use Rattle.std.specs.Ordering.{int_eq}
-use Rattle.std.proofs.lemmas.Int.{ints}
-use Rattle.std.proofs.lemmas.List.{length-take-le}
-use Rattle.jiff_core.specs.Calendar.{IsBetween, IsCivilDate, days_in_month}
-use Rattle.jiff_core.proofs.SignedLemmas.{signed_arith}
-use Rattle.oim_names.specs.declared.reason.Reason.{Reason}
-use Rattle.oim_names.specs.declared.reason.Reason.TheVariants.{PeriodOrder}
-use Rattle.oim_dims.specs.declared.period.Period.{Period}
-use Rattle.oim_dims.specs.declared.period.Period.TheVariants.{Instant, Duration}
-use Rattle.oim_dims.specs.declared.limits.TheConstants.{LAST_MOMENT}
+use Rattle.oim_dims.proofs.Shared.{◌≡◌, ℕ, ◌<◌, ◌≤◌, true, false, List, length, refl, subst, arith, ℤ, pos, neg_ℤ, ◌<ℤ◌, Option, Some, Result, Ok, Err, nat_le, int_le, int_lt, ◌&&◌, if◌then◌else◌, slice_range, and_parts, leb-true, is_in_range, int_eq, ints, length-take-le, IsBetween, IsCivilDate, days_in_month, signed_arith, Reason, PeriodOrder, Period, Instant, Duration, LAST_MOMENT, from_to, start_part, end_part, IsPeriod, ReadPeriodsArePeriods, after_lt, cond_some, le_from}
 use Rattle.oim_dims.specs.DateTime.{has_picture, has_date, has_time, day_number, second_at, moment_of, year, month, day, is_date_time, IsMoment}
-use Rattle.oim_dims.specs.Period.{from_to, start_part, end_part, IsPeriod, ReadPeriodsArePeriods}
 use Rattle.oim_dims.proofs.Calendar.{day_range}
-use Rattle.oim_value.proofs.Numerals.{after_lt}
 use Rattle.oim_dims.proofs.Picture.{pictured_length, pictured_digits}
-use Rattle.std.proofs.lemmas.Option.{cond_some}
-use Rattle.oim_value.proofs.Ends.{le_from}
 
 real_is : (y m d : ℕ) → y < 10_000 → (nat_le 1 y && is_in_range 1 12 m && is_in_range 1 (days_in_month (pos y) m) d) ≡ true → (1 ≤ y) × IsCivilDate (pos y) m d
 real_is y m d few h =

@@ -1,22 +1,8 @@
 -- Names ascend exactly if the members are sorted and no name is repeated.
-use Rattle.std.proofs.Common.{◌≡◌, ℕ, suc, ◌+◌, ◌<◌, Bool, true, false, List, [], ◌∷◌, length, get_or, drop, add-one, refl, sym, ap, ◌∙◌, arith}
-use Rattle.std.specs.Prelude.{◌&&◌, IsPermutation}
+use Rattle.oim_dims.proofs.Shared.{◌≡◌, ℕ, suc, ◌+◌, ◌<◌, Bool, true, false, List, [], ◌∷◌, length, get_or, drop, add-one, refl, sym, ap, ◌∙◌, arith, ◌&&◌, IsPermutation, IsSorted, is_lt, is_eq, ordering_then, ordering_reverse, Ordering, Less, Equal, Greater, drop-cons, and_parts, or_parts, or_from, IsPermutation-sym, and-false, QName, name_total, Member, name_cmp, is_below, rises, repeats, has_name}
 use Rattle.std.specs.List.{IsDistinct, AllByRecursion}
-use Rattle.std.specs.List.Sorted.{IsSorted}
-use Rattle.std.specs.Ordering.{is_lt, is_eq, ordering_then, ordering_reverse}
-use Rattle.std.specs.declared.cmp.Ordering.{Ordering}
-use Rattle.std.specs.declared.cmp.Ordering.TheVariants.{Less, Equal, Greater}
-use Rattle.std.proofs.Math.Seq.{drop-cons}
-use Rattle.std.proofs.lemmas.Bool.{and_parts, or_parts, or_from}
-use Rattle.std.proofs.lemmas.List.Sorted.{IsPermutation-sym}
 use Rattle.std.proofs.lemmas.Map.Keys.{IsDistinct-IsPermutation}
-use Rattle.std.proofs.Math.Bool.{and-false}
-use Rattle.oim_names.specs.QName.{QName}
-use Rattle.oim_names.specs.contracts.name.NameOrd.TheImpl.Laws.{total-law as name_total}
 use Rattle.oim_dims.specs.contracts.member.MemberOrd.TheImpl.{cmp-value as derived_member}
-use Rattle.oim_dims.specs.declared.member.Member.{Member}
-use Rattle.oim_value.specs.ValueOrder.{name_cmp}
-use Rattle.oim_dims.specs.DimensionSet.{is_below, rises, repeats, has_name}
 use Rattle.oim_dims.proofs.Indices.{below_all, less_is}
 use Rattle.oim_dims.proofs.SortedOnce.{sorted_rest}
 

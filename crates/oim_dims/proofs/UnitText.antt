@@ -1,25 +1,12 @@
 -- The text of a unit denotes that unit.
-use Rattle.std.proofs.Common.{◌≡◌, ◌≢◌, ℕ, ◌<◌, Bool, true, false, List, [], ◌∷◌, ◌++◌, length, length-append, map, refl, sym, ap, ◌∙◌, arith}
-use Rattle.std.specs.Prelude.{Some, None, All, not, ◌==◌, if◌then◌else◌}
-use Rattle.std.proofs.lemmas.Bool.{and_parts, not-true, eqb-true}
-use Rattle.std.specs.Option.{option_map_or, unwrap_or}
-use Rattle.std.specs.List.{AllZip, list_all, list_any, slice_split, join_with_byte}
-use Rattle.std.proofs.lemmas.Bool.Decides.{nat_tests}
+use Rattle.oim_dims.proofs.Shared.{◌≡◌, ◌≢◌, ℕ, ◌<◌, Bool, true, false, List, [], ◌∷◌, ◌++◌, length, length-append, map, refl, sym, ap, ◌∙◌, arith, Some, None, All, not, ◌==◌, if◌then◌else◌, and_parts, not-true, eqb-true, option_map_or, unwrap_or, AllZip, list_all, list_any, slice_split, join_with_byte, nat_tests, list_any-append, All-cons, All-tail, QName, Binding, AreBindings, prefix_of, Expands, is_slash, is_star, IsPermutation-refl, nil_from_length}
 use Rattle.std.proofs.lemmas.List.Splits.{slice_split_at, slice_split_none}
-use Rattle.std.proofs.lemmas.List.Folds.{list_any-append}
-use Rattle.std.proofs.lemmas.List.Elements.{All-cons, All-tail}
-use Rattle.oim_names.specs.QName.{QName}
-use Rattle.oim_names.specs.Bindings.{Binding, AreBindings, prefix_of}
-use Rattle.oim_names.specs.Expansion.{Expands}
 use Rattle.oim_names.proofs.Spelling.{spelled_back}
-use Rattle.oim_dims.specs.Separators.{is_slash, is_star}
 use Rattle.oim_dims.specs.Unit.{is_mark, inner, side_pieces, is_piece, numerator_pieces, denominator_pieces, is_writable, measure_text, product_text, side_text, unit_text, Measures, IsMeasure, IsUnit, NamesEach, HasMeasures, UnitOf, Spells, SpellsEach, BindingsSpell, UnitsReadBack}
-use Rattle.std.proofs.lemmas.List.Sorted.{IsPermutation-refl}
 use Rattle.oim_dims.proofs.OneUnit.{not_refused, one_unit}
 use Rattle.oim_dims.proofs.Prefixes.{bound_back}
 use Rattle.oim_dims.proofs.Sides.{unopened, closed, one_side}
 use Rattle.oim_dims.proofs.Cuts.{cut, no_index}
-use Rattle.std.proofs.lemmas.List.{nil_from_length}
 
 plain_piece : (t : List ℕ) → is_piece t ≡ true → list_any is_mark t ≡ false
 plain_piece t h = not-true (list_any is_mark t) (and_parts (not (length t == 0)) (not (list_any is_mark t)) h).1

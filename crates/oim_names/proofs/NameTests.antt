@@ -1,14 +1,6 @@
 -- A name or an entity is refused for a reason exactly if the test for that reason holds.
-use Rattle.std.proofs.Common.{◌≡◌, ℕ, List, Bool, true, false, not, ◌&&◌, refl}
-use Rattle.std.specs.Prelude.{Option, Some, None, is_none, if◌then◌else◌}
-use Rattle.std.specs.Option.{option_eq, option_map_or}
-use Rattle.std.specs.Str.{bytes_eq}
-use Rattle.oim_names.specs.QName.{prefix_part}
-use Rattle.oim_names.specs.Bindings.{Binding, uri_of}
-use Rattle.oim_names.specs.Expansion.{prefix_refusal, refusal_as, refuses, reserved_uri, Spelled}
+use Rattle.oim_names.proofs.Shared.{◌≡◌, ℕ, List, Bool, true, false, not, ◌&&◌, refl, Option, Some, None, is_none, if◌then◌else◌, option_eq, option_map_or, bytes_eq, prefix_part, Binding, uri_of, prefix_refusal, refusal_as, refuses, reserved_uri, Spelled, Reason, NameForm, UnboundPrefix, ReservedNamespace}
 use Rattle.oim_names.specs.contracts.reason.ReasonPartialEq.TheImpl.{eq-value as same_reason}
-use Rattle.oim_names.specs.declared.reason.Reason.{Reason}
-use Rattle.oim_names.specs.declared.reason.Reason.TheVariants.{NameForm, UnboundPrefix, ReservedNamespace}
 
 -- whether a text is refused for this reason; `form`: the text has the form; `uri`: the URI that its prefix is bound to, if any
 abbrev refuses_so : Reason → Bool → Option (List ℕ) → Bool

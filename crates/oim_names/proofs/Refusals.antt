@@ -1,13 +1,5 @@
 -- A text is refused exactly if it does not expand to a name. The refusal is the reason whose test holds.
-use Rattle.std.proofs.Common.{◌≡◌, ◌≢◌, ◌↔◌, ℕ, List, Bool, true, false, refl, sym, ◌∙◌, ap}
-use Rattle.std.specs.Prelude.{Option, Some, None, is_none, IsTrue, not, ◌&&◌, if◌then◌else◌}
-use Rattle.std.specs.Option.{option_map_or}
-use Rattle.std.specs.Str.{bytes_eq}
-use Rattle.oim_names.specs.QName.{QName, prefix_part, local_part}
-use Rattle.oim_names.specs.Bindings.{Binding, uri_of}
-use Rattle.oim_names.specs.Expansion.{ExpandsAs, reserved_uri, refusal_as, NamesUnlessRefused, NamesOne, FormIsTested, PrefixIsTested, NamespaceIsTested}
-use Rattle.oim_names.specs.declared.reason.Reason.{Reason}
-use Rattle.oim_names.specs.declared.reason.Reason.TheVariants.{NameForm, UnboundPrefix, ReservedNamespace}
+use Rattle.oim_names.proofs.Shared.{◌≡◌, ◌≢◌, ◌↔◌, ℕ, List, Bool, true, false, refl, sym, ◌∙◌, ap, Option, Some, None, is_none, IsTrue, not, ◌&&◌, if◌then◌else◌, option_map_or, bytes_eq, QName, prefix_part, local_part, Binding, uri_of, ExpandsAs, reserved_uri, refusal_as, NamesUnlessRefused, NamesOne, FormIsTested, PrefixIsTested, NamespaceIsTested, Reason, NameForm, UnboundPrefix, ReservedNamespace}
 use Rattle.oim_names.proofs.Bytes.{other_bytes, bytes_not_eq}
 
 -- the refusal in terms of three tests: the text has the form, the prefix is not bound, the URI is reserved

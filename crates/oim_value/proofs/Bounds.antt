@@ -1,13 +1,7 @@
 -- The ends of a short number's interval are bounded.
-use Rattle.std.proofs.Common.{ℕ, ◌+◌, ◌-◌, ◌^◌, ◌<◌, ◌≤◌, arith}
-use Rattle.std.specs.Prelude.{ℤ, pos, neg_ℤ, ◌-ℤ◌, ◌+ℤ◌, unsigned_abs, Option, Some, None}
-use Rattle.std.proofs.Math.Nat.{mul-le-mul_left}
-use Rattle.std.proofs.lemmas.Bool.{leb-true}
-use Rattle.std.proofs.lemmas.Int.{ints}
-use Rattle.oim_value.specs.declared.limits.TheConstants.{MOST_DECIMALS, MOST_DIGITS, UNIT_PLACES}
+use Rattle.oim_value.proofs.Shared.{ℕ, ◌+◌, ◌-◌, ◌^◌, ◌<◌, ◌≤◌, arith, ℤ, pos, neg_ℤ, ◌-ℤ◌, ◌+ℤ◌, unsigned_abs, Option, Some, None, mul-le-mul_left, leb-true, ints, MOST_DECIMALS, MOST_DIGITS, UNIT_PLACES, half_width, half_zeros}
 use Rattle.oim_value.specs.Bounds.{IntervalEndsAreBounded}
 use Rattle.oim_value.specs.Decimals.{AreDecimals}
-use Rattle.oim_value.specs.Interval.{half_width, half_zeros}
 use Rattle.oim_value.proofs.Intervals.{near_from, near_is}
 use Rattle.oim_value.proofs.Units.{ten_to, short_bound}
 

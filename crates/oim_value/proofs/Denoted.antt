@@ -1,16 +1,9 @@
 -- A text that is accepted as a number denotes exactly the units in `units_of`.
-use Rattle.std.proofs.Common.{◌≡◌, ℕ, zero, suc, ◌+◌, ◌-◌, ◌*◌, ◌/◌, ◌^◌, ◌<◌, ◌≤◌, List, ◌++◌, length, Bool, true, false, refl, sym, ap, subst, ◌∙◌, Some, None, arith}
-use Rattle.std.specs.Prelude.{not, if◌then◌else◌, ℤ, pos, negsuc, ◌*ℤ◌, unsigned_abs, IsTrue}
-use Rattle.std.proofs.lemmas.Bool.Decides.{nat_tests}
+use Rattle.oim_value.proofs.Shared.{◌≡◌, ℕ, zero, suc, ◌+◌, ◌-◌, ◌*◌, ◌/◌, ◌^◌, ◌<◌, ◌≤◌, List, ◌++◌, length, Bool, true, false, refl, sym, ap, subst, ◌∙◌, Some, None, arith, not, if◌then◌else◌, ℤ, pos, negsuc, ◌*ℤ◌, unsigned_abs, IsTrue, nat_tests, mul-div_cancel, mul-le-mul_left, digits_value, digits_value_after, MOST_DIGITS, UNIT_PLACES, signed, is_negative, integer_part, both_parts, fraction_part, without_leading, without_trailing, is_number, is_short, Denotes, unsigned_abs-mul}
 use Rattle.std.proofs.Math.IntN.{neg_ℤ}
-use Rattle.std.proofs.Math.Nat.{mul-div_cancel, mul-le-mul_left}
-use Rattle.std.specs.Str.Parse.{digits_value, digits_value_after}
 use Rattle.oim_names.specs.declared.reason.Reason.TheVariants.{NumberForm, NumberDigits}
-use Rattle.oim_value.specs.declared.limits.TheConstants.{MOST_DIGITS, UNIT_PLACES}
-use Rattle.oim_value.specs.Number.{signed, is_negative, integer_part, both_parts, fraction_part, without_leading, without_trailing, is_number, is_short, Denotes}
 use Rattle.oim_value.specs.Units.{units_of, ShortNumbersDenote}
 use Rattle.oim_value.proofs.Units.{unsigned_abs-signed, denotes_from}
-use Rattle.std.proofs.lemmas.Int.{unsigned_abs-mul}
 use Rattle.oim_value.proofs.Fractions.{ten_some}
 
 pub product_positive : (a p : ℕ) → 0 < p → 0 < suc a * p

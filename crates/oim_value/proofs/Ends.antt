@@ -1,15 +1,6 @@
 -- The ends of several intervals.
-use Rattle.std.proofs.Common.{◌≡◌, ℕ, zero, suc, ◌<◌, true, false, cond, List, [], ◌∷◌, length, get_or, refl, sym, ap, subst, ◌∙◌, arith, inl, inr}
-use Rattle.std.specs.Prelude.{◌⊎◌, ℤ, ◌≤ℤ◌, int_le, int_lt}
-use Rattle.std.specs.Int.{int_max, int_min}
-use Rattle.std.specs.List.{All, Any}
-use Rattle.std.proofs.lemmas.Bool.{cases_lt, and_parts, and_from}
-use Rattle.std.proofs.lemmas.Int.{ints, clamps}
-use Rattle.std.proofs.lemmas.List.{get_or_default}
-use Rattle.std.proofs.lemmas.List.Elements.{All-cons, All-nil, All-weaker}
-use Rattle.oim_value.specs.Interval.{HasPoints, IsWithin, common_part}
-use Rattle.oim_value.specs.declared.interval.Interval.{Interval}
-use Rattle.oim_value.specs.Ends.{AreEnds, EachTwoMeet, AllMeetIffEndsMeet, EndsExist, EndsAreOne, WithinEndsIsWithinEach, EndsAreCommonInterval}
+use Rattle.oim_value.proofs.Shared.{◌≡◌, ℕ, ◌<◌, true, false, cond, List, [], ◌∷◌, length, get_or, refl, sym, ap, subst, ◌∙◌, arith, inl, inr, ◌⊎◌, ℤ, ◌≤ℤ◌, int_le, int_lt, int_max, int_min, All, Any, cases_lt, and_parts, and_from, ints, clamps, get_or_default, All-cons, All-nil, All-weaker, HasPoints, IsWithin, common_part, Interval, AreEnds, EachTwoMeet, AllMeetIffEndsMeet, EndsExist, EndsAreOne, WithinEndsIsWithinEach, EndsAreCommonInterval}
+use Rattle.oim_value.proofs.Members.{some_first, some_later}
 
 -- ---- every two intervals meet
 
@@ -50,24 +41,18 @@ all_meet_iff_ends_meet is e points ends = (
 
 -- ---- the ends exist
 
-pub later : {A : Type 0} (P : A → Type 0) (x : A) (xs : List A) → Any P xs → Any P (x ∷ xs)
-later P x xs a = (suc a.0, a.1, omega (arith, a.2), a.3, a.4)
-
-pub now : {A : Type 0} (P : A → Type 0) (x : A) (xs : List A) → P x → Any P (x ∷ xs)
-now P x xs p = (zero, x, omega arith, refl, p)
-
 pub ends_of_one : (i : Interval) → AreEnds i (i ∷ [])
 ends_of_one i = record {
-  low_reached = now (λ j. j.low ≡ i.low) i [] refl;
+  low_reached = some_first (λ j. j.low ≡ i.low) i [] refl;
   low_greatest = All-cons (λ j. j.low ≤ℤ i.low) i [] (omega (arith, ints)) (All-nil (λ j. j.low ≤ℤ i.low));
-  high_reached = now (λ j. j.high ≡ i.high) i [] refl;
+  high_reached = some_first (λ j. j.high ≡ i.high) i [] refl;
   high_least = All-cons (λ j. i.high ≤ℤ j.high) i [] (omega (arith, ints)) (All-nil (λ j. i.high ≤ℤ j.high));
 }
 
 reached : (f : Interval → ℤ) (i : Interval) (is : List Interval) (z w : ℤ) → (z ≡ f i) ⊎ (z ≡ w) → Any (λ j. f j ≡ w) is → Any (λ j. f j ≡ z) (i ∷ is)
 reached f i is z w one there = elim one [
-  | inl e ↦ now (λ j. f j ≡ z) i is (sym e)
-  | inr e ↦ later (λ j. f j ≡ z) i is (there.0, there.1, there.2, there.3, there.4 ∙ sym e)
+  | inl e ↦ some_first (λ j. f j ≡ z) i is (sym e)
+  | inr e ↦ some_later (λ j. f j ≡ z) i is (there.0, there.1, there.2, there.3, there.4 ∙ sym e)
 ]
 
 which_max : (x y : ℤ) → (int_max x y ≡ x) ⊎ (int_max x y ≡ y)
@@ -91,7 +76,7 @@ ends_exist (i ∷ j ∷ is) some = let rest = ends_exist (j ∷ is) (omega arith
 
 -- ---- the ends are unique
 
-one_number : {x y : ℤ} → x ≤ℤ y → y ≤ℤ x → x ≡ y
+pub one_number : {x y : ℤ} → x ≤ℤ y → y ≤ℤ x → x ≡ y
 one_number p q = omega (arith, ints, p, q)
 
 one_interval : (d e : Interval) → d.low ≡ e.low → d.high ≡ e.high → d ≡ e

@@ -1,13 +1,6 @@
 -- Fractions of equal value have the same digits, apart from trailing zeros.
-use Rattle.std.proofs.Common.{◌≡◌, ℕ, zero, suc, ◌+◌, ◌*◌, ◌^◌, ◌<◌, ◌≤◌, true, List, [], ◌∷◌, ◌++◌, length, refl, sym, ap, ◌∙◌, arith}
-use Rattle.std.proofs.Math.Nat.{pow-suc, pow-le-pow_right, mul-le-mul_left}
-use Rattle.std.proofs.lemmas.Nat.{same_from_place}
-use Rattle.std.specs.Char.{digit_value, is_ascii_digit}
-use Rattle.std.specs.List.{list_all}
-use Rattle.std.specs.Str.Parse.{digits_value_after}
-use Rattle.oim_value.specs.Number.{onto_digit, without_trailing}
+use Rattle.oim_value.proofs.Shared.{◌≡◌, ℕ, zero, suc, ◌+◌, ◌*◌, ◌^◌, ◌<◌, ◌≤◌, true, List, [], ◌∷◌, ◌++◌, length, refl, sym, ap, ◌∙◌, arith, pow-suc, pow-le-pow_right, mul-le-mul_left, same_from_place, digit_value, is_ascii_digit, list_all, digits_value_after, onto_digit, without_trailing, and_parts}
 use Rattle.oim_value.proofs.Numerals.{after_append, after_lt, digit_is}
-use Rattle.std.proofs.lemmas.Bool.{and_parts}
 
 step_after : (v w n d p q : ℕ) → v ≡ (n * 10 + d) * p + w → q ≡ p * 10 → v ≡ n * q + (d * p + w)
 step_after v w n d p q h e = rw (h, e) (grind arith)

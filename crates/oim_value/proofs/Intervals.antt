@@ -1,13 +1,5 @@
 -- Laws of rounding intervals.
-use Rattle.std.proofs.Common.{◌≡◌, ℕ, ◌+◌, ◌-◌, ◌*◌, ◌^◌, ◌≤◌, ap, sym, ◌∙◌, arith}
-use Rattle.std.specs.Prelude.{ℤ, pos, negsuc, neg_ℤ, ◌-ℤ◌, ◌≤ℤ◌, int_le, unsigned_abs, IsTrue}
-use Rattle.std.specs.Int.{int_max, int_min}
-use Rattle.std.proofs.lemmas.Int.{ints, clamps}
-use Rattle.std.proofs.lemmas.Nat.{pow-add}
-use Rattle.oim_value.specs.declared.interval.Interval.{Interval}
-use Rattle.oim_value.specs.declared.limits.TheConstants.{UNIT_PLACES}
-use Rattle.oim_value.specs.Interval.{half_width, half_zeros, intervals_meet, HalfAfterPoint, HalfBeforePoint, IntervalHasNumber, IntervalHasPoints, WithinIsNear, CommonIsAssociative, CommonIsCommutative, CommonIsIdempotent, CommonIsBoth, MeetsByCommonPoint, MeetsByCommonPart}
-use Rattle.std.proofs.lemmas.Bool.{and_parts}
+use Rattle.oim_value.proofs.Shared.{◌≡◌, ℕ, ◌+◌, ◌-◌, ◌*◌, ◌^◌, ◌≤◌, ap, sym, ◌∙◌, arith, ℤ, pos, negsuc, neg_ℤ, ◌-ℤ◌, ◌≤ℤ◌, int_le, unsigned_abs, IsTrue, int_max, int_min, ints, clamps, pow-add, Interval, UNIT_PLACES, half_width, half_zeros, intervals_meet, HalfAfterPoint, HalfBeforePoint, IntervalHasNumber, IntervalHasPoints, WithinIsNear, CommonIsAssociative, CommonIsCommutative, CommonIsIdempotent, CommonIsBoth, MeetsByCommonPoint, MeetsByCommonPart, and_parts}
 use Rattle.oim_value.proofs.Ends.{le_from, le_to}
 
 -- ---- half a place
@@ -124,9 +116,6 @@ max_at_most_min a b c d p q r s = min_above b d (int_max a c) (max_below a c b p
 through : (x y z : ℤ) → x ≤ℤ y → y ≤ℤ z → x ≤ℤ z
 through x y z p q = omega (arith, ints)
 
-self_le : (x : ℤ) → x ≤ℤ x
-self_le x = omega (arith, ints)
-
 pub meets_by_common_part : MeetsByCommonPart
 meets_by_common_part a b pa pb = (
   λ h. let m = meet_is a b h in max_at_most_min a.low a.high b.low b.high pa pb m.0 m.1,
@@ -140,7 +129,7 @@ meets_by_common_part a b pa pb = (
 pub meets_by_common_point : MeetsByCommonPoint
 meets_by_common_point a b pa pb = (
   λ h.
-      let both = (common_is_both (int_max a.low b.low) a b).0 (record { above = self_le (int_max a.low b.low); below = (meets_by_common_part a b pa pb).0 h }) in
+      let both = (common_is_both (int_max a.low b.low) a b).0 (record { above = omega (arith, ints); below = (meets_by_common_part a b pa pb).0 h }) in
       (int_max a.low b.low, record { first = both.0; second = both.1 }),
   λ (z, p). meet_from a b (through a.low z b.high p.first.above p.second.below) (through b.low z a.high p.second.above p.first.below),
 )

@@ -1,8 +1,10 @@
+pub mod Shared
 pub mod Decimal
 pub mod Fractions
 pub mod Ends
 pub mod Intervals
 pub mod Meeting
+pub mod Members
 pub mod Numerals
 pub mod PlainLaws
 pub mod PlainLemmas

@@ -1,8 +1,5 @@
 -- Meeting is reflexive and symmetric.
-use Rattle.std.proofs.Common.{refl, sym}
-use Rattle.oim_value.specs.declared.value.Value.TheVariants.{Nil, Number, Text as AText, Name as AName}
-use Rattle.oim_value.specs.Interval.{interval}
-use Rattle.oim_value.specs.Meets.{MeetsIsReflexive, MeetsIsSymmetric}
+use Rattle.oim_value.proofs.Shared.{refl, sym, Nil, Number, AText, AName, interval, MeetsIsReflexive, MeetsIsSymmetric}
 use Rattle.oim_value.proofs.Intervals.{meet_is, meet_from, interval_has_points}
 
 pub meets_is_reflexive : MeetsIsReflexive

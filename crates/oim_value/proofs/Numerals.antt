@@ -1,19 +1,6 @@
 -- The numbers that digits denote.
-use Rattle.std.proofs.Common.{◌≡◌, ℕ, ◌+◌, ◌*◌, ◌^◌, ◌<◌, ◌≤◌, true, false, cond, eqb, List, [], ◌∷◌, ◌++◌, length, get_or, take, drop, length-append, refl, sym, ap, ◌∙◌, arith, suc, subst}
-use Rattle.std.specs.Prelude.{nat_lt}
-use mathlib.Core.Bool.{◌&&◌}
-use Rattle.std.proofs.lemmas.Bool.{and_parts, eqb-true}
-use Rattle.std.proofs.lemmas.Bool.Decides.{nat_tests}
-use Rattle.std.proofs.lemmas.Nat.{pow-add}
-use Rattle.std.proofs.Math.Nat.{pow-suc, pow-le-pow_right, mul-le-mul_left}
-use Rattle.std.proofs.lemmas.List.{take_more}
+use Rattle.oim_value.proofs.Shared.{◌≡◌, ℕ, ◌+◌, ◌*◌, ◌^◌, ◌<◌, ◌≤◌, true, false, cond, eqb, List, [], ◌∷◌, ◌++◌, length, get_or, take, drop, length-append, refl, sym, ap, ◌∙◌, arith, suc, subst, nat_lt, ◌&&◌, and_parts, eqb-true, nat_tests, pow-add, pow-suc, pow-le-pow_right, mul-le-mul_left, take_more, list_all-append, digit_value, is_ascii_digit, list_all, digits_value_after, MOST_DIGITS, UNIT_PLACES, is_numeral, without_leading, without_trailing, onto_digit, ◌-◌}
 use Rattle.std.proofs.Math.Seq.{drop-cons}
-use Rattle.std.proofs.lemmas.List.Folds.{list_all-append}
-use Rattle.std.specs.Char.{digit_value, is_ascii_digit}
-use Rattle.std.specs.List.{list_all}
-use Rattle.std.specs.Str.Parse.{digits_value_after}
-use Rattle.oim_value.specs.declared.limits.TheConstants.{MOST_DIGITS, UNIT_PLACES}
-use Rattle.oim_value.specs.Number.{is_numeral, without_leading, without_trailing, onto_digit}
 
 pub after_grows : (n : ℕ) (ds : List ℕ) → n ≤ digits_value_after 10 n ds
 after_grows n [] = omega arith
@@ -127,3 +114,14 @@ whole_value i f k e =
     let all : digits_value_after 10 0 (i ++ f) ≡ digits_value_after 10 n f = after_append 0 i f in
     let places : 10 ^ k * 10 ^ length (without_trailing f) ≡ 10 ^ UNIT_PLACES = sym (pow-add 10 k (length (without_trailing f))) ∙ ap (λ m. 10 ^ m) e in
     rw (same, all) (regroup _ _ _ _ _ (value_without_trailing n f) places)
+
+-- ---- the digits before an index, if those behind are zeros
+
+pub back : (ds : List ℕ) (e : ℕ) → 0 < e → e - 1 < length ds → get_or ds (e - 1) 0 ≡ 48 → without_trailing (take (e - 1) ds) ≡ without_trailing (take e ds)
+back ds e h lt z = subst (λ k. without_trailing (take (e - 1) ds) ≡ without_trailing (take k ds)) {x = e - 1 + 1} (omega arith) (sym (trailing_zero_at ds (e - 1) lt z))
+
+pub stays : (ds : List ℕ) (e : ℕ) → 0 < e → e - 1 < length ds → eqb (get_or ds (e - 1) 0) 48 ≡ false → without_trailing (take e ds) ≡ take e ds
+stays ds e h lt z = subst (λ k. without_trailing (take k ds) ≡ take k ds) {x = e - 1 + 1} (omega arith) (no_trailing_zero_at ds (e - 1) lt z)
+
+pub none_left : (ds : List ℕ) (e : ℕ) → e ≡ 0 → without_trailing (take e ds) ≡ without_trailing ds → take e ds ≡ without_trailing ds
+none_left ds e none same = rw none (rw none at same)

@@ -1,20 +1,6 @@
 -- Digits with leading zeros, and digits without trailing ones.
-use Rattle.std.proofs.Common.{◌≡◌, ℕ, suc, zero, ◌+◌, ◌-◌, ◌^◌, ◌%◌, ◌<◌, ◌≤◌, true, false, cond, eqb, List, [], ◌∷◌, ◌++◌, length, take, length-append, refl, ap, arith}
-use Rattle.std.specs.Prelude.{replicate}
-use Rattle.std.proofs.lemmas.Bool.Decides.{nat_tests}
-use Rattle.std.proofs.lemmas.List.{append-nil, length-replicate}
-use Rattle.std.proofs.lemmas.List.Folds.{list_all-append}
-use Rattle.std.proofs.lemmas.Fmt.{decimal_by_steps_wide, decimal_is_IsNumeral_wide, IsAscii-decimal_wide}
-use Rattle.std.proofs.lemmas.Nat.{mod_below}
-use Rattle.std.proofs.lemmas.Str.{IsAscii-append}
-use Rattle.std.specs.Str.Parse.{digits_value_after}
-use Rattle.std.specs.Char.{is_ascii_digit}
-use Rattle.std.specs.List.{list_all}
-use Rattle.std.specs.Str.{IsAscii}
+use Rattle.oim_value.proofs.Shared.{◌≡◌, ℕ, suc, zero, ◌+◌, ◌-◌, ◌^◌, ◌%◌, ◌<◌, ◌≤◌, true, false, cond, eqb, List, [], ◌∷◌, ◌++◌, length, take, length-append, refl, ap, arith, replicate, nat_tests, append-nil, length-replicate, list_all-append, decimal_by_steps_wide, decimal_is_IsNumeral_wide, IsAscii-decimal_wide, mod_below, IsAscii-append, digits_value_after, is_ascii_digit, list_all, IsAscii, UNIT_PLACES, onto_digit, without_trailing, with_leading_zeros}
 use Rattle.std.specs.Fmt.{decimal, padded_integral, format_spec, char_count}
-use Rattle.oim_value.specs.declared.limits.TheConstants.{UNIT_PLACES}
-use Rattle.oim_value.specs.Number.{onto_digit, without_trailing}
-use Rattle.oim_value.specs.Plain.{with_leading_zeros}
 
 -- `{:0width$}` writes leading zeros up to the width
 pub padded_integral-zeros : (ds : List ℕ) → padded_integral (format_spec 32 0 4 UNIT_PLACES (2 ^ 64 - 1)) false [] ds ≡ with_leading_zeros UNIT_PLACES ds

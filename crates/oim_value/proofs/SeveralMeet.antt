@@ -1,33 +1,14 @@
 -- Every two of several different values meet exactly if all are numbers, and the greatest low end is at most the least high end.
-use Rattle.std.proofs.Common.{◌≡◌, ℕ, zero, suc, ◌<◌, ◌≤◌, Bool, true, false, List, [], ◌∷◌, length, map, get_or, refl, sym, ap, subst, ◌∙◌, arith, inl, inr}
-use mathlib.Core.Bool.{true≢false}
-use Rattle.std.specs.Prelude.{◌≢◌, ◌⊎◌, IsTrue, ℤ, pos, None, int_le}
-use Rattle.std.specs.List.{All, Any, position_or_len}
+use Rattle.oim_value.proofs.Shared.{◌≡◌, ℕ, zero, suc, ◌<◌, ◌≤◌, Bool, true, false, List, [], ◌∷◌, length, map, get_or, refl, sym, ap, subst, ◌∙◌, arith, inl, inr, true≢false, ◌≢◌, ◌⊎◌, IsTrue, ℤ, pos, None, int_le, All, Any, position_or_len, Ordering, Less, Equal, AllPairs-cons, cases_lt, and_parts, Decides-int_eq, ints, get_or_default, get_or-map, length-map, fails_before_first, passes_at_first, Interval, Value, Nil, Number, AText, AName, AreEnds, EachTwoMeet, intervals_of, has_interval, HasPoints, interval, intervals_meet, Meets, kind_order, value_cmp, All-head, All-tail}
 use Rattle.std.specs.List.Sorted.{IsStrictlySortedBy}
-use Rattle.std.specs.declared.cmp.Ordering.{Ordering}
-use Rattle.std.specs.declared.cmp.Ordering.TheVariants.{Less, Equal}
-use Rattle.std.proofs.lemmas.List.Kept.{AllPairs-cons}
 use Rattle.std.proofs.lemmas.Map.Keys.{sorted_tail}
 use Rattle.std.proofs.lemmas.Map.Views.{All-after_first}
-use Rattle.std.proofs.lemmas.Bool.{cases_lt, and_parts}
-use Rattle.std.proofs.lemmas.Bool.Decides.{Decides-int_eq}
-use Rattle.std.proofs.lemmas.Int.{ints}
-use Rattle.std.proofs.lemmas.List.{get_or_default, get_or-map, length-map}
-use Rattle.std.proofs.lemmas.List.Sums.{fails_before_first, passes_at_first}
 use Rattle.std.proofs.lemmas.Option.{slice_get-get_or}
-use Rattle.oim_value.specs.declared.interval.Interval.{Interval}
-use Rattle.oim_value.specs.declared.value.Value.{Value}
-use Rattle.oim_value.specs.declared.value.Value.TheVariants.{Nil, Number, Text as AText, Name as AName}
-use Rattle.oim_value.specs.Ends.{AreEnds, EachTwoMeet, intervals_of, has_interval}
-use Rattle.oim_value.specs.Interval.{HasPoints, interval, intervals_meet}
-use Rattle.oim_value.specs.Meets.{Meets}
 use Rattle.oim_value.specs.SeveralMeet.{EachTwoMeetByMembers, AreDifferent, AreNilOrOfKind, EachTwoValuesMeet, MeetBetween, DifferentMeetAsNumbers, DifferentMeetBetweenEnds, has_low, has_high, index_of_greatest_low, index_of_least_high, CrossedEndsAreApart}
-use Rattle.oim_value.specs.ValueOrder.{kind_order, value_cmp}
 use Rattle.oim_value.proofs.Ends.{all_meet_iff_ends_meet, ends_exist, le_from}
 use Rattle.oim_value.proofs.Intervals.{interval_has_points}
 use Rattle.oim_value.proofs.Meeting.{meets_is_reflexive, meets_is_symmetric}
 use Rattle.oim_value.proofs.ValueOrders.{value_cmp_self}
-use Rattle.std.proofs.lemmas.List.Elements.{All-head, All-tail}
 
 -- ---- different values that meet are numbers
 

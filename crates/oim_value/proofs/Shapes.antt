@@ -1,15 +1,5 @@
 -- A text split into its sign, its integer digits, and its fraction digits after a point.
-use Rattle.std.proofs.Common.{◌≡◌, ◌≢◌, ℕ, ◌+◌, ◌<◌, Bool, true, false, cond, eqb, List, [], ◌∷◌, ◌++◌, length, get_or, take, drop, refl, sym, ap, ◌∙◌, arith, inl, inr}
-use Rattle.std.specs.Prelude.{ℤ, pos, negsuc}
-use mathlib.Core.Bool.{◌||◌, false≢true}
-use Rattle.std.proofs.lemmas.Bool.{cases_lt, and_parts, or_right}
-use Rattle.std.proofs.lemmas.Bool.Decides.{nat_tests}
-use Rattle.std.proofs.lemmas.List.{append-nil, take_at, drop_at, take_all, drop_all, drop-drop}
-use Rattle.std.proofs.lemmas.List.Sums.{split_at_first, passes_at_first}
-use Rattle.std.specs.Char.{is_ascii_digit}
-use Rattle.std.specs.List.{list_all, before_first, after_first, position_or_len}
-use Rattle.oim_value.specs.Number.{is_negative, is_point, unsigned}
-use Rattle.oim_value.specs.Plain.{has_point, sign_text, with_point}
+use Rattle.oim_value.proofs.Shared.{◌≡◌, ◌≢◌, ℕ, ◌+◌, ◌<◌, Bool, true, false, cond, eqb, List, [], ◌∷◌, ◌++◌, length, get_or, take, drop, refl, sym, ap, ◌∙◌, arith, inl, inr, ℤ, pos, negsuc, ◌||◌, false≢true, cases_lt, and_parts, or_right, nat_tests, append-nil, take_at, drop_at, take_all, drop_all, drop-drop, split_at_first, passes_at_first, is_ascii_digit, list_all, before_first, after_first, position_or_len, is_negative, is_point, unsigned, has_point, sign_text, with_point}
 
 digit_no_plus : (d : ℕ) → is_ascii_digit d ≡ true → eqb d 43 ≡ false
 digit_no_plus d e = grind (arith, nat_tests)

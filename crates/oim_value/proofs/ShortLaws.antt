@@ -1,17 +1,5 @@
 -- Short numbers and short texts.
-use Rattle.std.proofs.Common.{◌≡◌, ℕ, zero, suc, ◌+◌, ◌*◌, ◌-◌, ◌^◌, ◌/◌, ◌%◌, ◌<◌, ◌≤◌, true, cond, eqb, false, List, [], ◌∷◌, ◌++◌, length, refl, sym, ap, ◌∙◌, arith}
-use Rattle.std.specs.Prelude.{ℤ, pos, negsuc, ◌*ℤ◌, unsigned_abs, None}
-use Rattle.std.proofs.lemmas.Bool.Decides.{nat_tests}
-use Rattle.std.proofs.lemmas.Int.{unsigned_abs-mul}
-use Rattle.std.proofs.lemmas.Nat.{same_from_place, div-add-mod', mod_below, div_below, pow-add}
-use Rattle.std.proofs.lemmas.Fmt.{length-decimal-le_wide, decimal_digit}
-use Rattle.std.specs.Char.{is_ascii_digit}
-use Rattle.std.specs.List.{list_all}
-use Rattle.std.specs.Fmt.{decimal}
-use Rattle.std.specs.Str.Parse.{digits_value_after}
-use Rattle.oim_value.specs.declared.limits.TheConstants.{MOST_DIGITS, UNIT_PLACES}
-use Rattle.oim_value.specs.Number.{without_leading, without_trailing, onto_digit, signed, is_negative, is_number, is_short, number_refusal, counted, integer_part, fraction_part, IsShort, DenotesOne, ShortIsKept}
-use Rattle.oim_value.specs.Plain.{with_leading_zeros, plain, integer_digits, fraction_digits, PlainReadsBack, PlainTellsApart}
+use Rattle.oim_value.proofs.Shared.{◌≡◌, ℕ, zero, suc, ◌+◌, ◌*◌, ◌-◌, ◌^◌, ◌/◌, ◌%◌, ◌<◌, ◌≤◌, true, cond, eqb, false, List, [], ◌∷◌, ◌++◌, length, refl, sym, ap, ◌∙◌, arith, ℤ, pos, negsuc, ◌*ℤ◌, unsigned_abs, None, nat_tests, unsigned_abs-mul, same_from_place, div-add-mod', mod_below, div_below, pow-add, length-decimal-le_wide, decimal_digit, is_ascii_digit, list_all, decimal, digits_value_after, MOST_DIGITS, UNIT_PLACES, without_leading, without_trailing, onto_digit, signed, is_negative, is_number, is_short, number_refusal, counted, integer_part, fraction_part, IsShort, DenotesOne, ShortIsKept, with_leading_zeros, plain, integer_digits, fraction_digits, PlainReadsBack, PlainTellsApart}
 use Rattle.oim_value.proofs.Numerals.{parts_of_numeral, digits_without_leading, digits_without_trailing, few_digits}
 use Rattle.oim_value.proofs.Fractions.{same_fraction, ten_some, below_product}
 use Rattle.oim_value.proofs.PlainLemmas.{decimal_digits, decimal_value, zeros_digits, zeros_value, length-with_zeros}

@@ -1,12 +1,7 @@
 -- The size of short numbers in units, and the number of units that a text denotes.
-use Rattle.std.proofs.Common.{◌≡◌, ◌+◌, ℕ, List, ◌++◌, length, ◌*◌, ◌-◌, ◌^◌, ◌<◌, ◌≤◌, Bool, true, false, zero, suc, refl, sym, ap, ◌∙◌, arith}
-use Rattle.std.specs.Prelude.{ℤ, pos, ◌*ℤ◌, unsigned_abs, IsTrue}
-use Rattle.std.proofs.Math.Nat.{pow-le-pow_right, mul-le-mul_left}
+use Rattle.oim_value.proofs.Shared.{◌≡◌, ◌+◌, ℕ, List, ◌++◌, length, ◌*◌, ◌-◌, ◌^◌, ◌<◌, ◌≤◌, Bool, true, false, zero, suc, refl, sym, ap, ◌∙◌, arith, ℤ, pos, ◌*ℤ◌, unsigned_abs, IsTrue, pow-le-pow_right, mul-le-mul_left, digits_value_after, MOST_DIGITS, UNIT_PLACES, signed, integer_part, fraction_part, is_negative, is_number, without_leading, without_trailing, Denotes, IsShort}
 use Rattle.std.proofs.Math.IntN.{neg_ℤ}
-use Rattle.std.specs.Str.Parse.{digits_value_after}
-use Rattle.oim_value.specs.declared.limits.TheConstants.{MOST_DIGITS, UNIT_PLACES}
 use Rattle.oim_value.proofs.Numerals.{whole_value}
-use Rattle.oim_value.specs.Number.{signed, integer_part, fraction_part, is_negative, is_number, without_leading, without_trailing, Denotes, IsShort}
 
 pub size_bound : (n e : ℕ) → n < 10 ^ MOST_DIGITS → e ≤ UNIT_PLACES → n * 10 ^ e < 10 ^ (MOST_DIGITS + UNIT_PLACES)
 size_bound n e few within =

@@ -1,16 +1,10 @@
 -- Properties of the derived order of values.
-use Rattle.std.proofs.Common.{◌≡◌, refl, subst, ◌∙◌}
-use Rattle.std.specs.Prelude.{ℤ, Option, Some, None}
-use Rattle.std.specs.declared.cmp.Ordering.{Ordering}
-use Rattle.std.specs.declared.cmp.Ordering.TheVariants.{Less, Equal, Greater}
+use Rattle.oim_value.proofs.Shared.{◌≡◌, refl, subst, ◌∙◌, ℤ, Option, Some, None, Ordering, Less, Equal, Greater, Value, Nil, Number, AText, AName, value_cmp}
 use Rattle.std.specs.Cmp.{IsTotalOrder}
 use Rattle.std.specs.Ordering.{ordering_reverse}
 use Rattle.oim_value.specs.contracts.value.ValueKey.TheImpl.Laws.{exact-law}
 use Rattle.oim_value.specs.contracts.value.ValueOrd.TheImpl.Laws.{total-law}
 use Rattle.oim_value.specs.contracts.value.ValueOrd.TheImpl.{cmp-value as derived}
-use Rattle.oim_value.specs.declared.value.Value.{Value}
-use Rattle.oim_value.specs.declared.value.Value.TheVariants.{Nil, Number, Text as AText, Name as AName}
-use Rattle.oim_value.specs.ValueOrder.{value_cmp}
 
 numbers_agree : (m n : ℤ) (d e : Option ℤ) → derived.it (Number m d) (Number n e) ≡ value_cmp (Number m d) (Number n e)
 numbers_agree m n (Some d) (Some e) = refl

@@ -1,19 +1,8 @@
 -- If a number is not whole, its text with all decimal places becomes the plain text when trailing zeros are cut.
-use Rattle.std.proofs.Common.{◌≡◌, ℕ, zero, suc, ◌*◌, ◌/◌, ◌%◌, ◌^◌, ◌<◌, List, [], ◌∷◌, ◌++◌, length, length-append, append_assoc, refl, sym, ap, ◌∙◌, arith}
-use Rattle.std.specs.Prelude.{ℤ, unsigned_abs}
-use Rattle.std.proofs.lemmas.List.{append-nil}
-use Rattle.std.proofs.lemmas.Nat.{mod_below}
-use Rattle.std.proofs.lemmas.Str.{IsAscii-append}
-use Rattle.std.proofs.lemmas.Fmt.{IsAscii-decimal_wide}
-use Rattle.std.specs.Fmt.{decimal}
-use Rattle.std.specs.Str.{IsAscii}
-use Rattle.std.specs.Str.Parse.{digits_value_after}
-use Rattle.oim_value.specs.declared.limits.TheConstants.{UNIT_PLACES}
-use Rattle.oim_value.specs.Number.{onto_digit, without_trailing}
-use Rattle.oim_value.specs.Plain.{with_leading_zeros, plain, sign_text, with_point, integer_digits, IsWritable}
+use Rattle.oim_value.proofs.Shared.{◌≡◌, ℕ, zero, suc, ◌*◌, ◌/◌, ◌%◌, ◌^◌, ◌<◌, List, [], ◌∷◌, ◌++◌, length, length-append, append_assoc, refl, sym, ap, ◌∙◌, arith, IsAscii-cons, ℤ, unsigned_abs, append-nil, mod_below, IsAscii-append, IsAscii-decimal_wide, decimal, IsAscii, digits_value_after, UNIT_PLACES, onto_digit, without_trailing, with_leading_zeros, plain, sign_text, with_point, integer_digits, IsWritable}
 use Rattle.oim_value.proofs.Fractions.{without_trailing-nothing}
 use Rattle.oim_value.proofs.PlainLemmas.{IsAscii-with_zeros}
-use Rattle.oim_value.proofs.PlainLaws.{fraction_digits_are, fraction_value, fraction_worth, whole_small, IsAscii-cons, IsAscii-sign_text}
+use Rattle.oim_value.proofs.PlainLaws.{fraction_digits_are, fraction_value, fraction_worth, whole_small, IsAscii-sign_text}
 use Rattle.oim_value.proofs.Shapes.{with_point_some}
 
 onto_some : (d : ℕ) (ds : List ℕ) → 0 < length ds → onto_digit d ds ≡ d ∷ ds

@@ -1,8 +1,5 @@
-use Rattle.std.proofs.Common.{◌≡◌, ◌-◌, ◌≤◌, ◌++◌, ◌∷◌, [], ap, length, refl, subst, ◌∙◌, IsPermutation, arith, vec_len}
-use Rattle.std.specs.Prelude.{reverse}
-use Rattle.std.specs.List.{range_with_len}
-use Rattle.merge_laws.specs.code.Insertions.{first_index}
-use Rattle.merge_laws.proofs.Listed.{all_listed, down_once, last_least, none_left, none_listed, one_listed}
+use Rattle.merge_laws.proofs.Shared.{◌≡◌, ◌-◌, ◌≤◌, ◌++◌, ◌∷◌, [], ap, length, refl, subst, ◌∙◌, IsPermutation, arith, vec_len, nil_from_length, reverse, range_with_len, first_index}
+use Rattle.merge_laws.proofs.Listed.{all_listed, down_once, last_least, none_listed, one_listed}
 use Rattle.merge_laws.proofs.insertion.append.Goals as goal
 
 pub loop-index-init : goal.loop-index-init
@@ -61,7 +58,7 @@ returns-clause-items g c =
     let first = c.args.first in
     let is : c.count_down-first.result ≡ first = omega (arith, c.count_down-first.ensures.result, l.invariant.low) in
     all_listed l.invariant.listed l.invariant.low c.count_down-first.new.order.items
-    (none_left l.news.items (omega (arith, c.in_default.ensures.cases)))
+    (nil_from_length l.news.items (omega (arith, c.in_default.ensures.cases)))
     (c.count_down-first.ensures.order ∙ ap (λ to. range_with_len (to - first) (l.top - to) ++ reverse l.order.items) is)
 
 pub returns-clause-each_once : goal.returns-clause-each_once

@@ -1,8 +1,5 @@
-use Rattle.std.proofs.Common.{◌≡◌, ◌+◌, ◌≤◌, vec_len, vec_capacity}
-use Rattle.std.specs.Prelude.{reverse}
-use Rattle.std.specs.List.{AllByRecursion}
+use Rattle.merge_laws.proofs.Shared.{◌≡◌, ◌+◌, ◌≤◌, vec_len, vec_capacity, reverse, AllByRecursion, first_index, inserted}
 use Rattle.merge_laws.proofs.Listed.{Listed}
-use Rattle.merge_laws.specs.code.Insertions.{first_index, inserted}
 use Rattle.merge_laws.proofs.insertion.append.Given as goal
 
 abbrev pub invariant-loop-index : goal.invariant-loop-index

@@ -1,6 +1,4 @@
-use Rattle.std.proofs.Common.{◌∷◌, [], ◌-◌, ◌++◌, ap, sym, ◌∙◌, arith}
-use Rattle.std.specs.Prelude.{reverse}
-use Rattle.std.proofs.lemmas.List.{reverse-append}
+use Rattle.merge_laws.proofs.Shared.{◌∷◌, [], ◌-◌, ◌++◌, ap, sym, ◌∙◌, arith, reverse, reverse-append}
 use Rattle.merge_laws.proofs.Listed.{none_counted, range_down}
 use Rattle.merge_laws.proofs.insertion.count_down.Goals as goal
 

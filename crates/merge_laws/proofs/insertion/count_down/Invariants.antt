@@ -1,6 +1,4 @@
-use Rattle.std.proofs.Common.{◌≡◌, ◌+◌, ◌-◌, ◌≤◌, ◌++◌, vec_len, vec_capacity}
-use Rattle.std.specs.Prelude.{min, reverse}
-use Rattle.std.specs.List.{range_with_len}
+use Rattle.merge_laws.proofs.Shared.{◌≡◌, ◌+◌, ◌-◌, ◌≤◌, ◌++◌, vec_len, vec_capacity, min, reverse, range_with_len}
 use Rattle.merge_laws.proofs.insertion.count_down.Given as goal
 
 abbrev pub invariant-loop-low : goal.invariant-loop-low

@@ -1,10 +1,4 @@
-use Rattle.std.proofs.Common.{◌≡◌, ◌-◌, ap, length, subst, sym, ◌∙◌, IsPermutation, arith}
-use Rattle.std.specs.Prelude.{reverse}
-use Rattle.std.specs.List.{range_with_len}
-use Rattle.std.proofs.lemmas.List.FromFn.{length-range_with_len}
-use Rattle.std.proofs.lemmas.List.Sorted.{length_permutation}
-use Rattle.merge_laws.specs.Picked.{picked}
-use Rattle.merge_laws.specs.code.Insertions.{inserted}
+use Rattle.merge_laws.proofs.Shared.{◌≡◌, ◌-◌, ap, length, subst, sym, ◌∙◌, IsPermutation, arith, reverse, range_with_len, length-range_with_len, length_permutation, picked, inserted}
 use Rattle.merge_laws.proofs.Listed.{from_default}
 use Rattle.merge_laws.proofs.insertion.insert_all.Goals as goal
 

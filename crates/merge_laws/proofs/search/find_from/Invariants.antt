@@ -1,6 +1,4 @@
-use Rattle.std.proofs.Common.{◌≡◌, ◌-◌, ◌≤◌, length}
-use Rattle.std.specs.List.{AllWithin}
-use Rattle.std.specs.declared.cmp.Ordering.TheVariants.{Less}
+use Rattle.merge_laws.proofs.Shared.{◌≡◌, ◌-◌, ◌≤◌, length, AllWithin, Less}
 use Rattle.merge_laws.proofs.search.find_from.Given as goal
 
 abbrev pub invariant-loop-step : goal.invariant-loop-step

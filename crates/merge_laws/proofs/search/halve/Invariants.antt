@@ -1,6 +1,4 @@
-use Rattle.std.proofs.Common.{◌≡◌, ◌-◌, ◌≤◌, length}
-use Rattle.std.specs.List.{AllWithin}
-use Rattle.std.specs.declared.cmp.Ordering.TheVariants.{Less, Greater}
+use Rattle.merge_laws.proofs.Shared.{◌≡◌, ◌-◌, ◌≤◌, length, AllWithin, Less, Greater}
 use Rattle.merge_laws.proofs.search.halve.Given as goal
 
 abbrev pub invariant-loop-low : goal.invariant-loop-low

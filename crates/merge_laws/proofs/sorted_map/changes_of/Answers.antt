@@ -1,9 +1,6 @@
-use Rattle.std.proofs.Common.{◌≡◌, ◌≤◌, ◌∷◌, ◌++◌, [], append-nil, get_or, length, sym, ap, subst, rules, ◌∙◌, arith}
+use Rattle.merge_laws.proofs.Shared.{◌≡◌, ◌≤◌, ◌∷◌, ◌++◌, [], append-nil, get_or, length, sym, ap, subst, rules, ◌∙◌, arith, length_push, take_all, new_item, new_items, new_value, new_values, index_of, has_key, entry_key}
 use Rattle.std.proofs.lemmas.Iterator.Adapters.{YieldsList-from_vec}
 use Rattle.std.proofs.lemmas.Iterator.Consumers.{YieldsList-turn, YieldsList-end}
-use Rattle.std.proofs.lemmas.List.{length_push, take_all}
-use Rattle.merge_laws.specs.code.Insertions.{new_item, new_items, new_value, new_values, index_of}
-use Rattle.merge_laws.specs.Sorted.{has_key, entry_key}
 use Rattle.merge_laws.proofs.Edits.{is_new, no_value, not_new, tells_err, value_shared}
 use Rattle.merge_laws.proofs.Lists.{flat_map_next}
 use Rattle.merge_laws.proofs.Indices.{passed_found, passed_more, index_bound}

@@ -1,8 +1,4 @@
-use Rattle.std.proofs.Common.{◌≡◌, ◌<◌, ◌≤◌, get_or, length, take}
-use Rattle.std.specs.List.{AllWithin}
-use Rattle.std.specs.declared.cmp.Ordering.TheVariants.{Less}
-use Rattle.merge_laws.specs.code.Insertions.{new_items, new_values}
-use Rattle.merge_laws.specs.Sorted.{entry_key}
+use Rattle.merge_laws.proofs.Shared.{◌≡◌, ◌<◌, ◌≤◌, get_or, length, take, AllWithin, Less, new_items, new_values, entry_key}
 use Rattle.merge_laws.proofs.sorted_map.changes_of.Given as goal
 
 -- all entries before index `from` are below the next entry of the other map

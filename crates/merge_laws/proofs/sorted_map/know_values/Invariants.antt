@@ -1,5 +1,4 @@
-use Rattle.std.proofs.Common.{take}
-use Rattle.std.specs.List.{AllByRecursion}
+use Rattle.merge_laws.proofs.Shared.{take, AllByRecursion}
 use Rattle.merge_laws.proofs.sorted_map.know_values.Given as goal
 
 abbrev pub invariant-loop-entry : goal.invariant-loop-entry

@@ -1,5 +1,4 @@
-use Rattle.std.proofs.Common.{sym, ap, ◌∙◌}
-use Rattle.merge_laws.specs.code.Insertions.{with_value}
+use Rattle.merge_laws.proofs.Shared.{sym, ap, ◌∙◌, with_value}
 use Rattle.merge_laws.proofs.Values.{with_more, set_is_value}
 use Rattle.merge_laws.proofs.sorted_map.set_values.Goals as goal
 

@@ -1,5 +1,4 @@
-use Rattle.std.proofs.Common.{◌≡◌, vec_len, vec_capacity}
-use Rattle.merge_laws.specs.code.Insertions.{with_values}
+use Rattle.merge_laws.proofs.Shared.{◌≡◌, vec_len, vec_capacity, with_values}
 use Rattle.merge_laws.proofs.sorted_map.set_values.Given as goal
 
 abbrev pub invariant-loop-index : goal.invariant-loop-index

@@ -1,5 +1,4 @@
-use Rattle.std.proofs.Common.{sym, ap, ◌∙◌}
-use Rattle.merge_laws.specs.Sorted.{entry_key}
+use Rattle.merge_laws.proofs.Shared.{sym, ap, ◌∙◌, entry_key}
 use Rattle.merge_laws.proofs.Indices.{less, less_before}
 use Rattle.merge_laws.proofs.sorted_map.start_of.Goals as goal
 

@@ -1,10 +1,4 @@
-use Rattle.std.proofs.Common.{◌≡◌, ℕ, ◌+◌, ◌++◌, ◌∷◌, [], List, Ok, Err, append-nil, get_or, refl, sym, ap, subst, ◌∙◌, arith}
-use Rattle.std.specs.Cmp.{IsTotalOrder}
-use Rattle.std.specs.List.{AllWithin}
-use Rattle.std.specs.declared.cmp.Ordering.TheVariants.{Less}
-use Rattle.std.specs.declared.cmp.Ordering.{Ordering}
-use Rattle.merge_laws.specs.code.Insertions.{found_at, new_item, index_of}
-use Rattle.merge_laws.specs.Sorted.{has_key, itself}
+use Rattle.merge_laws.proofs.Shared.{◌≡◌, ℕ, ◌+◌, ◌++◌, ◌∷◌, [], List, Ok, Err, append-nil, get_or, refl, sym, ap, subst, ◌∙◌, arith, IsTotalOrder, AllWithin, Less, Ordering, found_at, new_item, index_of, has_key, itself}
 use Rattle.merge_laws.proofs.Edits.{not_new, is_new, tells_err}
 use Rattle.merge_laws.proofs.Lists.{flat_map_more}
 use Rattle.merge_laws.proofs.Indices.{passed_found, passed_more}

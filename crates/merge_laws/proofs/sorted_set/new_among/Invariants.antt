@@ -1,8 +1,4 @@
-use Rattle.std.proofs.Common.{◌≡◌, ◌<◌, ◌≤◌, get_or, length, take}
-use Rattle.std.specs.List.{AllWithin}
-use Rattle.std.specs.declared.cmp.Ordering.TheVariants.{Less}
-use Rattle.merge_laws.specs.code.Insertions.{new_items}
-use Rattle.merge_laws.specs.Sorted.{itself}
+use Rattle.merge_laws.proofs.Shared.{◌≡◌, ◌<◌, ◌≤◌, get_or, length, take, AllWithin, Less, new_items, itself}
 use Rattle.merge_laws.proofs.sorted_set.new_among.Given as goal
 
 -- all items before index `from` are below the next item of the other set

@@ -1,7 +1,4 @@
-use Rattle.std.proofs.Common.{◌≡◌, ◌∷◌, ◌+◌, true, false, drop, sym, ap, ◌∙◌}
-use Rattle.std.specs.Ordering.{is_lt}
-use Rattle.oim_value.specs.ValueOrder.{name_cmp}
-use Rattle.oim_dims.specs.DimensionSet.{rises}
+use Rattle.oim_dims.proofs.Shared.{◌≡◌, ◌∷◌, ◌+◌, true, false, drop, sym, ap, ◌∙◌, is_lt, name_cmp, rises}
 use Rattle.oim_dims.proofs.Rising.{at_index, rises_behind, falls_behind}
 use Rattle.oim_dims.proofs.dimensions.do_names_rise.Goals as goal
 

@@ -1,5 +1,4 @@
-use Rattle.std.proofs.Common.{◌≡◌, ◌∷◌, drop}
-use Rattle.oim_dims.specs.DimensionSet.{rises}
+use Rattle.oim_dims.proofs.Shared.{◌≡◌, ◌∷◌, drop, rises}
 use Rattle.oim_dims.proofs.dimensions.do_names_rise.Given as goal
 
 -- all names ascend exactly if the last compared name and the remaining names ascend

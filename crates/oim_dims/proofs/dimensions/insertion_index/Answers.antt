@@ -1,5 +1,4 @@
-use Rattle.std.proofs.Common.{◌≡◌, sym, false, arith}
-use Rattle.oim_dims.specs.DimensionSet.{has_name}
+use Rattle.oim_dims.proofs.Shared.{◌≡◌, sym, false, arith, has_name}
 use Rattle.oim_dims.proofs.Indices.{below_here}
 use Rattle.oim_dims.proofs.dimensions.insertion_index.Goals as goal
 

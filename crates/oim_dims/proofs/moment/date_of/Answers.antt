@@ -1,8 +1,5 @@
-use Rattle.std.proofs.Common.{◌≡◌, pos, FitsSigned, w64, arith}
-use Rattle.std.proofs.lemmas.Int.{to_z-of_z}
+use Rattle.oim_dims.proofs.Shared.{◌≡◌, pos, FitsSigned, w64, arith, to_z-of_z, signed_arith, epoch_day}
 use Rattle.jiff.proofs.SpanFacts.{date_add-days, can_add-days}
-use Rattle.jiff_core.proofs.SignedLemmas.{signed_arith}
-use Rattle.jiff_core.specs.Date.{epoch_day}
 use Rattle.oim_dims.proofs.Calendar.{epoch_is_zero, text_of_date}
 use Rattle.oim_dims.proofs.moment.date_of.Goals as goal
 

@@ -1,6 +1,4 @@
-use Rattle.std.proofs.Common.{◌≡◌, drop}
-use Rattle.std.specs.List.{list_all, zip}
-use Rattle.oim_dims.specs.DateTime.{matches_picture, picture}
+use Rattle.oim_dims.proofs.Shared.{◌≡◌, drop, list_all, zip, matches_picture, picture}
 use Rattle.oim_dims.proofs.moment.has_picture.Given as goal
 
 -- the result depends only on the remaining indices

@@ -1,8 +1,5 @@
-use Rattle.std.proofs.Common.{◌≡◌, ◌+◌, ◌*◌, ◌≤◌, ◌<◌, ◌^◌, ℕ, [], drop, arith}
-use Rattle.std.proofs.lemmas.List.{drop_all}
+use Rattle.oim_dims.proofs.Shared.{◌≡◌, ◌+◌, ◌*◌, ◌≤◌, ◌<◌, ◌^◌, ℕ, [], drop, arith, drop_all, digits_value_after, after_lt, digit_here, next_le}
 use Rattle.std.proofs.Math.Nat.{pow-le-pow_right}
-use Rattle.std.specs.Str.Parse.{digits_value_after}
-use Rattle.oim_value.proofs.Numerals.{after_lt, digit_here, next_le}
 use Rattle.oim_dims.proofs.moment.number_of.Goals as goal
 
 small : (k v : ℕ) → k ≤ 4 → v < (0 + 1) * 10 ^ k → v < 10000

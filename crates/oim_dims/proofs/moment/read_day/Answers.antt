@@ -1,7 +1,4 @@
-use Rattle.std.proofs.Common.{◌≡◌, ◌∙◌, ◌≤◌, ◌&&◌, ℕ, List, ℤ, pos, Some, None, true, nat_le, if◌then◌else◌, ap, arith}
-use Rattle.std.specs.Int.{is_in_range}
-use Rattle.std.proofs.lemmas.Int.{ints}
-use Rattle.jiff_core.specs.Calendar.{days_in_month, days_from_civil}
+use Rattle.oim_dims.proofs.Shared.{◌≡◌, ◌∙◌, ◌≤◌, ◌&&◌, ℕ, List, ℤ, pos, Some, None, true, nat_le, if◌then◌else◌, ap, arith, is_in_range, ints, days_in_month, days_from_civil}
 use Rattle.oim_dims.specs.DateTime.{has_date, day_number, year, month, day}
 use Rattle.oim_dims.proofs.Calendar.{date_is, day_range, is_real}
 use Rattle.oim_dims.proofs.moment.read_day.Goals as goal

@@ -1,6 +1,4 @@
-use Rattle.std.proofs.Common.{◌≡◌, length, arith, sym}
-use Rattle.std.specs.List.{position_or_len}
-use Rattle.oim_dims.specs.Separators.{is_slash}
+use Rattle.oim_dims.proofs.Shared.{◌≡◌, length, arith, sym, position_or_len, is_slash}
 use Rattle.oim_dims.proofs.Periods.{alone}
 use Rattle.oim_dims.proofs.period.read_period.Goals as goal
 

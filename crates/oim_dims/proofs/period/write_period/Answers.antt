@@ -1,6 +1,4 @@
-use Rattle.std.proofs.Common.{◌≡◌, rules}
-use Rattle.std.specs.Prelude.{Some}
-use Rattle.oim_dims.specs.Period.{period_text}
+use Rattle.oim_dims.proofs.Shared.{◌≡◌, rules, Some, period_text}
 use Rattle.oim_dims.proofs.Periods.{written_back}
 use Rattle.oim_dims.proofs.period.write_period.Goals as goal
 

@@ -1,6 +1,4 @@
-use Rattle.std.proofs.Common.{◌≡◌, ◌∷◌, ◌++◌, take, string_bytes}
-use Rattle.oim_names.specs.QName.{QName}
-use Rattle.oim_dims.specs.Unit.{product_text}
+use Rattle.oim_dims.proofs.Shared.{◌≡◌, ◌∷◌, ◌++◌, take, string_bytes, QName, product_text}
 use Rattle.oim_dims.proofs.spelling.push_product.Given as goal
 
 -- the measures so far are written

@@ -1,7 +1,4 @@
-use Rattle.std.proofs.Common.{rules, lit<, tests}
-use Rattle.std.proofs.lemmas.Iterator.Search.{all_from_yields_List}
-use Rattle.std.proofs.lemmas.Iterator.Splits.{YieldsList-from_str_split}
-use Rattle.oim_dims.specs.Unit.{is_piece}
+use Rattle.oim_dims.proofs.Shared.{rules, lit<, tests, all_from_yields_List, YieldsList-from_str_split, is_piece}
 use Rattle.oim_dims.proofs.unit_text.are_pieces.Goals as goal
 
 pub returns : goal.returns

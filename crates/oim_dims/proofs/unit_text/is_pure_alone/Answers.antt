@@ -1,8 +1,6 @@
-use Rattle.std.proofs.Common.{◌≡◌, ◌∙◌, length, [], ◌∷◌, ap, arith, sym}
-use Rattle.oim_dims.specs.Unit.{pure_name}
+use Rattle.oim_dims.proofs.Shared.{◌≡◌, ◌∙◌, length, [], ◌∷◌, ap, arith, sym, pure_name, nil_from_length}
 use Rattle.oim_dims.proofs.Naming.{zero_is, alone_is, head_is}
 use Rattle.oim_dims.proofs.unit_text.is_pure_alone.Goals as goal
-use Rattle.std.proofs.lemmas.List.{nil_from_length}
 
 pub returns : goal.returns
 returns c =

@@ -1,8 +1,4 @@
-use Rattle.std.proofs.Common.{◌≡◌, length, ap, ◌∙◌}
-use Rattle.std.proofs.lemmas.List.Sorted.{All-permutation, length_permutation}
-use Rattle.std.specs.List.{slice_split}
-use Rattle.oim_dims.specs.Separators.{is_star}
-use Rattle.oim_dims.specs.Unit.{IsMeasure}
+use Rattle.oim_dims.proofs.Shared.{◌≡◌, length, ap, ◌∙◌, All-permutation, length_permutation, slice_split, is_star, IsMeasure}
 use Rattle.oim_dims.proofs.Naming.{measures_of_pieces, side_some}
 use Rattle.oim_dims.proofs.unit_text.measures.Goals as goal
 

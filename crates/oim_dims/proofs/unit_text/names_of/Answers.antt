@@ -1,13 +1,5 @@
-use Rattle.std.proofs.Common.{◌≡◌, sym, lit<, [], ◌∷◌, None, subst, List, ℕ}
-use Rattle.std.proofs.lemmas.Result.{err_from_is_err_and}
-use Rattle.std.proofs.lemmas.List.{map-append}
-use Rattle.std.proofs.lemmas.List.Elements.{All-get_or}
+use Rattle.oim_dims.proofs.Shared.{◌≡◌, sym, lit<, [], ◌∷◌, None, subst, List, ℕ, err_from_is_err_and, map-append, All-get_or, YieldsList-from_str_split, all_zipped_more, AllZip, slice_split, Expands, name_refusal, is_star}
 use Rattle.std.proofs.lemmas.Iterator.Consumers.{YieldsList-turn, YieldsList-end, YieldsList-at}
-use Rattle.std.proofs.lemmas.Iterator.Splits.{YieldsList-from_str_split}
-use Rattle.std.proofs.lemmas.Slice.Zip.{all_zipped_more}
-use Rattle.std.specs.List.{AllZip, slice_split}
-use Rattle.oim_names.specs.Expansion.{Expands, name_refusal}
-use Rattle.oim_dims.specs.Separators.{is_star}
 use Rattle.oim_dims.proofs.Naming.{only_memory}
 use Rattle.oim_dims.proofs.unit_text.names_of.Goals as goal
 

@@ -1,6 +1,4 @@
-use Rattle.std.proofs.Common.{map}
-use Rattle.std.specs.List.{AllZip}
-use Rattle.oim_names.specs.Expansion.{Expands}
+use Rattle.oim_dims.proofs.Shared.{map, AllZip, Expands}
 use Rattle.oim_dims.proofs.unit_text.names_of.Given as goal
 
 -- the names are the expansions of the pieces so far

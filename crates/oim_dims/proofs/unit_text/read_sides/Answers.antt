@@ -1,8 +1,4 @@
-use Rattle.std.proofs.Common.{◌≡◌, None, All}
-use Rattle.std.proofs.lemmas.Result.{err_from_is_err_and}
-use Rattle.std.specs.List.{slice_split}
-use Rattle.oim_names.specs.Expansion.{name_refusal}
-use Rattle.oim_dims.specs.Separators.{is_star}
+use Rattle.oim_dims.proofs.Shared.{◌≡◌, None, All, err_from_is_err_and, slice_split, name_refusal, is_star}
 use Rattle.oim_dims.proofs.Naming.{unit_named}
 use Rattle.oim_dims.proofs.unit_text.read_sides.Goals as goal
 

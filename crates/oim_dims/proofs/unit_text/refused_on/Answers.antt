@@ -1,7 +1,4 @@
-use Rattle.std.proofs.Common.{rules, lit<, tests}
-use Rattle.std.proofs.lemmas.Iterator.Search.{find_from_yields_List}
-use Rattle.std.proofs.lemmas.Iterator.Splits.{YieldsList-from_str_split}
-use Rattle.oim_names.specs.Expansion.{a_name, refuses}
+use Rattle.oim_dims.proofs.Shared.{rules, lit<, tests, find_from_yields_List, YieldsList-from_str_split, a_name, refuses}
 use Rattle.oim_dims.proofs.unit_text.refused_on.Goals as goal
 
 pub returns : goal.returns

@@ -1,11 +1,6 @@
-use Rattle.std.proofs.Common.{Bor, None, List, ℕ, Bool, ap, sym, ◌∙◌}
-use Rattle.std.specs.Prelude.{option_map}
-use Rattle.std.specs.List.{find}
-use Rattle.oim_names.specs.Expansion.{a_name, refuses}
-use Rattle.oim_dims.specs.Unit.{denominator_pieces, numerator_pieces}
+use Rattle.oim_dims.proofs.Shared.{Bor, None, List, ℕ, Bool, ap, sym, ◌∙◌, option_map, find, a_name, refuses, denominator_pieces, numerator_pieces, MatchOption-at_some, MatchOption-at_none}
 use Rattle.oim_dims.proofs.FirstFound.{in_first, in_second, some_first, some_second}
 use Rattle.oim_dims.proofs.unit_text.refused_piece.Goals as goal
-use Rattle.std.proofs.lemmas.Option.{MatchOption-at_some, MatchOption-at_none}
 
 pub returns-in-Some-clause-any : goal.returns-in-Some-clause-any
 returns-in-Some-clause-any c =

@@ -1,7 +1,5 @@
-use Rattle.std.proofs.Common.{◌∙◌, ap, Some}
-use Rattle.std.specs.Option.{option_eq}
+use Rattle.oim_dims.proofs.Shared.{◌∙◌, ap, Some, option_eq, a_name}
 use Rattle.oim_names.specs.contracts.reason.ReasonPartialEq.TheImpl.{eq-value as same_reason}
-use Rattle.oim_names.specs.Expansion.{a_name}
 use Rattle.oim_names.proofs.NameTests.{told}
 use Rattle.oim_dims.proofs.unit_text.refuses.Goals as goal
 

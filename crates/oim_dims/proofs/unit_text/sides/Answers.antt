@@ -1,7 +1,4 @@
-use Rattle.std.proofs.Common.{◌≡◌, length, arith, ◌∙◌, sym, ap}
-use Rattle.std.specs.List.{position_or_len, slice_split}
-use Rattle.oim_dims.specs.Separators.{is_slash, is_star}
-use Rattle.oim_dims.specs.Unit.{inner}
+use Rattle.oim_dims.proofs.Shared.{◌≡◌, length, arith, ◌∙◌, sym, ap, position_or_len, slice_split, is_slash, is_star, inner}
 use Rattle.oim_dims.proofs.Sides.{one_side, two_sides}
 use Rattle.oim_dims.proofs.unit_text.sides.Goals as goal
 

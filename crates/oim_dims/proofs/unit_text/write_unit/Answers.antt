@@ -1,7 +1,5 @@
-use Rattle.std.proofs.Common.{◌≡◌, List, ℕ, sym, subst, ◌∙◌, rules}
+use Rattle.oim_dims.proofs.Shared.{◌≡◌, List, ℕ, sym, subst, ◌∙◌, rules, IfOk-weaker, DenotesUnit, measure_text, unit_text}
 use Rattle.std.specs.String.{string_bytes}
-use Rattle.std.proofs.lemmas.Result.{IfOk-weaker}
-use Rattle.oim_dims.specs.Unit.{DenotesUnit, measure_text, unit_text}
 use Rattle.oim_dims.proofs.UnitText.{bindings_spell, unit_back}
 use Rattle.oim_dims.proofs.unit_text.write_unit.Goals as goal
 

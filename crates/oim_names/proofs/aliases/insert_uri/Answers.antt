@@ -1,7 +1,4 @@
-use Rattle.std.proofs.Common.{Some, string_bytes, cond, ◌∙◌}
-use Rattle.std.proofs.lemmas.Map.Text.{btree_map_updates_text}
-use Rattle.std.specs.BTreeMap.{get_by_text}
-use Rattle.std.specs.Str.{bytes_eq}
+use Rattle.oim_names.proofs.Shared.{Some, string_bytes, cond, ◌∙◌, btree_map_updates_text, get_by_text, bytes_eq}
 use Rattle.oim_names.proofs.aliases.insert_uri.Goals as goal
 
 pub returns-clause-ok : goal.returns-clause-ok

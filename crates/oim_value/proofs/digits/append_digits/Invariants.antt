@@ -1,7 +1,4 @@
-use Rattle.std.proofs.Common.{◌≡◌, drop, true}
-use Rattle.std.specs.List.{list_all}
-use Rattle.std.specs.Char.{is_ascii_digit}
-use Rattle.std.specs.Str.Parse.{digits_value_after}
+use Rattle.oim_value.proofs.Shared.{◌≡◌, drop, true, list_all, is_ascii_digit, digits_value_after}
 use Rattle.oim_value.proofs.digits.append_digits.Given as goal
 
 -- the number so far, extended by the remaining digits, is `start` extended by all digits

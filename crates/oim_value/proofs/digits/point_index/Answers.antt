@@ -1,6 +1,4 @@
-use Rattle.std.proofs.Common.{sym, arith, ap}
-use Rattle.std.proofs.lemmas.List.Sums.{position_or_len_is}
-use Rattle.oim_value.specs.Number.{is_point}
+use Rattle.oim_value.proofs.Shared.{sym, arith, ap, position_or_len_is, is_point}
 use Rattle.oim_value.proofs.digits.point_index.Goals as goal
 
 pub returns-then-c-eq46 : goal.returns-then-c-eq46

@@ -1,5 +1,4 @@
-use Rattle.std.proofs.Common.{◌≡◌, ◌<◌, ℕ, get_or, false}
-use Rattle.oim_value.specs.Number.{is_point}
+use Rattle.oim_value.proofs.Shared.{◌≡◌, ◌<◌, ℕ, get_or, false, is_point}
 use Rattle.oim_value.proofs.digits.point_index.Given as goal
 
 abbrev pub invariant-loop-i : goal.invariant-loop-i

@@ -1,5 +1,4 @@
-use Rattle.std.proofs.Common.{◌≡◌, length}
-use Rattle.oim_value.specs.Number.{without_leading}
+use Rattle.oim_value.proofs.Shared.{◌≡◌, length, without_leading}
 use Rattle.oim_value.proofs.digits.skip_leading_zeros.Given as goal
 
 abbrev pub invariant-loop-rest : goal.invariant-loop-rest

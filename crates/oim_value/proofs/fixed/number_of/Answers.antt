@@ -1,5 +1,4 @@
-use Rattle.std.proofs.Common.{arith, sym}
-use Rattle.std.specs.Str.Parse.{digits_value_after}
+use Rattle.oim_value.proofs.Shared.{arith, sym, digits_value_after}
 use Rattle.oim_value.proofs.Numerals.{after_append, after_grows, few_digits}
 use Rattle.oim_value.proofs.fixed.number_of.Goals as goal
 

@@ -1,9 +1,4 @@
-use Rattle.std.proofs.Common.{◌≡◌, ◌-◌, ℕ, List, ◌++◌, ◌*◌, ◌^◌, length, true, ap, arith, rules, ◌∙◌}
-use Rattle.std.specs.Prelude.{IsTrue}
-use Rattle.std.specs.Str.Parse.{digits_value_after}
-use Rattle.oim_value.specs.declared.limits.TheConstants.{UNIT_PLACES}
-use Rattle.oim_value.specs.Number.{is_point, integer_part, fraction_part, is_numeral, unsigned, is_negative, signed}
-use Rattle.std.specs.List.{before_first, after_first}
+use Rattle.oim_value.proofs.Shared.{◌≡◌, ◌-◌, ℕ, List, ◌++◌, ◌*◌, ◌^◌, length, true, ap, arith, rules, ◌∙◌, IsTrue, digits_value_after, UNIT_PLACES, is_point, integer_part, fraction_part, is_numeral, unsigned, is_negative, signed, before_first, after_first}
 use Rattle.oim_value.proofs.Numerals.{parts_of_numeral, digits_without_leading, digits_without_trailing}
 use Rattle.oim_value.proofs.Units.{denotes_from}
 use Rattle.oim_value.proofs.fixed.read_fixed.Goals as goal

@@ -1,6 +1,4 @@
-use Rattle.std.proofs.Common.{arith}
-use Rattle.std.proofs.lemmas.Int.{ints}
-use Rattle.oim_value.specs.declared.limits.TheConstants.{UNIT_PLACES}
+use Rattle.oim_value.proofs.Shared.{arith, ints, UNIT_PLACES}
 use Rattle.oim_value.proofs.Units.{size_bound, ten_to}
 use Rattle.oim_value.proofs.fixed.size_of.Goals as goal
 

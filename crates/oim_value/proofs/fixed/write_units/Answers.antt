@@ -1,13 +1,4 @@
-use Rattle.std.proofs.Common.{◌≡◌, ◌++◌, ◌∷◌, [], ◌/◌, ◌%◌, ◌^◌, ◌<◌, ◌-◌, ℕ, List, false, length, ap, arith, ◌∙◌}
-use Rattle.std.specs.Prelude.{ℤ, string_bytes, unsigned_abs}
-use Rattle.std.specs.Fmt.{decimal, padded_integral, format_spec}
-use Rattle.std.proofs.lemmas.Bool.Decides.{nat_tests}
-use Rattle.std.proofs.lemmas.Int.{to_z-of_z}
-use mir.Val.{to_z, of_z}
-use mir.Syntax.{w128}
-use Rattle.oim_value.specs.declared.limits.TheConstants.{UNIT_PLACES}
-use Rattle.oim_value.specs.Number.{without_trailing}
-use Rattle.oim_value.specs.Plain.{integer_digits, plain, sign_text}
+use Rattle.oim_value.proofs.Shared.{◌≡◌, ◌++◌, ◌∷◌, [], ◌/◌, ◌%◌, ◌^◌, ◌<◌, ◌-◌, ℕ, List, false, length, ap, arith, ◌∙◌, ℤ, string_bytes, unsigned_abs, decimal, padded_integral, format_spec, nat_tests, to_z-of_z, to_z, of_z, w128, UNIT_PLACES, without_trailing, integer_digits, plain, sign_text}
 use Rattle.oim_value.proofs.PlainLaws.{fitting_is_writable}
 use Rattle.oim_value.proofs.PlainLemmas.{padded_integral-zeros, take-without_trailing}
 use Rattle.oim_value.proofs.Written.{all_places, all_places_ascii, plain_cut, plain_whole}

@@ -1,10 +1,4 @@
-use Rattle.std.proofs.Common.{◌≡◌, ◌*◌, ◌^◌, ◌≤◌, ◌∙◌, arith, ap}
-use Rattle.std.proofs.lemmas.Int.{ints, to_z-of_z}
-use Rattle.std.specs.Prelude.{pos, neg_ℤ, Some}
-use mir.Syntax.{w8, w128}
-use mir.Val.{to_z}
-use Rattle.oim_value.specs.declared.limits.TheConstants.{MOST_DECIMALS}
-use Rattle.oim_value.specs.Interval.{half_width, half_zeros}
+use Rattle.oim_value.proofs.Shared.{◌≡◌, ◌*◌, ◌^◌, ◌≤◌, ◌∙◌, arith, ap, ints, to_z-of_z, pos, neg_ℤ, Some, w8, w128, to_z, MOST_DECIMALS, half_width, half_zeros}
 use Rattle.oim_value.proofs.Units.{ten_to}
 use Rattle.oim_value.proofs.interval.half_place.Goals as goal
 

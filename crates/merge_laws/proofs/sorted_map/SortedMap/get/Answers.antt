@@ -1,7 +1,4 @@
-use Rattle.std.proofs.Common.{◌≡◌, sym, ap, ◌∙◌, Option, Some, Ok}
-use Rattle.std.specs.Option.{option_map}
-use Rattle.merge_laws.specs.code.Insertions.{found_at}
-use Rattle.merge_laws.specs.Sorted.{entry_key, value_at}
+use Rattle.merge_laws.proofs.Shared.{◌≡◌, sym, ap, ◌∙◌, Option, Some, Ok, option_map, found_at, entry_key, value_at}
 use Rattle.merge_laws.proofs.Edits.{item_found}
 use Rattle.merge_laws.proofs.sorted_map.SortedMap.get.Goals as goal
 

@@ -1,5 +1,4 @@
-use Rattle.std.proofs.Common.{sym, subst}
-use Rattle.merge_laws.specs.Sorted.{IsRising, entry_key}
+use Rattle.merge_laws.proofs.Shared.{sym, subst, IsRising, entry_key}
 use Rattle.merge_laws.proofs.Rising.{none_rise}
 use Rattle.merge_laws.proofs.sorted_map.SortedMap.new.Goals as goal
 

@@ -1,11 +1,7 @@
-use Rattle.std.proofs.Common.{◌≡◌, ◌<◌, length, sym, ap, subst, ◌∙◌, Ok, Err}
-use Rattle.merge_laws.specs.code.Insertions.{found_at}
-use Rattle.merge_laws.specs.Sorted.{IsMap, entry_key}
-use Rattle.merge_laws.specs.Union.{map_with, merged_entries}
+use Rattle.merge_laws.proofs.Shared.{◌≡◌, ◌<◌, length, sym, ap, subst, ◌∙◌, Ok, Err, found_at, IsMap, entry_key, map_with, merged_entries, on_ok_weaker}
 use Rattle.merge_laws.proofs.Edits.{put_in}
 use Rattle.merge_laws.proofs.Puts.{put_there, put_map, merged_there}
 use Rattle.merge_laws.proofs.sorted_map.SortedMap.put.Goals as goal
-use Rattle.std.proofs.lemmas.Result.{on_ok_weaker}
 
 pub invariant_of-self : goal.invariant_of-self
 invariant_of-self g c =

@@ -1,13 +1,8 @@
-use Rattle.std.proofs.Common.{◌≡◌, ◌<◌, OnOk, length, vec_len, arith, sym, subst, ◌∙◌}
-use Rattle.std.specs.List.{AllByRecursion}
-use Rattle.merge_laws.specs.code.Insertions.{IsFirstLeast, new_items, new_values}
-use Rattle.merge_laws.specs.Sorted.{entry_key}
-use Rattle.merge_laws.specs.Union.{map_union}
+use Rattle.merge_laws.proofs.Shared.{◌≡◌, ◌<◌, OnOk, length, vec_len, arith, sym, subst, ◌∙◌, AllByRecursion, IsFirstLeast, new_items, new_values, entry_key, map_union, on_ok_weaker}
 use Rattle.merge_laws.proofs.Taking.{first_least}
 use Rattle.merge_laws.proofs.Unions.{map_changed, map_stays}
 use Rattle.merge_laws.proofs.Values.{values_within}
 use Rattle.merge_laws.proofs.sorted_map.SortedMapMerge.merge.Goals as goal
-use Rattle.std.proofs.lemmas.Result.{on_ok_weaker}
 
 pub make-requires-clause-values : goal.make-requires-clause-values
 make-requires-clause-values g c =

@@ -1,8 +1,4 @@
-use Rattle.std.proofs.Common.{sym, ap, subst, ◌∙◌, refl, Err, Ok, ◌≡◌}
-use Rattle.merge_laws.specs.code.Insertions.{found_at}
-use Rattle.merge_laws.specs.Sorted.{IsSet, itself}
-use Rattle.merge_laws.specs.Union.{set_with, older}
-use Rattle.merge_laws.specs.code.Items.{rises_with}
+use Rattle.merge_laws.proofs.Shared.{sym, ap, subst, ◌∙◌, refl, Err, Ok, ◌≡◌, found_at, IsSet, itself, set_with, older, rises_with}
 use Rattle.merge_laws.proofs.Edits.{put_in, unchanged, tells_ok}
 use Rattle.merge_laws.proofs.sorted_set.SortedSet.insert.Goals as goal
 

@@ -1,5 +1,4 @@
-use Rattle.std.proofs.Common.{sym, subst, ◌∙◌}
-use Rattle.merge_laws.specs.Sorted.{IsSet, itself}
+use Rattle.merge_laws.proofs.Shared.{sym, subst, ◌∙◌, IsSet, itself}
 use Rattle.merge_laws.proofs.Rising.{none_rise}
 use Rattle.merge_laws.proofs.sorted_set.SortedSet.new.Goals as goal
 

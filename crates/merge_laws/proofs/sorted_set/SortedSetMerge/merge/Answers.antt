@@ -1,12 +1,7 @@
-use Rattle.std.proofs.Common.{rules, ◌≡◌, OnOk, length, sym, subst, ◌∙◌}
-use Rattle.std.specs.Prelude.{reverse}
-use Rattle.merge_laws.specs.code.Insertions.{IsFirstLeast, inserted, new_items}
-use Rattle.merge_laws.specs.Sorted.{itself}
-use Rattle.merge_laws.specs.Union.{set_union}
+use Rattle.merge_laws.proofs.Shared.{rules, ◌≡◌, OnOk, length, sym, subst, ◌∙◌, reverse, IsFirstLeast, inserted, new_items, itself, set_union, on_ok_weaker}
 use Rattle.merge_laws.proofs.Taking.{first_least}
 use Rattle.merge_laws.proofs.Unions.{set_stays, set_taken}
 use Rattle.merge_laws.proofs.sorted_set.SortedSetMerge.merge.Goals as goal
-use Rattle.std.proofs.lemmas.Result.{on_ok_weaker}
 
 pub insert_new-requires : goal.insert_new-requires
 insert_new-requires g c =

@@ -1,5 +1,4 @@
-use Rattle.std.proofs.Common.{◌≡◌, true, false, refl, sym, ap, ◌∙◌}
-use Rattle.oim_dims.specs.DimensionSet.{rises, repeats}
+use Rattle.oim_dims.proofs.Shared.{◌≡◌, true, false, refl, sym, ap, ◌∙◌, rises, repeats}
 use Rattle.oim_dims.proofs.Rising.{once_where_it_rises, repeated_where_it_does_not}
 use Rattle.oim_dims.proofs.dimensions.Dimensions.set_members.Goals as goal
 

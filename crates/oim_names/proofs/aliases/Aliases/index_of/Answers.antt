@@ -1,7 +1,5 @@
-use Rattle.std.proofs.Common.{◌≡◌, ◌<◌, length, get_or, sym, ap, subst, ◌∙◌}
-use Rattle.std.specs.Option.{option_map}
+use Rattle.oim_names.proofs.Shared.{◌≡◌, ◌<◌, length, get_or, sym, ap, subst, ◌∙◌, option_map, Binding, uri_of, uri_at}
 use Rattle.std.proofs.lemmas.Option.{slice_get-get_or}
-use Rattle.oim_names.specs.Bindings.{Binding, uri_of, uri_at}
 use Rattle.oim_names.proofs.Bytes.{same_bytes}
 use Rattle.oim_names.proofs.Lookups.{bound_at}
 use Rattle.oim_names.proofs.aliases.Aliases.index_of.Goals as goal

@@ -1,9 +1,5 @@
-use Rattle.std.proofs.Common.{◌≡◌, ◌&&◌, ◌∙◌, ap, sym}
+use Rattle.oim_names.proofs.Shared.{◌≡◌, ◌&&◌, ◌∙◌, ap, sym, bytes_eq, Decides-and, bytes_eq-Decides, slice_eq-Decides, Binding}
 use Rattle.std.specs.Bool.{Decides}
-use Rattle.std.specs.Str.{bytes_eq}
-use Rattle.std.proofs.lemmas.Bool.Decides.{Decides-and}
-use Rattle.std.proofs.lemmas.Slice.Eq.{bytes_eq-Decides, slice_eq-Decides}
-use Rattle.oim_names.specs.Bindings.{Binding}
 use Rattle.oim_names.proofs.aliases.Aliases.same_as.Goals as goal
 
 same_binding : (a b : Binding) → Decides (bytes_eq a.prefix b.prefix && bytes_eq a.uri b.uri) (a ≡ b)
