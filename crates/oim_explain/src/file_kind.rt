@@ -1,4 +1,4 @@
-use super::subject::Subject;
+use crate::subject::Subject;
 use serde_json::Value;
 
 /// Guesses the kind of a file that is not JSON.

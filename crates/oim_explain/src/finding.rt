@@ -1,10 +1,10 @@
 ghost use Rattle.std.specs.Prelude.{◌≡◌};
 
-use super::escaped::{Escaped, end_of, front_of};
-use super::format_keys::object_with;
-use super::quoted::push_text;
-use super::sentence::{around, push_alone, push_limit};
-use super::subject::Subject;
+use crate::escaped::{Escaped, end_of, front_of};
+use crate::format_keys::object_with;
+use crate::quoted::push_text;
+use crate::sentence::{around, push_alone, push_limit};
+use crate::subject::Subject;
 use oim_names::Reason;
 use oim_report::Part;
 use serde_json::Value;

@@ -2,7 +2,7 @@ ghost use Rattle.std.specs.Prelude.{◌≡◌, ◌++◌, [], IfOk, OnOk, string_
 ghost use Rattle.json.specs.Print.{print, quoted};
 ghost use Rattle.oim_explain.specs.Quoted.{quoted_front};
 
-use super::escaped::{Escaped, front_of};
+use crate::escaped::{Escaped, front_of};
 use json::Writer;
 use std::alloc::{AllocError, Global};
 

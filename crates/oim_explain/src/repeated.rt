@@ -2,9 +2,9 @@ ghost use Rattle.std.specs.Prelude.{◌≡◌, OnOk};
 ghost use Rattle.oim_explain.specs.Explained.{RepeatsKeys};
 ghost use Rattle.oim_explain.specs.code.Added.{AddsRepeated};
 
-use super::lines::Lines;
-use super::quoted::push_text;
-use super::subject::Subject;
+use crate::lines::Lines;
+use crate::quoted::push_text;
+use crate::subject::Subject;
 use json::{Error, Scratch, Value};
 use oim_report::after_mark;
 use std::alloc::{AllocError, Global};

@@ -1,4 +1,4 @@
-use super::subject::Subject;
+use crate::subject::Subject;
 use oim_names::Reason;
 use oim_report::{MOST_REFERENCE_BYTES, Part};
 use oim_value::{MOST_DECIMALS, MOST_DIGITS};

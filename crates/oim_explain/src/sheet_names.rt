@@ -1,6 +1,6 @@
 ghost use Rattle.std.specs.Prelude.{◌≡◌, IfOk};
 
-use super::prefixes::aliases_in;
+use crate::prefixes::aliases_in;
 use oim_names::{Aliases, Reason, split_name};
 use oim_report::{Sheet, after_mark};
 use serde_json::Value;
