@@ -5,8 +5,7 @@ import bisect
 import functools
 import os
 import re
-from dataclasses import dataclass
-from typing import Iterator, Optional
+from typing import Iterator, NamedTuple
 from urllib.parse import unquote
 
 from names import Name
@@ -15,8 +14,8 @@ from sheet_making.xml_reading import Element, Visitor
 REWRITE = Name("urn:oasis:names:tc:entity:xmlns:xml:catalog", "rewriteURI")
 ABSOLUTE = re.compile(r"[A-Za-z][A-Za-z0-9+.-]*:")  # the scheme of an absolute URI (RFC 3986, section 3.1)
 
-@dataclass(frozen=True)
-class Rewrite:
+
+class Rewrite(NamedTuple):
     """A rule: in a URL that begins with `start`, `prefix` replaces `start`. The result is resolved against `catalog`."""
 
     start: str
@@ -37,24 +36,24 @@ class Tries:
 
 
 class Rules:
-    """Rules by their `start`. Equal rules count once."""
+    """Rules that are sorted by their `start` at the first look-up. They are in lists, because a package may have many."""
 
     def __init__(self, tries: Tries) -> None:
         self.tries = tries
-        self.rules: dict[str, dict[Rewrite, None]] = {}
-        self.starts: list[str] = []  # sorted, once all rules are known
-        self.outer: dict[str, Optional[str]] = {}  # the longest other start with which a start begins
-
-    def add(self, rule: Rewrite) -> None:
-        self.rules.setdefault(rule.start, {})[rule] = None
+        self.rules: list[Rewrite] = []
+        self.starts: list[str] = []
+        self.outer: list[int] = []  # the last rule with the longest other start with which the start of each rule begins, or -1
 
     def sort(self) -> None:
-        self.starts, around = sorted(self.rules), list[str]()
-        for start in self.starts:
-            while around and not start.startswith(around[-1]):
+        self.rules.sort(key=lambda rule: rule.start)
+        self.starts, around = [rule.start for rule in self.rules], list[int]()
+        for index, start in enumerate(self.starts):
+            while around and not start.startswith(self.starts[around[-1]]):
                 around.pop()
-            self.outer[start] = around[-1] if around else None
-            around.append(start)
+            if around and start == self.starts[around[-1]]:
+                around.pop()
+            self.outer.append(around[-1] if around else -1)
+            around.append(index)
 
     def rules_of(self, location: str) -> Iterator[Rewrite]:
         """Returns the rules whose start matches: those with longer starts first, and those with one start in their order.
@@ -62,14 +61,14 @@ class Rules:
         The sorted start before the location begins with all starts that match."""
         if len(self.starts) < len(self.rules):
             self.sort()
-        at = bisect.bisect_right(self.starts, location)
-        start = self.starts[at - 1] if at else None
-        while start is not None:
+        last = bisect.bisect_right(self.starts, location) - 1
+        while last >= 0:
             self.tries.add()
-            for rule in self.rules[start] if location.startswith(start) else ():
+            start = self.starts[last]
+            for index in range(bisect.bisect_left(self.starts, start), last + 1) if location.startswith(start) else ():
                 self.tries.add()
-                yield rule
-            start = self.outer[start]
+                yield self.rules[index]
+            last = self.outer[last]
 
 
 class Rewrites(Visitor):
@@ -84,13 +83,14 @@ class Rewrites(Visitor):
         self.tries = Tries(most_tries)
         self.all = Rules(self.tries)
         self.own: dict[str, Rules] = {}  # by the folder of the package
+        self.known: set[Rewrite] = set()  # equal rules count once
         self.catalog = ""
         self.rules_around = functools.lru_cache(maxsize=None)(self.rules_at)
 
     def open(self, catalog: str) -> Rewrites:
         """Returns itself, and adds rules that it then visits to this catalog. Open all catalogs before calling `paths_of`."""
         self.catalog = catalog
-        self.own[os.path.dirname(os.path.dirname(catalog))] = Rules(self.tries)
+        self.own.setdefault(os.path.dirname(os.path.dirname(catalog)), Rules(self.tries))
         return self
 
     def start(self, element: Element, level: int) -> None:
@@ -98,8 +98,10 @@ class Rewrites(Visitor):
             start, prefix = element.get("uriStartString"), element.get("rewritePrefix")
             if not start or prefix is None:
                 raise ValueError("a rewriteURI lacks uriStartString or rewritePrefix")
-            for rules in (self.all, self.own[os.path.dirname(os.path.dirname(self.catalog))]):
-                rules.add(Rewrite(start, prefix, self.catalog))
+            rule = Rewrite(start, prefix, self.catalog)
+            for rules in () if rule in self.known else (self.all, self.own[os.path.dirname(os.path.dirname(self.catalog))]):
+                rules.rules.append(rule)
+            self.known.add(rule)
 
     def rules_at(self, folder: str) -> Rules:
         """Returns the rules of the package that contains a folder. Without a package, they are empty."""
