@@ -99,7 +99,7 @@ unit_shown u =
     and_from (is_shown 92) (list_all is_shown (117 ∷ digits)) (printable_shown 92 (lit≤ tt) (lit< tt))
     (and_from (is_shown 117) (list_all is_shown digits) (printable_shown 117 (lit≤ tt) (lit< tt)) shown)
 
-units_ascii : (us : List ℕ) → IsAscii (flat_map unit_escape us)
+pub units_ascii : (us : List ℕ) → IsAscii (flat_map unit_escape us)
 units_ascii [] = IsAscii-nil
 units_ascii (u ∷ us) = IsAscii-append (unit_escape u) (flat_map unit_escape us) (unit_ascii u) (units_ascii us)
 

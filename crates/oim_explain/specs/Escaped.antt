@@ -53,9 +53,13 @@ name_characters after_backslash (c ∷ cs) = name_character after_backslash c ++
 unfoldable pub escaped_name : List ℕ → List ℕ
 escaped_name name = name_characters false (chars name)
 
--- ---- law
+-- ---- laws
 
 -- each character of an escaped text or name is shown
 abbrev pub EscapedIsShown : Type 0
 EscapedIsShown = ((text : List ℕ) → IsUtf8 text → list_all is_shown (chars (escaped text)) ≡ true)
     × ((name : List ℕ) → IsUtf8 name → list_all is_shown (chars (escaped_name name)) ≡ true)
+
+-- names that are printed alike are equal
+abbrev pub EscapedNamesDiffer : Type 0
+EscapedNamesDiffer = (one other : List ℕ) → IsUtf8 one → IsUtf8 other → escaped_name one ≡ escaped_name other → one ≡ other

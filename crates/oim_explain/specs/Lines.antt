@@ -7,7 +7,7 @@ use Rattle.oim_names.specs.Reasons.{entry_of}
 use Rattle.oim_report.specs.declared.place.Place.{Place}
 use Rattle.oim_report.specs.declared.place.Place.TheVariants as place
 use Rattle.oim_report.specs.declared.refusal.Refusal.{Refusal}
-use Rattle.oim_explain.specs.Escaped.{escaped}
+use Rattle.oim_explain.specs.Escaped.{escaped, escaped_name}
 use Rattle.oim_explain.specs.Quoted.{quoted_front}
 use Rattle.oim_explain.specs.declared.lines.Format.{Format}
 use Rattle.oim_explain.specs.declared.lines.Format.TheVariants.{Text, Json}
@@ -38,7 +38,7 @@ refusal_text (Some refusal) = decimal (entry_of refusal.reason).number ++ 32 ∷
 
 -- the file, the fact, and the number and name of the fault
 abbrev pub text_front : Input → Printed → List ℕ
-text_front input printed = input.name.now ++ (codes ": " ++ (identifier_text printed.identifier ++ refusal_text printed.refusal))
+text_front input printed = escaped_name input.name.now ++ (codes ": " ++ (identifier_text printed.identifier ++ refusal_text printed.refusal))
 
 abbrev pub IsTextLine : Input → Printed → List ℕ → List ℕ → Type 0
 IsTextLine input printed sentence line = line ≡ text_front input printed ++ sentence

@@ -37,7 +37,7 @@ impl fmt::Display for Escaped<'_> {
 }
 
 /// The name of a file to print as `Escaped` does. A `u` after a backslash is written as an escape too,
-/// so a name that contains `\u000a` does not look like a name with a line end.
+/// so different names are printed differently.
 #[derive(Clone, Copy)]
 pub struct EscapedName<'n>(pub &'n str);
 

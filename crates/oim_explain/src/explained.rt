@@ -4,19 +4,19 @@ ghost use Rattle.serde_json.specs.View.{members_view, view};
 ghost use Rattle.oim_report.specs.Faults.{tree_faults};
 ghost use Rattle.oim_report.specs.Identifiers.{tree_identifiers};
 ghost use Rattle.oim_report.specs.Json.{json, object_at};
-ghost use Rattle.oim_explain.specs.Escaped.{escaped};
+ghost use Rattle.oim_explain.specs.Escaped.{escaped, escaped_name};
 ghost use Rattle.oim_explain.specs.Explained.{Explains, printed_fault, printed_faults};
 ghost use Rattle.oim_explain.specs.code.Added.{AddsAll, AddsLines, texts_of};
 
-use super::escaped::Escaped;
-use super::file_kind::{kind_of_sheet, kind_of_tree, kind_of_unread};
-use super::finding::{Finding, Meaning};
-use super::lines::{Explained, Input, Lines};
-use super::nesting::is_too_deep;
-use super::prefixes::aliases_in;
-use super::repeated::push_repeated;
-use super::sheet_names::SheetNames;
-use super::subject::Subject;
+use crate::escaped::{Escaped, EscapedName};
+use crate::file_kind::{kind_of_sheet, kind_of_tree, kind_of_unread};
+use crate::finding::{Finding, Meaning};
+use crate::lines::{Explained, Input, Lines};
+use crate::nesting::is_too_deep;
+use crate::prefixes::aliases_in;
+use crate::repeated::push_repeated;
+use crate::sheet_names::SheetNames;
+use crate::subject::Subject;
 use oim_names::{Aliases, Reason};
 use oim_report::{
     Fault, MOST_LEVELS, Part, Place, Refusal, after_mark, is_accepted_in_pieces, sheet_part,
@@ -248,10 +248,10 @@ fn members_of_facts(tree: &Value) -> Option<&Map<String, Value>>
 /// Errors: out of memory.
 pub fn explain_sheet(alloc: Global, name: &str, bytes: &[u8]) -> Result<String, AllocError>
     ensures { IfOk result (λ line. (sentence : List ℕ)
-        × (string_bytes line ≡ escaped (name.now ++ (codes ": " ++ sentence)) ++ 10 ∷ [])) }
+        × (string_bytes line ≡ escaped (escaped_name name.now ++ (codes ": " ++ sentence)) ++ 10 ∷ [])) }
 {
     let sentence = sentence_of_sheet(alloc, bytes)?;
-    let line = format!(in alloc; "{name}: {sentence}")?;
+    let line = format!(in alloc; "{}: {sentence}", EscapedName(name))?;
     format!(in alloc; "{}\n", Escaped(line.as_str()))
 }
 

@@ -3,9 +3,9 @@ ghost use Rattle.json.specs.Token.{key};
 ghost use Rattle.oim_explain.specs.Lines.{IsJsonLine, IsLineIn, IsSentence, IsTextLine, identifier_text, number_token, object_front, place_tokens, reason_tokens, refusal_text, repeated_member, text_token};
 ghost use Rattle.oim_explain.specs.code.Added.{AddsLines, AddsTokens, AddsSomeTokens, of_finding, of_fault};
 
-use super::escaped::Escaped;
-use super::finding::Finding;
-use super::quoted::{push_text, written_text};
+use crate::escaped::{Escaped, EscapedName};
+use crate::finding::Finding;
+use crate::quoted::{push_text, written_text};
 use json::{Error, Scratch, Writer};
 use oim_report::{Part, Place, Refusal};
 use serde_json::Value;
@@ -126,8 +126,7 @@ impl PrintedFault<'_, '_> {
     fn text_line(&self, alloc: Global, input: &Input<'_>) -> Result<String, AllocError>
         ensures { IfOk result (λ line. IsTextLine input.now (of_fault self.now) self.now.sentence.now (string_bytes line)) }
     {
-        let mut line = String::from_str(alloc, input.name)?;
-        line.push_str(": ")?;
+        let mut line = format!(in alloc; "{}: ", EscapedName(input.name))?;
         self.push_identifier(alloc, &mut line)?;
         self.push_refusal(&mut line)?;
         line.push_str(self.sentence)?;

@@ -311,6 +311,30 @@ const SHEETS: [(&str, &str); 9] = [
     ),
 ];
 
+// Names of files, each with the lines about a report and about a sheet.
+const NAMES: [(&str, &str, &str); 4] = [
+    (
+        "l\n",
+        "l\\u000a: 1 NotJson: the file cannot be read as JSON: invalid JSON at line 1 column 1\n",
+        "l\\u000a: \"concepts\" is not an object\n",
+    ),
+    (
+        "l\\u000a",
+        "l\\\\u0075000a: 1 NotJson: the file cannot be read as JSON: invalid JSON at line 1 column 1\n",
+        "l\\\\u0075000a: \"concepts\" is not an object\n",
+    ),
+    (
+        "\\\\u\u{feff}",
+        "\\\\\\u0075\\ufeff: 1 NotJson: the file cannot be read as JSON: invalid JSON at line 1 column 1\n",
+        "\\\\\\u0075\\ufeff: \"concepts\" is not an object\n",
+    ),
+    (
+        "C:\\l",
+        "C:\\l: 1 NotJson: the file cannot be read as JSON: invalid JSON at line 1 column 1\n",
+        "C:\\l: \"concepts\" is not an object\n",
+    ),
+];
+
 fn read_names<'s>(
     rt: &HostRuntime,
     sheet: &'s Sheet,
@@ -325,12 +349,13 @@ fn read_names<'s>(
 fn is_said_once(
     rt: &HostRuntime,
     names: &SheetNames<'_>,
+    name: &str,
     bytes: &[u8],
     lines: &str,
 ) -> Result<bool, AllocError> {
     let input = Input {
         report: Some(1),
-        name: "r",
+        name,
         format: Format::Text,
     };
     let said = explain(rt.alloc(), names, input, bytes)?;
@@ -349,11 +374,12 @@ fn are_lines(rt: &HostRuntime, found: &str, lines: &str) -> bool {
 fn is_said(
     rt: &HostRuntime,
     names: &SheetNames<'_>,
+    name: &str,
     bytes: &[u8],
     lines: &str,
 ) -> Result<bool, AllocError> {
-    match is_said_once(rt, names, bytes, lines) {
-        Err(_) if may_repeat(rt) => is_said_once(rt, names, bytes, lines),
+    match is_said_once(rt, names, name, bytes, lines) {
+        Err(_) if may_repeat(rt) => is_said_once(rt, names, name, bytes, lines),
         said => said,
     }
 }
@@ -365,7 +391,7 @@ fn is_row_said(
     row: &(&str, &str),
 ) -> Result<bool, AllocError> {
     let report = joined(rt, &[table.start, row.0, table.end])?;
-    is_said(rt, names, report.as_slice(), row.1)
+    is_said(rt, names, "r", report.as_slice(), row.1)
 }
 
 fn is_table_said(
@@ -380,8 +406,13 @@ fn is_table_said(
     Ok(all)
 }
 
-fn is_said_of_sheet_once(rt: &HostRuntime, text: &str, line: &str) -> Result<bool, AllocError> {
-    let said = explain_sheet(rt.alloc(), "s", text.as_bytes())?;
+fn is_said_of_sheet_once(
+    rt: &HostRuntime,
+    name: &str,
+    text: &str,
+    line: &str,
+) -> Result<bool, AllocError> {
+    let said = explain_sheet(rt.alloc(), name, text.as_bytes())?;
     if said.as_str() != line {
         let found = said.as_str();
         let _ = eprintln!(rt; "{found}");
@@ -389,9 +420,14 @@ fn is_said_of_sheet_once(rt: &HostRuntime, text: &str, line: &str) -> Result<boo
     Ok(said.as_str() == line)
 }
 
-fn is_said_of_sheet(rt: &HostRuntime, text: &str, line: &str) -> Result<bool, AllocError> {
-    match is_said_of_sheet_once(rt, text, line) {
-        Err(_) if may_repeat(rt) => is_said_of_sheet_once(rt, text, line),
+fn is_said_of_sheet(
+    rt: &HostRuntime,
+    name: &str,
+    text: &str,
+    line: &str,
+) -> Result<bool, AllocError> {
+    match is_said_of_sheet_once(rt, name, text, line) {
+        Err(_) if may_repeat(rt) => is_said_of_sheet_once(rt, name, text, line),
         said => said,
     }
 }
@@ -419,7 +455,7 @@ fn faults_of_reports_in_other_formats_are_said(rt: HostRuntime) -> Result<(), Fa
     let sheet = read_sheet(&rt, SHEET)?;
     let names = read_names(&rt, &sheet, SHEET)?;
     for (bytes, line) in &BYTES {
-        assert!(rt; is_said(&rt, &names, bytes, line)?);
+        assert!(rt; is_said(&rt, &names, "r", bytes, line)?);
     }
     Ok(())
 }
@@ -428,14 +464,25 @@ fn faults_of_reports_in_other_formats_are_said(rt: HostRuntime) -> Result<(), Fa
 fn long_namespaces_are_shown_where_they_differ(rt: HostRuntime) -> Result<(), Fail> {
     let sheet = read_sheet(&rt, LONG_SHEET)?;
     let names = read_names(&rt, &sheet, LONG_SHEET)?;
-    assert!(rt; is_said(&rt, &names, LONG_REPORT, LONG_TOLD)?);
+    assert!(rt; is_said(&rt, &names, "r", LONG_REPORT, LONG_TOLD)?);
     Ok(())
 }
 
 #[test]
 fn refused_sheets_are_told_apart(rt: HostRuntime) -> Result<(), Fail> {
     for (text, line) in &SHEETS {
-        assert!(rt; is_said_of_sheet(&rt, text, line)?);
+        assert!(rt; is_said_of_sheet(&rt, "s", text, line)?);
+    }
+    Ok(())
+}
+
+#[test]
+fn names_of_files_look_different(rt: HostRuntime) -> Result<(), Fail> {
+    let sheet = read_sheet(&rt, SHEET)?;
+    let names = read_names(&rt, &sheet, SHEET)?;
+    for (name, of_report, of_sheet) in &NAMES {
+        assert!(rt; is_said(&rt, &names, name, b"/", of_report)?);
+        assert!(rt; is_said_of_sheet(&rt, name, "{\"concepts\":[]}", of_sheet)?);
     }
     Ok(())
 }

@@ -1,4 +1,4 @@
-use Rattle.std.proofs.Common.{[], ◌++◌, chars, refl, sym, ap, ◌∙◌, append-nil, append_assoc, rules}
+use Rattle.std.proofs.Common.{[], ◌++◌, chars, sym, ap, ◌∙◌, append-nil, append_assoc, rules}
 use Rattle.std.proofs.Output.{has_written_append, has_written_of_eq, writes_in_calls_nil}
 use Rattle.std.proofs.lemmas.List.{nil_from_length}
 use Rattle.std.proofs.lemmas.Str.{IsUtf8-past_char, chars-nil, chars_past_char}
