@@ -92,6 +92,8 @@ def sentence(fault: Exception) -> str:
         return "nested too deeply"
     if isinstance(fault, OSError) and fault.strerror:
         return f"{fault.filename}: {fault.strerror}" if fault.filename else fault.strerror
+    if isinstance(fault, UnicodeEncodeError):
+        return "a text has half a surrogate pair"
     if isinstance(fault, (OSError, ValueError)) and str(fault):
         return str(fault)
     return f"a defect of this tool, which you can report: {type(fault).__name__} {fault}"

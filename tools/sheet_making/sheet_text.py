@@ -37,10 +37,12 @@ def union(paths: Iterable[str], limits: Limits) -> Kinds:
 
 
 def sheet_at(path: str, limits: Limits) -> Sheet:
-    """Returns a sheet, with the types in the file beside it if there is one. Errors: those of `read_regular` and of `Sheet`."""
+    """Returns a sheet, with the types in the file beside it if there is one. Errors: those of `read_regular`, and ValueError."""
     beside = types_path(path)
     paths = [path, beside] if os.path.isfile(beside) else [path]
-    return Sheet(*(json.loads(read_regular(each, limits).decode("utf-8-sig")) for each in paths))
+    trees = [json.loads(read_regular(each, limits).decode("utf-8-sig")) for each in paths]
+    text_of(trees).encode()  # fails for half a surrogate pair
+    return Sheet(*trees)
 
 
 class Texts:

@@ -360,6 +360,7 @@ class Unions(ToolTest):
             ("is not a name, or its prefix is not bound", [{"name": name} for name in ("A", ":A", "p:", "p: A", "p:A:B", "p:A\n", "q:A")]),
             ("xbrlmerge:sets is not a list", [{"xbrlmerge:sets": sets} for sets in ("p:A", {"p:A": 1}, 1)]),
             ("is not a name", [{"xbrlmerge:sets": sets} for sets in ([1], [["p:A"]], ["q:A"])]),
+            ("a text has half a surrogate pair", [{"namespaces": {"p": "u\ud800"}}, {"name": "p:A\udc00"}]),
             ("has a kind that is not one of", [{"kind": kind} for kind in ("numerical", 1, None, [], {})]),
         ):
             for parts in sheets:
