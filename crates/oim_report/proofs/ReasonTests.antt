@@ -1,6 +1,6 @@
--- Reading a period or a number returns a reason exactly if the condition of `Holds` for this reason applies.
+-- A period or a number is refused for a reason exactly if the condition of `Holds` for this reason applies.
 use Rattle.std.proofs.Common.{◌≡◌, ℕ, ℤ, List, Bool, true, false, not, ◌||◌, ◌&&◌, Ok, Err, refl}
-use Rattle.std.specs.Prelude.{Option, Some, None, is_none, int_lt, if◌then◌else◌}
+use Rattle.std.specs.Prelude.{Option, Some, None, is_none, int_lt, if◌then◌else◌, option_and_then}
 use Rattle.std.specs.Option.{option_eq}
 use Rattle.std.specs.Ordering.{int_eq}
 use Rattle.std.specs.Result.{result_err}
@@ -33,18 +33,24 @@ order_between : (start end : Option ℤ) → answers (result_err (from_to start 
 order_between (Some s) (Some e) = ordered (int_lt e s) (int_eq s e) (Instant s) (Duration s e)
 order_between start end = refl
 
-pub period_form : (t : List ℕ) → answers (result_err (period_of t)) PeriodForm ≡ lacks_moment t
-period_form t = form_between (moment_of (start_part t)) (moment_of (end_part t))
+pub period_form : (o : Option (List ℕ)) → answers (option_and_then (λ t. result_err (period_of t)) o) PeriodForm ≡ is_some_and lacks_moment o
+period_form None = refl
+period_form (Some t) = form_between (moment_of (start_part t)) (moment_of (end_part t))
 
-pub period_order : (t : List ℕ) → answers (result_err (period_of t)) PeriodOrder ≡ runs_backward t
-period_order t = order_between (moment_of (start_part t)) (moment_of (end_part t))
+pub period_order : (o : Option (List ℕ)) → answers (option_and_then (λ t. result_err (period_of t)) o) PeriodOrder ≡ is_some_and runs_backward o
+period_order None = refl
+period_order (Some t) = order_between (moment_of (start_part t)) (moment_of (end_part t))
 
 number_so : (number short : Bool) → (answers (if not number then Some NumberForm else (if not short then Some NumberDigits else None)) NumberForm ≡ not number) × (answers (if not number then Some NumberForm else (if not short then Some NumberDigits else None)) NumberDigits ≡ (number && not short))
 number_so true false = (refl, refl)
 number_so b short = (refl, refl)
 
-pub number_form : (t : List ℕ) → answers (number_refusal t) NumberForm ≡ not (is_number t)
-number_form t = (number_so (is_number t) (is_short t)).0
+pub number_form : (numeric : Bool) (o : Option (List ℕ)) → answers (if numeric then option_and_then number_refusal o else None) NumberForm ≡ (numeric && is_some_and (λ t. not (is_number t)) o)
+number_form true (Some t) = (number_so (is_number t) (is_short t)).0
+number_form true None = refl
+number_form false o = refl
 
-pub number_digits : (t : List ℕ) → answers (number_refusal t) NumberDigits ≡ (is_number t && not (is_short t))
-number_digits t = (number_so (is_number t) (is_short t)).1
+pub number_digits : (numeric : Bool) (o : Option (List ℕ)) → answers (if numeric then option_and_then number_refusal o else None) NumberDigits ≡ (numeric && is_some_and (λ t. is_number t && not (is_short t)) o)
+number_digits true (Some t) = (number_so (is_number t) (is_short t)).1
+number_digits true None = refl
+number_digits false o = refl

@@ -152,11 +152,7 @@ impl<'s> FactReader<'s> {
     pub(crate) fn least_fault(&self, object: &Value) -> Result<Option<Reason>, AllocError>
         ensures { IfOk result (λ found. found ≡ least (holds self.now.sheet self.now.aliases (view object.now))) }
     {
-        let fact = FactInScope {
-            sheet: self.sheet,
-            aliases: &self.aliases,
-            object,
-        };
+        let fact = FactInScope::new(self.alloc, self.sheet, &self.aliases, object);
         least_of_fact(self.alloc, &fact)
     }
 

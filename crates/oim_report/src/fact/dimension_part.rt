@@ -15,9 +15,9 @@ use crate::fact::fact_part::FactInScope;
 use crate::json_values::fact_values::text;
 use crate::json_values::json_tree::{has_colon, object_at};
 use crate::part::Part;
-use crate::sheet::find_dimension;
 use crate::sheet::name_table::NameTableBuilder;
 use crate::sheet::same_names::{beside_first, name_of};
+use crate::sheet::{Sheet, find_dimension};
 use oim_names::{Aliases, Name, Reason};
 use serde_json::{Map, Value};
 use std::alloc::{AllocError, Global};
@@ -29,19 +29,11 @@ impl<'a> FactInScope<'_, 'a> {
             option_map seen result ≡ option_map (λ m. name (a_name m.0)) found }
     {
         for (key, _value) in object_at(self.object, "dimensions")?.iter() {
-            if self.is_unlisted_dimension(key.as_str()) {
+            if is_unlisted_dimension(self.sheet, self.aliases, key.as_str()) {
                 return Some(Part::Name(key.as_str()));
             }
         }
         None
-    }
-
-    fn is_unlisted_dimension(&self, key: &str) -> bool
-        ensures { result ≡ (is_defined key.now && is_unlisted self.now.sheet.now self.now.aliases.now key.now) }
-    {
-        is_defined(key)
-            && self.aliases.name_refusal(key).is_none()
-            && find_dimension(self.sheet, self.aliases, key).is_none()
     }
 
     #[tactic(auto, unfolding(crate::specs::Holds::holds, crate::specs::Shown::fact_shown))]
@@ -83,6 +75,14 @@ impl<'a> FactInScope<'_, 'a> {
             None => false,
         }
     }
+}
+
+fn is_unlisted_dimension(sheet: &Sheet, aliases: &Aliases, key: &str) -> bool
+    ensures { result ≡ (is_defined key.now && is_unlisted sheet.now aliases.now key.now) }
+{
+    is_defined(key)
+        && aliases.name_refusal(key).is_none()
+        && find_dimension(sheet, aliases, key).is_none()
 }
 
 #[tactic(auto, using(crate::proofs::ShownFaults::colon_utf8))]

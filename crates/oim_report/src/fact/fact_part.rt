@@ -1,48 +1,114 @@
 //! Finds the part of a fact object to which a condition applies.
 
-ghost use Rattle.std.specs.Prelude.{◌≡◌, ◌≢◌, ◌||◌, codes, option_map, IfOk};
+ghost use Rattle.std.proofs.Props.{props};
+ghost use Rattle.std.specs.Prelude.{◌≡◌, ◌||◌, codes, option_map, IfOk};
 ghost use Rattle.serde_json.specs.View.{view};
 ghost use Rattle.oim_report.specs.Json.{members, object_at};
 ghost use Rattle.oim_report.specs.Shown.{fact_part, seen, textless, when};
-ghost use Rattle.oim_report.specs.code.MemberTests.{lacks_text};
+ghost use Rattle.oim_report.specs.code.MemberTests.{lacks_text, listed_kind, refused_number, refused_period};
 
+use crate::concept_kind::ConceptKind;
 use crate::fact::fact_members::{CORE_KEYS, FACT_KEYS};
-use crate::json_values::fact_values::{dimension, is_no_text};
-use crate::json_values::json_tree::{is_no_object, object_at, unknown_in};
-use crate::part::Part;
+use crate::fact::value_part::{
+    is_out_of_range, is_unlisted_concept, listed_kind, refused_number, refused_period,
+};
+use crate::json_values::fact_values::{dimension, is_no_text, is_no_text_or_null, text, whole};
+use crate::json_values::json_tree::{has_member, is_no_object, object_at, unknown_in};
+use crate::part::{Part, value_if};
 use crate::sheet::Sheet;
+use oim_dims::{is_language, is_unit_text};
 use oim_names::{Aliases, Reason};
 use serde_json::Value;
 use std::alloc::{AllocError, Global};
 
-/// A fact object, with the sheet and the prefixes under which it is read.
+/// A fact object, with the sheet and the prefixes under which it is read, and with what several
+/// conditions test. This is found once.
 #[derive(Clone, Copy)]
 pub(crate) struct FactInScope<'s, 'a> {
     pub(crate) sheet: &'s Sheet,
     pub(crate) aliases: &'s Aliases,
     pub(crate) object: &'a Value,
+    /// The kind of the concept, if the sheet lists the concept.
+    pub(crate) kind: Option<ConceptKind>,
+    /// Why the period is refused, if it is a text.
+    pub(crate) period_refusal: Option<Reason>,
+    /// Why the value is refused as a number, if it is a text and the concept is numeric.
+    pub(crate) number_refusal: Option<Reason>,
+    ghost listed: { kind ≡ listed_kind sheet.now aliases.now (view object.now) } by { Prim.hlevel props },
+    ghost dated: { period_refusal ≡ refused_period (view object.now) } by { Prim.hlevel props },
+    ghost counted: { number_refusal ≡ refused_number kind (view object.now) } by { Prim.hlevel props },
+}
+
+impl<'s, 'a> FactInScope<'s, 'a> {
+    pub(crate) fn new(
+        alloc: Global,
+        sheet: &'s Sheet,
+        aliases: &'s Aliases,
+        object: &'a Value,
+    ) -> FactInScope<'s, 'a>
+        ensures sheet { result.sheet.now ≡ sheet.now }
+        ensures aliases { result.aliases.now ≡ aliases.now }
+        ensures object { result.object.now ≡ object.now }
+    {
+        let kind = listed_kind(sheet, aliases, object);
+        FactInScope {
+            sheet,
+            aliases,
+            object,
+            kind,
+            period_refusal: refused_period(alloc, object),
+            number_refusal: refused_number(kind, object),
+        }
+    }
 }
 
 impl<'a> FactInScope<'_, 'a> {
     /// Returns the part at fault if the condition `reason` applies to the fact object, otherwise
     /// `None` (own). If several parts are at fault, the first in the order of `fact_shown` is
-    /// returned.
+    /// returned. If the condition is not about a part, no part can be shown.
     ///
     /// Errors: out of memory.
-    #[tactic(auto, unfolding(crate::specs::Holds::holds, crate::specs::Shown::fact_shown), using(crate::proofs::ShownFaults::name_shown, crate::proofs::ShownFaults::unlisted_shown))]
+    #[tactic(auto, unfolding(crate::specs::Holds::holds, crate::specs::Shown::fact_shown), using(crate::proofs::ShownFaults::name_shown, crate::proofs::ShownFaults::unlisted_shown, crate::proofs::ReasonTests::period_form, crate::proofs::ReasonTests::period_order, crate::proofs::ReasonTests::number_form, crate::proofs::ReasonTests::number_digits))]
     pub(crate) fn part(&self, alloc: Global, reason: Reason) -> Result<Option<Part<'a>>, AllocError>
         ensures { IfOk result (λ part. option_map seen part
             ≡ fact_part self.now.sheet.now self.now.aliases.now (view self.now.object.now) reason) }
     {
+        if self.is_free_of(reason) {
+            return Ok(None);
+        }
+        let value = self.subject(reason);
+        let text = text(value);
+        let period = self.period_refusal;
+        let number = self.number_refusal;
         match reason {
             Reason::MemberForm => Ok(self.misshapen()),
             Reason::UnknownMember => Ok(self.unknown()),
+            Reason::Links => Ok(value_if(has_member(object_at(self.object, "links")), value)),
+            Reason::Notes => Ok(value_if(value.is_some(), value)),
+            Reason::DimensionsMissing => Ok(value_if(self.lacks_dimensions(), None)),
             Reason::NameForm => Ok(self.refused_name(Reason::NameForm)),
             Reason::UnboundPrefix => Ok(self.refused_name(Reason::UnboundPrefix)),
             Reason::ReservedNamespace => Ok(self.refused_name(Reason::ReservedNamespace)),
+            Reason::MissingConcept => Ok(value_if(self.lacks_concept(), None)),
+            Reason::UnknownConcept => {
+                let is_unlisted = is_unlisted_concept(self.sheet, self.aliases, text);
+                Ok(value_if(is_unlisted, value))
+            }
             Reason::UnknownDimension => Ok(self.unlisted_dimension()),
             Reason::DimensionValue => self.misfit(alloc),
-            _ => Ok(self.value_at_fault(alloc, reason)),
+            Reason::PeriodForm => Ok(value_if(period == Some(Reason::PeriodForm), value)),
+            Reason::PeriodOrder => Ok(value_if(period == Some(Reason::PeriodOrder), value)),
+            Reason::UnitForm => Ok(value_if(text.is_some_and(|t| !is_unit_text(t)), value)),
+            Reason::UnitOnOther => Ok(value_if(value.is_some() && self.is_other(), value)),
+            Reason::LanguageForm => Ok(value_if(text.is_some_and(|t| !is_language(t)), value)),
+            Reason::LanguageOnNumeric => Ok(value_if(value.is_some() && self.is_numeric(), value)),
+            Reason::ValueForm => Ok(value_if(is_no_text_or_null(value), value)),
+            Reason::NumberForm => Ok(value_if(number == Some(Reason::NumberForm), value)),
+            Reason::NumberDigits => Ok(value_if(number == Some(Reason::NumberDigits), value)),
+            Reason::DecimalsForm => Ok(value_if(value.is_some() && whole(value).is_none(), value)),
+            Reason::DecimalsRange => Ok(value_if(whole(value).is_some_and(is_out_of_range), value)),
+            Reason::DecimalsOnOther => Ok(value_if(value.is_some() && self.is_other(), value)),
+            _ => Ok(None),
         }
     }
 

@@ -86,7 +86,7 @@ impl<'a> FactInScope<'_, 'a> {
             let all = map a_name (if named then option_to_list text else []) in
             option_map seen result ≡ option_map name (find (refuses reason self.now.aliases.now) all) }
     {
-        match self.kind() {
+        match self.kind {
             Some(ConceptKind::Name) => {
                 refused_text(self.aliases, self.object.get("value"), reason)
             }

@@ -109,11 +109,7 @@ impl<'t> Faults<'t> {
         };
         let mut number: u64 = 1;
         for (_identifier, object) in objects.iter() {
-            let fact = FactInScope {
-                sheet,
-                aliases,
-                object,
-            };
+            let fact = FactInScope::new(self.alloc(), sheet, aliases, object);
             self.add_fact(&fact, Place::Fact(number))?;
             number += 1;
         }

@@ -38,8 +38,11 @@ loop-identifier-preserved c =
     let bs = c.args.aliases.now in
     let l = c.loop-identifier in
     let mine = fact_faults sheet bs (view c.in-Some-2.object.now) (Fact l.number) in
+    let made = c.new-fact.result in
+    let fact = c.new-fact.ensures in
+    let same : fact_faults made.sheet.now made.aliases.now (view made.object.now) (Fact l.number) ≡ mine = λ i. fact_faults (fact.sheet i) (fact.aliases i) (view (fact.object i)) (Fact l.number) in
     let rest = facts_faults sheet bs (l.number + 1) (values (members_view c.next.new.self)) in (
-      ap (λ fs. fs ++ rest) c.in_ok-add_fact.ensures
+      ap (λ fs. fs ++ rest) (c.in_ok-add_fact.ensures ∙ ap (λ fs. listed l.self ++ fs) same)
           ∙ append_assoc (listed l.self) mine rest
           ∙ ap (λ es. listed l.self ++ facts_faults sheet bs l.number (values (members_view es))) (sym c.in-Some-2.ensures.steps)
           ∙ l.invariant.0,
