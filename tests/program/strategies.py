@@ -88,6 +88,9 @@ def sheet_tree(prefix="m"):
             "dimensions": {"m:Reg": "explicit", f"{prefix}:Sku": "typed"}}
 
 
+simple_sheet = sheet_tree
+
+
 def drawn_number(chance):
     """Draws a number and its decimals. Most numbers are close to each other, so that their intervals often touch."""
     if chance.random() < 0.25:
@@ -104,7 +107,7 @@ def drawn_dimensions(chance, name):
     if chance.random() < 0.2:
         given["entity"] = chance.choice(ENTITIES)
     if chance.random() < 0.4:
-        given["period"] = drawn_period(chance)
+        given["period"] = chance.choice(DAYS[:3]) if chance.random() < 0.5 else "/".join(sorted(chance.sample(DAYS, 2)))
     if chance.random() < 0.2:
         given[f"{chance.choice(('m', 'made'))}:Reg"] = chance.choice(NAMES)
     if chance.random() < 0.2:
@@ -112,12 +115,6 @@ def drawn_dimensions(chance, name):
     if chance.random() < 0.3:
         given.update({"unit": chance.choice(UNITS)} if KINDS[name] == "numeric" else {"language": chance.choice(LANGUAGES)})
     return dict(chance.sample([*given.items()], len(given)))
-
-
-def drawn_period(chance):
-    if chance.random() < 0.5:
-        return chance.choice(DAYS[:3])
-    return "/".join(sorted(chance.sample(DAYS, 2)))
 
 
 def drawn_fact(chance):
@@ -153,10 +150,6 @@ def report_tree(chance):
     if facts and chance.random() < 0.2:
         facts["again"] = chance.choice([*facts.values()])
     return {"documentInfo": info, "facts": facts, **more}
-
-
-def simple_sheet():
-    return sheet_tree()
 
 
 def simple_report(chance, is_refused=0, most=20):
@@ -367,34 +360,31 @@ def spliced(chance, text, other):
     return text[:chance.randint(0, len(text))] + other[chance.randint(0, len(other)):]
 
 
-def replaced(chance, text, pattern, choices):
-    """Replaces a part of a text by one of the choices. The part matches the pattern or, if no part matches, is drawn."""
-    found = list(re.finditer(pattern, text))
-    start, end = chance.choice(found).span() if found else stretch(chance, text)
-    return text[:start] + chance.choice(choices) + text[end:]
+def replacing(pattern, choices):
+    """Returns a function that replaces a part of a text by one of the choices. The part matches the pattern or, if no part matches,
+    is drawn."""
+    def replaced(chance, text, _):
+        found = list(re.finditer(pattern, text))
+        start, end = chance.choice(found).span() if found else stretch(chance, text)
+        return text[:start] + chance.choice(choices) + text[end:]
+
+    return replaced
 
 
-def renumbered(chance, text, _):
-    return replaced(chance, text, rb"-?\d+(?:\.\d+)?", NUMERALS)
+def repeating(runs, counts):
+    """Returns a function that replaces a drawn part of a text by one of the texts to repeat."""
+    def overrun(chance, text, _):
+        start, end = stretch(chance, text)
+        return text[:start] + chance.choice(runs) * chance.choice(counts) + text[end:]
+
+    return overrun
 
 
-def escaped(chance, text, _):
-    return replaced(chance, text, rb'(?<=[\w:.-])(?=[\w:."])', ESCAPES)
-
-
-def retyped(chance, text, _):
-    return replaced(chance, text, rb'(?<=[:,\[])(?:"[^"\\]*"(?!:)|\{[^{}]*\}|\[[^][]*\]|null|-?\d+)', OTHER_VALUES)
-
-
-def renamed(chance, text, _):
-    return replaced(chance, text, rb'(?<=")[\w:]+(?=":)', KEYS)
-
-
-def overrun(chance, text, _):
-    start, end = stretch(chance, text)
-    return text[:start] + chance.choice(RUNS) * chance.choice((2, 126, 127, 128, 5_000, 70_000)) + text[end:]
-
-
+renumbered = replacing(rb"-?\d+(?:\.\d+)?", NUMERALS)
+escaped = replacing(rb'(?<=[\w:.-])(?=[\w:."])', ESCAPES)
+retyped = replacing(rb'(?<=[:,\[])(?:"[^"\\]*"(?!:)|\{[^{}]*\}|\[[^][]*\]|null|-?\d+)', OTHER_VALUES)
+renamed = replacing(rb'(?<=")[\w:]+(?=":)', KEYS)
+overrun = repeating(RUNS, (2, 126, 127, 128, 5_000, 70_000))
 BREAKS = (cut, doubled, flipped, swapped, reordered, spliced, renumbered, escaped, retyped, retyped, renamed, renamed, overrun)
 
 
@@ -409,25 +399,11 @@ def perhaps_broken(chance, text, other, breaks):
     return broken(chance, text, other, breaks) if chance.randrange(6) else text
 
 
-def split_at_tags(chance, text, _):
-    """Replaces an attribute's value, a name or a piece of text or, if there is none, a drawn part by one of XML_PIECES."""
-    return replaced(chance, text, rb'(?<=")[^"<>]*(?=")|(?<=[</ ])[\w:]+|(?<=>)[^<]*(?=<)', XML_PIECES)
-
-
-def overrun_by_tags(chance, text, _):
-    start, end = stretch(chance, text)
-    return text[:start] + chance.choice(XML_RUNS) * chance.choice((2, 200, 5_000, 30_000)) + text[end:]
-
-
-def reworded(chance, text, _):
-    return replaced(chance, text, rb"\S+", LINES)
-
-
-def dropped(chance, text, _):
-    """Removes a drawn member whose value is a text, an integer, a boolean or null or, if there is none, a drawn part."""
-    return replaced(chance, text, rb'"[\w:]+": ?(?:"[^"\\]*"|null|true|false|-?\d+)(?:, ?)?', (b"",))
-
-
+# a member whose value is a text, an integer, a boolean or null
+dropped = replacing(rb'"[\w:]+": ?(?:"[^"\\]*"|null|true|false|-?\d+)(?:, ?)?', (b"",))
+# an attribute's value, a name or a piece of text
+split_at_tags = replacing(rb'(?<=")[^"<>]*(?=")|(?<=[</ ])[\w:]+|(?<=>)[^<]*(?=<)', XML_PIECES)
+overrun_by_tags, reworded = repeating(XML_RUNS, (2, 200, 5_000, 30_000)), replacing(rb"\S+", LINES)
 JSON_BREAKS = (*BREAKS, dropped, dropped, dropped)
 XML_BREAKS = (split_at_tags, split_at_tags, split_at_tags, overrun_by_tags, *BREAKS[:6])
 LINE_BREAKS = (reworded, reworded, reordered, renumbered, *BREAKS[:6], overrun)
