@@ -2,7 +2,7 @@
 import shlex
 
 from packing.files import File
-from packing.program_help import Command, Option
+from packing.manual import Command, Option
 
 # the arguments that are not names of files, and have no list of values
 NOT_FILES = ("BYTES", "N")

@@ -3,8 +3,7 @@ import os
 
 from packing.completions import completions
 from packing.files import PLAIN, RUNS, File, read, read_below, run_tool
-from packing.manual import PROGRAM, TOOLS, command_of, pages
-from packing.program_help import commands_of
+from packing.manual import PROGRAM, TOOLS, command_of, commands_of, pages
 
 # the version of the library's calls, which changes if a program that was linked before can no longer use the library
 INTERFACE = "0"

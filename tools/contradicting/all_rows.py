@@ -6,10 +6,9 @@ import collections
 import os
 from typing import Iterator, NamedTuple, Optional, Sequence
 
-from contradicting.agreement import agreement_of
 from contradicting.facts import Fact
 from contradicting.labels import Labels
-from contradicting.rows import Row
+from contradicting.rows import Row, agreement_of
 from contradicting.shown import hints
 from contradicting.sources import Holder
 from contradicting.tables import DIMENSIONS, LONGEST_ROW, cell, dimension_cells, length_of, line_of

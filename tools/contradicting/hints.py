@@ -3,8 +3,7 @@ import itertools
 from decimal import Decimal
 from typing import Iterator, Mapping, NamedTuple, Optional
 
-from contradicting.facts import Fact, Interval
-from contradicting.groups import MOST_GROUPS, Group, Weights, weight
+from contradicting.facts import MOST_GROUPS, Fact, Group, Interval, Weights, weight
 from contradicting.sources import Holders
 
 FACTORS = (10**3, 10**6, 10**9, 100)

@@ -7,8 +7,7 @@ from typing import Any, Iterator, Mapping, Optional
 from commands import with_commands
 from contradicting.findings import Findings, counted
 from contradicting.labels import Labelled, Labels
-from contradicting.latest import drop, superseded_in
-from contradicting.normalised import ChangeTable, Normalised
+from contradicting.normalised import ChangeTable, Normalised, drop, superseded_in
 from contradicting.output_folder import LINES, command, report_file
 from contradicting.refusals import Refusals, line_of
 from contradicting.remedies import FaultGroup

@@ -12,7 +12,7 @@ from contradicting.all_rows import AllRows
 from contradicting.findings import KINDS, counted
 from contradicting.inputs import File, Inputs
 from contradicting.near import Near
-from contradicting.page import Found, MadeFrom, page
+from contradicting.page import Found, MadeFrom, Subject, page
 from contradicting.page_data import PageData
 from contradicting.patterns import Patterns
 from contradicting.provider_counts import ProviderCounts
@@ -21,7 +21,6 @@ from contradicting.reports import Report, maps_named, reports_named, written
 from contradicting.rows import Reader, RowObserver
 from contradicting.since import FORMAT, Since
 from contradicting.snapshot import InputFile, Snapshot
-from contradicting.subject import Subject
 from contradicting.tables import cell, lines_of, table
 from contradicting.unshared import UnsharedFinder, map_path
 from contradicting.warnings import Warnings

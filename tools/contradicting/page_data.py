@@ -3,9 +3,8 @@ import json
 import os
 from typing import Any, Hashable, Iterable, Iterator, Sequence
 
-from contradicting.agreement import Agreement, agreement_of
 from contradicting.labels import Labels
-from contradicting.rows import Row
+from contradicting.rows import Agreement, Row, agreement_of
 from contradicting.shown import ShownFact, ShownHolder, Words, shown_row
 from process import shortened
 

@@ -5,11 +5,10 @@ import itertools
 from decimal import Decimal
 from typing import Iterator, NamedTuple, Sequence
 
-from contradicting.agreement import Agreement, agreement_of
 from contradicting.findings import counted
 from contradicting.hints import Hint, exact_scale
 from contradicting.provider_counts import ProviderCounts
-from contradicting.rows import Row
+from contradicting.rows import Agreement, Row, agreement_of
 from contradicting.snapshot import Snapshot
 from contradicting.reports import Report
 

@@ -3,9 +3,8 @@ import collections
 import itertools
 from typing import Iterator, NamedTuple, Sequence
 
-from contradicting.agreement import Agreement, agreement_of, opponents
 from contradicting.refusals import Refusals
-from contradicting.rows import Row
+from contradicting.rows import Agreement, Row, agreement_of, opponents
 from contradicting.shown import escaped
 from contradicting.sources import names_of
 from contradicting.tables import cell

@@ -8,7 +8,7 @@ from file_kinds import looks_like
 from names import NAME, SPACE
 from normalising import documents, moments, prefixes
 from normalising.json_text import Number, read_json
-from normalising.numbers import SCIENTIFIC, plain_number, whole_number
+from normalising.spellings import SCIENTIFIC, plain_number, whole_number
 from normalising.shapes import CORE, MEANING, has_no_target
 from process import NotDone, shortened
 

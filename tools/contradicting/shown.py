@@ -6,11 +6,10 @@ import os
 from decimal import Decimal
 from typing import Iterable, Iterator, NamedTuple, Optional, Union
 
-from contradicting.agreement import Agreement, agreement_of
 from contradicting.facts import Fact, Value, day, plain
 from contradicting.hints import Hint
 from contradicting.labels import Labels
-from contradicting.rows import Row
+from contradicting.rows import Agreement, Row, agreement_of
 from contradicting.sources import Holder
 from contradicting.tables import unit_text
 from names import Name

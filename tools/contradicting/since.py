@@ -4,8 +4,7 @@ import json
 import os
 from typing import Iterator, NamedTuple, Sequence
 
-from contradicting.agreement import Agreement, agreement_of
-from contradicting.rows import Row
+from contradicting.rows import Agreement, Row, agreement_of
 from contradicting.shown import escaped
 from contradicting.snapshot import Snapshot
 from contradicting.sources import providers

@@ -9,10 +9,9 @@ from normalising.changes import Log, Part, Reason
 from normalising.documents import change_information, check_root, drop_unknown_members, facts_by_identifier
 from normalising.json_text import Number, Tree, is_text, pieces_of, text_of
 from normalising.mapping import NameMap, ReportMap
-from normalising.numbers import SCIENTIFIC, plain_number, scale_value, whole_number
 from normalising.prefixes import ITEMS, Prefixes, full_name, set_of
 from normalising.shapes import CORE, PURE, core_spelling
-from normalising.spellings import spelling
+from normalising.spellings import SCIENTIFIC, plain_number, scale_value, spelling, whole_number
 from program import Program
 from sheets import TYPES, Kinds, Sheet
 from whole_files import OutputLimit, most_output

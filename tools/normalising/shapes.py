@@ -7,7 +7,7 @@ from typing import Callable, Optional
 from names import SPACE, XBRL, Name, Uris, expanded
 from normalising.changes import Part
 from normalising.json_text import Number, Tree, is_text
-from normalising.numbers import SCIENTIFIC, plain_number, whole_number
+from normalising.spellings import SCIENTIFIC, plain_number, whole_number
 
 CORE = ("concept", "entity", "period", "unit", "language", "noteId")
 MEANING = {*CORE, "periodStart", "periodEnd", "precision", "scale", "sign"}  # unknown members of a fact with rules of their own

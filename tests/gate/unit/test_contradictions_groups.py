@@ -8,8 +8,8 @@ from decimal import Decimal
 from test_contradictions import KINDS, TOOL, ToolTest, data_of, fact
 from support import content
 
-from contradicting import all_rows, groups, hints
-from contradicting.facts import Fact
+from contradicting import all_rows, hints
+from contradicting.facts import Fact, groups_of, odd_facts
 
 
 def number(value, decimals=None):
@@ -20,15 +20,15 @@ def grouped(*facts, **weights):
     """Returns the groups of facts that are named a, b, c .., each as a text, and the facts outside the largest group."""
     named = dict(zip("abcdefghijklmnopqrstuvwxyz", facts))
     of = {name: weights.get(name, 1) for name in named}
-    found = groups.groups_of(named, of)
-    return " ".join("".join(group) for group in found), "".join(sorted(groups.odd_facts(found, of)))
+    found = groups_of(named, of)
+    return " ".join("".join(group) for group in found), "".join(sorted(odd_facts(found, of)))
 
 
 def hinted(first, second, **weights):
     """Returns the hint for two facts, as the name of the fact and the phrase, or None."""
     facts = {"a": first, "b": second}
     of = {"a": 1, "b": 1, **weights}
-    (*found,) = hints.hints_of(facts, groups.groups_of(facts, of), of)
+    (*found,) = hints.hints_of(facts, groups_of(facts, of), of)
     return (found[0].group[0], found[0].phrase) if found else None
 
 

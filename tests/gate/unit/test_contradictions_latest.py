@@ -3,7 +3,7 @@ import json
 import os
 
 from test_contradictions_run import Stubbed
-from contradicting.latest import superseded_in
+from contradicting.normalised import superseded_in
 from contradicting.reports import Report
 from contradicting.sources import Sources
 from process import NotDone

@@ -14,7 +14,7 @@ import process
 from test_make_sheet import ITEM, SCHEMA, ToolTest, run
 
 from contradicting.labels import Labelled, Labels
-from sheet_making import files, packages
+from sheet_making import files
 from sheet_making.limits import Limits
 from sheet_making.taxonomy import Taxonomy
 
@@ -170,7 +170,7 @@ class Long(ToolTest):
 
     def test_files_of_a_package(self):
         package = self.pack({f"{number}.xsd": SCHEMA % "" for number in range(5)})
-        with mock.patch.object(packages, "MOST_ENTRIES", 4):
+        with mock.patch.object(files, "MOST_ENTRIES", 4):
             self.check_refused("more than 4 files", package)
         self.check_refused("a path of more than 1024 characters", self.pack({"a" * 1_100 + ".xsd": SCHEMA % ""}))
 

@@ -11,7 +11,7 @@ from drawn_reports import OPTIONS as ALL
 from support import content
 from test_normalise import ToolTest, normalise
 
-from normalising.numbers import SCIENTIFIC, plain_number
+from normalising.spellings import SCIENTIFIC, plain_number
 
 SPACES = "\u00a0\u2003\u3000\x85\x1f"  # white space for Python, but not in the format
 SHEET = {

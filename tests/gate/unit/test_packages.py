@@ -13,10 +13,10 @@ import zipfile
 from unittest import mock
 
 from in_process import TOP, RoomTest
-from packing import bill, contents, debian, installation, kit, manual, release
+from packing import bill, contents, debian, installation, manual, release
 from packing.files import RUNS, File, folders_of, read_below
 from packing.source import Crate, Source, newest_libc, wrong_source
-from packing.tarball import tarball
+from packing.release import tarball
 from support import bytes_of, content
 
 sys.path.append(os.path.join(TOP, "python"))
@@ -280,12 +280,12 @@ class Bill(Packages):
                                  ("clap", "with clap_builder 4.6.7: clap_lex 1.1.1", "clap_builder 4.6.7"),
                                  ("idna", "`tests/uts46.rs` of version 1.1.0, `idna_adapter` 1.2.2", "idna 1.1.0"),
                                  ("json", "compared with serde_json 1.0.154", "")):
-            self.assertEqual(kit.ported(name, page), wanted)
+            self.assertEqual(bill.ported(name, page), wanted)
 
     def test_the_files_of_a_crate_name_its_licences(self):
-        self.assertEqual(kit.licence("", ["LICENSE-MIT", "LICENSE-APACHE", "LICENSE-UNICODE"]), "(MIT OR Apache-2.0) AND Unicode-3.0")
-        self.assertEqual(kit.licence("others are (MIT)", ["README.md"]), "NOASSERTION")
-        self.assertEqual(kit.licence("(Unlicense or MIT, `COPYING`)", ["LICENSE-MIT"]), "Unlicense OR MIT")
+        self.assertEqual(bill.licence("", ["LICENSE-MIT", "LICENSE-APACHE", "LICENSE-UNICODE"]), "(MIT OR Apache-2.0) AND Unicode-3.0")
+        self.assertEqual(bill.licence("others are (MIT)", ["README.md"]), "NOASSERTION")
+        self.assertEqual(bill.licence("(Unlicense or MIT, `COPYING`)", ["LICENSE-MIT"]), "Unlicense OR MIT")
 
 
 class Sources(Packages):
