@@ -1,7 +1,7 @@
 """Tests of tests/gate/doubt on a small repository: entries, words and their laws, the table of conditions, and line counts."""
 import re
 
-from small_tree import SmallTree, tree
+from test_gate_scripts import SmallTree, tree
 from support import content
 
 TREE = tree("doubt")

@@ -5,7 +5,7 @@ import shutil
 import subprocess
 import unittest
 
-from small_tree import SmallTree
+from test_gate_scripts import SmallTree
 from support import TOP, content, script
 
 SCRIPT = "tests/prover/wrong_edits"
