@@ -1,8 +1,9 @@
-"""Lists what is installed: the program with the tools, the library, and the documents. Places are below the prefix."""
+"""Lists what is installed: the program with the tools, the library, and the documents. Places are below the prefix. Links the
+libraries for C, from the archive of the crate and the kit's allocator."""
 import os
 
 from packing.completions import completions
-from packing.files import PLAIN, RUNS, File, read, read_below, run_tool
+from packing.files import PLAIN, RUNS, File, put, read, read_below, run_tool
 from packing.manual import PROGRAM, TOOLS, command_of, commands_of, pages
 
 # the version of the library's calls, which changes if a program that was linked before can no longer use the library
@@ -47,6 +48,9 @@ Version: {version}
 Cflags: -I${{includedir}}
 Libs: -L${{libdir}} -lxbrlmerge
 """
+# the names of the functions that the library exports begin with this
+EXPORTS = "xbrlmerge_"
+STRICT = ("-Wl,-z,defs,-z,now,-z,relro", "-Wl,-Bsymbolic", "-Wl,--gc-sections")
 
 
 def tool_package(top: str, target: str) -> list[File]:
@@ -100,3 +104,29 @@ def documents(top: str) -> list[File]:
     pages = [read(os.path.join(top, it), f"{DOCUMENTS}/{it}") for it in ("README.md", "CHANGELOG.md", "SECURITY.md")]
     return [*pages, *read_below(os.path.join(top, "docs"), f"{DOCUMENTS}/docs", (".md", ".png")),
             *read_below(os.path.join(top, "examples"), f"{DOCUMENTS}/examples", ("",))]
+
+
+def exported(archive: str) -> list[str]:
+    """Returns the functions that the libraries export, sorted: those in the archive whose names begin with EXPORTS."""
+    lines = run_tool("nm", "--defined-only", "--extern-only", archive).splitlines()
+    return sorted({it.split()[-1] for it in lines if it.split()[1:2] == ["T"] and it.split()[-1].startswith(EXPORTS)})
+
+
+def link(folder: str, archive: str, heap: str) -> None:
+    """Makes the static and the shared library in a folder. Both export only the functions that `exported` returns."""
+    found = exported(archive)
+    wanted = [f"-Wl,-u,{it}" for it in found]
+    put(File("map", f"{{ global: {' '.join(f'{it};' for it in found)} local: *; }};\n".encode()), folder)
+    put(File("names", "".join(f"{it}\n" for it in found).encode()), folder)
+    shared = f"-Wl,--version-script,{folder}/map", f"-Wl,-soname,{SHARED}", "-s", "-o", f"{folder}/{SHARED}"
+    run_tool("gcc", "-shared", *wanted, *STRICT, *shared, archive, heap)
+    run_tool("gcc", "-r", "-nostdlib", *wanted, "-o", f"{folder}/xbrlmerge.o", archive, heap)
+    run_tool("objcopy", f"--keep-global-symbols={folder}/names", f"{folder}/xbrlmerge.o")
+    run_tool("ar", "rcsD", f"{folder}/libxbrlmerge.a", f"{folder}/xbrlmerge.o")
+
+
+def leave(folder: str, made: str, version: str) -> list[str]:
+    """Puts the libraries that `link` made, and the file for pkg-config, into a folder, each in one step. Returns the paths."""
+    files = [read(os.path.join(made, "libxbrlmerge.a"), "libxbrlmerge.a", PLAIN), read(os.path.join(made, SHARED), SHARED, RUNS),
+             File("libxbrlmerge.so", SHARED.encode(), is_link=True), File("pkgconfig/xbrlmerge.pc", pkg_config(version))]
+    return [put(it, folder) for it in files]

@@ -107,13 +107,13 @@ from decimal import Decimal  # noqa: E402
 from arguments import Parser  # noqa: E402
 from contradicting.findings import KINDS, kinds_named  # noqa: E402
 from contradicting.inputs import Run, inputs_named, snapshot_of  # noqa: E402
-from contradicting.output_folder import FOLDER, LINES, locked, output_folder, report_file  # noqa: E402
+from contradicting.snapshot import FOLDER, LINES, locked, output_folder, report_file  # noqa: E402
 from contradicting.outcome import Outcome  # noqa: E402
-from contradicting.reports import maps_named, reports_named  # noqa: E402
+from contradicting.sources import maps_named, reports_named  # noqa: E402
 from contradicting.since import Earlier  # noqa: E402
 from contradicting.unshared import FOLDER as MAPS  # noqa: E402
 from contradicting.workbook import library  # noqa: E402
-from normalising.options import add_losses, loses  # noqa: E402
+from normalising.rules import add_losses, loses  # noqa: E402
 from process import Progress, Status, print_lines, printable, run  # noqa: E402
 from program import add_program, program_at  # noqa: E402
 from text_files import STANDARD  # noqa: E402

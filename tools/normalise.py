@@ -37,8 +37,7 @@ from typing import Iterator, Optional  # noqa: E402
 from arguments import Parser  # noqa: E402
 from normalising.json_text import pieces_of, read_json_of_length  # noqa: E402
 from normalising.mapping import read_map  # noqa: E402
-from normalising.options import add_losses  # noqa: E402
-from normalising.rules import Normaliser  # noqa: E402
+from normalising.rules import Normaliser, add_losses  # noqa: E402
 from process import NotDone, Status, print_lines, run  # noqa: E402
 from program import Program, add_program, program_at  # noqa: E402
 from sheets import sheet_at  # noqa: E402

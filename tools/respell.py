@@ -29,8 +29,7 @@ from arguments import Parser  # noqa: E402
 from normalising.json_text import Repeated, read_json  # noqa: E402
 from process import NotDone, Status, print_lines, printable, run  # noqa: E402
 from respelling.checking import Checker  # noqa: E402
-from respelling.respelled import respelled, text_of  # noqa: E402
-from respelling.rules import WITH_SHEET, listed  # noqa: E402
+from respelling.rules import WITH_SHEET, listed, respelled, text_of  # noqa: E402
 from sheets import sheet_at  # noqa: E402
 from text_files import LONGEST, PIECE, STANDARD, opened, shown_path  # noqa: E402
 from whole_files import OutputLimit, bytes_in, files_written, most_output  # noqa: E402

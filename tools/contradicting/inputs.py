@@ -8,18 +8,16 @@ from commands import with_commands
 from contradicting.findings import Findings, counted
 from contradicting.labels import Labelled, Labels
 from contradicting.normalised import ChangeTable, Normalised, drop, superseded_in
-from contradicting.output_folder import LINES, command, report_file
 from contradicting.refusals import Refusals, line_of
 from contradicting.remedies import FaultGroup
-from contradicting.reports import Report, check_files, maps_named, reports_named
 from contradicting.rows import FactSources
 from contradicting.since import Earlier
-from contradicting.snapshot import Snapshot, input_file
-from contradicting.sources import OwnTexts, Sources
+from contradicting.snapshot import LINES, Snapshot, command, input_file, report_file
+from contradicting.sources import OwnTexts, Report, Sources, check_files, maps_named, reports_named
 from contradicting.texts import Provider, Text, sheet_at
 from process import NotDone, Progress, shortened
 from program import Program
-from respelling.respelled import respelled, text_of
+from respelling.rules import respelled, text_of
 from sheet_making.files import Files
 from sheet_making.limits import Limits
 from sheet_making.sheet_text import Texts

@@ -8,9 +8,8 @@ import json
 import os
 from typing import Iterator, Mapping
 
-from contradicting.reports import Report, maps_named, written
 from contradicting.snapshot import Snapshot
-from contradicting.sources import Identifier, Sources
+from contradicting.sources import Identifier, Report, Sources, maps_named, written
 from contradicting.tables import cell, lines_of
 from contradicting.texts import using
 from normalising.changes import Log, brief_of, is_long

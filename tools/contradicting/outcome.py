@@ -12,12 +12,10 @@ from contradicting.all_rows import AllRows
 from contradicting.findings import KINDS, counted
 from contradicting.inputs import File, Inputs
 from contradicting.near import Near
-from contradicting.page import Found, MadeFrom, Subject, page
-from contradicting.page_data import PageData
-from contradicting.patterns import Patterns
-from contradicting.provider_counts import ProviderCounts
+from contradicting.page import Found, MadeFrom, PageData, Subject, page
+from contradicting.provider_counts import Patterns, ProviderCounts
 from contradicting.normalised import COLUMNS as CHANGES
-from contradicting.reports import Report, maps_named, reports_named, written
+from contradicting.sources import Report, maps_named, reports_named, written
 from contradicting.rows import Reader, RowObserver
 from contradicting.since import FORMAT, Since
 from contradicting.snapshot import InputFile, Snapshot

@@ -1,29 +1,31 @@
 """The page of contradictions: headline, counts, providers, refused reports, and one table of all rows. The table has the first
-contradictions. The script of the page replaces them by rows that it draws from the page's data."""
+contradictions. The script of the page replaces them by rows that it draws from the page's data. In these, what rows share is once."""
 import base64
 import collections
 import hashlib
 import html
+import json
 import os
 from dataclasses import dataclass, field
 from decimal import Decimal
-from typing import Iterator, NamedTuple, Optional, Sequence
+from typing import Any, Hashable, Iterable, Iterator, NamedTuple, Optional, Sequence
 
 from contradicting.facts import day
 from contradicting.findings import counted
 from contradicting.labels import Labels
-from contradicting.page_data import PageData
 from contradicting.provider_counts import ProviderCounts
 from contradicting.refusals import Refusals
-from contradicting.rows import Reader, Row
+from contradicting.rows import Agreement, Reader, Row, agreement_of
 from contradicting.sections import StaticRows
-from contradicting.shown import Words, bdi, escaped, name_words, period, shown_row
+from contradicting.shown import ShownFact, ShownHolder, Words, bdi, escaped, name_words, period, shown_row
 from contradicting.since import Since
 from contradicting.snapshot import InputFile
 from contradicting.warnings import Warnings
 from names import Name
-from process import MOST_CHARACTERS, printable
+from process import MOST_CHARACTERS, printable, shortened
 
+MOST_OF_DATA = 8_000_000  # characters of the rows that the page holds; the other rows are in table.csv
+KINDS = [*Agreement]
 MOST_SHOWN = 10  # entities and periods that the page lists
 MOST_YEARS = 3  # that the headline lists; of more, it has the first and the last
 WORDS = "no one two three four five six seven eight nine ten eleven twelve".split()
@@ -38,6 +40,98 @@ The difference is that of the two facts that contradict each other, as a share o
 entity that nine in ten rows have is shown only in opened rows. Long texts are cut to {MOST_CHARACTERS} characters near the first
 difference; table.csv has them whole.</p>
 """
+
+
+class Pools:
+    """Items that rows share, by kind, with their indices. `length` counts their characters."""
+
+    def __init__(self) -> None:
+        self.items: dict[str, dict[Hashable, int]] = {kind: {} for kind in ("words", "texts", "dimensions", "providers", "files")}
+        self.length = 0
+
+    def index(self, kind: str, item: Hashable) -> int:
+        pool = self.items[kind]
+        if item not in pool:
+            self.length += len(str(item))
+        return pool.setdefault(item, len(pool))
+
+
+class PageData:
+    """Receives all rows. Writes those without a contradiction to a temporary file, until the page would hold too much."""
+
+    def __init__(self, folder: str, names: Sequence[str], labels: Labels) -> None:
+        self.labels, self.path, self.pools = labels, os.path.join(folder, "page_rows"), Pools()
+        self.file = open(self.path, "w", encoding="utf-8", newline="\n")
+        self.length, self.left_out = 0, 0
+        for name in names:
+            self.pools.index("providers", name)
+
+    def add(self, row: Row) -> None:
+        if agreement_of(row) is Agreement.CONTRADICTION:
+            return
+        if self.length + self.pools.length < MOST_OF_DATA * 3 // 4:  # the rest is for contradictions
+            self.file.write(self.line(row) + "\n")
+        else:
+            self.left_out += 1
+
+    def pieces(self, contradictions: Iterable[Row], usual: Sequence[Words]) -> Iterator[str]:
+        """Yields the JSON: the contradictions in their order, then the other rows, as long as there is room. Call it once, after the
+        last row. The lines of rows do not show the dimension `usual`."""
+        self.file.close()
+        self.length, start = 0, '{"rows":['
+        for line in self.lines(contradictions):
+            yield start + line
+            start = ",\n"
+        hidden = [self.word(words) for words in usual]
+        shared = {kind: [*items] for kind, items in self.pools.items.items()}
+        members = {**shared, "providers": [shortened(str(name)) for name in self.pools.items["providers"]], "verdicts": [kind.value for kind in KINDS],
+                   "language": self.labels.language, "usual": hidden, "leftOut": self.left_out}
+        yield start.rstrip(",\n") + "]," + compact(members)[1:]
+
+    def lines(self, contradictions: Iterable[Row]) -> Iterator[str]:
+        for row in contradictions:
+            if self.length + self.pools.length < MOST_OF_DATA:
+                yield self.line(row)
+            else:
+                self.left_out += 1
+        with open(self.path, encoding="utf-8", newline="\n") as file:
+            for line in file:
+                self.length += len(line)
+                if self.length + self.pools.length < MOST_OF_DATA:
+                    yield line.rstrip("\n")
+                else:
+                    self.left_out += 1
+
+    def line(self, row: Row) -> str:
+        """Returns a row as an array. The last members are absent if they have the values that the script of the page assumes."""
+        shown, index = shown_row(row, self.labels), self.pools.index
+        dimensions = tuple(self.word(words) for pair in shown.dimensions for words in pair)
+        tree = [row.number, self.word(shown.concept), index("texts", shown.period), self.word(shown.unit), index("dimensions", dimensions),
+                KINDS.index(shown.agreement), [self.fact(fact) for fact in shown.facts]]
+        if shown.agreement is Agreement.CONTRADICTION or shown.more:
+            names = [fact.name for fact in shown.facts]
+            pair = [names.index(name) for name in row.pair] if row.gap else []
+            tree += [shown.difference, [index("texts", hint) for hint in shown.hints], pair, shown.more]
+        line = compact(tree)
+        self.length += len(line)
+        return line
+
+    def word(self, words: Words) -> int:
+        return self.pools.index("words", words if words.is_label else words[:2] if words.title else words[:1])
+
+    def fact(self, fact: ShownFact) -> list[Any]:
+        value = fact.words and (self.word(fact.words) if fact.words.title else fact.words.text)
+        tree = [shortened(fact.name), value, fact.fact.precision()[0], [self.holder(holder) for holder in fact.holders]]
+        return [*tree, fact.group, int(fact.is_odd)] if fact.group or fact.is_odd else tree
+
+    def holder(self, holder: ShownHolder) -> list[Any]:
+        files = [self.pools.index("files", file) for file in holder.files]
+        return [self.pools.index("providers", holder.provider), *[holder.identifiers] * bool(files or holder.identifiers), *files]
+
+
+def compact(tree: Any) -> str:
+    """Returns JSON without any character that could end or begin markup."""
+    return json.dumps(tree, ensure_ascii=False, separators=(",", ":")).replace("<", "\\u003c")
 
 
 class Subject:

@@ -5,7 +5,7 @@ import os
 from typing import Any, Iterable, Iterator, Mapping, NamedTuple, Optional, Union
 
 from contradicting.remedies import UNKNOWN, FaultGroup, Remedy, guess_at, remedy_for
-from contradicting.reports import written
+from contradicting.sources import written
 from contradicting.tables import cell, lines_of
 from contradicting.tables import line_of as line_of_table
 from names import Name

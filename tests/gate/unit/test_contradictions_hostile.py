@@ -146,7 +146,7 @@ class Hostile(ToolTest):
 
     def test_rows_that_the_page_does_not_hold_are_counted(self):
         facts = [number(value, entity=f"e:{row:03}") for row in range(100) for value in (1, 2)] + [number(1, entity=f"e:{row}") for row in range(100, 200)]
-        with in_process.mock.patch("contradicting.page_data.MOST", 8_000):
+        with in_process.mock.patch("contradicting.page.MOST_OF_DATA", 8_000):
             self.assertEqual(in_process.run(contradictions, *self.words(facts))[0], 1)
         page = content(self.page)
         data = data_of(page)

@@ -4,8 +4,7 @@ import os
 
 from test_contradictions_run import Stubbed
 from contradicting.normalised import superseded_in
-from contradicting.reports import Report
-from contradicting.sources import Sources
+from contradicting.sources import Report, Sources
 from process import NotDone
 from support import content
 

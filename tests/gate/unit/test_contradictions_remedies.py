@@ -7,8 +7,7 @@ from contradicting.refusals import Refusals
 from contradicting.remedies import EMPTY, FOR_NAMES, NUMBER, remedy_for
 from names import Name
 from normalising.json_text import Number
-from normalising.options import CHOICES, LOSSES
-from normalising.rules import Normaliser
+from normalising.rules import CHOICES, LOSSES, Normaliser
 from sheets import sheet_at
 
 SHEET = {"namespaces": {"eg": "http://example.org/t"}, "concepts": {"eg:A": "numeric", "eg:Q": "name", "eg:T": "text"},

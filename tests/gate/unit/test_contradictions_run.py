@@ -15,7 +15,7 @@ import time
 import unittest
 
 import in_process
-from contradicting import output_folder
+from contradicting import snapshot
 from support import content
 from test_contradictions import TOOL, ToolTest
 from test_contradictions_sources import example
@@ -486,11 +486,11 @@ class Checking(Stubbed):
 class Words(unittest.TestCase):
     def test_a_shell_reads_each_word_as_it_was(self):
         for word in ("a", "", "a b", "-x", "it's", "$(id)", "a\nb", "\x1b[31m'\\\"!", "é", "\udcff", "‮", "*", "~"):
-            done = subprocess.run(["bash", "-c", f"printf %s {output_folder.quoted(word)}"], capture_output=True)
+            done = subprocess.run(["bash", "-c", f"printf %s {snapshot.quoted(word)}"], capture_output=True)
             self.assertEqual(done.stdout, os.fsencode(word))
-            self.assertTrue(output_folder.quoted(word).isprintable())
+            self.assertTrue(snapshot.quoted(word).isprintable())
 
     def test_the_command_names_every_file(self):
-        words = output_folder.command("out put", "-s", ["-r", "a"]).split(" ", 1)[1]
+        words = snapshot.command("out put", "-s", ["-r", "a"]).split(" ", 1)[1]
         self.assertEqual(words, "--sheet=-s --merged='out put/merged.json' --verdicts='out put/verdicts.txt'"
                          " --sources='out put/sources.txt' --refusals='out put/refusals.txt' -- -r a")

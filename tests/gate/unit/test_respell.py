@@ -10,8 +10,7 @@ import in_process
 import recheck
 import respell
 from normalising.json_text import text_of, tree_of
-from normalising.options import add_losses
-from normalising.rules import Normaliser
+from normalising.rules import Normaliser, add_losses
 from respelling.rules import RULES
 from sheets import Sheet
 
