@@ -13,7 +13,7 @@ import make_sheet
 import normalise
 from support import content
 from test_contradictions_run import REPORTS, SHEET, Stubbed
-from test_contradictions_sources import example
+from test_contradictions import example
 from test_make_sheet import ITEM, SCHEMA
 
 ESCAPE = "\x1b]0;x\n\u202e"

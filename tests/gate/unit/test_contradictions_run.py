@@ -17,8 +17,7 @@ import unittest
 import in_process
 from contradicting import snapshot
 from support import content
-from test_contradictions import TOOL, ToolTest
-from test_contradictions_sources import example
+from test_contradictions import TOOL, ToolTest, example
 
 REPORTS = [os.path.realpath(example(f"{name}.json")) for name in ("issuer", "ledgerline", "statfeed")]
 SHEET = example("sheet.json")
