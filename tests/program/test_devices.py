@@ -1,8 +1,8 @@
-"""Runs the program on failing devices, and on files that cannot be read or are not regular.
+"""Runs the program on failing devices, and on files that cannot be read or are not regular. The tables have the expected status and
+line.
 
-The tables below list the expected status and line for most cases. If the line contains a number of bytes, standard output must have
-accepted exactly that many bytes from the start of the text. Otherwise standard output must contain all of the text or nothing. No
-input file may change.
+If the line contains a number of bytes, standard output must have accepted exactly that many bytes from the start of the text;
+otherwise all of the text or nothing. No input file may change.
 """
 import collections
 import fcntl

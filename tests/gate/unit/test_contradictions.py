@@ -11,8 +11,8 @@ import subprocess
 import sys
 import types
 
-import contradictions
 import in_process
+import contradictions
 import lines_of_verdicts
 from contradicting import tables
 from contradicting.facts import Dimensions
