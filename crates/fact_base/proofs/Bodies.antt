@@ -1,21 +1,7 @@
 -- The facts and references of bodies.
-use Rattle.std.proofs.Common.{◌≡◌, ℕ, List, ◌++◌, ap, ◌∙◌, ⊎_elim}
-use Rattle.std.proofs.lemmas.List.Elements.{All-contains}
-use Rattle.std.specs.Prelude.{Contains}
-use Rattle.std.specs.List.{flat_map}
+use Rattle.fact_base.proofs.Shared.{◌≡◌, ℕ, List, ◌++◌, ap, ◌∙◌, ⊎_elim, All-contains, Contains, flat_map, SameMembers, fact_cmp, Fact, fact_cmp_exact, fact_cmp_total, Document, FactFits, IsKeptReference, Body, all_facts, all_references, body, text_cmp, union, BodyHasWhatDocumentsHave, BodyIgnoresOrder, BodyOfBoth, UnionHasBoth, AcceptedFits, IsAccepted, UnionFits, set_of}
 use Rattle.std.proofs.lemmas.List.Concat.{flat_map-append}
-use Rattle.merge_laws.specs.Members.{SameMembers}
-use Rattle.oim_dims.specs.FactOrder.{fact_cmp}
-use Rattle.oim_dims.specs.declared.fact.Fact.{Fact}
-use Rattle.oim_dims.proofs.Orders.{fact_cmp_exact, fact_cmp_total}
-use Rattle.oim_report.specs.Document.{Document}
-use Rattle.oim_report.specs.FactFits.{FactFits}
-use Rattle.oim_report.specs.References.{IsKeptReference}
 use Rattle.oim_report.proofs.Documents.{accepted_facts_fit, accepted_references_are_kept}
-use Rattle.fact_base.specs.Body.{Body, all_facts, all_references, body, text_cmp, union}
-use Rattle.fact_base.specs.BodyLaws.{BodyHasWhatDocumentsHave, BodyIgnoresOrder, BodyOfBoth, UnionHasBoth}
-use Rattle.fact_base.specs.Fits.{AcceptedFits, IsAccepted, UnionFits}
-use Rattle.fact_base.specs.Sets.{set_of}
 use Rattle.fact_base.proofs.Members.{each_by_there, in_flat_map, in_one_of_both, some_in_other}
 use Rattle.fact_base.proofs.Sets.{same_sets, set_of-both, set_of_is_set}
 use Rattle.fact_base.proofs.TextOrder.{text_cmp_exact, text_cmp_total}

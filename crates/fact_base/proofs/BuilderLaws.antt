@@ -1,30 +1,7 @@
 -- The facts and references that a builder collects.
-use Rattle.std.proofs.Common.{◌≡◌, ℕ, List, [], ◌∷◌, ◌++◌, append-nil, sym, ap, subst, ◌∙◌, inl, inr, ⊎_elim, arith}
-use Rattle.std.proofs.lemmas.List.Elements.{All-contains}
-use Rattle.std.specs.Prelude.{◌↔◌, ◌⊎◌, Bool, Result, Ok, Err, OnOk, Contains, IsPermutation}
-use Rattle.std.specs.Cmp.{Equal-is, IsEquivalence, IsTotalOrder}
-use Rattle.std.specs.List.{All, dedup}
+use Rattle.fact_base.proofs.Shared.{◌≡◌, ℕ, List, [], ◌∷◌, ◌++◌, append-nil, sym, ap, subst, ◌∙◌, inl, inr, ⊎_elim, arith, All-contains, ◌↔◌, ◌⊎◌, Bool, Result, Ok, Err, OnOk, Contains, IsPermutation, Equal-is, IsEquivalence, IsTotalOrder, All, dedup, eq_by_cmp, Ordering, Equal, Contains-dedup, Contains-from_dedup, IsStrictlySortedBy-dedup, Contains-permutation, IsPermutation-sym, SameMembers, IsSet, fact_cmp, Fact, fact_cmp_exact, fact_cmp_total, facts_agree, Document, FactFits, IsKeptReference, Sheet, Body, body, gathered, text_cmp, union, IsBody, Entry, facts_of_entries, AreEntriesOf, AreStored, Fits}
 use Rattle.std.specs.List.Sorted.{IsSorted}
-use Rattle.std.specs.Ordering.{eq_by_cmp}
-use Rattle.std.specs.declared.cmp.Ordering.{Ordering}
-use Rattle.std.specs.declared.cmp.Ordering.TheVariants.{Equal}
-use Rattle.std.proofs.lemmas.List.Kept.{Contains-dedup, Contains-from_dedup, IsStrictlySortedBy-dedup}
-use Rattle.std.proofs.lemmas.List.Sorted.{Contains-permutation, IsPermutation-sym}
-use Rattle.merge_laws.specs.Members.{SameMembers}
-use Rattle.merge_laws.specs.Sorted.{IsSet}
-use Rattle.oim_dims.specs.FactOrder.{fact_cmp}
-use Rattle.oim_dims.specs.declared.fact.Fact.{Fact}
 use Rattle.oim_dims.specs.contracts.fact.FactOrd.TheImpl.{cmp-value as derived_fact}
-use Rattle.oim_dims.proofs.Orders.{fact_cmp_exact, fact_cmp_total, facts_agree}
-use Rattle.oim_report.specs.Document.{Document}
-use Rattle.oim_report.specs.FactFits.{FactFits}
-use Rattle.oim_report.specs.References.{IsKeptReference}
-use Rattle.oim_report.specs.Sheet.{Sheet}
-use Rattle.fact_base.specs.Body.{Body, body, gathered, text_cmp, union}
-use Rattle.fact_base.specs.BodyLaws.{IsBody}
-use Rattle.fact_base.specs.Entries.{Entry, facts_of_entries}
-use Rattle.fact_base.specs.code.Entries.{AreEntriesOf, AreStored}
-use Rattle.fact_base.specs.Fits.{Fits}
 use Rattle.fact_base.specs.Sets.{set_of}
 use Rattle.fact_base.proofs.Members.{each_by_there, in_one_of_both}
 use Rattle.fact_base.proofs.Sets.{all_there, is_set_of, same_sets, set_of-both, set_of_is_set}

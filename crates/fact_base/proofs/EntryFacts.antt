@@ -1,31 +1,7 @@
 -- The facts that entries contain.
-use Rattle.std.proofs.Common.{◌≡◌, List, [], ◌∷◌, ◌++◌, Option, Some, None, refl, sym, ap, subst, ◌∙◌, inl, inr, ⊎_elim}
-use Rattle.std.specs.Prelude.{◌↔◌, Contains, ◌⊎◌}
-use Rattle.std.specs.List.{AllByRecursion, Any, All}
+use Rattle.fact_base.proofs.Shared.{◌≡◌, List, [], ◌∷◌, ◌++◌, Option, Some, None, refl, sym, ap, subst, ◌∙◌, inl, inr, ⊎_elim, ◌↔◌, Contains, ◌⊎◌, AllByRecursion, Any, All, tied_itself, ordering_then, Ordering, Less, IsRising, IsSet, entry_key, value_at, map_tells_entry, map_union_has_both, set_union_has_both, value_cmp, Value, DimensionSet, dimensions_cmp, fact_cmp, Fact, dimensions_cmp_exact, dimensions_cmp_total, fact_cmp_exact, fact_cmp_total, Entry, Summed, facts_with, facts_of_entries, facts_of_entry, All-contains, both_summaries, either_or_both, map_union, set_union, all_in_turn, all_of_union, summary_of_union, value_cmp_exact, value_cmp_total, FactFits, Sheet, EntryFits, summed_of_both, set_of}
 use Rattle.std.specs.List.Sorted.{IsStrictlySortedBy}
-use Rattle.std.specs.Cmp.{tied_itself}
-use Rattle.std.specs.Ordering.{ordering_then}
-use Rattle.std.specs.declared.cmp.Ordering.{Ordering}
-use Rattle.std.specs.declared.cmp.Ordering.TheVariants.{Less}
-use Rattle.merge_laws.specs.Sorted.{IsRising, IsSet, entry_key, value_at}
-use Rattle.merge_laws.proofs.Both.{map_tells_entry, map_union_has_both, set_union_has_both}
-use Rattle.oim_value.specs.ValueOrder.{value_cmp}
-use Rattle.oim_value.specs.declared.value.Value.{Value}
-use Rattle.oim_dims.specs.DimensionSet.{DimensionSet}
-use Rattle.oim_dims.specs.FactOrder.{dimensions_cmp, fact_cmp}
-use Rattle.oim_dims.specs.declared.fact.Fact.{Fact}
-use Rattle.oim_dims.proofs.Orders.{dimensions_cmp_exact, dimensions_cmp_total, fact_cmp_exact, fact_cmp_total}
-use Rattle.fact_base.specs.Entries.{Entry, Summed, facts_with, facts_of_entries, facts_of_entry}
 use Rattle.fact_base.proofs.Members.{each_in_turn, from_map, in_flat_map, in_map, some_there, turn_there, each_by_there, in_one_of_both, none_there, some_value}
-use Rattle.std.proofs.lemmas.List.Elements.{All-contains}
-use Rattle.merge_laws.specs.Ends.{both_summaries}
-use Rattle.merge_laws.specs.Union.{either_or_both, map_union, set_union}
-use Rattle.merge_laws.proofs.Members.{all_in_turn, all_of_union, summary_of_union}
-use Rattle.oim_value.proofs.ValueOrders.{value_cmp_exact, value_cmp_total}
-use Rattle.oim_report.specs.FactFits.{FactFits}
-use Rattle.oim_report.specs.Sheet.{Sheet}
-use Rattle.fact_base.specs.code.Entries.{EntryFits, summed_of_both}
-use Rattle.fact_base.specs.Sets.{set_of}
 use Rattle.fact_base.proofs.Sets.{is_set_of}
 
 -- ---- order

@@ -1,21 +1,7 @@
 -- If facts of one dimension set fit a sheet, their values that are not nil are of one kind.
-use Rattle.std.proofs.Common.{◌≡◌, ◌≢◌, ℕ, List, Option, Some, None, refl, sym, ap, ◌∙◌}
-use Rattle.std.proofs.lemmas.List.Elements.{All-contains}
-use Rattle.std.specs.Prelude.{Contains}
+use Rattle.fact_base.proofs.Shared.{◌≡◌, ◌≢◌, ℕ, List, Option, Some, None, refl, sym, ap, ◌∙◌, All-contains, Contains, All, kind_order, Value, Nil, Number, AText, AName, rising_are_different, DimensionSet, FactFits, ValueFits, Sheet, Numeric, Text, Name, Summed, facts_with, EntryFits, AreAlike, AreSummarised}
 use Rattle.std.specs.FinMap as map
-use Rattle.std.specs.List.{All}
-use Rattle.oim_value.specs.ValueOrder.{kind_order}
-use Rattle.oim_value.specs.declared.value.Value.{Value}
-use Rattle.oim_value.specs.declared.value.Value.TheVariants.{Nil, Number, Text as AText, Name as AName}
-use Rattle.oim_value.proofs.SeveralMeet.{rising_are_different}
-use Rattle.oim_dims.specs.DimensionSet.{DimensionSet}
-use Rattle.oim_report.specs.FactFits.{FactFits, ValueFits}
-use Rattle.oim_report.specs.Sheet.{Sheet}
 use Rattle.oim_report.specs.declared.concept_kind.ConceptKind.{ConceptKind}
-use Rattle.oim_report.specs.declared.concept_kind.ConceptKind.TheVariants.{Numeric, Text, Name}
-use Rattle.fact_base.specs.Entries.{Summed, facts_with}
-use Rattle.fact_base.specs.code.Entries.{EntryFits}
-use Rattle.fact_base.specs.code.Judged.{AreAlike, AreSummarised}
 use Rattle.fact_base.proofs.EntryFacts.{in_facts_with}
 
 -- the number that `kind_order` returns for values of this kind that are not nil; 0 for None

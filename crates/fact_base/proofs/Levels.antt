@@ -1,32 +1,10 @@
 -- The level of distinct facts, grouped by dimension sets.
-use Rattle.std.proofs.Common.{◌≡◌, ℕ, arith, max, slice_get, Bool, true, false, cond, not, ◌&&◌, ◌||◌, List, [], ◌∷◌, ◌++◌, Some, refl, sym, ap, ◌∙◌, ◌≢◌}
-use Rattle.std.specs.List.{AllByRecursion, list_all}
+use Rattle.fact_base.proofs.Shared.{◌≡◌, ℕ, arith, max, slice_get, Bool, true, false, cond, not, ◌&&◌, ◌||◌, List, [], ◌∷◌, ◌++◌, Some, refl, sym, ap, ◌∙◌, ◌≢◌, AllByRecursion, list_all, tied_itself, is_eq, ord_max, ordering_then, Ordering, Less, Equal, Greater, false≢true, and_from, and_parts, list_all-append, same_Some, IsRising, IsSet, entry_key, level_cmp, level_entry, levels, value_cmp, Level, Value, DimensionSet, dimensions_cmp, fact_cmp, Fact, dimensions_cmp_total, allows, allows_each, allows_values, level_of, Entry, facts_with, facts_of_entries, facts_of_entry, level_at, each_meet, verdict_of, IsConsistent, IsInconsistent}
 use Rattle.std.specs.List.Sorted.{IsStrictlySortedBy}
-use Rattle.std.specs.Cmp.{tied_itself}
-use Rattle.std.specs.Ordering.{is_eq, ord_max, ordering_then}
-use Rattle.std.specs.declared.cmp.Ordering.{Ordering}
-use Rattle.std.specs.declared.cmp.Ordering.TheVariants.{Less, Equal, Greater}
-use Rattle.std.proofs.lemmas.Bool.{false≢true, and_from, and_parts}
-use Rattle.std.proofs.lemmas.List.Folds.{list_all-append}
 use Rattle.std.proofs.lemmas.List.Sums.{list_all-from_AllPass}
-use Rattle.std.proofs.lemmas.Option.{same_Some}
-use Rattle.merge_laws.specs.Sorted.{IsRising, IsSet, entry_key}
-use Rattle.oim_value.specs.Level.{level_cmp, level_entry, levels}
-use Rattle.oim_value.specs.ValueOrder.{value_cmp}
-use Rattle.oim_value.specs.declared.level.Level.{Level}
 use Rattle.oim_value.specs.declared.level.Level.TheVariants.{Unique, Complete, Consistent, All as AllLevel}
-use Rattle.oim_value.specs.declared.value.Value.{Value}
-use Rattle.oim_dims.specs.DimensionSet.{DimensionSet}
-use Rattle.oim_dims.specs.FactOrder.{dimensions_cmp, fact_cmp}
-use Rattle.oim_dims.specs.declared.fact.Fact.{Fact}
-use Rattle.oim_dims.proofs.Orders.{dimensions_cmp_total}
-use Rattle.oim_report.specs.Duplicates.{allows, allows_each, allows_values, level_of}
 use Rattle.oim_report.proofs.Pairs.{complete_are_consistent, level_of_is, strictest, unique_are_complete}
-use Rattle.fact_base.specs.Entries.{Entry, facts_with, facts_of_entries, facts_of_entry}
-use Rattle.fact_base.specs.code.Judged.{level_at}
-use Rattle.fact_base.specs.Verdict.{each_meet, verdict_of}
 use Rattle.fact_base.specs.declared.verdict.Verdict.{Verdict}
-use Rattle.fact_base.specs.declared.verdict.Verdict.TheVariants.{Consistent as IsConsistent, Inconsistent as IsInconsistent}
 use Rattle.fact_base.proofs.EntryFacts.{less_than_later}
 use Rattle.fact_base.proofs.Members.{each_by_there, each_in_turn}
 use Rattle.fact_base.specs.Level.{SetsAreNeverComplete}
@@ -133,7 +111,7 @@ abbrev pub highest : Level → List Entry → Level
 highest level [] = level
 highest level (e ∷ es) = highest (ord_max level_cmp level (level_of_values e.1.0)) es
 
-each : (P : Level → Type 0) → P Unique → P Complete → P Consistent → P AllLevel → (l : Level) → P l
+pub each : (P : Level → Type 0) → P Unique → P Complete → P Consistent → P AllLevel → (l : Level) → P l
 each P a b c d Unique = a
 each P a b c d Complete = b
 each P a b c d Consistent = c

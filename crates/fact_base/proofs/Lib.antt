@@ -1,3 +1,4 @@
+pub mod Shared
 pub mod Members
 pub mod Sets
 pub mod TextOrder

@@ -1,14 +1,6 @@
 -- Items that are brought into the order of a list of their indices.
-use Rattle.std.proofs.Common.{◌≡◌, ℕ, ◌+◌, ◌<◌, List, [], ◌∷◌, All, Some, IsPermutation, IsSorted, get_or, length, map, slice_get, refl, sym, ap, subst, ◌∙◌, arith}
-use Rattle.std.specs.List.{range_with_len}
-use Rattle.std.specs.Option.{option_cmp}
-use Rattle.std.specs.Ordering.{is_lt}
-use Rattle.std.specs.declared.cmp.Ordering.{Ordering}
-use Rattle.std.proofs.lemmas.List.{get_or-map, length-map}
-use Rattle.std.proofs.lemmas.List.Elements.{All-from_get_or}
+use Rattle.fact_base.proofs.Shared.{◌≡◌, ℕ, ◌+◌, ◌<◌, List, [], ◌∷◌, All, Some, IsPermutation, IsSorted, get_or, length, map, slice_get, refl, sym, ap, subst, ◌∙◌, arith, range_with_len, option_cmp, is_lt, Ordering, get_or-map, length-map, All-from_get_or, All-permutation, IsPermutation-map, IsPermutation-refl, length_permutation, slice_get-get_or}
 use Rattle.std.proofs.lemmas.List.FromFn.{fill_by_all, get_or-range_with_len, length-range_with_len}
-use Rattle.std.proofs.lemmas.List.Sorted.{All-permutation, IsPermutation-map, IsPermutation-refl, length_permutation}
-use Rattle.std.proofs.lemmas.Option.{slice_get-get_or}
 use Rattle.merge_laws.specs.Picked.{picked}
 
 start : (k : ℕ) → k ≡ 0 + k

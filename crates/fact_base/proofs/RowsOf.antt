@@ -1,25 +1,7 @@
 -- The rows of facts have exactly these facts.
-use Rattle.std.proofs.Common.{◌≡◌, ◌≢◌, Bool, true, false, cond, List, [], ◌∷◌, ◌++◌, append-nil, map, Option, Some, None, refl, sym, ap, ◌∙◌, subst}
-use Rattle.std.specs.List.{AllByRecursion}
+use Rattle.fact_base.proofs.Shared.{◌≡◌, ◌≢◌, Bool, true, false, cond, List, [], ◌∷◌, ◌++◌, append-nil, map, Option, Some, None, refl, sym, ap, ◌∙◌, subst, AllByRecursion, tied_itself, Equal-is, is_eq, ordering_then, Less, Equal, Greater, IsRising, entry_key, item_at, value_at, IsSet, Value, DimensionSet, dimensions_cmp, fact_cmp, Fact, dimensions_cmp_total, dimensions_cmp_exact, Entry, Summed, facts_with, facts_of_entries, facts_of_entry, row_of, true≢false, Contains, Ordering, summary_of_all, map_tells_entry, value_cmp}
 use Rattle.std.specs.List.Sorted.{IsStrictlySortedBy}
-use Rattle.std.specs.Cmp.{tied_itself, Equal-is}
-use Rattle.std.specs.Ordering.{is_eq, ordering_then}
-use Rattle.std.specs.declared.cmp.Ordering.TheVariants.{Less, Equal, Greater}
-use Rattle.merge_laws.specs.Sorted.{IsRising, entry_key, item_at, value_at, IsSet}
-use Rattle.oim_value.specs.declared.value.Value.{Value}
-use Rattle.oim_dims.specs.DimensionSet.{DimensionSet}
-use Rattle.oim_dims.specs.FactOrder.{dimensions_cmp, fact_cmp}
-use Rattle.oim_dims.specs.declared.fact.Fact.{Fact}
-use Rattle.oim_dims.proofs.Orders.{dimensions_cmp_total, dimensions_cmp_exact}
-use Rattle.fact_base.specs.Entries.{Entry, Summed, facts_with, facts_of_entries, facts_of_entry}
 use Rattle.fact_base.specs.Rows.{Row, before_rows, rows_of, values_at, RowsTellFacts}
-use Rattle.fact_base.specs.Shown.{row_of}
-use mathlib.Core.Bool.{true≢false}
-use Rattle.std.specs.Prelude.{Contains}
-use Rattle.std.specs.declared.cmp.Ordering.{Ordering}
-use Rattle.merge_laws.specs.Ends.{summary_of_all}
-use Rattle.merge_laws.proofs.Both.{map_tells_entry}
-use Rattle.oim_value.specs.ValueOrder.{value_cmp}
 use Rattle.fact_base.proofs.EntryFacts.{from_facts_with, in_facts_with}
 use Rattle.fact_base.proofs.Members.{each_by_there, each_in_turn, first_there, from_map, in_flat_map, in_map, some_there, some_value, turn_there}
 

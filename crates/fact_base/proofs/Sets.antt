@@ -1,16 +1,5 @@
 -- The members of sets.
-use Rattle.std.proofs.Common.{◌≡◌, List, [], ◌∷◌, ◌++◌, subst, inl, inr, ⊎_elim}
-use Rattle.std.specs.Prelude.{◌↔◌, Contains}
-use Rattle.std.specs.Cmp.{IsTotalOrder}
-use Rattle.std.specs.List.{All}
-use Rattle.std.proofs.lemmas.List.Elements.{All-contains}
-use Rattle.std.specs.declared.cmp.Ordering.{Ordering}
-use Rattle.std.specs.declared.cmp.Ordering.TheVariants.{Equal}
-use Rattle.merge_laws.specs.Members.{SameMembers}
-use Rattle.merge_laws.specs.Sorted.{IsSet, itself}
-use Rattle.merge_laws.proofs.Both.{set_with_has_item}
-use Rattle.merge_laws.proofs.Members.{set_is_its_members}
-use Rattle.merge_laws.proofs.Rising.{none_rise}
+use Rattle.fact_base.proofs.Shared.{◌≡◌, List, [], ◌∷◌, ◌++◌, subst, inl, inr, ⊎_elim, ◌↔◌, Contains, IsTotalOrder, All, All-contains, Ordering, Equal, SameMembers, IsSet, itself, set_with_has_item, set_is_its_members, none_rise}
 use Rattle.fact_base.specs.Sets.{set_of}
 use Rattle.fact_base.proofs.Members.{first_there, first_or_later, in_one_of_both, later_there, none_there}
 

@@ -1,48 +1,14 @@
 -- The entries and references of a base after an addition.
-use Rattle.std.proofs.Common.{◌≡◌, ℕ, zero, suc, ◌<◌, ◌+◌, length, get_or, set, false, List, [], ◌∷◌, ◌++◌, refl, sym, ap, subst, ◌∙◌, arith, inl, inr, ⊎_elim, append-nil, Result, Ok, Err}
-use Rattle.std.specs.List.{All, AllByRecursion, HoldsAt}
+use Rattle.fact_base.proofs.Shared.{◌≡◌, ℕ, zero, suc, ◌<◌, ◌+◌, length, get_or, set, false, List, [], ◌∷◌, ◌++◌, refl, sym, ap, subst, ◌∙◌, arith, inl, inr, ⊎_elim, append-nil, Result, Ok, Err, All, AllByRecursion, HoldsAt, tied_itself, upto, is_eq, is_gt, is_lt, match_ordering, ordering_reverse, Ordering, Less, Equal, Greater, get_or_default, append_assoc, get_or_at, length-append, reverse-append, IsRising, entry_key, IsSet, itself, value_at, merged_entries, map_union, set_union, all_of_union, summary_of_one, DimensionSet, value_cmp, dimensions_cmp, fact_cmp, Fact, dimensions_cmp_exact, dimensions_cmp_total, fact_cmp_total, fact_cmp_exact, dimensions_agree, Entry, Summed, facts_of_entries, facts_of_entry, NoneAbove, summed, summed_of_both, with_fact, with_value, AreEntriesOf, EntryFits, AreStored, first_up, less_from, reverse, IsPermutation, Contains, IfOk, All-contains, All-tail, All-permutation, Contains-permutation, IsPermutation-sym, summary_of, both_summaries, SameMembers, map_union_has_both, set_union_has_both, none_rise, one_rises, value_cmp_exact, value_cmp_total, values_agree, FactFits, true≢false, Document, IsKeptReference, Sheet, Body, body, text_cmp, union, Fits, set_of, Value}
 use Rattle.std.specs.List.Sorted.{IsSorted, IsStrictlySortedBy, IsSearchInRange}
-use Rattle.std.proofs.lemmas.Cmp.{tied_itself, upto}
-use Rattle.std.specs.Ordering.{is_eq, is_gt, is_lt, match_ordering, ordering_reverse}
-use Rattle.std.specs.declared.cmp.Ordering.{Ordering}
-use Rattle.std.specs.declared.cmp.Ordering.TheVariants.{Less, Equal, Greater}
-use Rattle.std.proofs.lemmas.List.{get_or_default, append_assoc, get_or_at, length-append, reverse-append}
-use Rattle.merge_laws.specs.Sorted.{IsRising, entry_key, IsSet, itself, value_at}
-use Rattle.merge_laws.specs.Union.{merged_entries, map_union, set_union}
-use Rattle.merge_laws.proofs.Members.{all_of_union, summary_of_one}
-use Rattle.oim_dims.specs.DimensionSet.{DimensionSet}
-use Rattle.oim_value.specs.ValueOrder.{value_cmp}
-use Rattle.oim_dims.specs.FactOrder.{dimensions_cmp, fact_cmp}
-use Rattle.oim_dims.specs.declared.fact.Fact.{Fact}
-use Rattle.oim_dims.proofs.Orders.{dimensions_cmp_exact, dimensions_cmp_total, fact_cmp_total, fact_cmp_exact, dimensions_agree}
-use Rattle.fact_base.specs.Entries.{Entry, Summed, facts_of_entries, facts_of_entry}
-use Rattle.fact_base.specs.code.Entries.{NoneAbove, summed, summed_of_both, with_fact, with_value, AreEntriesOf, EntryFits, AreStored}
 use Rattle.fact_base.proofs.Members.{turn_there, each_by_there, in_one_of_both, in_flat_map}
-use Rattle.oim_report.proofs.Runs.{first_up, less_from}
 use Rattle.oim_report.proofs.Indices.{turned as turned_up}
-use Rattle.std.specs.Prelude.{reverse, IsPermutation, Contains, IfOk}
-use Rattle.std.proofs.lemmas.List.Elements.{All-contains}
-use Rattle.std.proofs.lemmas.List.Sorted.{All-permutation, Contains-permutation, IsPermutation-sym}
-use Rattle.merge_laws.specs.Ends.{summary_of, both_summaries}
-use Rattle.merge_laws.specs.Members.{SameMembers}
-use Rattle.merge_laws.proofs.Both.{map_union_has_both, set_union_has_both}
-use Rattle.merge_laws.proofs.Rising.{none_rise, one_rises}
-use Rattle.oim_value.proofs.ValueOrders.{value_cmp_exact, value_cmp_total, values_agree}
-use Rattle.oim_report.specs.FactFits.{FactFits}
 use Rattle.fact_base.proofs.EntryFacts.{all_fit_together, facts_of_both, Fit, fit_in_order, rises, union_facts}
-use mathlib.Core.Bool.{true≢false}
 use Rattle.std.specs.Result.{is_err}
-use Rattle.oim_report.specs.Document.{Document}
-use Rattle.oim_report.specs.References.{IsKeptReference}
-use Rattle.oim_report.specs.Sheet.{Sheet}
-use Rattle.fact_base.specs.Body.{Body, body, text_cmp, union}
-use Rattle.fact_base.specs.Fits.{Fits}
-use Rattle.fact_base.specs.Sets.{set_of}
 use Rattle.fact_base.proofs.Bodies.{same_bodies}
 use Rattle.fact_base.proofs.Sets.{is_set_of, set_of-both, set_of_is_set}
 use Rattle.fact_base.proofs.TextOrder.{text_cmp_exact, text_cmp_total}
 use Rattle.oim_value.specs.contracts.value.ValueOrd.TheImpl.{cmp-value as derived_values}
-use Rattle.oim_value.specs.declared.value.Value.{Value}
 use Rattle.oim_dims.specs.contracts.dimensions.DimensionsOrd.TheImpl.{cmp-value as derived_dimensions}
 
 -- ---- orders
@@ -55,14 +21,11 @@ turned r s less = dimensions_cmp_total.antisymm s r ∙ ap ordering_reverse less
 abbrev pub AllBelow : DimensionSet → List Entry → Type 0
 AllBelow s = AllByRecursion (λ e. dimensions_cmp e.0 s ≡ Less)
 
-later : (P : Entry → Type 0) (e : Entry) (es : List Entry) → All P (e ∷ es) → All P es
-later P e es all k d within = all (suc k) d (omega (arith, within))
-
 pub all_below : (es : List Entry) (s : DimensionSet) (n : ℕ) (x : Entry) → IsRising dimensions_cmp entry_key es → NoneAbove s es → suc n ≡ length es → x ≡ get_or es n x → is_eq (dimensions_cmp x.0 s) ≡ false → AllBelow s es
 unfolding IsStrictlySortedBy
 all_below (e ∷ []) s zero x rise up count is other = (less_from (dimensions_cmp e.0 s) (up zero e (omega arith)) (subst (λ (y : Entry). is_eq (dimensions_cmp y.0 s) ≡ false) is other), tt)
 all_below (e ∷ d ∷ es) s (suc n) x rise up count is other =
-    let rest = all_below (d ∷ es) s n x rise.1 (later (λ (y : Entry). is_gt (dimensions_cmp y.0 s) ≡ false) e (d ∷ es) up) (omega (arith, count)) is other in
+    let rest = all_below (d ∷ es) s n x rise.1 (All-tail (λ (y : Entry). is_gt (dimensions_cmp y.0 s) ≡ false) e (d ∷ es) up) (omega (arith, count)) is other in
     (dimensions_cmp_total.trans e.0 d.0 s rise.0.0 rest.0, rest)
 all_below es s n x rise up count is other = absurd (omega (arith, count))
 

@@ -1,36 +1,11 @@
 -- The summary of different values of one kind, with or without nil.
-use Rattle.std.proofs.Common.{◌≡◌, ◌≢◌, ℕ, zero, suc, ◌≤◌, length, Bool, true, false, cond, ◌||◌, ◌&&◌, List, [], ◌∷◌, Option, Some, None, refl, sym, ap, subst, ◌∙◌, ⊎_elim, inl, inr, arith}
-use Rattle.std.proofs.lemmas.List.Elements.{All-contains}
-use mathlib.Core.Bool.{true≢false}
-use Rattle.std.specs.Prelude.{◌↔◌, ◌⊎◌, IsTrue, Contains, is_some, int_lt, ℤ, ◌≤ℤ◌, ◌<ℤ◌, IfSome}
-use Rattle.std.specs.List.{AllByRecursion, Any, list_all, list_any}
+use Rattle.fact_base.proofs.Shared.{◌≡◌, ◌≢◌, ℕ, zero, suc, ◌≤◌, length, Bool, true, false, cond, ◌||◌, ◌&&◌, List, [], ◌∷◌, Option, Some, None, refl, sym, ap, subst, ◌∙◌, ⊎_elim, inl, inr, arith, All-contains, true≢false, ◌↔◌, ◌⊎◌, IsTrue, Contains, is_some, int_lt, ℤ, ◌≤ℤ◌, ◌<ℤ◌, IfSome, AllByRecursion, Any, list_all, list_any, option_and_then, Less, and_parts, and_from, cases_Bool, same_from_decides, Any-from_list_any, AllPairs-cons, none-some, option_and_then_some, same_Some, Summarised, TellsAll, summary_of_all, IsSet, all_by_index, all_in_turn, Meets, AreApart, AreDifferent, AreNilOrOfKind, EachTwoValuesMeet, MeetBetween, index_of_greatest_low, index_of_least_high, kind_order, value_cmp, Value, Nil, Number, AText, AName, crossed_ends_are_apart, different_meet_as_numbers, different_meet_between_ends, values_meet, values_meet_is_meets, AreAlike, AreSummarised, shared_by, IsApartPair, IsCommonOf, IsPairOf, IsShownPair, begin_with_numbers, each_meet, verdict_of, Consistent, Inconsistent}
 use Rattle.std.specs.List.Sorted.{IsStrictlySortedBy}
-use Rattle.std.specs.Option.{option_and_then}
-use Rattle.std.specs.declared.cmp.Ordering.TheVariants.{Less}
-use Rattle.std.proofs.lemmas.Bool.{and_parts, and_from, cases_Bool}
-use Rattle.std.proofs.lemmas.Bool.Decides.{same_from_decides}
 use Rattle.std.proofs.lemmas.Int.{ints}
-use Rattle.std.proofs.lemmas.List.Folds.{Any-from_list_any}
-use Rattle.std.proofs.lemmas.List.Kept.{AllPairs-cons}
-use Rattle.std.proofs.lemmas.Option.{none-some, option_and_then_some, same_Some}
-use Rattle.merge_laws.specs.Ends.{Summarised, TellsAll, summary_of_all}
-use Rattle.merge_laws.specs.Sorted.{IsSet}
 use Rattle.merge_laws.proofs.Ends.{summary_tells_all}
-use Rattle.merge_laws.proofs.Members.{all_by_index, all_in_turn}
 use Rattle.oim_value.specs.Ends.{AreEnds, has_interval, intervals_of}
-use Rattle.oim_value.specs.Meets.{Meets}
-use Rattle.oim_value.specs.SeveralMeet.{AreApart, AreDifferent, AreNilOrOfKind, EachTwoValuesMeet, MeetBetween, index_of_greatest_low, index_of_least_high}
-use Rattle.oim_value.specs.ValueOrder.{kind_order, value_cmp}
 use Rattle.oim_value.specs.declared.interval.Interval.{Interval}
-use Rattle.oim_value.specs.declared.value.Value.{Value}
-use Rattle.oim_value.specs.declared.value.Value.TheVariants.{Nil, Number, Text as AText, Name as AName}
 use Rattle.oim_value.proofs.Ends.{ends_are_one, within_ends_is_within_each}
-use Rattle.oim_value.proofs.SeveralMeet.{crossed_ends_are_apart, different_meet_as_numbers, different_meet_between_ends}
-use Rattle.oim_report.specs.Duplicates.{values_meet}
-use Rattle.oim_report.proofs.ValuesMeet.{values_meet_is_meets}
-use Rattle.fact_base.specs.code.Judged.{AreAlike, AreSummarised, shared_by}
-use Rattle.fact_base.specs.Verdict.{IsApartPair, IsCommonOf, IsPairOf, IsShownPair, begin_with_numbers, each_meet, verdict_of}
-use Rattle.fact_base.specs.declared.verdict.Verdict.TheVariants.{Consistent, Inconsistent}
 use Rattle.fact_base.proofs.Members.{each_by_there, first_there, first_or_later, later_there, none_there}
 
 -- ---- every two values meet

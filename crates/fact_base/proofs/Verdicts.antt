@@ -1,39 +1,12 @@
 -- The verdict on a dimension set is `Inconsistent` exactly if two of its values do not meet.
-use Rattle.std.proofs.Common.{◌≡◌, Bool, true, false, cond, List, [], ◌∷◌, Some, refl, sym, ap, subst, ◌∙◌, ⊎_elim}
-use mathlib.Core.Bool.{true≢false}
-use Rattle.std.proofs.lemmas.Bool.{and_cases, iff_false}
-use Rattle.std.proofs.lemmas.Option.{same_Some}
-use Rattle.std.specs.Prelude.{Contains, ◌↔◌}
-use Rattle.std.specs.List.{list_all}
-use Rattle.oim_value.specs.Meets.{Meets}
-use Rattle.oim_value.specs.declared.value.Value.{Value}
+use Rattle.fact_base.proofs.Shared.{◌≡◌, Bool, true, false, cond, List, [], ◌∷◌, Some, refl, sym, ap, subst, ◌∙◌, ⊎_elim, true≢false, and_cases, iff_false, same_Some, Contains, ◌↔◌, list_all, Meets, Value, each_two_meet_by_members, values_meet, values_meet_is_meets, values_at, InconsistentIsApart, each_meet, verdict_of, Consistent, Inconsistent, All-contains, Equal-is, unwrap_or, is_eq, Nil, Number, AText, AName, DimensionSet, dimensions_cmp, Fact, dimensions_cmp_exact, FactFits, ValueFits, Sheet, Numeric, Body, Fits}
 use Rattle.oim_value.proofs.Meeting.{meets_is_reflexive}
-use Rattle.oim_value.proofs.SeveralMeet.{each_two_meet_by_members}
-use Rattle.oim_report.specs.Duplicates.{values_meet}
-use Rattle.oim_report.proofs.ValuesMeet.{values_meet_is_meets}
-use Rattle.fact_base.specs.Rows.{values_at}
-use Rattle.fact_base.specs.Verdict.{InconsistentIsApart, each_meet, verdict_of}
-use Rattle.fact_base.specs.declared.verdict.Verdict.TheVariants.{Consistent, Inconsistent}
 use Rattle.fact_base.proofs.Summaries.{each_meet_is}
 use Rattle.fact_base.proofs.Members.{first_or_later, first_there, later_there, none_there}
-use Rattle.std.proofs.lemmas.List.Elements.{All-contains}
-use Rattle.std.specs.Cmp.{Equal-is}
 use Rattle.std.specs.FinMap as map
-use Rattle.std.specs.Option.{unwrap_or}
-use Rattle.std.specs.Ordering.{is_eq}
 use Rattle.oim_value.specs.Interval.{interval}
-use Rattle.oim_value.specs.declared.value.Value.TheVariants.{Nil, Number, Text as AText, Name as AName}
 use Rattle.oim_value.proofs.Intervals.{interval_has_points, meets_by_common_point}
-use Rattle.oim_dims.specs.DimensionSet.{DimensionSet}
-use Rattle.oim_dims.specs.FactOrder.{dimensions_cmp}
-use Rattle.oim_dims.specs.declared.fact.Fact.{Fact}
-use Rattle.oim_dims.proofs.Orders.{dimensions_cmp_exact}
-use Rattle.oim_report.specs.FactFits.{FactFits, ValueFits}
-use Rattle.oim_report.specs.Sheet.{Sheet}
-use Rattle.oim_report.specs.declared.concept_kind.ConceptKind.TheVariants.{Numeric}
-use Rattle.fact_base.specs.Body.{Body}
 use Rattle.fact_base.specs.Contradiction.{Contradict, IsNumeric, NumericInconsistentIsApart}
-use Rattle.fact_base.specs.Fits.{Fits}
 
 abbrev Apart : List Value → Type 0
 Apart vs = (v w : Value) × (Contains vs v × (Contains vs w × ¬ (Meets v w)))

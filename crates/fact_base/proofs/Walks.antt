@@ -1,51 +1,15 @@
 -- Loops over entries.
-use Rattle.std.proofs.Common.{◌≡◌, ◌≢◌, ℕ, suc, ◌<◌, ◌≤◌, ◌+◌, length, get_or, Bool, true, false, List, [], ◌∷◌, ◌++◌, map, take, drop, Option, Some, None, refl, sym, ap, ◌∙◌, ⊎_elim, arith, ◌*◌, ◌-◌, subst}
-use mathlib.Core.Bool.{true≢false}
-use Rattle.std.specs.Prelude.{slice_get, IfSome, IsTrue, ◌↔◌}
-use Rattle.std.specs.List.{All, flat_map, HoldsAt}
-use Rattle.std.specs.Str.{bytes_eq}
-use Rattle.std.specs.Cmp.Lexicographic.{bytes_decides}
-use Rattle.std.specs.Option.{option_map, unwrap_or}
-use Rattle.std.specs.Cmp.{Equal-is, tied_itself}
-use Rattle.std.specs.Ordering.{is_eq, ord_max, is_gt}
+use Rattle.fact_base.proofs.Shared.{◌≡◌, ◌≢◌, ℕ, suc, ◌<◌, ◌≤◌, ◌+◌, length, get_or, Bool, true, false, List, [], ◌∷◌, ◌++◌, map, take, drop, Option, Some, None, refl, sym, ap, ◌∙◌, ⊎_elim, arith, ◌*◌, ◌-◌, subst, true≢false, slice_get, IfSome, IsTrue, ◌↔◌, All, flat_map, HoldsAt, bytes_eq, bytes_decides, option_map, unwrap_or, Equal-is, tied_itself, is_eq, ord_max, is_gt, append_assoc, drop_all, drop_more, length-append, length-map, take_all, take_more, get_or-drop, get_or-map, get_or-take, length-drop, length-take-le, All-contains, All-more, get_or_from_slice_get, slice_get-get_or, slice_get-map, slice_get_cases, slice_get_within, unwrap_or-slice_get, pointwise, IsRising, IsSet, entry_key, value_at, map_tells_entry, all_in_turn, level_cmp, value_cmp, Level, Value, value_cmp_exact, value_cmp_self, DimensionSet, dimensions_cmp, Fact, dimensions_cmp_exact, dimensions_cmp_total, level_of, Sheet, equal_dimensions_tie, equal_values_tie, Entry, Summed, facts_of_entries, facts_of_entry, facts_with, AreStored, EntryFits, AreSummarised, Row, rows_of, values_at, row_of, HoldForUris, cases_lt, summary_of_all, first_up, up_cases, text_cmp}
 use Rattle.std.specs.Bool.{Decides, OnTrue}
-use Rattle.std.proofs.lemmas.List.{append_assoc, drop_all, drop_more, length-append, length-map, take_all, take_more, get_or-drop, get_or-map, get_or-take, length-drop, length-take-le}
-use Rattle.std.proofs.lemmas.List.Elements.{All-contains, All-more}
 use Rattle.std.proofs.lemmas.Slice.Eq.{slice_eq-Decides}
-use Rattle.std.proofs.lemmas.Option.{get_or_from_slice_get, slice_get-get_or, slice_get-map, slice_get_cases, slice_get_within, unwrap_or-slice_get}
-use lib.Pointwise.{pointwise}
-use Rattle.merge_laws.specs.Sorted.{IsRising, IsSet, entry_key, value_at}
-use Rattle.merge_laws.proofs.Both.{map_tells_entry}
-use Rattle.merge_laws.proofs.Members.{all_in_turn}
-use Rattle.oim_value.specs.Level.{level_cmp}
-use Rattle.oim_value.specs.ValueOrder.{value_cmp}
 use Rattle.oim_value.specs.contracts.value.ValuePartialEq.TheImpl.{eq-value as value_eq}
 use Rattle.oim_dims.specs.contracts.dimensions.DimensionsPartialEq.TheImpl.{eq-value as dimensions_eq}
-use Rattle.oim_value.specs.declared.level.Level.{Level}
 use Rattle.oim_value.specs.declared.level.Level.TheVariants.{Unique}
-use Rattle.oim_value.specs.declared.value.Value.{Value}
-use Rattle.oim_value.proofs.ValueOrders.{value_cmp_exact, value_cmp_self}
-use Rattle.oim_dims.specs.DimensionSet.{DimensionSet}
-use Rattle.oim_dims.specs.FactOrder.{dimensions_cmp}
-use Rattle.oim_dims.specs.declared.fact.Fact.{Fact}
-use Rattle.oim_dims.proofs.Orders.{dimensions_cmp_exact, dimensions_cmp_total}
-use Rattle.oim_report.specs.Duplicates.{level_of}
-use Rattle.oim_report.specs.Sheet.{Sheet}
-use Rattle.oim_report.proofs.Ties.{equal_dimensions_tie, equal_values_tie}
-use Rattle.fact_base.specs.Entries.{Entry, Summed, facts_of_entries, facts_of_entry, facts_with}
-use Rattle.fact_base.specs.code.Entries.{AreStored, EntryFits}
-use Rattle.fact_base.specs.code.Judged.{AreSummarised}
-use Rattle.fact_base.specs.Rows.{Row, rows_of, values_at}
-use Rattle.fact_base.specs.Shown.{row_of, HoldForUris}
 use Rattle.fact_base.proofs.Fitting.{entry_summarised}
 use Rattle.fact_base.proofs.Levels.{highest, highest_is, level_of_values}
 use Rattle.fact_base.proofs.RowsOf.{rows_of_entries, values_at_entries, values_in}
-use Rattle.std.proofs.lemmas.Bool.{cases_lt}
 use Rattle.std.proofs.lemmas.Map.Keys.{Less-from_sorted}
-use Rattle.merge_laws.specs.Ends.{summary_of_all}
 use Rattle.oim_names.proofs.Bytes.{same_bytes}
-use Rattle.oim_report.proofs.Runs.{first_up, up_cases}
-use Rattle.fact_base.specs.Body.{text_cmp}
 use Rattle.fact_base.proofs.TextOrder.{text_cmp_exact, text_cmp_total}
 
 -- ---- one step

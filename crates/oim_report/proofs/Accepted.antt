@@ -1,17 +1,5 @@
 -- If a fact object is accepted, its parts denote the fact.
-use Rattle.std.proofs.Common.{◌≡◌, List, Option, Some, None, Ok, refl, ap, ◌∙◌, option_and_then, option_map}
-use Rattle.oim_names.specs.Bindings.{Binding}
-use Rattle.oim_names.specs.declared.reason.Reason.{Reason}
-use Rattle.oim_dims.specs.DimensionSet.{DimensionSet}
-use Rattle.oim_dims.specs.declared.fact.Fact.{Fact}
-use Rattle.serde_json.specs.Data.{Data}
-use Rattle.oim_report.specs.declared.concept_kind.ConceptKind.{ConceptKind}
-use Rattle.oim_report.specs.Holds.{holds}
-use Rattle.oim_report.specs.Least.{least}
-use Rattle.oim_report.specs.Outcome.{fact_or, fact_outcome}
-use Rattle.oim_report.specs.FactMembers.{DimensionMembers, FactMembers, fact_parts}
-use Rattle.oim_report.specs.Said.{concept_kind, fact_of, fact_with, said_concept, said_dimensions, said_entity, said_fact, said_language, said_members, said_period, said_unit, said_value}
-use Rattle.oim_report.specs.Sheet.{Sheet}
+use Rattle.oim_report.proofs.Shared.{◌≡◌, List, Option, Some, None, Ok, refl, ap, ◌∙◌, option_and_then, option_map, Binding, Reason, DimensionSet, Fact, Data, ConceptKind, holds, least, fact_or, fact_outcome, DimensionMembers, FactMembers, fact_parts, concept_kind, fact_of, fact_with, said_concept, said_dimensions, said_entity, said_fact, said_language, said_members, said_period, said_unit, said_value, Sheet}
 
 pub and_then_some : {A B : Type 0} (g : A → Option B) (o : Option A) (b : B) → option_and_then g o ≡ Some b → (a : A) × (o ≡ Some a) × (g a ≡ Some b)
 and_then_some g None b e = absurd (cc)

@@ -1,23 +1,7 @@
 -- If the URIs of all bindings are namespaces and `fact_outcome` returns a fact, the object denotes this fact, and the fact
 -- fits the sheet.
-use Rattle.std.proofs.Common.{◌≡◌, ℕ, ◌+◌, List, [], ◌∷◌, map as each_of, Some, Result, Ok, Err, refl, sym, ap, subst, ◌∙◌, arith, All, option_and_then}
-use Rattle.std.specs.List.{AllZip}
+use Rattle.oim_report.proofs.Shared.{◌≡◌, ℕ, ◌+◌, List, [], ◌∷◌, each_of, Some, Result, Ok, Err, refl, sym, ap, subst, ◌∙◌, arith, All, option_and_then, AllZip, All-cons, Binding, Reason, IsDimensionSet, Fact, Data, Members, Refusal, ObjectSays, SaysFact, SaysValue, FactFits, values, all_or_first, fact_outcome, facts_said, DimensionMembers, FactMembers, map_ok, Sheet}
 use Rattle.std.specs.FinMap as map
-use Rattle.std.proofs.lemmas.List.Elements.{All-cons}
-use Rattle.oim_names.specs.Bindings.{Binding}
-use Rattle.oim_names.specs.declared.reason.Reason.{Reason}
-use Rattle.oim_dims.specs.DimensionSet.{IsDimensionSet}
-use Rattle.oim_dims.specs.declared.fact.Fact.{Fact}
-use Rattle.serde_json.specs.Data.{Data, Members}
-use Rattle.oim_report.specs.declared.refusal.Refusal.{Refusal}
-use Rattle.oim_report.specs.Document.{ObjectSays}
-use Rattle.oim_report.specs.Fact.{SaysFact, SaysValue}
-use Rattle.oim_report.specs.FactFits.{FactFits}
-use Rattle.oim_report.specs.Json.{values}
-use Rattle.oim_report.specs.Outcome.{all_or_first, fact_outcome, facts_said}
-use Rattle.oim_report.specs.FactMembers.{DimensionMembers, FactMembers}
-use Rattle.oim_report.specs.Refusal.{map_ok}
-use Rattle.oim_report.specs.Sheet.{Sheet}
 use Rattle.oim_report.proofs.Accepted.{IsSaid, accepted}
 use Rattle.oim_report.proofs.Fitting.{AreNamespaces, AreCleanDimensions, AreClean, are_clean, concept_fits, said_entity_fits, said_language_fits, said_period_is, value_fits, concept_says, entity_says, language_says, period_says, value_says}
 use Rattle.oim_report.proofs.MembersSay.{members_fit, members_rise, members_say}

@@ -1,12 +1,6 @@
 -- For a fact object, `told` lists the conditions in `of_fact` that apply, and `least` is the first of these. For a document, `told` lists the conditions in
 -- `of_document` that are shown.
-use Rattle.std.proofs.Common.{◌≡◌, List, [], ◌∷◌, refl}
-use Rattle.std.specs.List.{filter, find}
-use Rattle.oim_names.specs.Bindings.{Binding}
-use Rattle.oim_names.specs.declared.reason.Reason.{Reason}
-use Rattle.oim_names.specs.declared.reason.Reason.TheVariants.{MemberForm, UnknownMember, DocumentType, Namespace, BaseUrl, TaxonomyUrl, Feature, Links, Notes, DimensionsMissing, NameForm, UnboundPrefix, ReservedNamespace, MissingConcept, UnknownConcept, UnknownDimension, DimensionValue, PeriodForm, PeriodOrder, UnitForm, UnitOnOther, LanguageForm, LanguageOnNumeric, ValueForm, NumberForm, NumberDigits, DecimalsForm, DecimalsRange, DecimalsOnOther}
-use Rattle.serde_json.specs.Data.{Data}
-use Rattle.oim_report.specs.Sheet.{Sheet}
+use Rattle.oim_report.proofs.Shared.{◌≡◌, List, [], ◌∷◌, refl, filter, find, Binding, Reason, MemberForm, UnknownMember, DocumentType, Namespace, BaseUrl, TaxonomyUrl, Feature, Links, Notes, DimensionsMissing, NameForm, UnboundPrefix, ReservedNamespace, MissingConcept, UnknownConcept, UnknownDimension, DimensionValue, PeriodForm, PeriodOrder, UnitForm, UnitOnOther, LanguageForm, LanguageOnNumeric, ValueForm, NumberForm, NumberDigits, DecimalsForm, DecimalsRange, DecimalsOnOther, Data, Sheet}
 use Rattle.oim_report.specs.Holds.{document_holds, holds}
 use Rattle.oim_report.specs.Least.{is_shown, least, told}
 

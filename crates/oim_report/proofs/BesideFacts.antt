@@ -1,16 +1,7 @@
 -- What rules read in an object whose members are added one after another.
-use Rattle.std.proofs.Common.{◌≡◌, ℕ, List, true, false, not, ◌&&◌, bytes_eq, Option, Some, None, refl, sym, ap, ◌∙◌, subst, codes}
-use Rattle.std.proofs.lemmas.Bool.{false≢true}
-use Rattle.std.specs.List.{list_any}
-use Rattle.serde_json.specs.Data.{Data, Members, put}
-use Rattle.serde_json.specs.Find.{get_member}
-use Rattle.serde_json.proofs.Views.{get_member-put, get_member-put_other}
-use Rattle.oim_report.specs.Info.{root_keys}
-use Rattle.oim_report.specs.Json.{has_colon}
-use Rattle.oim_report.specs.Pieces.{put_all}
-use Rattle.oim_report.specs.code.Pieces.{Adds, IsLike}
-use Rattle.oim_report.specs.code.TapeValues.{Ascends}
+use Rattle.oim_report.proofs.Shared.{◌≡◌, ℕ, List, true, not, ◌&&◌, bytes_eq, Option, Some, None, refl, sym, ap, ◌∙◌, subst, codes, list_any, Data, Members, put, get_member-put, get_member-put_other, root_keys, has_colon, put_all, Adds, IsLike, Ascends}
 use Rattle.oim_report.proofs.PutMembers.{known_put, put_onto}
+use Rattle.oim_report.proofs.MembersPut.{kept_name}
 
 -- ---- one member
 
@@ -28,14 +19,11 @@ info_added d all kept own h = record {
   facts = get_member-put_other (codes "facts") (codes "documentInfo") d all (λ e. Prim.cc) ∙ h.facts;
 }
 
-past_colon : (key k : List ℕ) (d : Data) (all : Members) → has_colon key ≡ false → has_colon k ≡ true → get_member key (put k d all) ≡ get_member key all
-past_colon key k d all plain colon = get_member-put_other key k d all (λ e. absurd (false≢true (sym plain ∙ ap has_colon e ∙ colon)))
-
 pub extension_added : (k : List ℕ) (d : Data) (all kept : Members) (own : Option Data) → has_colon k ≡ true → IsLike all kept own → IsLike (put k d all) kept own
 extension_added k d all kept own colon h = record {
   known = known_put root_keys k d all (ap (λ b. not b && not (list_any (λ l. bytes_eq l k) root_keys)) colon) h.known;
-  info = past_colon (codes "documentInfo") k d all refl colon ∙ h.info;
-  facts = past_colon (codes "facts") k d all refl colon ∙ h.facts;
+  info = kept_name (codes "documentInfo") k d all refl colon ∙ h.info;
+  facts = kept_name (codes "facts") k d all refl colon ∙ h.facts;
 }
 
 -- ---- several members

@@ -1,18 +1,8 @@
 -- If a UTF-8 text is cut at ASCII characters, its parts are UTF-8.
-use Rattle.std.proofs.Common.{◌≡◌, ℕ, ◌+◌, ◌-◌, ◌<◌, ◌≤◌, List, [], ◌∷◌, ◌++◌, length, get_or, take, drop, Bool, true, false, ◌==◌, ◌&&◌, cond, refl, sym, ap, subst, arith, length-append, All, IsUtf8}
-use Rattle.std.specs.List.{after_first, before_first, join_with_byte, list_any, position_or_len}
-use Rattle.std.proofs.lemmas.Bool.{and_parts, cases_lt, eqb-true}
-use Rattle.std.proofs.lemmas.List.{drop_all, take_all}
-use Rattle.std.proofs.Common.{inl, inr}
-use Rattle.std.proofs.lemmas.Bool.Decides.{nat_tests}
-use Rattle.std.proofs.lemmas.List.Elements.{All-cons}
+use Rattle.oim_report.proofs.Shared.{◌≡◌, ℕ, ◌+◌, ◌-◌, ◌<◌, ◌≤◌, List, [], ◌∷◌, ◌++◌, length, get_or, take, drop, Bool, true, false, ◌==◌, ◌&&◌, cond, refl, sym, subst, arith, length-append, All, IsUtf8, eqb-true, take_all, inl, inr, take-append_seam, get_or-append_seam, after_first, before_first, join_with_byte, list_any, position_or_len, and_parts, cases_lt, drop_all, nat_tests, All-cons, passes_at_first, IsUtf8-take, IsUtf8-drop, IsUtf8-between, IsUtf8-nil, IsCharBoundary-before_ascii, IsCharBoundary-after_ascii, is_slash, is_colon}
 use Rattle.std.proofs.lemmas.List.Splits.{join_with_byte-slice_split}
-use Rattle.std.proofs.lemmas.List.Sums.{passes_at_first}
-use Rattle.std.proofs.lemmas.Str.{IsUtf8-take, IsUtf8-drop, IsUtf8-between, IsUtf8-nil, IsCharBoundary-before_ascii, IsCharBoundary-after_ascii}
-use Rattle.oim_dims.specs.Separators.{is_slash}
 use Rattle.oim_dims.specs.Unit.{inner, side_pieces, numerator_pieces, denominator_pieces}
 use Rattle.oim_dims.proofs.Cuts.{drop_past}
-use Rattle.oim_names.specs.QName.{is_colon}
 
 abbrev pub OnlyAscii : (ℕ → Bool) → Type 0
 OnlyAscii p = (c : ℕ) → p c ≡ true → c < 128
@@ -33,21 +23,13 @@ module _ (p : ℕ → Bool) (ascii : OnlyAscii p) (t : List ℕ) (utf8 : IsUtf8 
     | inr ge ↦ subst IsUtf8 (sym (take_all (position_or_len p t) t (omega (arith, ge)))) utf8
   ]
 
-at_seam : (xs ys : List ℕ) (c : ℕ) → get_or (xs ++ c ∷ ys) (length xs) 0 ≡ c
-at_seam [] ys c = refl
-at_seam (x ∷ xs) ys c = at_seam xs ys c
-
-front : (xs ys : List ℕ) → take (length xs) (xs ++ ys) ≡ xs
-front [] ys = refl
-front (x ∷ xs) ys = ap (λ zs. x ∷ zs) (front xs ys)
-
 seam_within : (xs ys : List ℕ) (c : ℕ) → length xs < length (xs ++ c ∷ ys)
 seam_within xs ys c = simp length-append (omega arith)
 
 pub both_utf8 : (xs ys : List ℕ) (c : ℕ) → c < 128 → IsUtf8 (xs ++ c ∷ ys) → IsUtf8 xs × IsUtf8 ys
 both_utf8 xs ys c ascii utf8 =
-    let low : get_or (xs ++ c ∷ ys) (length xs) 0 < 128 = rw (at_seam xs ys c) ascii in (
-      subst IsUtf8 (front xs (c ∷ ys)) (IsUtf8-take (xs ++ c ∷ ys) (length xs) utf8 (IsCharBoundary-before_ascii (xs ++ c ∷ ys) (length xs) (seam_within xs ys c) low)),
+    let low : get_or (xs ++ c ∷ ys) (length xs) 0 < 128 = rw (get_or-append_seam xs c ys 0) ascii in (
+      subst IsUtf8 (take-append_seam xs (c ∷ ys)) (IsUtf8-take (xs ++ c ∷ ys) (length xs) utf8 (IsCharBoundary-before_ascii (xs ++ c ∷ ys) (length xs) (seam_within xs ys c) low)),
       subst IsUtf8 (drop_past xs ys c) (IsUtf8-drop (xs ++ c ∷ ys) (length xs + 1) utf8 (IsCharBoundary-after_ascii (xs ++ c ∷ ys) (length xs) utf8 (seam_within xs ys c) low)),
     )
 

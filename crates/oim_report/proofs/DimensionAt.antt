@@ -1,8 +1,5 @@
 -- A look-up or a test in an absent object gives the same result as in an object without members.
-use Rattle.std.proofs.Common.{◌≡◌, ℕ, List, Bool, refl, Option, Some, None, option_and_then}
-use Rattle.serde_json.specs.Data.{Data, Members, null, boolean, number, string, array, object}
-use Rattle.serde_json.specs.Find.{as_object, get, get_member}
-use Rattle.oim_report.specs.Json.{any_in, any_member, members}
+use Rattle.oim_report.proofs.Shared.{◌≡◌, ℕ, List, Bool, refl, Option, Some, None, option_and_then, Data, Members, null, boolean, number, string, array, object, as_object, get, get_member, any_in, any_member, members}
 
 pub member_within : (key : List ℕ) (o : Option Data) → option_and_then (get key) o ≡ get_member key (members (option_and_then as_object o))
 member_within key None = refl

@@ -1,18 +1,5 @@
 -- Facts with equal dimensions compare as their values do, and facts with two concepts as the concepts.
-use Rattle.std.proofs.Common.{◌≡◌, ℕ, ◌+◌, ◌<◌, List, [], ◌∷◌, ◌++◌, Option, Some, None, map, slice_get, get_or, length, take, option_map, refl, sym, ap, ◌∙◌}
-use Rattle.std.specs.Cmp.{tied_itself}
-use Rattle.std.specs.Option.{unwrap_or}
-use Rattle.std.specs.Ordering.{ordering_then}
-use Rattle.std.specs.declared.cmp.Ordering.{Ordering}
-use Rattle.std.specs.declared.cmp.Ordering.TheVariants.{Less, Equal, Greater}
-use Rattle.std.proofs.lemmas.List.{map-append, take_more}
-use Rattle.std.proofs.lemmas.Option.{slice_get-get_or, slice_get-map}
-use Rattle.oim_dims.proofs.Orders.{dimensions_cmp_total}
-use Rattle.oim_dims.specs.DimensionSet.{DimensionSet}
-use Rattle.oim_dims.specs.FactOrder.{dimensions_cmp, fact_cmp}
-use Rattle.oim_dims.specs.declared.fact.Fact.{Fact}
-use Rattle.oim_value.specs.ValueOrder.{name_cmp, value_cmp}
-use Rattle.oim_report.specs.code.DimensionRuns.{HaveDimensionsOf, dimensions_at}
+use Rattle.oim_report.proofs.Shared.{◌≡◌, ℕ, ◌+◌, ◌<◌, List, [], ◌∷◌, ◌++◌, Option, Some, None, map, slice_get, get_or, length, take, option_map, refl, sym, ap, ◌∙◌, ◌≤◌, Bor, MatchOption, HoldsAt, unwrap_or, Ordering, Less, Equal, Greater, tied_itself, option_cmp, ordering_then, map-append, take_more, slice_get-get_or, slice_get-map, slice_get_past, dimensions_cmp_total, DimensionSet, dimensions_cmp, fact_cmp, Fact, name_cmp, value_cmp, HaveDimensionsOf, dimensions_at}
 
 abbrev dimensions_of : Fact → Option DimensionSet
 dimensions_of f = Some f.dimensions
@@ -27,6 +14,16 @@ by_value facts starts i j f g h same first second =
     let dimensions : f.dimensions ≡ g.dimensions = ap (λ d. unwrap_or (unwrap_or d None) f.dimensions) both in
     let tied = ap (dimensions_cmp f.dimensions) (sym dimensions) ∙ tied_itself dimensions_cmp_total f.dimensions in
     sym (ap (λ o. ordering_then o (value_cmp f.value g.value)) tied)
+
+pub looked_up : {E : Type 0} (items : List E) (i : ℕ) (r : Option (Bor E)) → MatchOption r (length items ≤ i) (λ x. (i < length items) × HoldsAt (λ y. x.now ≡ y) items i) → option_map (λ x. x.now) r ≡ slice_get items i
+looked_up items i None h = sym (slice_get_past items i h)
+looked_up items i (Some x) h = sym (slice_get-get_or items i x.now h.0 ∙ ap Some (sym (h.1 x.now)))
+
+pub answers : {E : Type 0} (R : E → E → Ordering) (r s : Option (Bor E)) → option_cmp (λ (x y : Bor E). R x.now y.now) r s ≡ option_cmp R (option_map (λ x. x.now) r) (option_map (λ x. x.now) s)
+answers R None None = refl
+answers R None (Some y) = refl
+answers R (Some x) None = refl
+answers R (Some x) (Some y) = refl
 
 alone : (o b : Ordering) → (o ≡ Equal → ⊥) → o ≡ ordering_then o b
 alone Less b unequal = refl

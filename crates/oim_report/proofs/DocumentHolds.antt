@@ -1,29 +1,7 @@
 -- A test of a document's conditions in two groups finds the lowest-numbered condition that applies.
-use Rattle.std.proofs.Common.{◌≡◌, ℕ, suc, List, [], ◌∷◌, length, map, Bool, true, false, not, ◌||◌, ◌&&◌, cond, refl, sym, ap, ◌∙◌, arith, ◌≢◌, ◌⊎◌, inl, inr, ◌==◌, Result, Ok, Err, ◌↔◌}
-use Rattle.std.specs.Prelude.{Option, Some, None, bytes_eq, codes, if◌then◌else◌, is_none, is_some, nat_lt, option_and_then, option_map, IfOk, IfErr, IsTrue}
-use Rattle.std.specs.Option.{option_map_or, option_flatten, unwrap_or}
-use Rattle.std.specs.List.{filter, find, list_any}
-use Rattle.std.proofs.lemmas.Bool.{or_parts}
-use Rattle.std.proofs.lemmas.Bool.Decides.{nat_tests}
-use Rattle.std.specs.Result.{result_ok}
-use Rattle.std.proofs.Math.Bool.{or-false}
-use Rattle.url.specs.Parts.{Parts}
-use Rattle.oim_names.specs.Bindings.{Binding, is_refused_binding}
-use Rattle.oim_names.specs.declared.reason.Reason.{Reason}
-use Rattle.oim_names.specs.declared.reason.Reason.TheVariants.{MemberForm, UnknownMember, DocumentType, Namespace, BaseUrl, TaxonomyUrl, Feature, OutOfMemory}
-use Rattle.oim_names.specs.QName.{is_part}
-use Rattle.oim_value.specs.Level.{level_with}
-use Rattle.serde_json.specs.Find.{as_object, get}
-use Rattle.serde_json.specs.Data.{Data, Items, no_items, item, Members, no_members, member}
-use Rattle.oim_report.specs.Info.{accepted_reference, base_url_said, bindings_of, declarations, document_type, features_of, info, is_allowed_duplicates, level_said, namespaces_of, references_said, said_base_url, said_level, said_reference, said_references, taxonomy_of, info_keys, root_keys}
-use Rattle.oim_report.specs.Json.{Given, any_in, entries, given, given_of, is_no_array, is_no_object, is_object, is_unknown, object_at, text_of}
-use Rattle.oim_report.specs.code.Findings.{is_text}
-use Rattle.oim_report.specs.References.{base_url, is_reference_refused, is_text_within_limit, is_within_limit, kept}
-use Rattle.oim_report.specs.Namespaces.{binds_nothing}
+use Rattle.oim_report.proofs.Shared.{◌≡◌, ℕ, suc, List, [], ◌∷◌, length, map, Bool, true, false, not, ◌||◌, ◌&&◌, cond, refl, sym, ap, ◌∙◌, arith, ◌≢◌, ◌⊎◌, inl, inr, ◌==◌, Result, Ok, Err, ◌↔◌, Option, Some, None, bytes_eq, codes, if◌then◌else◌, is_none, is_some, nat_lt, option_and_then, option_map, IfOk, IfErr, IsTrue, unwrap_or, filter, find, option_map_or, option_flatten, list_any, or_parts, nat_tests, result_ok, or-false, Parts, Binding, is_refused_binding, Reason, MemberForm, UnknownMember, DocumentType, Namespace, BaseUrl, TaxonomyUrl, Feature, OutOfMemory, is_part, level_with, as_object, get, Data, Items, no_items, item, Members, no_members, member, accepted_reference, base_url_said, bindings_of, declarations, document_type, features_of, info, is_allowed_duplicates, level_said, namespaces_of, references_said, said_base_url, said_level, said_reference, said_references, taxonomy_of, info_keys, root_keys, Given, any_in, entries, given, given_of, is_no_array, is_no_object, is_object, is_unknown, object_at, text_of, is_text, base_url, is_reference_refused, is_text_within_limit, is_within_limit, kept, binds_nothing, Refusal, or_else}
 use Rattle.oim_report.specs.Holds.{any_item, as_text, declared, document_base_url, document_holds, document_refusal, is_some_and}
 use Rattle.oim_report.specs.Least.{least}
-use Rattle.oim_report.specs.declared.refusal.Refusal.{Refusal}
-use Rattle.oim_report.specs.Faults.{or_else}
 use Rattle.oim_report.proofs.EachRefusal.{behind_test, first_holding, first_refusal, or_refusal}
 use Rattle.oim_report.proofs.ValueWords.{by_given, text_same}
 

@@ -1,31 +1,9 @@
 -- The bytes of an accepted report denote the document that is read. The document's facts fit the sheet, and its references
 -- are kept texts.
-use Rattle.std.proofs.Common.{◌≡◌, ℕ, List, [], ◌∷◌, Bool, true, false, cond, Option, Some, None, Result, Ok, Err, refl, ap, subst, ◌∙◌}
-use Rattle.std.specs.Prelude.{All, is_none}
-use Rattle.oim_report.specs.FactFits.{FactFits}
-use Rattle.std.specs.Option.{unwrap_or}
-use Rattle.std.specs.Ordering.{is_lt}
-use Rattle.oim_names.specs.declared.reason.Reason.{Reason}
-use Rattle.oim_names.specs.declared.reason.Reason.TheVariants.{Namespace, BaseUrl, TaxonomyUrl, Feature, DisallowedDuplicates}
-use Rattle.oim_value.specs.Level.{level_cmp}
-use Rattle.oim_value.specs.declared.level.Level.{Level}
-use Rattle.oim_value.specs.declared.level.Level.TheVariants.{All as AllLevel}
-use Rattle.oim_dims.specs.declared.fact.Fact.{Fact}
-use Rattle.serde_json.specs.Data.{Data, Members}
-use Rattle.oim_report.specs.declared.place.Place.TheVariants.{Document as AtDocument}
-use Rattle.oim_report.specs.declared.refusal.Refusal.{Refusal}
-use Rattle.oim_report.specs.Document.{Document, SaysDocument}
-use Rattle.oim_report.specs.Duplicates.{level_of}
-use Rattle.oim_report.specs.Info.{base_url_said, bindings_of, facts_of, level_said, namespaces_of, references_said}
-use Rattle.oim_report.specs.Holds.{document_refusal}
+use Rattle.oim_report.proofs.Shared.{◌≡◌, ℕ, List, [], ◌∷◌, Bool, true, false, cond, Option, Some, None, Result, Ok, Err, refl, ap, subst, ◌∙◌, All, is_none, unwrap_or, is_lt, FactFits, Reason, Namespace, BaseUrl, TaxonomyUrl, Feature, DisallowedDuplicates, level_cmp, Level, AllLevel, Fact, Data, Members, AtDocument, Refusal, Document, SaysDocument, level_of, base_url_said, bindings_of, facts_of, level_said, namespaces_of, references_said, document_refusal, any_in, any_member, json, members, binds_nothing, map_ok, Sheet, AcceptedFactsFit, AcceptedReferencesAreKept, OutcomesAreSaid}
 use Rattle.oim_report.proofs.DocumentHolds.{document_least, info_refusal, shape_refusal}
 use Rattle.oim_report.proofs.EachRefusal.{first_holding, none_of}
-use Rattle.oim_report.specs.Json.{any_in, any_member, json, members}
-use Rattle.oim_report.specs.Namespaces.{binds_nothing}
 use Rattle.oim_report.specs.Outcome.{at, document_with, facts_said, outcome, then_allowed, tree_outcome, unless_above, unless_refused}
-use Rattle.oim_report.specs.Refusal.{map_ok}
-use Rattle.oim_report.specs.Sheet.{Sheet}
-use Rattle.oim_report.specs.Report.{AcceptedFactsFit, AcceptedReferencesAreKept, OutcomesAreSaid}
 use Rattle.oim_report.proofs.ReferenceTexts.{references_kept}
 use Rattle.oim_report.proofs.AcceptedFacts.{facts_are_said, facts_fit, ok_of}
 use Rattle.oim_report.proofs.Fitting.{AreNamespaces, bindings_are}

@@ -1,7 +1,5 @@
 -- The first condition that applies.
-use Rattle.std.proofs.Common.{◌≡◌, List, [], ◌∷◌, Bool, true, false, refl}
-use Rattle.std.specs.Prelude.{Option, Some, None, if◌then◌else◌}
-use Rattle.oim_names.specs.declared.reason.Reason.{Reason}
+use Rattle.oim_report.proofs.Shared.{◌≡◌, List, [], ◌∷◌, Bool, true, false, refl, Option, Some, None, if◌then◌else◌, Reason}
 
 -- the first reason whose test passes
 abbrev pub first_holding : List (Bool × Reason) → Option Reason

@@ -1,12 +1,5 @@
 -- The facts of a report, read one after another.
-use Rattle.std.proofs.Common.{◌≡◌, ℕ, ◌+◌, List, [], ◌∷◌, ◌++◌, map, Result, Ok, Err, append_assoc, append-nil, refl, sym, ap, ◌∙◌}
-use Rattle.oim_names.specs.declared.reason.Reason.{Reason}
-use Rattle.serde_json.specs.Data.{Data}
-use Rattle.oim_dims.specs.declared.fact.Fact.{Fact}
-use Rattle.oim_report.specs.declared.place.Place.TheVariants.{Fact as AtFact}
-use Rattle.oim_report.specs.declared.refusal.Refusal.{Refusal}
-use Rattle.oim_report.specs.Outcome.{at, all_or_first}
-use Rattle.oim_report.specs.Refusal.{map_ok}
+use Rattle.oim_report.proofs.Shared.{◌≡◌, ℕ, ◌+◌, List, [], ◌∷◌, ◌++◌, map, Result, Ok, Err, append_assoc, append-nil, refl, sym, ap, ◌∙◌, Reason, Data, Fact, AtFact, Refusal, at, all_or_first, map_ok}
 
 abbrev pub facts_step : ℕ → List Fact → Result Fact Reason → (ℕ → List Fact → Result (List Fact) Refusal) → Result (List Fact) Refusal
 facts_step n done (Ok fact) more = more (n + 1) (done ++ fact ∷ [])

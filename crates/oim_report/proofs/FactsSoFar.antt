@@ -1,20 +1,7 @@
 -- The facts that were read so far, with one more.
-use Rattle.std.proofs.Common.{◌≡◌, ℕ, List, [], ◌∷◌, ◌++◌, Ok, Global, String, string_bytes, string_cmp, refl, sym, ap, subst}
-use Rattle.std.specs.BTreeMap.{insert_entry}
-use Rattle.oim_names.specs.Bindings.{Binding}
-use Rattle.oim_dims.specs.declared.fact.Fact.{Fact}
-use Rattle.serde_json.specs.Data.{Data, Members, no_members, member, put}
-use Rattle.oim_report.specs.Outcome.{fact_outcome}
-use Rattle.oim_report.specs.Pieces.{HasMember, put_all}
-use Rattle.oim_report.specs.Sheet.{Sheet}
-use Rattle.oim_report.specs.code.FactsSoFar.{AreMore, AreSoFar}
-use Rattle.oim_report.specs.code.FoundFacts.{append, AreFound}
-use Rattle.oim_report.specs.code.Judged.{AreJudged, IsJudged}
-use Rattle.oim_report.specs.code.Ranks.{IsRank}
-use Rattle.oim_report.specs.declared.pieces.facts_so_far.FactsSoFar.{FactsSoFar}
+use Rattle.oim_report.proofs.Shared.{◌≡◌, ℕ, List, [], ◌∷◌, ◌++◌, Ok, Global, String, string_bytes, string_cmp, refl, sym, ap, subst, insert_entry, Binding, Fact, Data, Members, no_members, member, put, fact_outcome, HasMember, put_all, Sheet, AreMore, AreSoFar, append, AreFound, AreJudged, IsJudged, IsRank, FactsSoFar, Judgement}
 use Rattle.oim_report.specs.declared.pieces.facts_so_far.FactsSoFar.TheVariants.{Accepted, Refused}
 use Rattle.oim_report.specs.declared.pieces.found_facts.FoundFacts.{FoundFacts}
-use Rattle.oim_report.specs.declared.pieces.judgement.Judgement.{Judgement}
 use Rattle.oim_report.specs.declared.pieces.judgements.Judgements.{Judgements}
 use Rattle.oim_report.proofs.FoundInOrder.{found_by, found_one, ranked_by, ranks_append}
 use Rattle.oim_report.proofs.Judged.{judged_put}

@@ -1,35 +1,11 @@
 -- A fact object is refused for the lowest-numbered condition that applies.
-use Rattle.std.proofs.Common.{◌≡◌, List, Result, Ok, Err, refl, sym, ap, ◌∙◌, ℕ, ◌+◌, [], ◌∷◌, map, Bool, true, false, cond, Option, Some, None, inl, inr, ◌++◌, length, arith, ◌≢◌, subst}
-use Rattle.std.specs.Prelude.{◌↔◌, option_and_then, if◌then◌else◌}
-use Rattle.std.specs.Result.{result_err}
-use Rattle.std.specs.List.{AllByRecursion, cons_option, filter_map}
-use Rattle.std.specs.Ordering.{is_lt}
-use Rattle.std.specs.Option.{option_map_or, unwrap_or}
-use Rattle.oim_names.specs.Bindings.{Binding}
-use Rattle.oim_names.specs.declared.reason.Reason.{Reason}
-use Rattle.oim_names.specs.declared.reason.Reason.TheVariants.{DisallowedDuplicates, NotJson, OutOfMemory}
-use Rattle.oim_value.specs.Level.{level_cmp}
-use Rattle.oim_value.specs.declared.level.Level.{Level}
-use Rattle.oim_value.specs.declared.level.Level.TheVariants.{All as AllLevel}
-use Rattle.oim_dims.specs.declared.fact.Fact.{Fact}
-use Rattle.serde_json.specs.Data.{Data}
+use Rattle.oim_report.proofs.Shared.{◌≡◌, List, Result, Ok, Err, refl, sym, ap, ◌∙◌, ℕ, ◌+◌, [], ◌∷◌, map, Bool, true, false, cond, Option, Some, None, inl, inr, ◌++◌, length, arith, ◌≢◌, subst, ◌↔◌, option_and_then, if◌then◌else◌, filter_map, is_lt, unwrap_or, result_err, AllByRecursion, cons_option, option_map_or, Binding, Reason, DisallowedDuplicates, NotJson, OutOfMemory, level_cmp, Level, AllLevel, Fact, Data, fact_parts, said_fact, IsLeast, least, first, told, AtDocument, AtFact, Document, level_of, bindings_of, facts_of, level_said, json, values, map_ok, Refusal, Place}
 use Rattle.oim_report.specs.Outcome.{IsFree, fact_or, fact_outcome, AcceptedWhereFree, Accepts, all_or_first, at, document_with, facts_said, outcome, then_allowed, tree_outcome, unless_above, unless_refused, RefusedWhereHeld, Refuses, RefusesFacts, RefusesOne, RefusesTree, OutcomesWantNoMemory}
-use Rattle.oim_report.specs.FactMembers.{fact_parts}
-use Rattle.oim_report.specs.Said.{said_fact}
 use Rattle.oim_report.specs.Sheet.{Sheet, RefusesSheet, SheetOutcomesWantNoMemory, sheet_holds}
 use Rattle.oim_report.specs.Holds.{holds, document_holds, document_refusal}
-use Rattle.oim_report.specs.Least.{IsLeast, least, first, told}
-use Rattle.oim_report.specs.declared.place.Place.TheVariants.{Document as AtDocument, Fact as AtFact}
-use Rattle.oim_report.specs.Document.{Document}
-use Rattle.oim_report.specs.Duplicates.{level_of}
-use Rattle.oim_report.specs.Info.{bindings_of, facts_of, level_said}
-use Rattle.oim_report.specs.Json.{json, values}
-use Rattle.oim_report.specs.Refusal.{map_ok}
-use Rattle.oim_report.specs.declared.refusal.Refusal.{Refusal}
-use Rattle.oim_report.specs.declared.place.Place.{Place}
 use Rattle.oim_report.specs.Faults.{FirstFaultIsAnswered, NoFaultsWhereAccepted, faults, faults_from, first_of, is_above_level, level_faults, or_else, tree_faults}
 use Rattle.oim_report.proofs.LeastOf.{least_is, none_is, first_told}
-use Rattle.oim_report.proofs.SaidWhereFree.{facts_are_said}
+use Rattle.oim_report.proofs.SaidWhereFree.{facts_are_said, outcome_free}
 use Rattle.oim_report.proofs.AcceptedFacts.{next, ok_of}
 use Rattle.oim_report.proofs.Documents.{document_is_said, document_said, is_allowed, not_refused}
 use Rattle.oim_report.proofs.OneDocument.{says_one_document}
@@ -40,13 +16,6 @@ pub free_is_said : (sheet : Sheet) (bs : List Binding) (d : Data) → IsFree she
 free_is_said sheet bs d free =
     let f = facts_are_said sheet bs d free in
     (f.0, λ i. fact_or ((none_is (holds sheet bs d)).1 free i) (f.1 i))
-
-ok_free : (r : Option Reason) (o : Option Fact) (f : Fact) → fact_or r o ≡ Ok f → r ≡ None
-ok_free None o f e = refl
-ok_free (Some r) o f e = absurd (cc)
-
-pub said_is_free : (sheet : Sheet) (bs : List Binding) (d : Data) (f : Fact) → fact_outcome sheet bs d ≡ Ok f → IsFree sheet bs d
-said_is_free sheet bs d f e = (none_is (holds sheet bs d)).0 (ok_free (least (holds sheet bs d)) _ f e)
 
 ok_none : (o : Result Fact Reason) (f : Fact) → o ≡ Ok f → None ≡ result_err o
 ok_none (Ok g) f e = refl
@@ -76,7 +45,7 @@ pub all_free : (sheet : Sheet) (bs : List Binding) (n : ℕ) (ds : List Data) (f
 all_free sheet bs n [] fs e = tt
 all_free sheet bs n (d ∷ ds) fs e =
     let a = next n (fact_outcome sheet bs d) (map (fact_outcome sheet bs) ds) fs e in
-    (said_is_free sheet bs d a.0 a.2, all_free sheet bs (n + 1) ds a.1 a.3)
+    (outcome_free sheet bs d a.0 a.2, all_free sheet bs (n + 1) ds a.1 a.3)
 
 not_above : (b : Bool) (d e : Document) → cond b (Err (at AtDocument DisallowedDuplicates)) (Ok d) ≡ Ok e → b ≡ false
 not_above true d e h = absurd (cc)
@@ -140,7 +109,7 @@ by_first : (sheet : Sheet) (bs : List Binding) (n : ℕ) (d : Data) (ds : List D
 by_first sheet bs n d ds r (Ok f) is later e =
     let l = later (err_of (λ facts. f ∷ facts) _ r e) in
     let place : n + 1 + length l.before ≡ n + length (d ∷ l.before) = omega arith in
-    record { before = d ∷ l.before; object = l.object; after = l.after; reason = l.reason; are = ap (λ x. d ∷ x) l.are; free = (said_is_free sheet bs d f is, l.free); refused = l.refused; answer = l.answer ∙ ap (λ k. at (AtFact k) l.reason) place }
+    record { before = d ∷ l.before; object = l.object; after = l.after; reason = l.reason; are = ap (λ x. d ∷ x) l.are; free = (outcome_free sheet bs d f is, l.free); refused = l.refused; answer = l.answer ∙ ap (λ k. at (AtFact k) l.reason) place }
 by_first sheet bs n d ds r (Err reason) is later e =
     let same : at (AtFact n) reason ≡ r = cc in
     let place : n ≡ n + 0 = omega arith in

@@ -1,29 +1,8 @@
 -- The listed faults have the refusals of `tree_faults`, and each has the part that is shown for it.
-use Rattle.std.proofs.Common.{◌≡◌, ◌==◌, ◌+◌, ℕ, List, [], ◌∷◌, ◌++◌, Bool, true, false, Some, slice_get, map, length, append_assoc, refl, sym, ap, ◌∙◌, inl, inr, subst, arith}
-use Rattle.std.specs.Prelude.{if◌then◌else◌}
-use Rattle.std.specs.List.{AllByRecursion, filter}
-use Rattle.std.proofs.lemmas.List.{length-append, map-append}
-use Rattle.std.proofs.lemmas.Option.{slice_get-get_or}
-use Rattle.std.proofs.Math.Seq.{get_or-append_seam}
-use Rattle.oim_names.specs.Bindings.{Binding}
-use Rattle.oim_names.specs.declared.reason.Reason.{Reason}
-use Rattle.oim_names.specs.declared.reason.Reason.TheVariants.{DisallowedDuplicates}
-use Rattle.serde_json.specs.Data.{Data}
-use Rattle.oim_report.specs.declared.place.Place.{Place}
-use Rattle.oim_report.specs.declared.place.Place.TheVariants.{Document as AtDocument, Fact as AtFact}
-use Rattle.oim_report.specs.declared.refusal.Refusal.{Refusal}
-use Rattle.oim_report.specs.Faults.{HasPart, ShownFault, faults_from, is_above_level, level_faults, or_else, refusals_of, tree_faults}
-use Rattle.oim_report.specs.Holds.{document_holds, holds}
-use Rattle.oim_report.specs.Info.{bindings_of, facts_of}
-use Rattle.oim_report.specs.Json.{values}
-use Rattle.oim_report.specs.Least.{is_shown, told}
-use Rattle.oim_report.specs.Outcome.{at}
-use Rattle.oim_report.specs.Sheet.{Sheet}
-use Rattle.oim_report.specs.Shown.{document_shown, fact_shown, when}
-use Rattle.oim_report.specs.code.ListedFaults.{document_fault, document_faults, fact_fault, fact_faults, facts_faults}
+use Rattle.oim_report.proofs.Shared.{◌≡◌, ◌==◌, ◌+◌, ℕ, List, [], ◌∷◌, ◌++◌, Bool, true, false, Some, slice_get, map, length, append_assoc, refl, sym, ap, ◌∙◌, inl, inr, subst, arith, if◌then◌else◌, filter, length-append, AllByRecursion, map-append, slice_get-get_or, get_or-append_seam, Binding, Reason, DisallowedDuplicates, Data, Place, AtDocument, AtFact, Refusal, HasPart, ShownFault, faults_from, is_above_level, level_faults, or_else, refusals_of, tree_faults, document_holds, holds, bindings_of, facts_of, values, is_shown, told, at, Sheet, document_shown, fact_shown, when, document_fault, document_faults, fact_fault, fact_faults, facts_faults}
+use Rattle.std.proofs.Permutation.{every_append}
 use Rattle.oim_report.proofs.AllFaults.{document_told, fact_told, of_document, of_fact}
 use Rattle.oim_report.proofs.DocumentHolds.{filled_else, is_empty}
-use Rattle.oim_report.proofs.Ranks.{all_append}
 
 -- ---- refusals
 
@@ -93,7 +72,7 @@ module _ (sheet : Sheet) (tree : Data) where
   parts_after n before (d ∷ ds) are long =
       let there : slice_get objects n ≡ Some d = ap (λ m. slice_get objects m) (sym long) ∙ ap (λ os. slice_get os (length before)) are ∙ at_seam before d ds in
       let next : length (before ++ d ∷ []) ≡ n + 1 = length-append before (d ∷ []) ∙ ap (λ m. m + 1) long in
-      all_append (HasPart sheet tree) (fact_faults sheet bs d (AtFact (n + 1))) (facts_faults sheet bs (n + 1 + 1) ds) (fact_parts n d there)
+      every_append (HasPart sheet tree) (fact_faults sheet bs d (AtFact (n + 1))) (facts_faults sheet bs (n + 1 + 1) ds) (fact_parts n d there)
       (parts_after (n + 1) (before ++ d ∷ []) ds (are ∙ sym (append_assoc before (d ∷ []) ds)) next)
 
   pub facts_parts : AllByRecursion (HasPart sheet tree) (facts_faults sheet bs 1 objects)

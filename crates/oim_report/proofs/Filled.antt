@@ -1,9 +1,5 @@
 -- The code's test for objects that are not empty agrees with `has_member`.
-use Rattle.std.proofs.Common.{◌≡◌, not, Bool, true, false, List, [], ◌∷◌, length, Some, refl, rules, arith}
-use Rattle.std.specs.Prelude.{IsTrue}
-use Rattle.serde_json.specs.View.{members_view}
-use Rattle.serde_json.proofs.Views.{Entry}
-use Rattle.oim_report.specs.Json.{has_member}
+use Rattle.oim_report.proofs.Shared.{◌≡◌, not, Bool, true, false, List, [], ◌∷◌, length, Some, refl, rules, arith, IsTrue, members_view, Entry, has_member}
 
 pub filled_members : (es : List Entry) (empty : Bool) → (IsTrue empty → length es ≡ 0) → (length es ≡ 0 → IsTrue empty) → not empty ≡ has_member (Some (members_view es))
 filled_members [] false p q = absurd (let t = q refl in search rules)

@@ -1,40 +1,7 @@
 -- An object that denotes a fact says each part of it. If the URIs of all bindings are namespaces, each part fits the sheet.
-use Rattle.std.proofs.Common.{◌≡◌, ℕ, ℤ, List, Bool, true, false, ◌&&◌, cond, Option, Some, None, Result, Ok, Err, refl, sym, subst, ◌≢◌, [], ◌∷◌, not, bytes_eq, ap, length, ◌==◌, arith, IsTrue, All, option_and_then, codes, find}
-use Rattle.std.specs.Option.{option_map, option_map_or, unwrap_or}
-use Rattle.std.specs.Result.{result_ok}
-use Rattle.std.specs.Str.{str_to_ascii_lowercase, IsUtf8, is_utf8}
-use Rattle.std.proofs.lemmas.Bool.{and_parts, or_parts}
-use Rattle.std.proofs.lemmas.List.Elements.{All-cons, All-head, All-tail}
-use Rattle.std.proofs.lemmas.Str.{IsUtf8-from_is_utf8}
-use Rattle.serde_json.specs.Data.{Data, Members, no_members, member}
-use Rattle.serde_json.specs.Find.{get_member, as_object}
-use Rattle.oim_names.specs.QName.{QName, is_name, is_entity, is_colon, is_part, local_part, prefix_part}
-use Rattle.oim_names.specs.Bindings.{Binding, uri_of}
-use Rattle.oim_names.specs.Expansion.{Expands, ExpandsAs}
-use Rattle.oim_names.specs.declared.reason.Reason.{Reason}
-use Rattle.oim_names.proofs.Bytes.{other_bytes}
-use Rattle.oim_value.specs.Decimals.{is_finite_decimals, AreDecimals}
-use Rattle.oim_value.specs.Number.{is_number, is_short, IsShort}
-use Rattle.oim_value.specs.Units.{units_of}
-use Rattle.oim_value.specs.declared.value.Value.{Value}
-use Rattle.oim_value.specs.declared.value.Value.TheVariants.{Nil, Number, Text as AText, Name as AName}
-use Rattle.oim_value.proofs.Denoted.{short_denotes}
-use Rattle.oim_value.proofs.ShortLaws.{short_is_kept}
-use Rattle.oim_dims.specs.Language.{is_language}
-use Rattle.oim_dims.specs.Period.{period_of, IsPeriod}
-use Rattle.oim_dims.specs.declared.period.Period.{Period}
-use Rattle.oim_dims.specs.declared.period.Period.TheVariants.{Forever}
+use Rattle.oim_report.proofs.Shared.{◌≡◌, ℕ, ℤ, List, Bool, true, false, ◌&&◌, cond, Option, Some, None, Result, Ok, Err, refl, sym, subst, ◌≢◌, [], ◌∷◌, not, bytes_eq, ap, length, ◌==◌, arith, IsTrue, All, option_and_then, codes, find, option_map, unwrap_or, IsUtf8, option_map_or, result_ok, str_to_ascii_lowercase, is_utf8, and_parts, or_parts, All-cons, All-head, All-tail, IsUtf8-from_is_utf8, Data, Members, no_members, member, get_member, as_object, QName, is_name, is_entity, is_colon, is_part, local_part, prefix_part, Binding, uri_of, Expands, ExpandsAs, Reason, other_bytes, is_finite_decimals, AreDecimals, is_number, is_short, IsShort, units_of, Value, Nil, Number, AText, AName, short_denotes, short_is_kept, is_language, period_of, IsPeriod, Period, Forever, ConceptKind, Numeric, Text, Name, GivesText, SaysDecimals, SaysEntity, SaysLanguage, SaysPeriod, SaysValue, SaysNumber, Given, absent, nil, text, whole, text_of, any_member, given, given_at, given_of, has_colon, entity_named, named, said_concept, said_decimals, said_entity, said_language, said_period, said_value, value_with, EntityFits, FitsEntity, FitsName, IsNamespace, LanguageFits, ValueFits, DimensionMembers, FactMembers, defined_in, dimension_parts, fact_parts, parts_of, binds_nothing, bindings_in}
 use Rattle.oim_dims.proofs.Languages.{language_kept}
 use Rattle.oim_dims.proofs.ReadPeriods.{read_period_is}
-use Rattle.oim_report.specs.declared.concept_kind.ConceptKind.{ConceptKind}
-use Rattle.oim_report.specs.declared.concept_kind.ConceptKind.TheVariants.{Numeric, Text, Name}
-use Rattle.oim_report.specs.Fact.{GivesText, SaysDecimals, SaysEntity, SaysLanguage, SaysPeriod, SaysValue, SaysNumber}
-use Rattle.oim_report.specs.Json.{Given, absent, nil, text, whole, text_of, any_member, given, given_at, given_of, has_colon}
-use Rattle.oim_report.specs.Names.{entity_named, named}
-use Rattle.oim_report.specs.Said.{said_concept, said_decimals, said_entity, said_language, said_period, said_value, value_with}
-use Rattle.oim_report.specs.FactFits.{EntityFits, FitsEntity, FitsName, IsNamespace, LanguageFits, ValueFits}
-use Rattle.oim_report.specs.FactMembers.{DimensionMembers, FactMembers, defined_in, dimension_parts, fact_parts, parts_of}
-use Rattle.oim_report.specs.Namespaces.{binds_nothing, bindings_in}
 use Rattle.oim_report.proofs.Accepted.{and_then_some, map_some}
 use Rattle.oim_report.proofs.Naming.{stands}
 use Rattle.oim_report.proofs.ReferenceTexts.{text_utf8}

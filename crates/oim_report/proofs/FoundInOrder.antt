@@ -1,41 +1,6 @@
 -- Facts that were found in a text, sorted by their identifiers.
-use Rattle.std.proofs.Common.{◌≡◌, ℕ, List, [], ◌∷◌, Bool, false, Option, Some, None, Result, Ok, Err, refl, sym, ap, ◌∙◌, subst, codes, not, is_none, option_and_then, if◌then◌else◌, IfOk, IfErr, IsUtf8, unwrap_or, suc, ◌+◌, ◌++◌, length, drop, take, slice_get, map, true, cond, String, Global, string_bytes, arith, append_assoc, append-nil, string_cmp, Ordering, Less, Equal, Greater}
-use Rattle.std.proofs.lemmas.Bool.{or_parts, or_from, false≢true}
-use Rattle.std.proofs.lemmas.Option.{get_or_from_slice_get, slice_get_within}
-use Rattle.std.specs.Ordering.{nat_cmp, match_ordering, is_lt}
-use Rattle.std.specs.Cmp.Lexicographic.{slice_cmp}
-use Rattle.std.specs.BTreeMap.{insert_entry}
-use Rattle.std.specs.FinMap.{FinMap}
-use Rattle.std.proofs.lemmas.List.{drop_more, length-append, length-map, map-append}
-use Rattle.serde_json.specs.Data.{Data, object, Members, no_items, put, no_members, member}
-use Rattle.serde_json.specs.Find.{get, as_array, as_object}
-use Rattle.serde_json.specs.Read.{read}
-use Rattle.oim_names.specs.declared.reason.Reason.TheVariants.{MemberForm, UnknownMember, DocumentType, Namespace, BaseUrl, TaxonomyUrl, Feature, DisallowedDuplicates}
-use Rattle.oim_names.specs.Bindings.{Binding}
-use Rattle.oim_value.specs.ValueOrder.{name_cmp}
-use Rattle.oim_value.specs.Level.{level_cmp}
-use Rattle.oim_value.specs.declared.level.Level.{Level}
-use Rattle.oim_value.specs.declared.level.Level.TheVariants.{All as AllLevel}
-use Rattle.oim_dims.specs.declared.fact.Fact.{Fact}
-use Rattle.oim_report.specs.declared.place.Place.TheVariants.{Document as AtDocument}
-use Rattle.oim_report.specs.Document.{Document}
-use Rattle.oim_report.specs.declared.refusal.Refusal.{Refusal}
-use Rattle.oim_report.specs.Duplicates.{level_of}
-use Rattle.oim_report.specs.Info.{info, namespaces_of, bindings_of, taxonomy_of, features_of, facts_of, said_base_url, said_references, declarations, said_level, base_url_said, references_said, level_said, root_keys, info_keys, document_type}
-use Rattle.oim_report.specs.Holds.{document_refusal}
-use Rattle.oim_report.specs.Json.{json, members, given_of, object_at, any_in, any_member, is_unknown, is_no_object, is_no_array, json_text, without_mark, entries, values}
-use Rattle.oim_report.specs.code.Findings.{is_text}
-use Rattle.oim_report.specs.Namespaces.{binds_nothing, bindings_in}
+use Rattle.oim_report.proofs.Shared.{◌≡◌, ℕ, List, [], ◌∷◌, Bool, false, Option, Some, None, Result, Ok, Err, refl, sym, ap, ◌∙◌, subst, codes, not, is_none, option_and_then, if◌then◌else◌, IfOk, IfErr, IsUtf8, unwrap_or, suc, ◌+◌, ◌++◌, length, drop, take, slice_get, map, true, cond, String, Global, string_bytes, arith, append_assoc, append-nil, string_cmp, Less, Equal, Greater, nat_cmp, is_lt, length-append, or_parts, or_from, false≢true, get_or_from_slice_get, slice_get_within, match_ordering, slice_cmp, insert_entry, FinMap, drop_more, length-map, map-append, Data, object, Members, no_items, put, no_members, member, get, as_array, as_object, read, MemberForm, UnknownMember, DocumentType, Namespace, BaseUrl, TaxonomyUrl, Feature, DisallowedDuplicates, Binding, name_cmp, level_cmp, Level, AllLevel, Fact, AtDocument, Document, Refusal, level_of, info, namespaces_of, bindings_of, taxonomy_of, features_of, facts_of, said_base_url, said_references, declarations, said_level, base_url_said, references_said, level_said, root_keys, info_keys, document_type, document_refusal, json, members, given_of, object_at, any_in, any_member, is_unknown, is_no_object, is_no_array, json_text, without_mark, entries, values, is_text, binds_nothing, bindings_in, map_ok, Sheet, IsPiece, put_all, IsLike, IsOutline, Ascends, IsBefore, append, AreFound, AreRelated, is_above, rise_after, identifiers_in, AreRanks, IsRank, less_is}
 use Rattle.oim_report.specs.Outcome.{at, facts_said, document_with, allowed, then_allowed, unless_refused, tree_outcome, outcome, fact_outcome, all_or_first}
-use Rattle.oim_report.specs.Refusal.{map_ok}
-use Rattle.oim_report.specs.Sheet.{Sheet}
-use Rattle.oim_report.specs.Pieces.{IsPiece, put_all}
-use Rattle.oim_report.specs.code.Pieces.{IsLike, IsOutline}
-use Rattle.oim_report.specs.code.TapeValues.{Ascends}
-use Rattle.oim_report.specs.PlainJson.{IsBefore}
-use Rattle.oim_report.specs.code.FoundFacts.{append, AreFound, AreRelated, is_above, rise_after}
-use Rattle.oim_report.specs.Identifiers.{identifiers_in}
-use Rattle.oim_report.specs.code.Ranks.{AreRanks, IsRank}
 use Rattle.oim_report.proofs.DocumentHolds.{document_least, has_misshapen_part, has_other_type, has_unknown_part, info_refusal, shape_refusal}
 use Rattle.oim_report.proofs.EachRefusal.{first_holding, first_refusal, none_of}
 use Rattle.oim_report.proofs.PutMembers.{before_all, rising_stays}
@@ -175,10 +140,6 @@ module _ (sheet : Sheet) (bs : List Binding) where
 
   -- ---- identifiers that ascend
 
-  less : (o : Ordering) → is_lt o ≡ true → o ≡ Less
-  less Less e = refl
-  less o e = absurd (false≢true e)
-
   both_true : (a b : Bool) → cond a b false ≡ true → (a ≡ true) × (b ≡ true)
   both_true true b e = (refl, e)
   both_true false b e = absurd (false≢true e)
@@ -188,7 +149,7 @@ module _ (sheet : Sheet) (bs : List Binding) where
   rise_behind k (member l d ms) (s ∷ ss) (f ∷ fs) h e =
       let t = both_true (is_above (Some k) s) (rise_after (Some s) ss) e in
       let rest = rise_behind l ms ss fs h.2 (ap (λ x. rise_after (Some x) ss) (sym h.0) ∙ t.1) in
-      let below : slice_cmp nat_cmp k l ≡ Less = less (slice_cmp nat_cmp k l) (ap (λ x. is_lt (slice_cmp nat_cmp k x)) (sym h.0) ∙ t.0) in
+      let below : slice_cmp nat_cmp k l ≡ Less = less_is (slice_cmp nat_cmp k l) (ap (λ x. is_lt (slice_cmp nat_cmp k x)) (sym h.0) ∙ t.0) in
       ((below, before_all k l ms below rest.0), rest)
   rise_behind k ms ss fs h e = absurd h
 

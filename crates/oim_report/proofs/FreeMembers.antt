@@ -1,41 +1,6 @@
 -- A part of a fact object denotes its part of the fact exactly if no condition on this part applies.
-use Rattle.std.proofs.Common.{◌≡◌, ℕ, ℤ, List, [], ◌∷◌, ◌++◌, map, Bool, true, false, not, ◌||◌, ◌&&◌, Ok, Err, refl, sym, ap, ◌∙◌, Option, Some, None, int_lt, is_none, option_and_then, option_map, if◌then◌else◌, int_eq}
-use Rattle.std.specs.Option.{option_map_or, option_to_list}
-use Rattle.std.specs.List.{cons_option, filter_map, flat_map, list_any}
-use Rattle.std.specs.Result.{result_ok}
+use Rattle.oim_report.proofs.Shared.{◌≡◌, ℕ, ℤ, List, [], ◌∷◌, ◌++◌, map, Bool, true, false, not, ◌||◌, ◌&&◌, Ok, Err, refl, sym, ap, ◌∙◌, Option, Some, None, int_lt, is_none, option_and_then, option_map, if◌then◌else◌, int_eq, option_to_list, filter_map, flat_map, option_map_or, cons_option, list_any, result_ok, str_to_ascii_lowercase, or_parts, map-append, QName, is_entity, is_name, Binding, Spelled, a_name, an_entity, refusal_as, PeriodOrder, kept_named, named_kept, is_finite_decimals, is_number, is_short, units_of, Value, Nil, Number, AText, AName, moment_of, with_member, is_language, end_part, from_to, start_part, Measures, denominator_pieces, is_unit_text, numerator_pieces, Member, NoMember, MemberText, MemberName, Period, Forever, Instant, Duration, Data, ConceptKind, Numeric, Text, Name, DimensionKind, Explicit, Typed, as_text, explicit_text, is_some_and, lacks_moment, misfits, pieces, runs_backward, Given, absent, nil, text, whole, other, given, is_absent, is_no_text, text_of, comes_again, entity_named, named, named_as, names_refusal, all_named, concept_kind, dimension_names, in_order, members_with, said_concept, said_decimals, said_entity, said_language, said_member, said_members, said_period, said_unit, side_of, unit_with, value_with, Sheet, dimension_kind, same_concept_kind, same_dimension_kind}
 use Rattle.std.specs.FinMap as map_of
-use Rattle.std.specs.Str.{str_to_ascii_lowercase}
-use Rattle.std.proofs.lemmas.Bool.{or_parts}
-use Rattle.std.proofs.lemmas.List.{map-append}
-use Rattle.oim_names.specs.QName.{QName, is_entity, is_name}
-use Rattle.oim_names.specs.Bindings.{Binding}
-use Rattle.oim_names.specs.Expansion.{Spelled, a_name, an_entity, refusal_as}
-use Rattle.oim_names.specs.declared.reason.Reason.TheVariants.{PeriodOrder}
-use Rattle.oim_names.proofs.Refusals.{kept_named, named_kept}
-use Rattle.oim_value.specs.Decimals.{is_finite_decimals}
-use Rattle.oim_value.specs.Number.{is_number, is_short}
-use Rattle.oim_value.specs.Units.{units_of}
-use Rattle.oim_value.specs.declared.value.Value.{Value}
-use Rattle.oim_value.specs.declared.value.Value.TheVariants.{Nil, Number, Text as AText, Name as AName}
-use Rattle.oim_dims.specs.DateTime.{moment_of}
-use Rattle.oim_dims.specs.DimensionSet.{with_member}
-use Rattle.oim_dims.specs.Language.{is_language}
-use Rattle.oim_dims.specs.Period.{end_part, from_to, start_part}
-use Rattle.oim_dims.specs.Unit.{Measures, denominator_pieces, is_unit_text, numerator_pieces}
-use Rattle.oim_dims.specs.declared.member.Member.{Member}
-use Rattle.oim_dims.specs.declared.member.Member.TheVariants.{Nil as NoMember, Text as MemberText, Name as MemberName}
-use Rattle.oim_dims.specs.declared.period.Period.{Period}
-use Rattle.oim_dims.specs.declared.period.Period.TheVariants.{Forever, Instant, Duration}
-use Rattle.serde_json.specs.Data.{Data}
-use Rattle.oim_report.specs.declared.concept_kind.ConceptKind.{ConceptKind}
-use Rattle.oim_report.specs.declared.concept_kind.ConceptKind.TheVariants.{Numeric, Text, Name}
-use Rattle.oim_report.specs.declared.dimension_kind.DimensionKind.{DimensionKind}
-use Rattle.oim_report.specs.declared.dimension_kind.DimensionKind.TheVariants.{Explicit, Typed}
-use Rattle.oim_report.specs.Holds.{as_text, explicit_text, is_some_and, lacks_moment, misfits, pieces, runs_backward}
-use Rattle.oim_report.specs.Json.{Given, absent, nil, text, whole, other, given, is_absent, is_no_text, text_of}
-use Rattle.oim_report.specs.Names.{comes_again, entity_named, named, named_as, names_refusal}
-use Rattle.oim_report.specs.Said.{all_named, concept_kind, dimension_names, in_order, members_with, said_concept, said_decimals, said_entity, said_language, said_member, said_members, said_period, said_unit, side_of, unit_with, value_with}
-use Rattle.oim_report.specs.Sheet.{Sheet, dimension_kind, same_concept_kind, same_dimension_kind}
 use Rattle.oim_report.proofs.Accepted.{and_then_some, map_some}
 use Rattle.oim_report.proofs.MembersSay.{once_said}
 use Rattle.oim_report.proofs.SheetEntries.{first_free, name_more, names-parts, names_append}

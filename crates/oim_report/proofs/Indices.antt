@@ -1,22 +1,6 @@
 -- Facts in ascending order, given a list of indices that sorts them.
-use Rattle.std.proofs.Common.{◌≡◌, ℕ, suc, ◌<◌, ◌+◌, false, List, [], ◌∷◌, length, map, drop, drop-cons, get_or, refl, sym, ap, subst, ◌∙◌, arith, All, Option, Some, filter_map, slice_get, IsPermutation, IsSorted}
-use Rattle.std.specs.List.{cons_option, range_with_len}
-use Rattle.std.specs.Cmp.{IsStrictWeakOrder}
-use Rattle.std.specs.Cmp.Lexicographic.{options_total}
-use Rattle.std.specs.Option.{option_cmp}
-use Rattle.std.specs.Ordering.{is_gt, is_lt, ordering_reverse}
-use Rattle.std.specs.declared.cmp.Ordering.{Ordering}
-use Rattle.std.specs.declared.cmp.Ordering.TheVariants.{Less}
-use Rattle.std.proofs.lemmas.List.Elements.{All-head, All-tail, All-from_get_or}
-use Rattle.std.proofs.lemmas.List.FromFn.{fill_by_all, length-range_with_len, get_or-range_with_len}
-use Rattle.std.proofs.lemmas.List.Sorted.{All-permutation, IsPermutation-map, length_permutation, ranks_by}
-use Rattle.std.proofs.lemmas.Option.{slice_get-get_or}
-use Rattle.oim_value.specs.declared.level.Level.TheVariants.{Unique}
-use Rattle.oim_dims.specs.FactOrder.{fact_cmp}
-use Rattle.oim_dims.specs.declared.fact.Fact.{Fact}
+use Rattle.oim_report.proofs.Shared.{◌≡◌, ℕ, suc, ◌<◌, ◌+◌, false, List, [], ◌∷◌, length, map, drop, drop-cons, get_or, refl, sym, ap, subst, ◌∙◌, arith, All, Option, Some, filter_map, slice_get, IsPermutation, IsSorted, is_gt, is_lt, Ordering, Less, cons_option, range_with_len, IsStrictWeakOrder, options_total, option_cmp, ordering_reverse, All-head, All-tail, All-from_get_or, fill_by_all, length-range_with_len, get_or-range_with_len, All-permutation, IsPermutation-map, length_permutation, ranks_by, slice_get-get_or, Unique, fact_cmp, Fact, IsOrderOf, index_cmp, fact_cmp_total}
 use Rattle.oim_report.specs.Duplicates.{level_of}
-use Rattle.oim_report.specs.Report.{IsOrderOf, index_cmp}
-use Rattle.oim_dims.proofs.Orders.{fact_cmp_total}
 use Rattle.oim_report.proofs.Pairs.{level_ignores_order}
 use Rattle.oim_report.proofs.Runs.{RisesFrom}
 

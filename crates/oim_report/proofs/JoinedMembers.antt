@@ -1,19 +1,10 @@
 -- Two texts of members that a comma joins are read as the members of both. Each text must have a member.
-use Rattle.std.proofs.Common.{◌≡◌, Bool, true, false, List, [], ◌∷◌, ◌++◌, fold, inl, inr, ◌⊎◌, refl, ap, ◌∙◌, subst, ℕ, suc, ◌-◌, ◌≤◌, Some, sym, arith, append_assoc, append-nil}
-use Rattle.std.proofs.lemmas.Bool.{false≢true}
-use Rattle.std.specs.Prelude.{⊤}
-use Rattle.std.proofs.lemmas.List.{append_cancel_right}
+use Rattle.oim_report.proofs.Shared.{◌≡◌, Bool, true, false, List, [], ◌∷◌, ◌++◌, fold, inl, inr, ◌⊎◌, refl, ap, ◌∙◌, subst, ℕ, suc, ◌-◌, ◌≤◌, Some, sym, arith, append_assoc, append-nil, false≢true, ⊤, append_cancel_right, is_good, json_tokens, items_tokens, members_tokens, depth, members_depth, value-json_tokens, value-json_tokens_back, alone, one}
 use Rattle.json.specs.Token.{Token, begin_object, end_object, begin_array, end_array, key, string, number, boolean, null, bad}
 use Rattle.json.specs.Lex.{Lexeme, token, comma, colon, Place, fresh, after_value, after_comma, after_key, begins_colon, may_begin, may_close, if_allowed, place_token, punctuate, between, lex, tokens}
-use Rattle.json.specs.Align.{is_good}
 use Rattle.json.specs.Json.{Json, Items, Members, value}
-use Rattle.json.specs.Tree.{json_tokens, items_tokens, members_tokens, depth, members_depth}
 use Rattle.json.specs.Json as j
-use Rattle.json.proofs.Printed.Trees.{value-json_tokens}
-use Rattle.json.proofs.Unique.Spelling.{value-json_tokens_back}
 use Rattle.json.proofs.Nesting.{value-depth}
-use Rattle.oim_report.specs.Pieces.{alone}
-use Rattle.oim_report.specs.code.TapeValues.{one}
 use Rattle.oim_report.proofs.JsonLexemes.{NoQuote, AllGood, Delimited, piece_of}
 
 -- ---- the tokens of lexemes do not depend on the text that follows, unless this text begins with a colon or a token is bad

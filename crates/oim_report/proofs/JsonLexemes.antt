@@ -1,15 +1,9 @@
 -- If all lexemes of a text are good, the text is cut before a delimiter, and the rest has no quote, then the front has the same
 -- lexemes before every other rest that begins with a delimiter.
-use Rattle.std.proofs.Common.{◌≡◌, ℕ, suc, zero, ◌≤◌, Bool, true, false, cond, ◌&&◌, ◌||◌, ◌==◌, nat_lt, List, [], ◌∷◌, ◌++◌, length, Option, Some, None, option_and_then, refl, sym, ap, ◌∙◌, subst, arith, append_assoc}
-use Rattle.std.proofs.lemmas.Bool.{false≢true, true≢false, eqb-true, and_parts}
-use Rattle.std.proofs.lemmas.List.{length-append}
-use Rattle.std.specs.Prelude.{⊤}
-use Rattle.std.specs.Char.{is_digit, encode_utf8}
+use Rattle.oim_report.proofs.Shared.{◌≡◌, ℕ, suc, zero, ◌≤◌, Bool, true, false, cond, ◌&&◌, ◌||◌, ◌==◌, nat_lt, List, [], ◌∷◌, ◌++◌, length, Option, Some, None, option_and_then, refl, sym, ap, ◌∙◌, subst, arith, append_assoc, true≢false, eqb-true, length-append, encode_utf8, false≢true, and_parts, ⊤, is_digit, is_operator, is_space, word, is_good}
 use Rattle.json.specs.Token.{string}
 use Rattle.json.specs.Text.{code_unit, short_escape, is_high_surrogate, is_low_surrogate, surrogate_pair, Within, plain, after_backslash, after_u, after_high, prepend, content}
-use Rattle.json.specs.Word.{is_operator, is_space, word}
 use Rattle.json.specs.Lex.{Lexeme, token, Class, quote, backslash, operator, space, other, class, operator_lexeme, string_token, Mode, between, in_word, in_string, in_escape, lex_byte, lex}
-use Rattle.json.specs.Align.{is_good}
 use Rattle.oim_report.proofs.JsonStrings.{turn, run, is_between, mode, Keeps, keeps-content, stays, hex_stays, all_hex, is_found, cases}
 use Rattle.oim_report.proofs.JsonWords.{is_end, each_end, word-front}
 

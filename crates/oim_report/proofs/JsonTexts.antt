@@ -1,10 +1,6 @@
 -- `given` returns a text for a UTF-8 string.
-use Rattle.std.proofs.Common.{◌≡◌, ℕ, List, String, Global, string_bytes, ap, sym, ◌∙◌, cond, rules, IsUtf8}
-use Rattle.std.proofs.lemmas.Str.{is_utf8-from_IsUtf8}
-use Rattle.serde_json.specs.Data.{string}
-use Rattle.serde_json.specs.View.{view}
+use Rattle.oim_report.proofs.Shared.{◌≡◌, ℕ, List, String, Global, string_bytes, ap, sym, ◌∙◌, cond, rules, IsUtf8, is_utf8-from_IsUtf8, string, view, text, other, given}
 use Rattle.serde_json.specs.declared.value.Value.{Value, the_lemmas}
-use Rattle.oim_report.specs.Json.{text, other, given}
 
 pub given_text : (s : List ℕ) → IsUtf8 s → given (string s) ≡ text s
 given_text s h = ap (λ b. cond b (text s) other) (is_utf8-from_IsUtf8 s h)

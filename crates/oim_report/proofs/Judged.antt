@@ -1,21 +1,6 @@
 -- The judgements of facts, and the first refused fact.
-use Rattle.std.proofs.Common.{◌≡◌, ℕ, ◌+◌, List, [], ◌∷◌, ◌++◌, Result, Err, map, String, Global, string_bytes, string_cmp, refl, ap, ◌∙◌}
-use Rattle.std.specs.BTreeMap.{insert_entry}
-use Rattle.oim_names.specs.Bindings.{Binding}
-use Rattle.oim_names.specs.declared.reason.Reason.{Reason}
-use Rattle.oim_dims.specs.declared.fact.Fact.{Fact}
-use Rattle.serde_json.specs.Data.{Data, Members, no_members, member, put}
-use Rattle.oim_report.specs.declared.pieces.judgement.Judgement.{Judgement}
+use Rattle.oim_report.proofs.Shared.{◌≡◌, ℕ, ◌+◌, List, [], ◌∷◌, ◌++◌, Result, Err, map, String, Global, string_bytes, string_cmp, refl, ap, ◌∙◌, insert_entry, Binding, Reason, Fact, Data, Members, no_members, member, put, Judgement, AtFact, Refusal, values, at, all_or_first, fact_outcome, put_all, map_ok, Sheet, AreFound, AreJudged, IsJudged}
 use Rattle.oim_report.specs.declared.pieces.judgement.Judgement.TheVariants.{Accepted, Refused}
-use Rattle.oim_report.specs.declared.place.Place.TheVariants.{Fact as AtFact}
-use Rattle.oim_report.specs.declared.refusal.Refusal.{Refusal}
-use Rattle.oim_report.specs.Json.{values}
-use Rattle.oim_report.specs.Outcome.{at, all_or_first, fact_outcome}
-use Rattle.oim_report.specs.Pieces.{put_all}
-use Rattle.oim_report.specs.Refusal.{map_ok}
-use Rattle.oim_report.specs.Sheet.{Sheet}
-use Rattle.oim_report.specs.code.FoundFacts.{AreFound}
-use Rattle.oim_report.specs.code.Judged.{AreJudged, IsJudged}
 use Rattle.oim_report.proofs.FoundInOrder.{kept_put}
 
 -- the entries after accepted facts with these identifiers

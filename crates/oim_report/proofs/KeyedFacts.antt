@@ -1,14 +1,5 @@
 -- An accepted report has an identifier for each fact.
-use Rattle.std.proofs.Common.{◌≡◌, ℕ, List, ◌∷◌, Some, refl}
-use Rattle.std.specs.List.{AllZip}
-use Rattle.oim_names.specs.Bindings.{Binding}
-use Rattle.oim_dims.specs.declared.fact.Fact.{Fact}
-use Rattle.serde_json.specs.Data.{Members, member}
-use Rattle.oim_report.specs.Document.{Document, ObjectSays, SaysDocument}
-use Rattle.oim_report.specs.Identifiers.{EachFactHasAnIdentifier, Identify, IdentifierSays, identifiers, identifiers_in}
-use Rattle.oim_report.specs.Json.{entries, values}
-use Rattle.oim_report.specs.Info.{bindings_of, facts_of}
-use Rattle.oim_report.specs.Sheet.{Sheet}
+use Rattle.oim_report.proofs.Shared.{◌≡◌, ℕ, List, ◌∷◌, Some, refl, AllZip, Binding, Fact, Members, member, Document, ObjectSays, SaysDocument, EachFactHasAnIdentifier, Identify, IdentifierSays, identifiers, identifiers_in, entries, values, bindings_of, facts_of, Sheet}
 use Rattle.oim_report.proofs.Documents.{outcomes_are_said}
 
 keyed_say : (sheet : Sheet) (bs : List Binding) (ms : Members) (fs : List Fact) → AllZip (ObjectSays sheet bs) (values ms) fs → AllZip (IdentifierSays sheet bs) (entries ms) fs

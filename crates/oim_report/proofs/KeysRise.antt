@@ -1,21 +1,7 @@
 -- The keys of an object that was read ascend in byte order.
-use Rattle.std.proofs.Common.{◌≡◌, ℕ, List, Bool, true, false, cond, Option, Some, None, option_and_then, subst, Less, Equal, Greater}
-use Rattle.std.specs.Prelude.{codes, ⊤}
-use Rattle.std.specs.List.{AllByRecursion}
+use Rattle.oim_report.proofs.Shared.{◌≡◌, ℕ, List, Bool, true, false, cond, Option, Some, None, option_and_then, subst, Less, Equal, Greater, codes, nat_cmp, ⊤, AllByRecursion, match_ordering, slice_cmp, is_utf8, tokens, Data, number, array, object, Members, no_members, member, put, get_member, as_object, of_json, of_items, of_members, number_of, read, max_depth, identifiers_in, IdentifiersRise, entries, json_text, members, without_mark, facts_of, IsBefore, Ascends}
 use Rattle.std.specs.List.Sorted.{IsStrictlySortedBy}
-use Rattle.std.specs.Ordering.{nat_cmp, match_ordering}
-use Rattle.std.specs.Cmp.Lexicographic.{slice_cmp}
-use Rattle.std.specs.Str.{is_utf8}
 use Rattle.json.specs.Json as json
-use Rattle.json.specs.Lex.{tokens}
-use Rattle.serde_json.specs.Data.{Data, number, array, object, Members, no_members, member, put}
-use Rattle.serde_json.specs.Find.{get_member, as_object}
-use Rattle.serde_json.specs.Read.{of_json, of_items, of_members, number_of, read, max_depth}
-use Rattle.oim_report.specs.Identifiers.{identifiers_in, IdentifiersRise}
-use Rattle.oim_report.specs.Json.{entries, json_text, members, without_mark}
-use Rattle.oim_report.specs.Info.{facts_of}
-use Rattle.oim_report.specs.PlainJson.{IsBefore}
-use Rattle.oim_report.specs.code.TapeValues.{Ascends}
 use Rattle.oim_report.proofs.PutMembers.{ascends_put}
 use Rattle.oim_report.proofs.ReadUtf8.{Has, has_mapped, has_then, any}
 

@@ -1,16 +1,6 @@
 -- Of the reasons that apply, the first in `reasons` has the smallest number, and `told` lists it first.
-use Rattle.std.proofs.Common.{◌≡◌, ◌⊎◌, inl, inr, ⊎_elim, ℕ, zero, suc, ◌+◌, ◌≤◌, ◌<◌, List, [], ◌∷◌, length, map, slice_index, Contains, Bool, true, false, not, ◌||◌, cond, subst, refl, sym, ap, ◌∙◌, arith}
-use Rattle.std.specs.Prelude.{◌↔◌, ◌==◌, ◌&&◌, Option, Some, None, IsTrue}
-use Rattle.std.specs.Option.{option_map_or}
-use Rattle.std.specs.List.{filter, find, list_any}
-use Rattle.std.specs.List.Sorted.{IsStrictlyIncreasing}
-use Rattle.std.proofs.lemmas.Bool.{or_parts, and_parts, or_from}
-use Rattle.std.proofs.lemmas.List.Elements.{All-contains, filter_passes}
-use Rattle.std.proofs.lemmas.List.Kept.{IsStrictlyIncreasing-filter}
-use Rattle.std.proofs.lemmas.Bool.Decides.{nat_tests}
+use Rattle.oim_report.proofs.Shared.{◌≡◌, ◌⊎◌, inl, inr, ⊎_elim, ℕ, zero, suc, ◌+◌, ◌≤◌, ◌<◌, List, [], ◌∷◌, length, map, slice_index, Contains, Bool, true, false, not, ◌||◌, cond, subst, refl, sym, ap, ◌∙◌, arith, ◌↔◌, ◌==◌, ◌&&◌, Option, Some, None, IsTrue, filter, find, option_map_or, list_any, IsStrictlyIncreasing, or_parts, and_parts, or_from, All-contains, filter_passes, IsStrictlyIncreasing-filter, nat_tests, Reason, OutOfMemory, NotJson, MemberForm, UnknownMember, DocumentType, Namespace, BaseUrl, TaxonomyUrl, Feature, Links, Notes, DimensionsMissing, NameForm, UnboundPrefix, ReservedNamespace, MissingConcept, UnknownConcept, UnknownDimension, DimensionValue, PeriodForm, PeriodOrder, UnitForm, UnitOnOther, LanguageForm, LanguageOnNumeric, ValueForm, NumberForm, NumberDigits, DecimalsForm, DecimalsRange, DecimalsOnOther, DisallowedDuplicates, SheetKind, later_there}
 use Rattle.oim_names.specs.Reasons.{entry_of, reasons}
-use Rattle.oim_names.specs.declared.reason.Reason.{Reason}
-use Rattle.oim_names.specs.declared.reason.Reason.TheVariants.{OutOfMemory, NotJson, MemberForm, UnknownMember, DocumentType, Namespace, BaseUrl, TaxonomyUrl, Feature, Links, Notes, DimensionsMissing, NameForm, UnboundPrefix, ReservedNamespace, MissingConcept, UnknownConcept, UnknownDimension, DimensionValue, PeriodForm, PeriodOrder, UnitForm, UnitOnOther, LanguageForm, LanguageOnNumeric, ValueForm, NumberForm, NumberDigits, DecimalsForm, DecimalsRange, DecimalsOnOther, DisallowedDuplicates, SheetKind}
 use Rattle.oim_report.specs.Least.{IsLeast, IsShown, LeastIsAnswered, first, hidden_by, least, told}
 use Rattle.oim_report.proofs.EachRefusal.{behind_test}
 
@@ -136,19 +126,16 @@ none_of h [] s none at = let lt : at.0 < 0 = at.1 in absurd (omega arith)
 none_of h (x ∷ xs) s none (zero, lt, is) = sym (ap h is) ∙ (or_parts (h x) (list_any h xs) none).0
 none_of h (x ∷ xs) s none (suc k, lt, is) = none_of h xs s (or_parts (h x) (list_any h xs) none).1 (k, omega arith, is)
 
-deeper : (x : Reason) (xs : List Reason) (r : Reason) → Contains xs r → Contains (x ∷ xs) r
-deeper x xs r at = (suc at.0, omega (arith, at.1), at.2)
-
 any_none : (h : Reason → Bool) (xs : List Reason) → ((s : Reason) → Contains xs s → h s ≡ false) → list_any h xs ≡ false
 any_none h [] none = refl
-any_none h (x ∷ xs) none = or_from (h x) (list_any h xs) (none x (0, omega arith, refl)) (any_none h xs (λ s at. none s (deeper x xs s at)))
+any_none h (x ∷ xs) none = or_from (h x) (list_any h xs) (none x (0, omega arith, refl)) (any_none h xs (λ s at. none s (later_there x xs s at)))
 
 front_kept : (b : Bool) (x r : Reason) (xs : List Reason) → b ≡ true → x ≡ r → Contains (cond b (x ∷ xs) xs) r
 front_kept true x r xs h same = (0, omega arith, same)
 front_kept false x r xs h same = absurd (cc)
 
 later_kept : (b : Bool) (x r : Reason) (xs : List Reason) → Contains xs r → Contains (cond b (x ∷ xs) xs) r
-later_kept true x r xs at = deeper x xs r at
+later_kept true x r xs at = later_there x xs r at
 later_kept false x r xs at = at
 
 kept : (test : Reason → Bool) (rs : List Reason) (k : ℕ) (r : Reason) → nth rs k ≡ Some r → test r ≡ true → Contains (filter test rs) r

@@ -1,3 +1,4 @@
+pub mod Shared
 pub mod ReferenceLaws
 pub mod JsonTexts
 pub mod Filled

@@ -1,23 +1,9 @@
 -- The maps of an accepted sheet have exactly the names and kinds in the sheet's members `concepts` and `dimensions`.
-use Rattle.std.proofs.Common.{◌≡◌, ◌⊎◌, inl, inr, ℕ, List, [], ◌∷◌, ◌++◌, Bool, true, false, cond, not, Option, Some, None, Ok, refl, sym, ap, subst, ◌∙◌}
-use Rattle.std.specs.Prelude.{◌↔◌}
-use Rattle.std.specs.Option.{option_map_or}
-use Rattle.std.specs.List.{list_any}
-use Rattle.std.specs.Ordering.{eq_by_cmp}
+use Rattle.oim_report.proofs.Shared.{◌≡◌, ◌⊎◌, inl, inr, ℕ, List, [], ◌∷◌, ◌++◌, Bool, true, false, cond, not, Option, Some, None, Ok, refl, sym, ap, subst, ◌∙◌, ◌↔◌, option_map_or, list_any, eq_by_cmp, or_parts, QName, name_cmp, is_name, Binding, Reason, SheetKind, Data, Members, no_members, member, any_in, json, least, named, unless}
 use Rattle.std.specs.FinMap as map
 use Rattle.std.specs.FinMap.{find, get-from_entries}
-use Rattle.std.proofs.lemmas.Bool.{or_parts}
-use Rattle.oim_names.specs.QName.{QName, name_cmp, is_name}
-use Rattle.oim_names.specs.Bindings.{Binding}
-use Rattle.oim_names.specs.declared.reason.Reason.{Reason}
-use Rattle.oim_names.specs.declared.reason.Reason.TheVariants.{SheetKind}
-use Rattle.serde_json.specs.Data.{Data, Members, no_members, member}
-use Rattle.oim_report.specs.Json.{any_in, json}
 use Rattle.oim_report.specs.code.KindLaws.{same_concept_kind_is, same_dimension_kind_is}
 use Rattle.oim_report.specs.Listed.{ConceptsAreListed, DimensionsAreListed, SaysKind, StandsIn}
-use Rattle.oim_report.specs.Least.{least}
-use Rattle.oim_report.specs.Names.{named}
-use Rattle.oim_report.specs.Refusal.{unless}
 use Rattle.oim_report.specs.Sheet.{Sheet, concept_kind_named, dimension_kind_named, entries_in, entry, has_bad_kind, has_other_kind, has_two_kinds, kind_in, listed, names_no_kind, said_sheet, same_concept_kind, same_dimension_kind, sheet_bindings, sheet_concepts, sheet_dimensions, sheet_holds, sheet_of, sheet_outcome}
 use Rattle.oim_report.proofs.LeastOf.{none_is}
 use Rattle.oim_report.proofs.Naming.{expanded, stands}

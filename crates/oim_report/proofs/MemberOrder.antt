@@ -1,15 +1,5 @@
 -- Members with different names can be added to a list in any order, with the same result.
-use Rattle.std.proofs.Common.{◌≡◌, ◌≢◌, ⊎_elim, Bool, true, false, cond, List, [], ◌∷◌, refl, sym, ap, ◌∙◌, All, Less, Equal, Greater}
-use Rattle.std.specs.Cmp.{tied_itself}
-use Rattle.std.proofs.lemmas.Bool.{and_parts, cases_Bool}
-use Rattle.std.proofs.lemmas.List.Elements.{All-nil, All-cons, All-head, All-tail}
-use Rattle.std.specs.Ordering.{is_lt, ordering_reverse}
-use Rattle.oim_names.specs.QName.{QName, exact_name}
-use Rattle.oim_names.specs.contracts.name.NameOrd.TheImpl.Laws.{total-law as name_total}
-use Rattle.oim_value.specs.ValueOrder.{name_cmp}
-use Rattle.oim_dims.specs.declared.member.Member.{Member}
-use Rattle.oim_dims.specs.DimensionSet.{is_below, rises, with_member}
-use Rattle.oim_dims.proofs.Indices.{less_is}
+use Rattle.oim_report.proofs.Shared.{◌≡◌, ◌≢◌, ⊎_elim, Bool, true, false, cond, List, [], ◌∷◌, refl, sym, ap, ◌∙◌, All, Less, Equal, Greater, is_lt, tied_itself, and_parts, cases_Bool, All-nil, All-cons, All-head, All-tail, ordering_reverse, QName, exact_name, name_cmp, name_total, Member, is_below, rises, with_member, less_is}
 
 abbrev Entry : Type 0
 Entry = QName × Member

@@ -1,26 +1,5 @@
 -- The parts of an object, and the parts after a member is put into the object.
-use Rattle.std.proofs.Common.{◌≡◌, ℕ, List, Bool, true, false, cond, ◌||◌, Option, Some, codes, bytes_eq, nat_cmp, Less, Equal, Greater, refl, sym, ap, ◌∙◌, zero, suc, ◌+◌, ◌<◌, [], ◌∷◌, length, get_or, Bor, subst, arith, Result, insert, ◌++◌, append_assoc, ◌&&◌, not, option_map, option_and_then}
-use Rattle.std.specs.Ordering.{match_ordering}
-use Rattle.std.specs.Cmp.Lexicographic.{slice_cmp}
-use Rattle.std.specs.Str.{is_utf8, IsUtf8}
-use Rattle.std.proofs.lemmas.Bool.{false≢true, cond-true, or_parts, and_from}
-use Rattle.std.specs.List.{list_any}
-use Rattle.std.proofs.lemmas.List.{map-append}
-use Rattle.std.proofs.lemmas.Result.{on_ok_weaker}
-use Rattle.std.proofs.lemmas.Slice.Eq.{bytes_eq-Decides}
-use Rattle.oim_names.proofs.Bytes.{bytes_not_eq}
-use Rattle.std.specs.Prelude.{⊤, OnOk}
-use Rattle.std.proofs.lemmas.Str.{is_utf8-from_IsUtf8}
-use Rattle.serde_json.specs.Data.{Data, object, Members, no_members, member, put}
-use Rattle.serde_json.specs.Find.{as_object, get, get_member}
-use Rattle.serde_json.proofs.Views.{get_member-put, get_member-put_other}
-use Rattle.oim_report.specs.Json.{Given, given, given_of, any_member, has_colon, has_member, is_unknown, is_no_object}
-use Rattle.oim_report.specs.FactMembers.{DimensionMembers, FactMembers, core_keys, fact_keys, defined_in, dimension_parts, parts_of}
-use Rattle.oim_report.specs.ReadBack.{with_given}
-use Rattle.oim_report.specs.code.TapeValues.{Ascends, IsSoFar}
-use Rattle.oim_report.specs.declared.json_values.json_member.JsonMember.{JsonMember}
-use Rattle.oim_report.specs.code.JsonMember.{seen}
-use Rattle.oim_report.specs.code.SeenMembers.{seen_defined, seen_dimensions}
+use Rattle.oim_report.proofs.Shared.{◌≡◌, ℕ, List, Bool, true, false, cond, ◌||◌, Option, Some, codes, bytes_eq, nat_cmp, Less, Equal, Greater, refl, sym, ap, ◌∙◌, zero, suc, ◌+◌, ◌<◌, [], ◌∷◌, length, get_or, Bor, subst, arith, Result, insert, ◌++◌, append_assoc, ◌&&◌, not, option_map, option_and_then, IsUtf8, OnOk, match_ordering, slice_cmp, is_utf8, false≢true, cond-true, or_parts, and_from, list_any, map-append, on_ok_weaker, bytes_eq-Decides, bytes_not_eq, ⊤, is_utf8-from_IsUtf8, Data, object, Members, no_members, member, put, as_object, get, get_member, get_member-put, get_member-put_other, Given, given, given_of, any_member, has_colon, has_member, is_unknown, is_no_object, DimensionMembers, FactMembers, core_keys, fact_keys, defined_in, dimension_parts, parts_of, with_given, Ascends, IsSoFar, JsonMember, seen, seen_defined, seen_dimensions}
 use Rattle.oim_report.specs.declared.fact.fact_members.DimensionMembers.{DimensionMembers as LentDimensions}
 use Rattle.oim_report.proofs.PutMembers.{defined_put, undefined_put}
 
@@ -95,7 +74,7 @@ core_put key d ms plain known = λ i. record {
 }
 
 -- a name without a colon keeps its value if the new key has a colon
-kept_name : (name key : List ℕ) (d : Data) (ms : Members) → has_colon name ≡ false → has_colon key ≡ true → get_member name (put key d ms) ≡ get_member name ms
+pub kept_name : (name key : List ℕ) (d : Data) (ms : Members) → has_colon name ≡ false → has_colon key ≡ true → get_member name (put key d ms) ≡ get_member name ms
 kept_name name key d ms plain colon = got name key d ms ∙ ap (λ b. cond b (Some d) (get_member name ms)) (colon_other name key plain colon)
 
 pub defined_dimension : (key : List ℕ) (d : Data) (ms : Members) → has_colon key ≡ true → is_utf8 key ≡ true → Ascends ms → dimension_parts (put key d ms) ≡ record (dimension_parts ms) { defined = with_given key (given d) (defined_in ms) }

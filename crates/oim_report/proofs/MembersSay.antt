@@ -1,33 +1,7 @@
 -- If `said_members` returns a list, it contains exactly the members that the keys denote. These members fit the sheet
 -- if the URIs of all bindings are namespaces, and the keys and texts are UTF-8.
-use Rattle.std.proofs.Common.{◌≡◌, ◌≢◌, ◌⊎◌, inl, inr, ⊎_elim, ℕ, zero, suc, ◌<◌, length, get_or, List, [], ◌∷◌, Bool, true, false, Option, Some, None, refl, sym, ap, subst, ◌∙◌, arith, ◌+◌, drop, add-one, ◌++◌, append_assoc, ◌≤◌, append-nil, ◌||◌, All, Contains, IsTrue, if◌then◌else◌, option_and_then, Any, IsPermutation, is_eq, is_lt, IsUtf8, Less, Bor, drop-cons, map}
-use Rattle.std.specs.List.{list_any}
-use Rattle.std.specs.Cmp.{tied_itself}
-use Rattle.std.proofs.lemmas.Bool.{or_parts, and_parts}
-use Rattle.std.proofs.lemmas.List.Elements.{All-contains, All-contains_itself}
-use Rattle.std.proofs.lemmas.List.Sorted.{Contains-permutation, IsPermutation-sym}
+use Rattle.oim_report.proofs.Shared.{◌≡◌, ◌≢◌, ◌⊎◌, inl, inr, ⊎_elim, ℕ, suc, ◌<◌, length, get_or, List, [], ◌∷◌, Bool, true, false, Option, Some, None, refl, sym, ap, subst, ◌∙◌, arith, ◌+◌, drop, add-one, ◌++◌, append_assoc, ◌≤◌, append-nil, ◌||◌, All, Contains, IsTrue, if◌then◌else◌, option_and_then, Any, IsPermutation, is_eq, is_lt, IsUtf8, Less, Bor, drop-cons, map, drop_all, list_any, tied_itself, or_parts, and_parts, All-contains, All-contains_itself, Contains-permutation, IsPermutation-sym, QName, is_name, name_cmp, Binding, name_total, Expands, names_one, has_name, rises, with_member, is_below, repeats, Member, NoMember, MemberText, MemberName, members_grow, names_are_there, less_is, old_or_new, old_is_kept, new_is_there, DimensionKind, Explicit, Typed, SaysDimension, SaysMember, SaysMembers, GivesText, DimensionFits, MemberFits, Given, nil, text, comes_again, named, dimension_names, members_with, said_member, said_members, Sheet, dimension_kind, JsonMember, seen, seen_defined, first_or_later, first_there, later_there, none_there}
 use Rattle.std.specs.FinMap as finmap
-use Rattle.oim_names.specs.QName.{QName, is_name}
-use Rattle.oim_names.specs.Bindings.{Binding}
-use Rattle.oim_names.specs.contracts.name.NameOrd.TheImpl.Laws.{total-law as name_total}
-use Rattle.oim_names.specs.Expansion.{Expands}
-use Rattle.oim_names.proofs.Refusals.{names_one}
-use Rattle.oim_value.specs.ValueOrder.{name_cmp}
-use Rattle.oim_dims.specs.DimensionSet.{has_name, rises, with_member, is_below, repeats}
-use Rattle.oim_dims.specs.declared.member.Member.{Member}
-use Rattle.oim_dims.specs.declared.member.Member.TheVariants.{Nil as NoMember, Text as MemberText, Name as MemberName}
-use Rattle.oim_dims.proofs.Indices.{members_grow, names_are_there, less_is, old_or_new, old_is_kept, new_is_there}
-use Rattle.oim_report.specs.declared.dimension_kind.DimensionKind.{DimensionKind}
-use Rattle.oim_report.specs.declared.dimension_kind.DimensionKind.TheVariants.{Explicit, Typed}
-use Rattle.oim_report.specs.Fact.{SaysDimension, SaysMember, SaysMembers, GivesText}
-use Rattle.oim_report.specs.FactFits.{DimensionFits, MemberFits}
-use Rattle.oim_report.specs.Json.{Given, nil, text}
-use Rattle.oim_report.specs.Names.{comes_again, named}
-use Rattle.oim_report.specs.Said.{dimension_names, members_with, said_member, said_members}
-use Rattle.oim_report.specs.Sheet.{Sheet, dimension_kind}
-use Rattle.oim_report.specs.declared.json_values.json_member.JsonMember.{JsonMember}
-use Rattle.oim_report.specs.code.JsonMember.{seen}
-use Rattle.oim_report.specs.code.SeenMembers.{seen_defined}
 use Rattle.oim_report.proofs.Accepted.{and_then_some, map_some}
 use Rattle.oim_report.proofs.Fitting.{AreNamespaces, IsClean, name_fits}
 use Rattle.oim_report.proofs.Naming.{stands}
@@ -65,36 +39,19 @@ pub record IsWalked (sheet : Sheet) (bs : List Binding) (ds : List (List ℕ × 
   pub each : (d : List ℕ × Given) → Contains ds d → (e : QName × Member) × Contains new e × SaysDimension sheet bs d e
   pub others : (e : QName × Member) → Contains new e → Contains old e ⊎ ((d : List ℕ × Given) × Contains ds d × SaysDimension sheet bs d e)
 
-module _ {X : Type 0} where
-  pub first_in : (x : X) (xs : List X) → Contains (x ∷ xs) x
-  first_in x xs = (0, omega arith, refl)
-
-  pub later_in : (x y : X) (xs : List X) → Contains xs y → Contains (x ∷ xs) y
-  later_in x y xs c = (suc c.0, omega (arith, c.1), c.2)
-
-  pub first_or_later : (x y : X) (xs : List X) → Contains (x ∷ xs) y → (x ≡ y) ⊎ Contains xs y
-  first_or_later x y xs c = at c.0 c.1 c.2
-    where
-      at : (k : ℕ) → k < length (x ∷ xs) → get_or (x ∷ xs) k y ≡ y → (x ≡ y) ⊎ Contains xs y
-      at zero within is = inl is
-      at (suc k) within is = inr (k, omega arith, is)
-
-  pub none_in : (x : X) → Contains [] x → ⊥
-  none_in x c = absurd (omega (arith, c.1))
-
 names_here : (bs : List Binding) (d : List ℕ × Given) (ds : List (List ℕ × Given)) (n : QName) → named bs d.0 ≡ Some n → dimension_names bs (d ∷ ds) ≡ n ∷ dimension_names bs ds
 names_here bs d ds n e = rw e refl
 
 not_among : (n p : QName) (ns : List QName) → list_any (λ m. is_eq (name_cmp n m)) ns ≡ false → Contains ns p → p ≢ n
-not_among n p [] e c = absurd (none_in p c)
+not_among n p [] e c = absurd (none_there p c)
 not_among n p (m ∷ ms) e c =
     let both = or_parts (is_eq (name_cmp n m)) (list_any (λ q. is_eq (name_cmp n q)) ms) e in
-    ⊎_elim (λ same is. (let tie : is_eq (name_cmp n m) ≡ true = ap is_eq (ap (name_cmp n) (same ∙ is) ∙ tied_itself name_total n) in absurd (cc))) (λ later. not_among n p ms both.1 later) (first_or_later m p ms c)
+    ⊎_elim (λ same is. (let tie : is_eq (name_cmp n m) ≡ true = ap is_eq (ap (name_cmp n) (same ∙ is) ∙ tied_itself name_total n) in absurd (cc))) (λ later. not_among n p ms both.1 later) (first_or_later m ms p c)
 
 walk : (sheet : Sheet) (bs : List Binding) (ds : List (List ℕ × Given)) (es new : List (QName × Member)) → IsTrue (rises es) → comes_again (dimension_names bs ds) ≡ false → IsApart bs es ds → members_with sheet bs es ds ≡ Some new → IsWalked sheet bs ds es new
 walk sheet bs [] es new up once apart e =
     let same : es ≡ new = cc in
-    subst (IsWalked sheet bs [] es) same (record { rising = up; kept = λ x c. c; each = λ d c. absurd (none_in d c); others = λ x c. inl c })
+    subst (IsWalked sheet bs [] es) same (record { rising = up; kept = λ x c. c; each = λ d c. absurd (none_there d c); others = λ x c. inl c })
 walk sheet bs (d ∷ ds) es new up once apart e =
     let a = and_then_some (λ n. option_and_then (λ m. members_with sheet bs (with_member n m es) ds) (said_member bs (dimension_kind sheet bs d.0) d.1)) (named bs d.0) new e in
     let b = and_then_some (λ m. members_with sheet bs (with_member a.0 m es) ds) (said_member bs (dimension_kind sheet bs d.0) d.1) new a.2 in
@@ -102,12 +59,12 @@ walk sheet bs (d ∷ ds) es new up once apart e =
     let m = b.0 in
     let names = names_here bs d ds n a.1 in
     let different = or_parts (list_any (λ q. is_eq (name_cmp n q)) (dimension_names bs ds)) (comes_again (dimension_names bs ds)) (sym (ap comes_again names) ∙ once) in
-    let free : ¬ (IsTrue (has_name n es)) = apart n (subst (λ ns. Contains ns n) (sym names) (first_in n (dimension_names bs ds))) in
+    let free : ¬ (IsTrue (has_name n es)) = apart n (subst (λ ns. Contains ns n) (sym names) (first_there n (dimension_names bs ds))) in
     let more = members_grow n m es up free in
     let still : IsApart bs (with_member n m es) ds = λ p c there.
     let found = (names_are_there p (with_member n m es)).0 there in
     ⊎_elim
-    (λ old. apart p (subst (λ ns. Contains ns p) (sym names) (later_in n p (dimension_names bs ds) c)) ((names_are_there p es).1 (found.0, old)))
+    (λ old. apart p (subst (λ ns. Contains ns p) (sym names) (later_there n (dimension_names bs ds) p c)) ((names_are_there p es).1 (found.0, old)))
     (λ is. not_among n p (dimension_names bs ds) different.0 c (ap (λ (f : QName × Member). f.0) is))
     ((more.members (p, found.0)).0 found.1) in
     let rest = walk sheet bs ds (with_member n m es) new more.rises different.1 still b.2 in
@@ -118,13 +75,13 @@ walk sheet bs (d ∷ ds) es new up once apart e =
       each = λ q c. ⊎_elim
           (λ same. subst (λ k. (x : QName × Member) × Contains new x × SaysDimension sheet bs k x) same ((n, m), rest.kept (n, m) ((more.members (n, m)).1 (inr refl)), here))
           (λ later. rest.each q later)
-          (first_or_later d q ds c);
+          (first_or_later d ds q c);
       others = λ x c. ⊎_elim
           (λ old. ⊎_elim
           (λ before. inl before)
-          (λ is. inr (d, first_in d ds, subst (SaysDimension sheet bs d) (sym is) here))
+          (λ is. inr (d, first_there d ds, subst (SaysDimension sheet bs d) (sym is) here))
           ((more.members x).0 old))
-          (λ later. inr (later.0, later_in d later.0 ds later.1, later.2))
+          (λ later. inr (later.0, later_there d ds later.0 later.1, later.2))
           (rest.others x c);
     }
 
@@ -143,7 +100,7 @@ pub members_rise : (sheet : Sheet) (bs : List Binding) (ds : List (List ℕ × G
 members_rise sheet bs ds es e = (walked sheet bs ds es e).rising
 
 by_key : (sheet : Sheet) (bs : List Binding) (ds : List (List ℕ × Given)) (es : List (QName × Member)) → IsWalked sheet bs ds [] es → (e : QName × Member) → Contains es e → (d : List ℕ × Given) × Contains ds d × SaysDimension sheet bs d e
-by_key sheet bs ds es walk e c = ⊎_elim (λ none. absurd (none_in e none)) (λ found. found) (walk.others e c)
+by_key sheet bs ds es walk e c = ⊎_elim (λ none. absurd (none_there e none)) (λ found. found) (walk.others e c)
 
 pub members_say : (sheet : Sheet) (bs : List Binding) (ds : List (List ℕ × Given)) (es : List (QName × Member)) → said_members sheet bs ds ≡ Some es → SaysMembers sheet bs ds es
 members_say sheet bs ds es e =
@@ -178,13 +135,13 @@ members_fit sheet bs ds es are clean e k x lt =
 -- ---- the taxonomy-defined dimensions of a fact denote at most one list of members that is sorted by name
 
 below_each : (n : QName) (es : List (QName × Member)) (x : QName × Member) → is_below n es ≡ true → Contains es x → name_cmp n x.0 ≡ Less
-below_each n [] x below c = absurd (none_in x c)
+below_each n [] x below c = absurd (none_there x c)
 below_each n (e ∷ es) x below c =
     let both = and_parts (is_lt (name_cmp n e.0)) (is_below n es) below in
     ⊎_elim
     (λ is. subst (λ (f : QName × Member). name_cmp n f.0 ≡ Less) is (less_is (name_cmp n e.0) both.0))
     (λ later. below_each n es x both.1 later)
-    (first_or_later e x es c)
+    (first_or_later e es x c)
 
 not_below_itself : (n : QName) → name_cmp n n ≡ Less → ⊥
 not_below_itself n h = let tie = tied_itself name_total n in absurd (cc)
@@ -197,7 +154,7 @@ in_rest e f es fs one below to x c =
     ⊎_elim
     (λ is. absurd (not_later e es below (subst (Contains es) (sym (one ∙ is)) c)))
     (λ later. later)
-    (first_or_later f x fs (to x (later_in e x es c)))
+    (first_or_later f fs x (to x (later_there e es x c)))
 
 same_first : (e f : QName × Member) (es fs : List (QName × Member)) → is_below e.0 es ≡ true → is_below f.0 fs ≡ true → Contains (f ∷ fs) e → Contains (e ∷ es) f → e ≡ f
 same_first e f es fs below_e below_f there back =
@@ -206,17 +163,17 @@ same_first e f es fs below_e below_f there back =
     (λ later. ⊎_elim
     (λ is. is)
     (λ behind. absurd (not_below_itself e.0 (name_total.trans e.0 f.0 e.0 (below_each e.0 es f below_e behind) (below_each f.0 fs e below_f later))))
-    (first_or_later e f es back))
-    (first_or_later f e fs there)
+    (first_or_later e es f back))
+    (first_or_later f fs e there)
 
 pub same_rising : (es fs : List (QName × Member)) → IsTrue (rises es) → IsTrue (rises fs) → ((x : QName × Member) → Contains es x → Contains fs x) → ((x : QName × Member) → Contains fs x → Contains es x) → es ≡ fs
 same_rising [] [] up_e up_f to back = refl
-same_rising [] (f ∷ fs) up_e up_f to back = absurd (none_in f (back f (first_in f fs)))
-same_rising (e ∷ es) [] up_e up_f to back = absurd (none_in e (to e (first_in e es)))
+same_rising [] (f ∷ fs) up_e up_f to back = absurd (none_there f (back f (first_there f fs)))
+same_rising (e ∷ es) [] up_e up_f to back = absurd (none_there e (to e (first_there e es)))
 same_rising (e ∷ es) (f ∷ fs) up_e up_f to back =
     let rising_e = and_parts (is_below e.0 es) (rises es) up_e in
     let rising_f = and_parts (is_below f.0 fs) (rises fs) up_f in
-    let one = same_first e f es fs rising_e.0 rising_f.0 (to e (first_in e es)) (back f (first_in f fs)) in
+    let one = same_first e f es fs rising_e.0 rising_f.0 (to e (first_there e es)) (back f (first_there f fs)) in
     let rest = same_rising es fs rising_e.1 rising_f.1 (in_rest e f es fs one rising_e.0 to) (in_rest f e fs es (sym one) rising_f.0 back) in
     λ i. one i ∷ rest i
 
@@ -311,12 +268,12 @@ old_is_there [] es x c = c
 old_is_there (f ∷ fs) es x c = old_is_there fs (with_member f.0 f.1 es) x (old_is_kept f.0 f.1 x es c)
 
 each_is_there : (fs es : List Item) (x : Item) → Contains fs x → Contains (with_each fs es) x
-each_is_there [] es x c = absurd (none_in x c)
+each_is_there [] es x c = absurd (none_there x c)
 each_is_there (f ∷ fs) es x c =
     ⊎_elim
     (λ is. old_is_there fs (with_member f.0 f.1 es) x (subst (Contains (with_member f.0 f.1 es)) is (new_is_there f.0 f.1 es)))
     (λ later. each_is_there fs (with_member f.0 f.1 es) x later)
-    (first_or_later f x fs c)
+    (first_or_later f fs x c)
 
 same_there : (n : QName) (fs : List Item) → list_any (λ m. is_eq (name_cmp n m)) (names_of fs) ≡ has_name n fs
 same_there n [] = refl
@@ -330,12 +287,6 @@ nothing_after : {A B C : Type 0} (g : A → B → Option C) (a : Option A) (b : 
 nothing_after g None b none = refl
 nothing_after g (Some x) b none = ap (option_and_then (g x)) none
 
-none_left : {X : Type 0} (xs : List X) (i : ℕ) → length xs ≤ i → drop i xs ≡ []
-none_left [] zero past = refl
-none_left [] (suc i) past = refl
-none_left (x ∷ xs) zero past = absurd (omega (arith, past))
-none_left (x ∷ xs) (suc i) past = none_left xs i (omega (arith, past))
-
 module _ (sheet : Sheet) (bs : List Binding) (xs : List (Bor (List ℕ) × JsonMember)) (found : List Item) where
   -- the state of the loop before index i
   pub record AreFound (i : ℕ) : Type 0 where
@@ -344,14 +295,14 @@ module _ (sheet : Sheet) (bs : List Binding) (xs : List (Bor (List ℕ) × JsonM
 
   pub put_in_order : (i : ℕ) → length xs ≤ i → AreFound i → (sorted : List Item) → repeats found ≡ false → IsPermutation found sorted → IsTrue (rises sorted) → said_members sheet bs (seen_defined xs) ≡ Some sorted
   put_in_order i past are sorted once moved up =
-      let nothing : drop i xs ≡ [] = none_left xs i past in
+      let nothing : drop i xs ≡ [] = drop_all i xs past in
       let names : names_of found ≡ dimension_names bs (seen_defined xs) = sym (append-nil (names_of found)) ∙ ap (λ ys. names_of found ++ dimension_names bs (seen_defined ys)) (sym nothing) ∙ are.names in
       let again : comes_again (dimension_names bs (seen_defined xs)) ≡ false = ap comes_again (sym names) ∙ comes_again_is found ∙ once in
       let walked : members_with sheet bs [] (seen_defined xs) ≡ Some (with_each found []) = sym are.members ∙ ap (λ ys. members_with sheet bs (with_each found []) (seen_defined ys)) nothing in
       let said : said_members sheet bs (seen_defined xs) ≡ Some (with_each found []) = ap (λ b. if b then None else members_with sheet bs [] (seen_defined xs)) again ∙ walked in
       said
       ∙ ap Some (same_rising (with_each found []) sorted (members_rise sheet bs (seen_defined xs) (with_each found []) said) up
-      (λ x c. Contains-permutation found sorted x moved (⊎_elim (λ old. absurd (none_in x old)) (λ one. one) (old_or_one found [] x c)))
+      (λ x c. Contains-permutation found sorted x moved (⊎_elim (λ old. absurd (none_there x old)) (λ one. one) (old_or_one found [] x c)))
       (λ x c. each_is_there found [] x (Contains-permutation sorted found x (IsPermutation-sym found sorted moved) c)))
 
   either_none : {X : Type 0} (b : Bool) (o : Option X) → o ≡ None → (if b then None else o) ≡ None
@@ -369,7 +320,7 @@ module _ (sheet : Sheet) (bs : List Binding) (xs : List (Bor (List ℕ) × JsonM
 
   pub unsaid_again : (i : ℕ) → length xs ≤ i → AreFound i → repeats found ≡ true → said_members sheet bs (seen_defined xs) ≡ None
   unsaid_again i past are again =
-      let nothing : drop i xs ≡ [] = none_left xs i past in
+      let nothing : drop i xs ≡ [] = drop_all i xs past in
       let names : names_of found ≡ dimension_names bs (seen_defined xs) = sym (append-nil (names_of found)) ∙ ap (λ ys. names_of found ++ dimension_names bs (seen_defined ys)) (sym nothing) ∙ are.names in
       let twice : comes_again (dimension_names bs (seen_defined xs)) ≡ true = ap comes_again (sym names) ∙ comes_again_is found ∙ again in
       ap (λ b. if b then None else members_with sheet bs [] (seen_defined xs)) twice

@@ -1,12 +1,5 @@
 -- The function `named_as` agrees with the relation `ExpandsAs`.
-use Rattle.std.proofs.Common.{◌≡◌, ◌≢◌, ◌⊎◌, inl, inr, ℕ, List, Bool, true, false, refl, sym, ap, subst, ◌↔◌, if◌then◌else◌, IsTrue, Option, Some, None, option_and_then, bytes_eq}
-use Rattle.oim_names.specs.QName.{QName, local_part, prefix_part}
-use Rattle.oim_names.specs.Bindings.{Binding, uri_of}
-use Rattle.oim_names.specs.Expansion.{ExpandsAs, reserved_uri}
-use Rattle.oim_names.specs.declared.reason.Reason.{Reason}
-use Rattle.oim_names.specs.declared.reason.Reason.TheVariants.{OutOfMemory}
-use Rattle.oim_names.proofs.Bytes.{other_bytes, bytes_not_eq}
-use Rattle.oim_report.specs.Names.{in_namespace, named_as}
+use Rattle.oim_report.proofs.Shared.{◌≡◌, ◌≢◌, ◌⊎◌, inl, inr, ℕ, List, Bool, true, false, refl, sym, ap, subst, ◌↔◌, if◌then◌else◌, IsTrue, Option, Some, None, option_and_then, bytes_eq, QName, local_part, prefix_part, Binding, uri_of, ExpandsAs, reserved_uri, Reason, OutOfMemory, other_bytes, bytes_not_eq, in_namespace, named_as}
 
 pub expanded : (has_form : List ℕ → Bool) (bs : List Binding) (t : List ℕ) (n : QName) → ExpandsAs has_form bs t n → named_as has_form bs t ≡ Some n
 expanded has_form bs t n e =

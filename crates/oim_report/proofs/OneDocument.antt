@@ -1,34 +1,6 @@
 -- Under one sheet, a report denotes at most one document.
-use Rattle.std.proofs.Common.{◌≡◌, ℕ, ℤ, List, [], ◌∷◌, Option, Some, None, Result, Ok, refl, sym, ap, subst, ◌∙◌}
-use Rattle.std.specs.Prelude.{IsTrue, IfSome}
-use Rattle.std.specs.List.{AllZip}
-use Rattle.std.specs.Str.{str_to_ascii_lowercase}
+use Rattle.oim_report.proofs.Shared.{◌≡◌, ℕ, ℤ, List, [], ◌∷◌, Option, Some, None, Result, Ok, refl, sym, ap, subst, ◌∙◌, IsTrue, IfSome, AllZip, str_to_ascii_lowercase, QName, is_entity, Binding, Expands, ExpandsEntity, Reason, names_one, Value, Nil, Number, AText, AName, denotes_one, DimensionSet, is_language, period_of, Measures, IsUnit, UnitOf, Fact, Period, Forever, one_unit, Data, ConceptKind, Numeric, Text, Name, ObjectSays, SaysOneDocument, GivesText, GivesTextOr, SaysDecimals, SaysDimensions, SaysEntity, SaysFact, SaysLanguage, SaysNumber, SaysPeriod, SaysUnit, SaysValue, bindings_of, facts_of, references_said, level_said, Given, absent, nil, text, whole, json, values, DimensionMembers, FactMembers, fact_parts, Sheet}
 use Rattle.std.specs.FinMap as map
-use Rattle.oim_names.specs.QName.{QName, is_entity}
-use Rattle.oim_names.specs.Bindings.{Binding}
-use Rattle.oim_names.specs.Expansion.{Expands, ExpandsEntity}
-use Rattle.oim_names.specs.declared.reason.Reason.{Reason}
-use Rattle.oim_names.proofs.Refusals.{names_one}
-use Rattle.oim_value.specs.declared.value.Value.{Value}
-use Rattle.oim_value.specs.declared.value.Value.TheVariants.{Nil, Number, Text as AText, Name as AName}
-use Rattle.oim_value.proofs.ShortLaws.{denotes_one}
-use Rattle.oim_dims.specs.DimensionSet.{DimensionSet}
-use Rattle.oim_dims.specs.Language.{is_language}
-use Rattle.oim_dims.specs.Period.{period_of}
-use Rattle.oim_dims.specs.Unit.{Measures, IsUnit, UnitOf}
-use Rattle.oim_dims.specs.declared.fact.Fact.{Fact}
-use Rattle.oim_dims.specs.declared.period.Period.{Period}
-use Rattle.oim_dims.specs.declared.period.Period.TheVariants.{Forever}
-use Rattle.oim_dims.proofs.OneUnit.{one_unit}
-use Rattle.serde_json.specs.Data.{Data}
-use Rattle.oim_report.specs.declared.concept_kind.ConceptKind.{ConceptKind}
-use Rattle.oim_report.specs.declared.concept_kind.ConceptKind.TheVariants.{Numeric, Text, Name}
-use Rattle.oim_report.specs.Document.{ObjectSays, SaysOneDocument}
-use Rattle.oim_report.specs.Fact.{GivesText, GivesTextOr, SaysDecimals, SaysDimensions, SaysEntity, SaysFact, SaysLanguage, SaysNumber, SaysPeriod, SaysUnit, SaysValue}
-use Rattle.oim_report.specs.Info.{bindings_of, facts_of, references_said, level_said}
-use Rattle.oim_report.specs.Json.{Given, absent, nil, text, whole, json, values}
-use Rattle.oim_report.specs.FactMembers.{DimensionMembers, FactMembers, fact_parts}
-use Rattle.oim_report.specs.Sheet.{Sheet}
 use Rattle.oim_report.proofs.MembersSay.{given_name, no_text, one_list, one_some, one_text}
 
 one_text_or : (C IfP IfQ : Type 0) (g : Given) (P Q : List ℕ → Type 0) → GivesTextOr IfP g P → GivesTextOr IfQ g Q → (IfP → IfQ → C) → ((t : List ℕ) → P t → Q t → C) → C

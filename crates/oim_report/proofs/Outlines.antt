@@ -1,20 +1,11 @@
 -- If the parts of a document can be read, the whole document is read with the members of all parts.
-use Rattle.std.proofs.Common.{◌≡◌, ℕ, ◌≤◌, true, List, [], ◌∷◌, ◌++◌, Some, option_map, option_and_then, refl, sym, ap, ◌∙◌, subst, arith, append_assoc, append-nil, codes, Option, None}
+use Rattle.oim_report.proofs.Shared.{◌≡◌, ℕ, ◌≤◌, true, List, [], ◌∷◌, ◌++◌, Some, option_map, option_and_then, refl, sym, ap, ◌∙◌, subst, arith, append_assoc, append-nil, codes, Option, None, is_space, value, json_tokens, members_tokens, depth, members_depth, value-json_tokens, of_json, of_members, max_depth, read, Data, object, Members, no_members, member, put, IsPiece, put_all, Adds, AreSpaces, facts_key, IsLike, IsOutline, AfterSpaces, BeforeSpaces, IsEnd, IsTail, IsSplit, IsBeside, with_before, with_behind, Ascends}
 use Rattle.json.specs.Token.{Token, begin_object, end_object, key, string}
 use Rattle.json.specs.Text.{content}
-use Rattle.json.specs.Word.{is_space}
 use Rattle.json.specs.Lex.{Lexeme, token, comma, colon, between, lex, fresh, after_value, punctuate, tokens}
-use Rattle.json.specs.Json.{value}
-use Rattle.json.specs.Tree.{json_tokens, members_tokens, depth, members_depth}
 use Rattle.json.specs.Json as j
-use Rattle.json.proofs.Printed.Trees.{value-json_tokens}
-use Rattle.serde_json.specs.Read.{of_json, of_members, max_depth, read}
-use Rattle.serde_json.specs.Data.{Data, object, Members, no_members, member, put}
 use Rattle.serde_json.specs.Data as d
-use Rattle.oim_report.specs.Pieces.{IsPiece, put_all}
-use Rattle.oim_report.specs.code.Pieces.{Adds, AreSpaces, facts_key, IsLike, IsOutline, AfterSpaces, BeforeSpaces, IsEnd, IsTail, IsSplit, IsBeside, with_before, with_behind}
 use Rattle.oim_report.proofs.PieceTexts.{facts_text}
-use Rattle.oim_report.specs.code.TapeValues.{Ascends}
 use Rattle.oim_report.proofs.JsonWords.{is_end, each_space}
 use Rattle.oim_report.proofs.JsonLexemes.{Delimited}
 use Rattle.oim_report.proofs.JoinedMembers.{body, plus, closed_body, depth-plus, HasSome, Members_of, members_of, IsKeyed, behind_comma, lex_comma, after_one, room}

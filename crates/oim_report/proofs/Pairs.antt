@@ -1,24 +1,6 @@
 -- A level allows a list of facts exactly if it allows each pair of them.
-use Rattle.std.proofs.Common.{◌≡◌, zero, suc, Bool, true, false, cond, not, ◌&&◌, ◌||◌, List, [], ◌∷◌, ◌++◌, get_or, refl, sym, ap, subst, ◌∙◌, arith, All, AllPairs, IsPermutation, IsTrue, Decides}
-use Rattle.std.specs.List.{list_all}
-use Rattle.std.specs.Cmp.{Equal-is, both_ways, tied_back}
-use Rattle.std.specs.Ordering.{is_eq, is_le}
-use Rattle.std.proofs.lemmas.Bool.{and_parts, and_from, not-false}
-use Rattle.std.proofs.lemmas.Bool.Decides.{Decides-by_and}
-use Rattle.std.proofs.lemmas.List.Folds.{list_all-append}
-use Rattle.std.proofs.lemmas.List.Kept.{AllPairs-cons}
-use Rattle.std.proofs.lemmas.Map.Keys.{IsDistinct-from_apart, apart_from_distinct, IsDistinct-IsPermutation}
-use Rattle.std.proofs.lemmas.List.Sorted.{IsPermutation-sym}
-use Rattle.std.proofs.Math.Bool.{or-true}
-use Rattle.oim_value.specs.Level.{level_cmp}
-use Rattle.oim_value.specs.ValueOrder.{value_cmp}
-use Rattle.oim_value.specs.declared.level.Level.{Level}
-use Rattle.oim_value.specs.declared.level.Level.TheVariants.{Unique, Complete, Consistent, All as AllLevel}
-use Rattle.oim_value.specs.declared.value.Value.{Value}
-use Rattle.oim_value.proofs.ValueOrders.{value_cmp_exact, value_cmp_total}
-use Rattle.oim_dims.specs.declared.fact.Fact.{Fact}
+use Rattle.oim_report.proofs.Shared.{◌≡◌, zero, suc, Bool, true, false, cond, not, ◌&&◌, ◌||◌, List, [], ◌∷◌, ◌++◌, get_or, refl, sym, ap, subst, ◌∙◌, arith, All, AllPairs, IsPermutation, IsTrue, Decides, is_eq, is_le, list_all, Equal-is, both_ways, tied_back, and_parts, and_from, not-false, Decides-by_and, list_all-append, AllPairs-cons, IsDistinct-from_apart, apart_from_distinct, IsDistinct-IsPermutation, IsPermutation-sym, or-true, level_cmp, value_cmp, Level, Unique, Complete, Consistent, AllLevel, Value, value_cmp_exact, value_cmp_total, Fact, dimensions_cmp_total}
 use Rattle.oim_report.specs.Duplicates.{allows, allows_each, allows_values, are_duplicates, level_of, values_meet, LevelIgnoresOrder, LevelIsStrictest}
-use Rattle.oim_dims.proofs.Orders.{dimensions_cmp_total}
 use Rattle.oim_report.proofs.ValuesMeet.{values_meet_self, values_meet_turns, never}
 
 -- ---- a test of all pairs of facts

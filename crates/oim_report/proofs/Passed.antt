@@ -1,29 +1,6 @@
 -- The loop over sorted facts: the level so far is the level of the facts so far.
-use Rattle.std.proofs.Common.{◌≡◌, ◌==◌, ℕ, suc, ◌<◌, ◌≤◌, ◌+◌, Bool, true, false, not, ◌&&◌, List, [], ◌∷◌, ◌++◌, append_assoc, append-nil, length, take, drop, get_or, refl, sym, ap, subst, ◌∙◌, All, Option, Some, slice_get, ◌||◌, arith}
-use Rattle.std.specs.List.{list_all, list_any}
-use Rattle.std.specs.Ordering.{is_le, is_lt}
-use Rattle.std.proofs.lemmas.Bool.{false≢true}
-use Rattle.std.specs.List.{IsDistinct, range_with_len}
+use Rattle.oim_report.proofs.Shared.{◌≡◌, ◌==◌, ℕ, suc, ◌<◌, ◌≤◌, ◌+◌, Bool, true, false, not, ◌&&◌, List, [], ◌∷◌, ◌++◌, append_assoc, append-nil, length, take, drop, get_or, refl, sym, ap, subst, ◌∙◌, All, Option, Some, slice_get, ◌||◌, arith, is_le, is_lt, ne_eqb, get_or-take, length-take-le, take-append-drop, IsSorted, list_all, list_any, IsDistinct, range_with_len, false≢true, nat_eq_equiv, append_cancel_right, drop_all, get_or_default, All-head, All-tail, All-take, filter_map-append, list_any-append, get_or-range_with_len, length-range_with_len, IsDistinct-from_apart, IsDistinct-IsPermutation, apart_from_distinct, slice_get-get_or, option_map_or, level_cmp, Interval, Level, Unique, Complete, Consistent, AllLevel, Fact, are_apart, interval_at, allows, allows_each, are_duplicates, level_of, IsOrderOf, index_cmp}
 use Rattle.std.proofs.Math.Dec.{eqb}
-use Rattle.std.proofs.lemmas.Bool.{ne_eqb}
-use Rattle.std.proofs.lemmas.Cmp.{nat_eq_equiv}
-use Rattle.std.proofs.lemmas.List.{append_cancel_right, drop_all, get_or-take, get_or_default, length-take-le, take-append-drop}
-use Rattle.std.proofs.lemmas.List.Elements.{All-head, All-tail, All-take, filter_map-append}
-use Rattle.std.proofs.lemmas.List.Folds.{list_any-append}
-use Rattle.std.proofs.lemmas.List.FromFn.{get_or-range_with_len, length-range_with_len}
-use Rattle.std.proofs.lemmas.Map.Keys.{IsDistinct-from_apart, IsDistinct-IsPermutation, apart_from_distinct}
-use Rattle.std.proofs.lemmas.Option.{slice_get-get_or}
-use Rattle.std.specs.Option.{option_map_or}
-use Rattle.std.proofs.Common.{IsSorted}
-use Rattle.oim_value.specs.Level.{level_cmp}
-use Rattle.oim_value.specs.declared.interval.Interval.{Interval}
-use Rattle.oim_value.specs.declared.level.Level.{Level}
-use Rattle.oim_value.specs.declared.level.Level.TheVariants.{Unique, Complete, Consistent, All as AllLevel}
-use Rattle.oim_dims.specs.declared.fact.Fact.{Fact}
-use Rattle.oim_report.specs.Apart.{are_apart}
-use Rattle.oim_report.specs.code.Beside.{interval_at}
-use Rattle.oim_report.specs.Duplicates.{allows, allows_each, are_duplicates, level_of}
-use Rattle.oim_report.specs.Report.{IsOrderOf, index_cmp}
 use Rattle.oim_report.proofs.Pairs.{allows_each-push, passes_is}
 use Rattle.oim_report.proofs.Indices.{facts_at, facts_at-cons, facts_at-drop, level_at_order, indices_within, rises_from_first}
 use Rattle.oim_report.proofs.Runs.{RisesFrom, walk, walk-nil, walk_from_first}
@@ -87,7 +64,7 @@ passed_all facts order rest i last shared level sorted past passed =
 
 -- ---- a fact at which the level exceeds the limit
 
-within_limit : (l m : Level) → is_le (level_cmp m l) ≡ not (is_lt (level_cmp l m))
+pub within_limit : (l m : Level) → is_le (level_cmp m l) ≡ not (is_lt (level_cmp l m))
 within_limit = elim [
   | Unique ↦ elim [ Unique ↦ refl | Complete ↦ refl | Consistent ↦ refl | AllLevel ↦ refl ]
   | Complete ↦ elim [ Unique ↦ refl | Complete ↦ refl | Consistent ↦ refl | AllLevel ↦ refl ]
@@ -124,7 +101,7 @@ one_apart l facts index f here (p ∷ ps) within others h =
     either true b x y is later h = ap (λ z. z || y) is ∙ later h
     either false b x y is later h = ap (λ z. z || y) is
 
-range_once : (n : ℕ) → IsDistinct eqb (range_with_len 0 n)
+pub range_once : (n : ℕ) → IsDistinct eqb (range_with_len 0 n)
 range_once n = IsDistinct-from_apart eqb (range_with_len 0 n) (λ i j d before within.
     let there : j < n = omega (arith, within, length-range_with_len 0 n) in
     let first = get_or-range_with_len 0 n i d (omega (arith, before, there)) in

@@ -1,6 +1,5 @@
 -- The text of the member `facts`.
-use Rattle.std.proofs.Common.{ℕ, List, [], ◌∷◌, ◌++◌}
-use Rattle.oim_report.specs.code.Pieces.{facts_key}
+use Rattle.oim_report.proofs.Shared.{ℕ, List, [], ◌∷◌, ◌++◌, facts_key}
 
 -- the member `facts`, with white space where JSON allows it
 abbrev pub facts_text : List ℕ → List ℕ → List ℕ → List ℕ → List ℕ

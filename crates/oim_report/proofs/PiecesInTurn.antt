@@ -1,18 +1,8 @@
 -- Pieces: how `serde_json` reads them, and the members of pieces that are read one after another.
-use Rattle.std.proofs.Common.{◌≡◌, ℕ, List, [], Option, Some, option_and_then, refl, ap, ◌∙◌, ◌∷◌, ◌++◌, sym, option_map, subst, append_assoc, append-nil, Less, Equal, Greater}
-use Rattle.std.specs.Ordering.{nat_cmp, match_ordering}
-use Rattle.std.specs.Cmp.Lexicographic.{slice_cmp}
-use Rattle.json.specs.Token.{Token}
-use Rattle.json.specs.Lex.{tokens}
+use Rattle.oim_report.proofs.Shared.{◌≡◌, ℕ, List, [], Option, Some, option_and_then, refl, ap, ◌∙◌, ◌∷◌, ◌++◌, sym, option_map, subst, append_assoc, append-nil, Less, Equal, Greater, nat_cmp, match_ordering, slice_cmp, Token, tokens, Data, no_items, item, array, Members, object, no_members, member, put, of_json, of_items, of_members, number_of, max_depth, read, alone, one_data, HasMember, IsPiece, put_all, IsUpTo, one, Ascends, append}
 use Rattle.json.specs.Json.{Json, Items, value, if_last}
 use Rattle.json.specs.Json as j
-use Rattle.serde_json.specs.Data.{Data, no_items, item, array, Members, object, no_members, member, put}
-use Rattle.serde_json.specs.Read.{of_json, of_items, of_members, number_of, max_depth, read}
 use Rattle.serde_json.specs.Data as d
-use Rattle.oim_report.specs.Pieces.{alone, one_data, HasMember, IsPiece, put_all}
-use Rattle.oim_report.specs.code.Pieces.{IsUpTo}
-use Rattle.oim_report.specs.code.TapeValues.{one, Ascends}
-use Rattle.oim_report.specs.code.FoundFacts.{append}
 use Rattle.oim_report.proofs.JoinedMembers.{Reads, HasSome, plus, joined}
 use Rattle.oim_report.proofs.Accepted.{map_some, and_then_some}
 use Rattle.oim_report.proofs.PutMembers.{both_found, ascends_put, put_onto}

@@ -1,45 +1,8 @@
 -- If a fact fits a sheet and its names are spelled as in `SpellsFact`, its object has the parts in `parts_given`.
-use Rattle.std.proofs.Common.{◌≡◌, ◌≢◌, ℕ, List, [], ◌∷◌, codes, true, false, Option, Some, None, refl, ap, ◌∙◌, pos, ◌≤◌, arith, negsuc}
-use Rattle.std.specs.Prelude.{All, IfSome, IsUtf8, ◌&&◌, ℤ, unsigned_abs}
-use Rattle.std.specs.Option.{option_map}
-use Rattle.std.specs.Str.{is_utf8}
-use Rattle.std.proofs.lemmas.Bool.{and_from, leb-true}
-use Rattle.std.proofs.lemmas.List.Elements.{All-head, All-tail}
-use Rattle.std.proofs.lemmas.Str.{is_utf8-from_IsUtf8}
-use Rattle.std.specs.Ordering.{nat_cmp, match_ordering, ordering_reverse}
-use Rattle.std.specs.Cmp.Lexicographic.{slice_cmp}
-use Rattle.std.specs.declared.cmp.Ordering.TheVariants.{Less, Equal, Greater}
-use Rattle.std.proofs.lemmas.Cmp.{nat_list_cmp_total}
-use Rattle.json.proofs.Printed.Utf8.{IsUtf8-are_ascii}
-use Rattle.oim_names.specs.QName.{QName}
-use Rattle.oim_names.specs.Bindings.{Binding}
-use Rattle.oim_names.proofs.Bytes.{other_bytes}
+use Rattle.oim_report.proofs.Shared.{◌≡◌, ◌≢◌, ℕ, List, [], ◌∷◌, codes, true, false, Option, Some, None, refl, ap, ◌∙◌, pos, ◌≤◌, arith, negsuc, All, IfSome, IsUtf8, ◌&&◌, ℤ, unsigned_abs, option_map, leb-true, nat_cmp, Less, Equal, Greater, suc, is_utf8, and_from, All-head, All-tail, is_utf8-from_IsUtf8, match_ordering, ordering_reverse, slice_cmp, nat_list_cmp_total, IsUtf8-are_ascii, QName, Binding, other_bytes, Value, Nil, Number, AText, AName, is_finite_decimals, DimensionSet, period_text, Measures, Fact, Member, NoMember, MemberText, MemberName, get_member, of_integer, get_member-put_other, ConceptKind, Numeric, Text, Name, DimensionKind, Explicit, Typed, given, given_of, has_colon, any_member, is_unknown, core_keys, defined_in, dimension_parts, parts_of, EntityFits, LanguageFits, UnitFits, MemberFits, DimensionFits, ValueFits, FactFits, put_text, option_spelled, option_unit_text, member_data, with_defined, dimension_members, value_data, with_decimals, fact_members, Sheet, SpellsName, SpellsMeasures, SpellsMember, SpellsDimension, SpellsFact, SpellsValue, option_given, with_given, member_given, defined_given, dimensions_given, value_given, decimals_given, FactObjectHasParts, FactObjectIsPlain, Ascends, IsWhole, IsBefore, MembersArePlain, MembersHaveUtf8, IsPlainJson}
 use Rattle.oim_value.specs.Plain.{plain}
-use Rattle.oim_value.specs.declared.value.Value.{Value}
-use Rattle.oim_value.specs.declared.value.Value.TheVariants.{Nil, Number, Text as AText, Name as AName}
-use Rattle.oim_value.specs.Decimals.{is_finite_decimals}
 use Rattle.oim_value.specs.declared.limits.TheConstants.{MOST_DECIMALS}
-use Rattle.oim_dims.specs.DimensionSet.{DimensionSet}
-use Rattle.oim_dims.specs.Period.{period_text}
-use Rattle.oim_dims.specs.Unit.{Measures}
-use Rattle.oim_dims.specs.declared.fact.Fact.{Fact}
-use Rattle.oim_dims.specs.declared.member.Member.{Member}
-use Rattle.oim_dims.specs.declared.member.Member.TheVariants.{Nil as NoMember, Text as MemberText, Name as MemberName}
-use Rattle.serde_json.specs.Data.{string, object, Members, no_members, put, Data, number, member, depth, members_depth}
-use Rattle.serde_json.specs.Find.{get_member, of_integer}
-use Rattle.serde_json.proofs.Views.{get_member-put_other}
-use Rattle.oim_report.specs.declared.concept_kind.ConceptKind.{ConceptKind}
-use Rattle.oim_report.specs.declared.concept_kind.ConceptKind.TheVariants.{Numeric, Text, Name}
-use Rattle.oim_report.specs.declared.dimension_kind.DimensionKind.{DimensionKind}
-use Rattle.oim_report.specs.declared.dimension_kind.DimensionKind.TheVariants.{Explicit, Typed}
-use Rattle.oim_report.specs.Json.{given, given_of, has_colon, any_member, is_unknown}
-use Rattle.oim_report.specs.FactMembers.{core_keys, defined_in, dimension_parts, parts_of}
-use Rattle.oim_report.specs.FactFits.{EntityFits, LanguageFits, UnitFits, MemberFits, DimensionFits, ValueFits, FactFits}
-use Rattle.oim_report.specs.FactObject.{put_text, option_spelled, option_unit_text, member_data, with_defined, dimension_members, value_data, with_decimals, fact_members}
-use Rattle.oim_report.specs.Sheet.{Sheet}
-use Rattle.oim_report.specs.ReadBack.{SpellsName, SpellsMeasures, SpellsMember, SpellsDimension, SpellsFact, SpellsValue, option_given, with_given, member_given, defined_given, dimensions_given, value_given, decimals_given, FactObjectHasParts, FactObjectIsPlain}
-use Rattle.oim_report.specs.code.TapeValues.{Ascends}
-use Rattle.oim_report.specs.PlainJson.{IsWhole, IsBefore, IsPlain, MembersArePlain, HasUtf8, MembersHaveUtf8}
+use Rattle.serde_json.specs.Data.{string, object, Members, no_members, put, Data, number, member, members_depth}
 use Rattle.oim_report.proofs.JsonTexts.{given_text}
 use Rattle.oim_report.proofs.WrittenTexts.{spelled_utf8, spelled_colon, plain_utf8, period_utf8, language_utf8, unit_utf8}
 use Rattle.oim_report.proofs.PutMembers.{ascends_put, defined_put, known_put, text_there, text_past, text_ascends, text_undefined, text_known, before_all, before_put}
@@ -254,30 +217,25 @@ parts_back sheet bs spelled f fits s =
 
 -- ---- The object of a written fact is plain JSON with UTF-8 strings and keys, at most two levels deep.
 
-record IsKept (d : Data) (n : ℕ) : Type 0 where
-  plain : IsPlain d
-  utf8 : HasUtf8 d
-  shallow : depth d ≤ n
+pub record AreKept (ms : Members) (n : ℕ) : Type 0 where
+  pub plain : MembersArePlain ms
+  pub utf8 : MembersHaveUtf8 ms
+  pub shallow : members_depth ms ≤ n
 
-record AreKept (ms : Members) (n : ℕ) : Type 0 where
-  plain : MembersArePlain ms
-  utf8 : MembersHaveUtf8 ms
-  shallow : members_depth ms ≤ n
-
-kept_more : (k : List ℕ) (d : Data) (ms : Members) (n : ℕ) → IsBefore k ms → IsUtf8 k → IsKept d n → AreKept ms n → AreKept (member k d ms) n
+pub kept_more : (k : List ℕ) (d : Data) (ms : Members) (n : ℕ) → IsBefore k ms → IsUtf8 k → IsPlainJson d n → AreKept ms n → AreKept (member k d ms) n
 kept_more k d ms n before utf8 here there = record {
   plain = (here.plain, before, there.plain);
   utf8 = (utf8, here.utf8, there.utf8);
   shallow = omega (arith, here.shallow, there.shallow);
 }
 
-kept_first : (k : List ℕ) (d : Data) (ms : Members) (n : ℕ) → AreKept (member k d ms) n → IsKept d n
+kept_first : (k : List ℕ) (d : Data) (ms : Members) (n : ℕ) → AreKept (member k d ms) n → IsPlainJson d n
 kept_first k d ms n h = record { plain = h.plain.0; utf8 = h.utf8.1; shallow = omega (arith, h.shallow) }
 
 kept_rest : (k : List ℕ) (d : Data) (ms : Members) (n : ℕ) → AreKept (member k d ms) n → AreKept ms n
 kept_rest k d ms n h = record { plain = h.plain.2; utf8 = h.utf8.2; shallow = omega (arith, h.shallow) }
 
-kept_put : (k : List ℕ) (d : Data) (ms : Members) (n : ℕ) → IsUtf8 k → IsKept d n → AreKept ms n → AreKept (put k d ms) n
+kept_put : (k : List ℕ) (d : Data) (ms : Members) (n : ℕ) → IsUtf8 k → IsPlainJson d n → AreKept ms n → AreKept (put k d ms) n
 kept_put k d no_members n utf8 here h = kept_more k d no_members n tt utf8 here h
 kept_put k d (member l e ms) n utf8 here h =
     elim (slice_cmp nat_cmp k l) as (λ o. slice_cmp nat_cmp k l ≡ o → AreKept (match_ordering o (member k d (member l e ms)) (member l d ms) (member l e (put k d ms))) n) [
@@ -286,17 +244,20 @@ kept_put k d (member l e ms) n utf8 here h =
       | Greater ↦ λ o. kept_more l e (put k d ms) n (before_put l k d ms (nat_list_cmp_total.antisymm l k ∙ ap ordering_reverse o) h.plain.1) h.utf8.0 (kept_first l e ms n h) (kept_put k d ms n utf8 here (kept_rest l e ms n h))
     ] refl
 
-none_kept : (n : ℕ) → AreKept no_members n
+pub none_kept : (n : ℕ) → AreKept no_members n
 none_kept n = record { plain = tt; utf8 = tt; shallow = omega arith }
 
-text_kept : (t : List ℕ) (n : ℕ) → IsUtf8 t → IsKept (string t) n
+pub text_kept : (t : List ℕ) (n : ℕ) → IsUtf8 t → IsPlainJson (string t) n
 text_kept t n utf8 = record { plain = tt; utf8 = utf8; shallow = omega arith }
+
+pub object_kept : (ms : Members) (n : ℕ) → AreKept ms n → IsPlainJson (object ms) (suc n)
+object_kept ms n are = record { plain = are.plain; utf8 = are.utf8; shallow = omega (arith, are.shallow) }
 
 kept_text : (k : List ℕ) (t : Option (List ℕ)) (ms : Members) (n : ℕ) → IsUtf8 k → IfSome t IsUtf8 → AreKept ms n → AreKept (put_text k t ms) n
 kept_text k None ms n utf8 here h = h
 kept_text k (Some t) ms n utf8 here h = kept_put k (string t) ms n utf8 (text_kept t n here) h
 
-member_kept : (bs : List Binding) (spelled : QName → List ℕ) (kind : DimensionKind) (m : Member) → MemberFits kind m → SpellsMember bs spelled m → IsKept (member_data spelled m) 0
+member_kept : (bs : List Binding) (spelled : QName → List ℕ) (kind : DimensionKind) (m : Member) → MemberFits kind m → SpellsMember bs spelled m → IsPlainJson (member_data spelled m) 0
 member_kept bs spelled Explicit (MemberName n) fits s = text_kept (spelled n) 0 (spelled_utf8 bs spelled n s fits.utf8)
 member_kept bs spelled Typed (MemberText t) fits s = text_kept t 0 fits
 member_kept bs spelled Typed NoMember fits s = record { plain = tt; utf8 = tt; shallow = omega arith }
@@ -304,7 +265,7 @@ member_kept bs spelled kind m fits s = absurd fits
 
 record IsKeptDimension (spelled : QName → List ℕ) (e : QName × Member) : Type 0 where
   key : IsUtf8 (spelled e.0)
-  member : IsKept (member_data spelled e.1) 0
+  member : IsPlainJson (member_data spelled e.1) 0
 
 defined_kept : (spelled : QName → List ℕ) (es : List (QName × Member)) (ms : Members) → All (IsKeptDimension spelled) es → AreKept ms 0 → AreKept (with_defined spelled es ms) 0
 defined_kept spelled [] ms w h = h
@@ -321,7 +282,7 @@ dimensions_kept spelled d h =
     (kept_text (codes "unit") (option_unit_text spelled d.unit) _ 0 (IsUtf8-are_ascii _ refl) h.unit
     (kept_put (codes "concept") (string (spelled d.concept)) no_members 0 (IsUtf8-are_ascii _ refl) (text_kept (spelled d.concept) 0 h.concept) (none_kept 0))))))
 
-value_kept : (bs : List Binding) (spelled : QName → List ℕ) (kind : ConceptKind) (v : Value) → ValueFits kind v → SpellsValue bs spelled v → IsKept (value_data spelled v) 1
+value_kept : (bs : List Binding) (spelled : QName → List ℕ) (kind : ConceptKind) (v : Value) → ValueFits kind v → SpellsValue bs spelled v → IsPlainJson (value_data spelled v) 1
 value_kept bs spelled kind Nil fits s = record { plain = tt; utf8 = tt; shallow = omega arith }
 value_kept bs spelled Numeric (Number units places) fits s = text_kept (plain units) 1 (plain_utf8 units fits.0)
 value_kept bs spelled Text (AText t) fits s = text_kept t 1 fits
@@ -332,7 +293,7 @@ few_whole : (d : ℤ) → is_finite_decimals d ≡ true → IsWhole (of_integer 
 few_whole (pos n) h = omega (arith, leb-true n (unsigned_abs MOST_DECIMALS) h)
 few_whole (negsuc n) h = omega (arith, leb-true (unsigned_abs (negsuc n)) (unsigned_abs MOST_DECIMALS) h)
 
-decimals_kept : (d : ℤ) → is_finite_decimals d ≡ true → IsKept (number (of_integer d)) 1
+decimals_kept : (d : ℤ) → is_finite_decimals d ≡ true → IsPlainJson (number (of_integer d)) 1
 decimals_kept d h = record { plain = few_whole d h; utf8 = tt; shallow = omega arith }
 
 with_decimals_kept : (spelled : QName → List ℕ) (kind : ConceptKind) (v : Value) (ms : Members) → ValueFits kind v → AreKept ms 1 → AreKept (with_decimals spelled v ms) 1
@@ -343,8 +304,6 @@ with_decimals_kept spelled kind v ms fits h = h
 pub fact_plain : FactObjectIsPlain
 fact_plain sheet bs spelled f fits s =
     let texts = has_texts (IsKeptDimension spelled) sheet bs spelled f fits s (λ e fit says. record { key = spelled_utf8 bs spelled e.0 says.name fit.name.utf8; member = member_kept bs spelled fit.kind e.1 fit.member says.member }) in
-    let ds = dimensions_kept spelled f.dimensions texts in
-    let of_dimensions : IsKept (object (dimension_members spelled f.dimensions)) 1 = record { plain = ds.plain; utf8 = ds.utf8; shallow = omega (arith, ds.shallow) } in
+    let of_dimensions = object_kept (dimension_members spelled f.dimensions) 0 (dimensions_kept spelled f.dimensions texts) in
     let of_value : AreKept (put (codes "value") (value_data spelled f.value) no_members) 1 = kept_put (codes "value") (value_data spelled f.value) no_members 1 (IsUtf8-are_ascii _ refl) (value_kept bs spelled fits.kind f.value fits.value s.value) (none_kept 1) in
-    let all : AreKept (fact_members spelled f) 1 = with_decimals_kept spelled fits.kind f.value _ fits.value (kept_put (codes "dimensions") (object (dimension_members spelled f.dimensions)) (put (codes "value") (value_data spelled f.value) no_members) 1 (IsUtf8-are_ascii _ refl) of_dimensions of_value) in
-    record { plain = all.plain; utf8 = all.utf8; shallow = omega (arith, all.shallow) }
+    object_kept (fact_members spelled f) 1 (with_decimals_kept spelled fits.kind f.value _ fits.value (kept_put (codes "dimensions") (object (dimension_members spelled f.dimensions)) (put (codes "value") (value_data spelled f.value) no_members) 1 (IsUtf8-are_ascii _ refl) of_dimensions of_value))

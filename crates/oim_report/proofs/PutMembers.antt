@@ -1,25 +1,6 @@
 -- The members of an object after a member is added.
-use Rattle.std.proofs.Common.{◌≡◌, ◌≢◌, ℕ, List, [], ◌∷◌, Bool, true, false, cond, Option, Some, None, refl, sym, ap, ◌∙◌, option_and_then, subst, option_map, Less, Equal, Greater, Ordering, is_eq, bytes_eq}
-use Rattle.std.specs.Prelude.{◌&&◌, ⊤}
-use Rattle.std.specs.Ordering.{nat_cmp, match_ordering, ordering_reverse}
-use Rattle.std.specs.Cmp.Lexicographic.{slice_cmp}
-use Rattle.std.specs.Str.{is_utf8}
-use Rattle.std.proofs.lemmas.Bool.{or_parts, or_from}
-use Rattle.std.proofs.lemmas.Cmp.{nat_list_cmp_total, tied_itself}
-use Rattle.std.proofs.lemmas.Map.Lookups.{exact_bytes}
-use Rattle.std.proofs.lemmas.Map.Text.{is_eq-slice_cmp}
+use Rattle.oim_report.proofs.Shared.{◌≡◌, ◌≢◌, ℕ, List, [], ◌∷◌, Bool, true, false, cond, Option, Some, None, refl, sym, ap, ◌∙◌, option_and_then, subst, option_map, Less, Equal, Greater, Ordering, is_eq, bytes_eq, ◌&&◌, nat_cmp, ⊤, match_ordering, ordering_reverse, slice_cmp, is_utf8, or_parts, or_from, nat_list_cmp_total, tied_itself, exact_bytes, is_eq-slice_cmp, Data, string, Members, no_members, member, put, get_member, of_json, of_members, get_member-put, get_member-put_other, put_text, Given, given, any_member, has_colon, is_unknown, defined_in, is_defined, IsBefore, with_given, Ascends, put_all}
 use Rattle.json.specs.Json as j
-use Rattle.serde_json.specs.Data.{Data, string, Members, no_members, member, put}
-use Rattle.serde_json.specs.Find.{get_member}
-use Rattle.serde_json.specs.Read.{of_json, of_members}
-use Rattle.serde_json.proofs.Views.{get_member-put, get_member-put_other}
-use Rattle.oim_report.specs.FactObject.{put_text}
-use Rattle.oim_report.specs.Json.{Given, given, any_member, has_colon, is_unknown}
-use Rattle.oim_report.specs.FactMembers.{defined_in, is_defined}
-use Rattle.oim_report.specs.PlainJson.{IsBefore}
-use Rattle.oim_report.specs.ReadBack.{with_given}
-use Rattle.oim_report.specs.code.TapeValues.{Ascends}
-use Rattle.oim_report.specs.Pieces.{put_all}
 use Rattle.oim_report.proofs.JoinedMembers.{plus}
 use Rattle.oim_report.proofs.Accepted.{and_then_some}
 

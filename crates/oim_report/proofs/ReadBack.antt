@@ -1,48 +1,9 @@
 -- If a fact fits a sheet and its names are spelled as in `SpellsFact`, each of its written parts is read back.
-use Rattle.std.specs.Prelude.{All, IsTrue, IfSome, option_and_then, option_map, ◌==◌, ◌&&◌, if◌then◌else◌}
-use Rattle.std.proofs.Common.{◌≡◌, ℕ, List, Some, None, refl, sym, ap, ◌∙◌, ◌≢◌, [], ◌∷◌, ◌++◌, length, true, false, not, cond, arith, ℤ, Bool, Option}
-use Rattle.std.specs.Result.{result_ok}
-use Rattle.std.specs.Str.{str_to_ascii_lowercase}
-use Rattle.std.proofs.lemmas.Bool.{cond-true, and_parts, and_from, or_from}
-use Rattle.std.specs.Char.{is_ascii_alphanumeric}
-use Rattle.std.specs.List.{list_all, list_any}
-use Rattle.std.specs.Ordering.{is_eq}
-use Rattle.std.specs.declared.cmp.Ordering.TheVariants.{Less, Equal, Greater}
-use Rattle.std.proofs.lemmas.Bool.Decides.{nat_tests}
-use Rattle.std.proofs.lemmas.List.Folds.{list_any-append}
+use Rattle.oim_report.proofs.Shared.{All, IsTrue, IfSome, option_and_then, option_map, ◌==◌, ◌&&◌, if◌then◌else◌, ◌≡◌, ℕ, List, Some, None, refl, sym, ap, ◌∙◌, ◌≢◌, [], ◌∷◌, ◌++◌, length, true, false, not, cond, arith, ℤ, Bool, Option, is_eq, Less, Equal, Greater, result_ok, str_to_ascii_lowercase, cond-true, and_parts, and_from, or_from, is_ascii_alphanumeric, list_all, list_any, nat_tests, list_any-append, QName, exact_name, name_cmp, Binding, Expands, filled_number, NumberForm, NumberDigits, Value, is_finite_decimals, IsShort, is_number, is_short, units_of, Nil, Number, AText, AName, short_numbers_denote, plain_reads_back, rises, IsPeriod, period_text, Measures, IsUnit, IsMeasure, HasMeasures, Spells, SpellsEach, is_mark, is_piece, is_unit_text, numerator_pieces, denominator_pieces, unit_text, pure_name, pure_alone, Member, Period, is_language, Forever, Instant, Duration, ConceptKind, text, SaysEntity, SaysPeriod, SaysUnit, SaysLanguage, SaysMembers, SaysValue, SaysNumber, FitsName, EntityFits, MeasuresFit, LanguageFits, DimensionFits, ValueFits, IsLanguageOf, option_spelled, option_unit_text, concept_kind, said_concept, said_entity, said_period, said_unit, said_language, said_members, said_value, side_of, unit_with, unit_of, text_said, Sheet, SpellsDimension, SpellsMeasures, SpellsName, SpellsValue, decimals_given, defined_given, option_given, value_given, Numeric, Text, Name}
 use Rattle.std.specs.FinMap as map
-use Rattle.oim_names.specs.QName.{QName, exact_name}
-use Rattle.oim_names.specs.Bindings.{Binding}
-use Rattle.oim_names.specs.Expansion.{Expands}
-use Rattle.oim_names.proofs.Spelling.{filled_number}
-use Rattle.oim_names.specs.declared.reason.Reason.TheVariants.{NumberForm, NumberDigits}
-use Rattle.oim_value.specs.declared.value.Value.{Value}
-use Rattle.oim_value.specs.ValueOrder.{name_cmp}
-use Rattle.oim_value.specs.Decimals.{is_finite_decimals}
-use Rattle.oim_value.specs.Number.{IsShort, is_number, is_short}
 use Rattle.oim_value.specs.Plain.{plain}
-use Rattle.oim_value.specs.Units.{units_of}
-use Rattle.oim_value.specs.declared.value.Value.TheVariants.{Nil, Number, Text as AText, Name as AName}
-use Rattle.oim_value.proofs.Denoted.{short_numbers_denote}
-use Rattle.oim_value.proofs.ShortLaws.{plain_reads_back}
-use Rattle.oim_dims.specs.DimensionSet.{rises}
-use Rattle.oim_dims.specs.Period.{IsPeriod, period_text}
-use Rattle.oim_dims.specs.Unit.{Measures, IsUnit, IsMeasure, HasMeasures, Spells, SpellsEach, is_mark, is_piece, is_unit_text, numerator_pieces, denominator_pieces, unit_text, pure_name, pure_alone}
-use Rattle.oim_dims.specs.declared.member.Member.{Member}
-use Rattle.oim_dims.specs.declared.period.Period.{Period}
-use Rattle.oim_dims.specs.Language.{is_language}
-use Rattle.oim_dims.specs.declared.period.Period.TheVariants.{Forever, Instant, Duration}
 use Rattle.oim_dims.proofs.Periods.{period_back}
 use Rattle.oim_dims.proofs.UnitText.{unit_back}
-use Rattle.oim_report.specs.declared.concept_kind.ConceptKind.{ConceptKind}
-use Rattle.oim_report.specs.Json.{text}
-use Rattle.oim_report.specs.Fact.{SaysEntity, SaysPeriod, SaysUnit, SaysLanguage, SaysMembers, SaysValue, SaysNumber}
-use Rattle.oim_report.specs.FactFits.{FitsName, EntityFits, MeasuresFit, LanguageFits, DimensionFits, ValueFits, IsLanguageOf}
-use Rattle.oim_report.specs.FactObject.{option_spelled, option_unit_text}
-use Rattle.oim_report.specs.Said.{concept_kind, said_concept, said_entity, said_period, said_unit, said_language, said_members, said_value, side_of, unit_with, unit_of, text_said}
-use Rattle.oim_report.specs.Sheet.{Sheet}
-use Rattle.oim_report.specs.ReadBack.{SpellsDimension, SpellsMeasures, SpellsName, SpellsValue, decimals_given, defined_given, option_given, value_given}
-use Rattle.oim_report.specs.declared.concept_kind.ConceptKind.TheVariants.{Numeric, Text, Name}
 use Rattle.oim_report.proofs.WrittenTexts.{expands, expands_entity, name_back, entity_back}
 use Rattle.oim_report.proofs.UnitSays.{side, spelled}
 

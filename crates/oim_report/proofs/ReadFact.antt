@@ -1,41 +1,6 @@
 -- Lists of keys and values after an entry is added.
-use Rattle.std.proofs.Common.{◌≡◌, ◌≢◌, ℕ, zero, suc, ◌<◌, length, get_or, List, [], ◌∷◌, refl, sym, subst, arith, true, false, ap, ◌∙◌, ◌||◌, Option, Some, None, Ok}
-use Rattle.std.specs.Prelude.{All, Any, Contains, if◌then◌else◌, option_and_then, option_map, ⊤, IfSome}
-use Rattle.std.specs.Ordering.{nat_cmp, match_ordering, is_eq}
-use Rattle.std.specs.Cmp.Lexicographic.{slice_cmp}
-use Rattle.std.specs.declared.cmp.Ordering.TheVariants.{Less, Equal, Greater}
-use Rattle.std.proofs.lemmas.List.Elements.{All-cons, All-head, All-tail, All-nil, All-weaker}
-use Rattle.std.proofs.lemmas.Map.Lookups.{exact_bytes}
-use Rattle.std.specs.List.{list_any, cons_option}
-use Rattle.std.proofs.lemmas.Bool.{and_parts, or_from}
+use Rattle.oim_report.proofs.Shared.{◌≡◌, ◌≢◌, ℕ, zero, suc, ◌<◌, length, get_or, List, [], ◌∷◌, refl, sym, subst, arith, true, false, ap, ◌∙◌, ◌||◌, Option, Some, None, Ok, All, Any, Contains, if◌then◌else◌, option_and_then, option_map, IfSome, nat_cmp, is_eq, Less, Equal, Greater, some_later, later_there, some_first, ⊤, match_ordering, slice_cmp, All-cons, All-head, All-tail, All-nil, All-weaker, exact_bytes, list_any, cons_option, and_parts, or_from, QName, exact_name, name_cmp, Binding, NameForm, UnboundPrefix, ReservedNamespace, Value, Nil, Member, NoMember, MemberText, MemberName, is_below, rises, with_member, IsPeriod, HasMoments, period_text, EndsAfterStart, Measures, Fact, Period, Forever, Given, is_absent, is_no_text, with_given, SpellsMember, SpellsDimension, member_given, defined_given, SpellsFact, dimensions_given, option_given, parts_given, value_given, FactObjectReadsBack, FormsAreAccepted, NamesAreAccepted, DimensionKind, Explicit, Typed, comes_again, named, SaysMember, SaysDimension, SaysFact, SaysDimensions, MemberFits, DimensionFits, UnitFits, MeasuresFit, FactFits, dimension_names, members_with, said_member, said_members, fact_of, fact_with, said_dimensions, Sheet, dimension_kind, ConceptKind, DimensionMembers, FactMembers, fact_parts, option_spelled, option_unit_text, fact_object, IsFree, fact_outcome}
 use Rattle.std.specs.FinMap as map
-use Rattle.oim_names.specs.QName.{QName, exact_name}
-use Rattle.oim_names.specs.Bindings.{Binding}
-use Rattle.oim_names.specs.declared.reason.Reason.TheVariants.{NameForm, UnboundPrefix, ReservedNamespace}
-use Rattle.oim_value.specs.ValueOrder.{name_cmp}
-use Rattle.oim_value.specs.declared.value.Value.{Value}
-use Rattle.oim_value.specs.declared.value.Value.TheVariants.{Nil}
-use Rattle.oim_dims.specs.declared.member.Member.{Member}
-use Rattle.oim_dims.specs.declared.member.Member.TheVariants.{Nil as NoMember, Text as MemberText, Name as MemberName}
-use Rattle.oim_dims.specs.DimensionSet.{is_below, rises, with_member}
-use Rattle.oim_dims.specs.Period.{IsPeriod, HasMoments, period_text, EndsAfterStart}
-use Rattle.oim_dims.specs.Unit.{Measures}
-use Rattle.oim_dims.specs.declared.fact.Fact.{Fact}
-use Rattle.oim_dims.specs.declared.period.Period.{Period}
-use Rattle.oim_dims.specs.declared.period.Period.TheVariants.{Forever}
-use Rattle.oim_report.specs.Json.{Given, is_absent, is_no_text}
-use Rattle.oim_report.specs.ReadBack.{with_given, SpellsMember, SpellsDimension, member_given, defined_given, SpellsFact, dimensions_given, option_given, parts_given, value_given, FactObjectReadsBack, FormsAreAccepted, NamesAreAccepted}
-use Rattle.oim_report.specs.declared.dimension_kind.DimensionKind.{DimensionKind}
-use Rattle.oim_report.specs.declared.dimension_kind.DimensionKind.TheVariants.{Explicit, Typed}
-use Rattle.oim_report.specs.Names.{comes_again, named}
-use Rattle.oim_report.specs.Fact.{SaysMember, SaysDimension, SaysFact, SaysDimensions}
-use Rattle.oim_report.specs.FactFits.{MemberFits, DimensionFits, UnitFits, MeasuresFit, FactFits}
-use Rattle.oim_report.specs.Said.{dimension_names, members_with, said_member, said_members, fact_of, fact_with, said_dimensions}
-use Rattle.oim_report.specs.Sheet.{Sheet, dimension_kind}
-use Rattle.oim_report.specs.declared.concept_kind.ConceptKind.{ConceptKind}
-use Rattle.oim_report.specs.FactMembers.{DimensionMembers, FactMembers, fact_parts}
-use Rattle.oim_report.specs.FactObject.{option_spelled, option_unit_text, fact_object}
-use Rattle.oim_report.specs.Outcome.{IsFree, fact_outcome}
 use Rattle.oim_report.proofs.ReadBack.{DimensionsReadBack, ConceptReadsBack, EntityReadsBack, PeriodReadsBack, UnitReadsBack, LanguageReadsBack, MembersReadBack, ValueReadsBack, concept_back, entity_part_back, period_part_back, language_back, unit_part_back, value_part_back}
 use Rattle.oim_report.proofs.WrittenTexts.{expands, name_back, spelled_apart}
 use Rattle.oim_report.proofs.MemberOrder.{either_first, below_apart, each_added, all_added}
@@ -55,19 +20,13 @@ module _ (P : Keyed → Type 0) where
         | Greater ↦ λ o. All-cons P d (with_given key g ds) (All-head P d ds rest) (All-with_given key g ds here (All-tail P d ds rest))
       ] refl
 
-  pub Any-head : (d : Keyed) (ds : List Keyed) → P d → Any P (d ∷ ds)
-  Any-head d ds h = (0, d, omega arith, refl, h)
-
-  pub Any-tail : (d : Keyed) (ds : List Keyed) → Any P ds → Any P (d ∷ ds)
-  Any-tail d ds h = (suc h.0, h.1, omega (arith, h.2), h.3, h.4)
-
   pub Any-with_given : (key : List ℕ) (g : Given) (ds : List Keyed) → P (key, g) → Any P (with_given key g ds)
-  Any-with_given key g [] here = Any-head (key, g) [] here
+  Any-with_given key g [] here = some_first P (key, g) [] here
   Any-with_given key g (d ∷ ds) here =
       elim (slice_cmp nat_cmp key d.0) as (λ o. slice_cmp nat_cmp key d.0 ≡ o → Any P (match_ordering o ((key, g) ∷ d ∷ ds) ((d.0, g) ∷ ds) (d ∷ with_given key g ds))) [
-        | Less ↦ λ o. Any-head (key, g) (d ∷ ds) here
-        | Equal ↦ λ o. Any-head (d.0, g) ds (subst (λ k. P (k, g)) (exact_bytes key d.0 o) here)
-        | Greater ↦ λ o. Any-tail d (with_given key g ds) (Any-with_given key g ds here)
+        | Less ↦ λ o. some_first P (key, g) (d ∷ ds) here
+        | Equal ↦ λ o. some_first P (d.0, g) ds (subst (λ k. P (k, g)) (exact_bytes key d.0 o) here)
+        | Greater ↦ λ o. some_later P d (with_given key g ds) (Any-with_given key g ds here)
       ] refl
 
   either_index : (d : Keyed) (ds : List Keyed) (k : ℕ) (x : Keyed) → k < length (d ∷ ds) → get_or (d ∷ ds) k x ≡ x → P x → (Q : Type 0) → (P d → Q) → (Any P ds → Q) → Q
@@ -78,12 +37,12 @@ module _ (P : Keyed → Type 0) where
   Any-kept key g [] fresh h = absurd (omega (arith, h.2))
   Any-kept key g (d ∷ ds) fresh h =
       elim (slice_cmp nat_cmp key d.0) as (λ o. slice_cmp nat_cmp key d.0 ≡ o → Any P (match_ordering o ((key, g) ∷ d ∷ ds) ((d.0, g) ∷ ds) (d ∷ with_given key g ds))) [
-        | Less ↦ λ o. Any-tail (key, g) (d ∷ ds) h
+        | Less ↦ λ o. some_later P (key, g) (d ∷ ds) h
         | Equal ↦ λ o. absurd (All-head (λ (d : Keyed). d.0 ≢ key) d ds fresh (sym (exact_bytes key d.0 o)))
         | Greater ↦ λ o.
             either_index d ds h.0 h.1 h.2 h.3 h.4 (Any P (d ∷ with_given key g ds))
-            (λ here. Any-head d (with_given key g ds) here)
-            (λ later. Any-tail d (with_given key g ds) (Any-kept key g ds (All-tail (λ (d : Keyed). d.0 ≢ key) d ds fresh) later))
+            (λ here. some_first P d (with_given key g ds) here)
+            (λ later. some_later P d (with_given key g ds) (Any-kept key g ds (All-tail (λ (d : Keyed). d.0 ≢ key) d ds fresh) later))
       ] refl
 
 -- ---- The taxonomy-defined dimensions of a written fact are read back, with their members.
@@ -239,15 +198,12 @@ module _ (sheet : Sheet) (bs : List Binding) where
     abbrev Says : List Entry → Keyed → Type 0
     Says es d = (e : Entry) × Contains es e × SaysDimension sheet bs d e
 
-    later : (e f : Entry) (es : List Entry) → Contains es f → Contains (e ∷ es) f
-    later e f es h = (suc h.0, omega (arith, h.1), h.2)
-
     each_says : (es : List Entry) → All IsWritten es → All (Says es) (defined_given spelled es)
     each_says [] w = All-nil (Says [])
     each_says (e ∷ es) w =
         All-with_given (Says (e ∷ es)) (spelled e.0) (member_given spelled e.1) (defined_given spelled es)
         (e, (0, omega arith, refl), says_dimension e (All-head IsWritten e es w))
-        (All-weaker (Says es) (Says (e ∷ es)) (λ d s. (s.0, later e s.0 es s.1, s.2)) (defined_given spelled es) (each_says es (All-tail IsWritten e es w)))
+        (All-weaker (Says es) (Says (e ∷ es)) (λ d s. (s.0, later_there e es s.0 s.1, s.2)) (defined_given spelled es) (each_says es (All-tail IsWritten e es w)))
 
     abbrev IsSaid : List Keyed → Entry → Type 0
     IsSaid ds e = Any (λ (d : Keyed). SaysDimension sheet bs d e) ds

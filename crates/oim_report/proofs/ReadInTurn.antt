@@ -1,23 +1,8 @@
 -- The entries of `namespaces` are bound one after another. Since their keys ascend, no prefix is bound twice.
-use Rattle.std.proofs.Common.{◌≡◌, ℕ, List, [], ◌∷◌, ◌++◌, Bool, true, false, cond, not, ◌||◌, Option, Some, None, string_bytes, string_cmp, String, Global, Less, bytes_eq, append_assoc, append-nil, refl, sym, ap, ◌∙◌, suc, ◌<◌, ◌≤◌, length, drop, get_or}
-use Rattle.std.specs.Option.{option_map, option_map_or, unwrap_or}
-use Rattle.std.specs.List.{find, AllByRecursion}
+use Rattle.oim_report.proofs.Shared.{◌≡◌, ℕ, List, [], ◌∷◌, ◌++◌, Bool, true, false, cond, not, ◌||◌, Option, Some, None, string_bytes, string_cmp, String, Global, Less, bytes_eq, append_assoc, append-nil, refl, sym, ap, ◌∙◌, suc, ◌<◌, ◌≤◌, length, drop, get_or, option_map, unwrap_or, find, IsSome, option_and_then, option_map_or, AllByRecursion, keys_of, drop_all, Parts, is_part, Binding, bound, uri_of, is_refused_binding, Level, Members, no_members, member, Items, no_items, item, view, members_view, items_view, Entry, any_in, any_member, members, given, text_of, Given, binds_nothing, bindings_in, declarations, is_allowed_duplicates, said_level, said_reference, said_references}
 use Rattle.std.specs.List.Sorted.{IsStrictlySortedBy}
-use Rattle.std.specs.Map.{keys_of}
-use Rattle.std.specs.Prelude.{IsSome, option_and_then}
 use Rattle.std.proofs.Math.Seq.{drop-cons}
-use Rattle.std.proofs.lemmas.List.{drop_all}
-use Rattle.url.specs.Parts.{Parts}
-use Rattle.oim_names.specs.QName.{is_part}
-use Rattle.oim_names.specs.Bindings.{Binding, bound, uri_of, is_refused_binding}
-use Rattle.oim_value.specs.declared.level.Level.{Level}
-use Rattle.serde_json.specs.Data.{Members, no_members, member, Items, no_items, item}
-use Rattle.serde_json.specs.View.{view, members_view, items_view}
-use Rattle.serde_json.proofs.Views.{Entry}
 use Rattle.serde_json.specs.declared.value.Value.{Value}
-use Rattle.oim_report.specs.Json.{any_in, any_member, members, given, text_of, Given}
-use Rattle.oim_report.specs.Namespaces.{binds_nothing, bindings_in}
-use Rattle.oim_report.specs.Info.{declarations, is_allowed_duplicates, said_level, said_reference, said_references}
 use Rattle.oim_report.proofs.PutMembers.{other_key}
 
 abbrev pub bound_step : List Binding → List ℕ → Option (List ℕ) → (List Binding → Option (List Binding)) → Option (List Binding)

@@ -1,23 +1,10 @@
 -- The strings and the keys of a JSON value that was read from UTF-8 are UTF-8.
-use Rattle.std.proofs.Common.{◌≡◌, ℕ, zero, suc, List, [], ◌∷◌, ◌++◌, length, Bool, true, false, cond, ◌==◌, Option, Some, None, option_map, option_and_then, refl, sym, subst, arith, Less, Equal, Greater}
-use Rattle.std.specs.Prelude.{IsUtf8, ⊤}
-use Rattle.std.specs.Ordering.{nat_cmp, match_ordering}
-use Rattle.std.specs.Cmp.Lexicographic.{slice_cmp}
-use Rattle.std.specs.Str.{is_utf8}
-use Rattle.std.specs.declared.cmp.Ordering.{Ordering}
-use Rattle.std.proofs.lemmas.Bool.{eqb-true}
-use Rattle.std.proofs.lemmas.List.{append_assoc}
-use Rattle.std.proofs.lemmas.Str.{IsUtf8-from_is_utf8}
-use Rattle.json.specs.Token.{Token}
+use Rattle.oim_report.proofs.Shared.{◌≡◌, ℕ, zero, suc, List, [], ◌∷◌, ◌++◌, length, Bool, true, false, cond, ◌==◌, Option, Some, None, option_map, option_and_then, refl, sym, subst, arith, Less, Equal, Greater, IsUtf8, nat_cmp, Ordering, eqb-true, append_assoc, ⊤, match_ordering, slice_cmp, is_utf8, IsUtf8-from_is_utf8, Token, Data, item, Members, no_members, member, put, number, of_json, of_items, of_members, number_of, read, max_depth, json_text, without_mark, HasUtf8, ItemsHaveUtf8, MembersHaveUtf8, ReadHasUtf8}
 use Rattle.json.specs.Text.{content, plain}
 use Rattle.json.specs.Word.{after_number, ends_word, is_operator, is_space, head, number_before, word}
 use Rattle.json.specs.Lex.{Lexeme, token, comma, colon, Class, quote, backslash, operator, space, other, class, operator_lexeme, string_token, Mode, between, in_word, in_string, in_escape, lex_byte, lex, Place, fresh, after_value, after_comma, after_key, begins_colon, may_begin, may_close, if_allowed, place_token, punctuate, tokens}
 use Rattle.json.specs.Json as json
 use Rattle.json.specs.Json.{Parse, parse_map, after_end_array, read_key, items_step, members_step, items, members, value_with, value, if_last}
-use Rattle.serde_json.specs.Data.{Data, item, Members, no_members, member, put, number}
-use Rattle.serde_json.specs.Read.{of_json, of_items, of_members, number_of, read, max_depth}
-use Rattle.oim_report.specs.Json.{json_text, without_mark}
-use Rattle.oim_report.specs.PlainJson.{HasUtf8, ItemsHaveUtf8, MembersHaveUtf8, ReadHasUtf8}
 use Rattle.oim_report.proofs.StringsUtf8.{IsUtf8Behind, content_utf8}
 use Rattle.oim_report.proofs.CutUtf8.{both_utf8}
 

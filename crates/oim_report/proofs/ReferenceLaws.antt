@@ -1,18 +1,10 @@
 -- The text of an http or https URL parses as that URL. A kept text stays the same if it is kept again without a base URL.
 -- The kept text of an accepted reference is accepted, and the kept text of a UTF-8 reference is UTF-8.
-use Rattle.std.proofs.Common.{◌≡◌, ℕ, ⊎_elim, Bool, true, false, not, List, codes, bytes_eq, Option, Some, None, Ok, Err, refl, sym, ap, ◌∙◌, subst}
-use Rattle.std.specs.Option.{option_map_or}
-use Rattle.std.specs.Str.{is_utf8, IsUtf8}
-use Rattle.std.proofs.lemmas.Bool.{cond-true, cond-false, cases_Bool, and_parts, and_from, cond_both, or_cases, not-false}
-use Rattle.std.proofs.lemmas.Slice.Eq.{bytes_eq-Decides}
-use Rattle.std.proofs.lemmas.Str.{is_utf8-from_IsUtf8}
+use Rattle.oim_report.proofs.Shared.{◌≡◌, ℕ, ⊎_elim, Bool, true, false, not, List, codes, bytes_eq, Option, Some, None, Ok, Err, refl, sym, ap, ◌∙◌, subst, IsUtf8, option_map_or, is_utf8, cond-true, cond-false, cases_Bool, and_parts, and_from, cond_both, or_cases, not-false, bytes_eq-Decides, is_utf8-from_IsUtf8, Parts, serialize, kind_of, IsValid, is_web, web_url, is_web_text, web_text, kept_by, kept, is_within_limit, is_text_within_limit, is_reference_refused, KeptIsKept, KeptIsAccepted, KeptIsUtf8, bytes_eq-refl}
 use Rattle.url.specs.Parser.{Parsed, parse_url}
-use Rattle.url.specs.Parts.{Parts, serialize, kind_of, IsValid}
 use Rattle.url.specs.Scheme.{scheme_type, default_port}
 use Rattle.url.specs.declared.scheme.SchemeType.TheVariants.{SpecialNotFile}
 use Rattle.url.proofs.Theorems.{parse_url-serialize_special}
-use Rattle.oim_report.specs.References.{is_web, web_url, is_web_text, web_text, kept_by, kept, is_within_limit, is_text_within_limit, is_reference_refused, KeptIsKept, KeptIsAccepted, KeptIsUtf8}
-use Rattle.oim_names.proofs.Bytes.{bytes_eq-refl}
 
 http_kind : scheme_type (codes "http") ≡ SpecialNotFile
 unfolding scheme_type default_port

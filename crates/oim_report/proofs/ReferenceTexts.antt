@@ -1,15 +1,5 @@
 -- The references of an accepted report are kept texts.
-use Rattle.std.proofs.Common.{◌≡◌, ℕ, List, [], ◌∷◌, Bool, true, false, cond, Option, Some, None, refl, sym, ap, subst, ◌∙◌, arith}
-use Rattle.std.proofs.lemmas.List.Elements.{All-cons}
-use Rattle.std.specs.Prelude.{ℤ, All, option_and_then}
-use Rattle.std.specs.Option.{option_map, option_map_or}
-use Rattle.std.specs.Str.{is_utf8}
-use Rattle.serde_json.specs.Data.{Data, number, string, Items, no_items, item}
-use Rattle.serde_json.specs.Find.{as_integer}
-use Rattle.url.specs.Parts.{Parts}
-use Rattle.oim_report.specs.Info.{accepted_reference, base_url_said, references_said, said_reference, said_references, taxonomy_of}
-use Rattle.oim_report.specs.Json.{text, whole, other, given, text_of}
-use Rattle.oim_report.specs.References.{IsKeptReference, is_reference_refused, kept}
+use Rattle.oim_report.proofs.Shared.{◌≡◌, ℕ, List, [], ◌∷◌, Bool, true, false, cond, Option, Some, None, refl, sym, ap, subst, ◌∙◌, arith, ℤ, All, option_and_then, option_map, All-cons, option_map_or, is_utf8, Data, number, string, Items, no_items, item, as_integer, Parts, accepted_reference, base_url_said, references_said, said_reference, said_references, taxonomy_of, text, whole, other, given, text_of, IsKeptReference, is_reference_refused, kept}
 use Rattle.oim_report.proofs.ReferenceLaws.{kept_again, kept_limit, kept_utf8}
 
 no_text : (o : Option ℤ) (t : List ℕ) → text_of (option_map_or whole o other) ≡ Some t → is_utf8 t ≡ true

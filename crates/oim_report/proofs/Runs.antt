@@ -1,26 +1,6 @@
 -- The level of sorted facts, computed in one loop.
-use Rattle.std.proofs.Common.{◌≡◌, Bool, true, false, cond, not, ◌&&◌, ◌||◌, List, [], ◌∷◌, ◌++◌, append_assoc, refl, sym, ap, subst, ◌∙◌}
-use Rattle.std.specs.Prelude.{Option, if◌then◌else◌}
-use Rattle.std.specs.List.{list_all}
-use Rattle.std.specs.Cmp.{IsTotalOrder, alike_right, tied_itself}
-use Rattle.std.specs.Ordering.{is_eq, is_gt, ord_max, ordering_then}
-use Rattle.std.specs.declared.cmp.Ordering.{Ordering}
-use Rattle.std.specs.declared.cmp.Ordering.TheVariants.{Less, Equal, Greater}
-use Rattle.std.proofs.lemmas.Bool.{and_parts, and_from, not-true}
-use Rattle.std.proofs.lemmas.List.Folds.{list_all-append}
-use Rattle.std.proofs.Math.Bool.{and-false, and-true}
-use Rattle.oim_value.specs.Level.{level_cmp}
-use Rattle.oim_value.specs.ValueOrder.{value_cmp}
-use Rattle.oim_value.specs.declared.interval.Interval.{Interval}
-use Rattle.oim_value.specs.declared.level.Level.{Level}
-use Rattle.oim_value.specs.declared.level.Level.TheVariants.{Unique, Complete, Consistent, All as AllLevel}
-use Rattle.oim_value.proofs.ValueOrders.{value_cmp_self, value_cmp_total}
-use Rattle.oim_dims.specs.DimensionSet.{DimensionSet}
-use Rattle.oim_dims.specs.FactOrder.{dimensions_cmp, fact_cmp}
-use Rattle.oim_dims.specs.declared.fact.Fact.{Fact}
-use Rattle.oim_report.specs.code.Beside.{both_common, both_meet, interval_at, level_beside}
+use Rattle.oim_report.proofs.Shared.{◌≡◌, Bool, true, false, cond, not, ◌&&◌, ◌||◌, List, [], ◌∷◌, ◌++◌, append_assoc, refl, sym, ap, subst, ◌∙◌, Option, if◌then◌else◌, is_eq, is_gt, Ordering, Less, Equal, Greater, list_all, IsTotalOrder, alike_right, tied_itself, ord_max, ordering_then, and_parts, and_from, not-true, list_all-append, and-false, and-true, level_cmp, value_cmp, Interval, Level, Unique, Complete, Consistent, AllLevel, value_cmp_self, value_cmp_total, DimensionSet, dimensions_cmp, fact_cmp, Fact, both_common, both_meet, interval_at, level_beside, dimensions_cmp_total, fact_cmp_exact}
 use Rattle.oim_report.specs.Duplicates.{allows, allows_each, allows_values, are_duplicates, level_of}
-use Rattle.oim_dims.proofs.Orders.{dimensions_cmp_total, fact_cmp_exact}
 use Rattle.oim_report.proofs.Pairs.{allows_each-push, complete_are_consistent, level_of_is, strictest, unique_are_complete}
 use Rattle.oim_report.proofs.ValuesMeet.{both_meet-both_common, lesser_meets, values_meet_self, never}
 

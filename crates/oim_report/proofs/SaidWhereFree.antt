@@ -1,32 +1,7 @@
 -- A fact object has a valid form and denotes a fact exactly if no condition applies to it.
-use Rattle.std.proofs.Common.{◌≡◌, ℕ, List, [], ◌++◌, map, Bool, true, false, not, ◌||◌, ◌&&◌, Ok, refl, sym, ap, subst, ◌∙◌, Option, Some, None, codes, if◌then◌else◌, is_none, is_some, option_and_then, option_map}
-use Rattle.std.specs.Option.{option_map_or, option_to_list}
-use Rattle.std.specs.List.{filter_map, flat_map, list_any}
+use Rattle.oim_report.proofs.Shared.{◌≡◌, ℕ, List, [], ◌++◌, map, Bool, true, false, not, ◌||◌, ◌&&◌, Ok, refl, sym, ap, subst, ◌∙◌, Option, Some, None, codes, if◌then◌else◌, is_none, is_some, option_and_then, option_map, option_to_list, filter_map, flat_map, not-false, or_parts, and_right, option_map_or, list_any, Binding, Spelled, a_name, an_entity, Reason, MemberForm, UnknownMember, Links, Notes, DimensionsMissing, NameForm, UnboundPrefix, ReservedNamespace, MissingConcept, UnknownConcept, UnknownDimension, DimensionValue, PeriodForm, PeriodOrder, UnitForm, UnitOnOther, LanguageForm, LanguageOnNumeric, ValueForm, NumberForm, NumberDigits, DecimalsForm, DecimalsRange, DecimalsOnOther, is_finite_decimals, is_number, is_short, Value, DimensionSet, is_language, is_unit_text, Fact, Data, Members, object, as_object, get_member, ConceptKind, Numeric, Text, Name, given_of, is_absent, is_no_object, members, text_of, comes_again, named, names_refusal, least, FactsAreSaid, IsFree, fact_or, fact_outcome, DimensionMembers, FactMembers, HasForm, defined_members, dimension_parts, fact_parts, parts_of, concept_kind, fact_of, fact_with, said_concept, said_dimensions, said_fact, said_members, said_value, value_with, Sheet, same_concept_kind}
 use Rattle.std.specs.FinMap as map_of
-use Rattle.std.proofs.lemmas.Bool.{or_parts, and_right}
-use Rattle.oim_names.specs.Bindings.{Binding}
-use Rattle.oim_names.specs.Expansion.{Spelled, a_name, an_entity}
-use Rattle.oim_names.specs.declared.reason.Reason.{Reason}
-use Rattle.oim_names.specs.declared.reason.Reason.TheVariants.{MemberForm, UnknownMember, Links, Notes, DimensionsMissing, NameForm, UnboundPrefix, ReservedNamespace, MissingConcept, UnknownConcept, UnknownDimension, DimensionValue, PeriodForm, PeriodOrder, UnitForm, UnitOnOther, LanguageForm, LanguageOnNumeric, ValueForm, NumberForm, NumberDigits, DecimalsForm, DecimalsRange, DecimalsOnOther}
-use Rattle.oim_value.specs.Decimals.{is_finite_decimals}
-use Rattle.oim_value.specs.Number.{is_number, is_short}
-use Rattle.oim_value.specs.declared.value.Value.{Value}
-use Rattle.oim_dims.specs.DimensionSet.{DimensionSet}
-use Rattle.oim_dims.specs.Language.{is_language}
-use Rattle.oim_dims.specs.Unit.{is_unit_text}
-use Rattle.oim_dims.specs.declared.fact.Fact.{Fact}
-use Rattle.serde_json.specs.Data.{Data, Members, object}
-use Rattle.serde_json.specs.Find.{as_object, get_member}
-use Rattle.oim_report.specs.declared.concept_kind.ConceptKind.{ConceptKind}
-use Rattle.oim_report.specs.declared.concept_kind.ConceptKind.TheVariants.{Numeric, Text, Name}
 use Rattle.oim_report.specs.Holds.{as_text, holds, holds_with, is_kind, is_some_and, lacks_moment, names, no_text, pieces, runs_backward}
-use Rattle.oim_report.specs.Json.{given_of, is_absent, is_no_object, members, text_of}
-use Rattle.oim_report.specs.Names.{comes_again, named, names_refusal}
-use Rattle.oim_report.specs.Least.{least}
-use Rattle.oim_report.specs.Outcome.{FactsAreSaid, IsFree, fact_or, fact_outcome}
-use Rattle.oim_report.specs.FactMembers.{DimensionMembers, FactMembers, HasForm, defined_members, dimension_parts, fact_parts, parts_of}
-use Rattle.oim_report.specs.Said.{concept_kind, fact_of, fact_with, said_concept, said_dimensions, said_fact, said_members, said_value, value_with}
-use Rattle.oim_report.specs.Sheet.{Sheet, same_concept_kind}
 use Rattle.oim_report.proofs.Accepted.{EachSays, IsSaid, and_then_some, is_said, map_some}
 use Rattle.oim_report.proofs.FreeMembers.{ConceptFree, ConceptSaid, DecimalsFree, EntityFree, LanguageFree, MembersFree, PeriodFree, UnitFree, ValueFree, concept_free, concept_said, decimals_free, decimals_said, entity_free, entity_said, is_misfit, is_misplaced, language_free, language_said, members_free, members_said, names_in, period_free, period_said, spelled_by, unit_free, unit_said, value_free, value_said}
 use Rattle.oim_report.proofs.LeastOf.{none_is}
@@ -62,7 +37,7 @@ parts_free sheet bs p ds xs f same is =
       decimals = decimals_free is.kind p.decimals d.0 d.1;
     }
 
-together : (sheet : Sheet) (bs : List Binding) (kind : ConceptKind) (ds : DimensionMembers) (d : DimensionSet) → EachSays sheet bs kind ds d → said_dimensions sheet bs kind ds ≡ Some d
+pub together : (sheet : Sheet) (bs : List Binding) (kind : ConceptKind) (ds : DimensionMembers) (d : DimensionSet) → EachSays sheet bs kind ds d → said_dimensions sheet bs kind ds ≡ Some d
 together sheet bs kind ds d each = rw (each.concept, each.entity, each.period, each.unit, each.language, each.members) refl
 
 with_value : (sheet : Sheet) (bs : List Binding) (kind : ConceptKind) (p : FactMembers) (ds : DimensionMembers) (d : DimensionSet) (v : Value) → concept_kind sheet bs ds.concept ≡ Some kind → said_dimensions sheet bs kind ds ≡ Some d → said_value bs kind p.value p.decimals ≡ Some v → fact_of sheet bs p ds ≡ Some (record { dimensions = d; value = v })
@@ -83,10 +58,6 @@ parts_said sheet bs p ds xs same c free =
     (record { dimensions = d; value = v.0 }, with_value sheet bs c.kind p ds d v.0 c.listed (together sheet bs c.kind ds d each) value)
 
 -- ---- tests
-
-was_true : (b : Bool) → not b ≡ false → b ≡ true
-was_true true e = refl
-was_true false e = absurd (cc)
 
 is_there : (o : Option Data) (ms : Members) → option_and_then as_object o ≡ Some ms → is_none o ≡ false
 is_there None ms is = absurd (cc)
@@ -306,7 +277,7 @@ module _ (sheet : Sheet) (bs : List Binding) (fms ms : Members) where
           known = known.0;
           known_inside = known.1;
           unlinked = free Links;
-          unnoted = was_true (is_absent ds.note) (sym (there_same (at (codes "noteId"))) ∙ free Notes);
+          unnoted = not-false (is_absent ds.note) (sym (there_same (at (codes "noteId"))) ∙ free Notes);
         }
 
 -- ---- a fact object that denotes a fact

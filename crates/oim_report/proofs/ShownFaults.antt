@@ -1,40 +1,11 @@
 -- The test for repeated names, while a list of names is read.
-use Rattle.std.proofs.Common.{◌≡◌, ◌≢◌, ◌⊎◌, inl, inr, Result, Ok, Err, ℕ, List, [], ◌∷◌, Bool, true, false, cond, ◌||◌, refl, sym, ap, ◌∙◌, map, not, ◌&&◌, ◌++◌}
-use Rattle.std.specs.Prelude.{Option, Some, None, if◌then◌else◌, is_some, IfErr, codes, option_and_then, option_map, IfOk}
-use Rattle.std.specs.FinMap.{FinMap, get-empty, get-insert}
-use Rattle.std.specs.List.{list_any, cons_option, filter_map, filter, find, flat_map}
-use Rattle.std.specs.Ordering.{is_eq}
-use Rattle.std.specs.Result.{result_ok}
-use Rattle.std.specs.Option.{option_map_or, option_or, option_to_list, unwrap_or}
-use Rattle.std.specs.Str.{IsUtf8}
-use Rattle.std.proofs.lemmas.List.Folds.{find-append}
-use Rattle.std.proofs.lemmas.Str.{is_utf8-from_IsUtf8}
+use Rattle.oim_report.proofs.Shared.{◌≡◌, ◌≢◌, ◌⊎◌, inl, inr, Result, Ok, Err, ℕ, List, [], ◌∷◌, Bool, true, false, cond, ◌||◌, refl, sym, ap, ◌∙◌, map, not, ◌&&◌, ◌++◌, Option, Some, None, if◌then◌else◌, is_some, IfErr, codes, option_and_then, option_map, IfOk, filter_map, filter, find, flat_map, is_eq, option_to_list, unwrap_or, IsUtf8, FinMap, get-empty, get-insert, list_any, cons_option, result_ok, option_map_or, option_or, find-append, is_utf8-from_IsUtf8, QName, is_name, name_cmp, Binding, name_refusal, Spelled, refuses, Expands, a_name, an_entity, Reason, OutOfMemory, Feature, MemberForm, UnknownMember, Namespace, named_kept, denominator_pieces, is_unit_text, numerator_pieces, Data, Items, no_items, item, Members, no_members, member, comes_again, named, refuses_some, DimensionKind, Explicit, defined_name, misdeclared, first_defined, names_at, names_in, names_with, defined_members, is_defined, bindings_of, features_of, info, is_allowed_duplicates, namespaces_of, any_in, any_member, entries, members, has_colon, binds_nothing, Name, Part, Nothing}
 use Rattle.std.specs.FinMap as map
-use Rattle.oim_names.specs.QName.{QName, is_name}
-use Rattle.oim_names.specs.Bindings.{Binding}
-use Rattle.oim_names.specs.Expansion.{name_refusal, Spelled, refuses, Expands, a_name, an_entity}
-use Rattle.oim_names.specs.declared.reason.Reason.{Reason}
-use Rattle.oim_names.specs.declared.reason.Reason.TheVariants.{OutOfMemory, Feature, MemberForm, UnknownMember, Namespace}
-use Rattle.oim_names.proofs.Refusals.{named_kept}
-use Rattle.oim_value.specs.ValueOrder.{name_cmp}
-use Rattle.oim_dims.specs.Unit.{denominator_pieces, is_unit_text, numerator_pieces}
 use Rattle.oim_dims.proofs.Rising.{same_back}
 use Rattle.oim_dims.proofs.FirstFound.{some_found}
-use Rattle.serde_json.specs.Data.{Data, Items, no_items, item, Members, no_members, member}
-use Rattle.oim_report.specs.Names.{comes_again, named, refuses_some}
-use Rattle.oim_report.specs.declared.dimension_kind.DimensionKind.{DimensionKind}
-use Rattle.oim_report.specs.declared.dimension_kind.DimensionKind.TheVariants.{Explicit}
 use Rattle.oim_report.specs.Shown.{repeated, Shown, document_part, document_shown, entry, first_item, name, nothing, value, value_or_nothing, when, beside_first, first_shown, seen}
-use Rattle.oim_report.specs.code.MemberTests.{defined_name, misdeclared, first_defined, names_at, names_in, names_with}
-use Rattle.oim_report.specs.FactMembers.{defined_members, is_defined}
 use Rattle.oim_report.specs.Holds.{any_item, declares_no_level, document_holds, concept, explicit_text, is_misfit, is_some_and, names, pieces, text_at, value_text}
-use Rattle.oim_report.specs.Info.{bindings_of, features_of, info, is_allowed_duplicates, namespaces_of}
-use Rattle.oim_report.specs.Json.{any_in, any_member, entries, members, has_colon}
-use Rattle.oim_report.specs.Namespaces.{binds_nothing}
-use Rattle.oim_report.specs.declared.concept_kind.ConceptKind.TheVariants.{Name}
 use Rattle.oim_report.specs.Sheet.{Sheet, same_concept_kind, key_names, sheet_concepts, sheet_dimensions, sheet_holds, sheet_names, sheet_namespaces}
-use Rattle.oim_report.specs.declared.part.Part.{Part}
-use Rattle.oim_report.specs.declared.part.Part.TheVariants.{Nothing}
 use Rattle.oim_report.specs.Least.{least}
 use Rattle.oim_report.proofs.Naming.{stands, expanded}
 use Rattle.oim_report.proofs.SheetEntries.{name_total}
@@ -175,13 +146,9 @@ module _ (bs : List Binding) (m : Names) (k : List ℕ) (d : Data) (es : List En
 
 -- ---- The first part to which a condition applies, and whether there is such a part.
 
-is_found : {A : Type 0} (b : Bool) (x : A) (o : Option A) → is_some (cond b (Some x) o) ≡ (b || is_some o)
-is_found true x o = refl
-is_found false x o = refl
-
 pub any_found : (test : List ℕ → Data → Bool) (ms : Members) → any_member test ms ≡ is_some (find (λ m. test m.0 m.1) (entries ms))
 any_found test no_members = refl
-any_found test (member key d ms) = ap (λ b. test key d || b) (any_found test ms) ∙ sym (is_found (test key d) (key, d) (find (λ m. test m.0 m.1) (entries ms)))
+any_found test (member key d ms) = ap (λ b. test key d || b) (any_found test ms) ∙ sym (some_or (test key d) (key, d) (find (λ m. test m.0 m.1) (entries ms)))
 
 pub any_found_in : (test : List ℕ → Data → Bool) (ms : Option Members) → any_in test ms ≡ is_some (find (λ m. test m.0 m.1) (entries (members ms)))
 any_found_in test None = refl
@@ -196,7 +163,7 @@ entry_shown test ms = let first = find (λ m. test m.0 m.1) (entries (members ms
 
 some_item : (test : Data → Bool) (ds : Items) → is_some (first_item test ds) ≡ any_item test ds
 some_item test no_items = refl
-some_item test (item d ds) = is_found (test d) d (first_item test ds) ∙ ap (λ b. test d || b) (some_item test ds)
+some_item test (item d ds) = some_or (test d) d (first_item test ds) ∙ ap (λ b. test d || b) (some_item test ds)
 
 pub item_shown : (test : Data → Bool) (ds : Items) → option_map value (first_item test ds) ≡ when (any_item test ds) (value_or_nothing (first_item test ds))
 item_shown test ds = shown_found value (first_item test ds) ∙ ap (λ b. when b (value_or_nothing (first_item test ds))) (some_item test ds)

@@ -1,11 +1,6 @@
 -- If a text is UTF-8, so is each of its strings: the bytes between two quotes, with escapes replaced.
-use Rattle.std.proofs.Common.{◌≡◌, ℕ, ◌<◌, List, [], ◌∷◌, ◌++◌, Bool, true, false, cond, ◌&&◌, ◌==◌, nat_lt, Option, Some, None, option_and_then, refl, sym, subst, arith}
-use Rattle.std.specs.Prelude.{IsUtf8, ⊤}
+use Rattle.oim_report.proofs.Shared.{◌≡◌, ℕ, ◌<◌, List, [], ◌∷◌, ◌++◌, Bool, true, false, cond, ◌&&◌, ◌==◌, nat_lt, Option, Some, None, option_and_then, refl, sym, subst, arith, IsUtf8, ltb-true, eqb-true, append_assoc, append-nil, cond_some, ⊤, and_parts, nat_tests, IsUtf8-append, IsUtf8-encode}
 use Rattle.std.specs.Char.{IsScalar, digit_value, is_digit, encode_utf8}
-use Rattle.std.proofs.lemmas.Bool.{and_parts, ltb-true, eqb-true}
-use Rattle.std.proofs.lemmas.Bool.Decides.{nat_tests}
-use Rattle.std.proofs.lemmas.List.{append_assoc, append-nil}
-use Rattle.std.proofs.lemmas.Str.{IsUtf8-append, IsUtf8-encode}
 use Rattle.json.specs.Text.{code_unit, short_escape, is_high_surrogate, is_low_surrogate, surrogate_pair, Within, plain, after_backslash, after_u, after_high, prepend, content}
 use Rattle.oim_report.proofs.CutUtf8.{both_utf8}
 
@@ -51,14 +46,10 @@ record Spelled (a b c d u : ℕ) : Type 0 where
   d_is : is_digit d 16 ≡ true
   small : u < 65536
 
-tested : (t : Bool) (v u : ℕ) → cond t (Some v) None ≡ Some u → (t ≡ true) × (v ≡ u)
-tested true v u e = (refl, cc)
-tested false v u e = absurd (cc)
-
 spelled : (a b c d u : ℕ) → code_unit a b c d ≡ Some u → Spelled a b c d u
 unfolding code_unit
 spelled a b c d u e =
-    let h = tested _ _ _ e in
+    let h = cond_some _ _ _ e in
     let p = and_parts (is_digit a 16 && is_digit b 16 && is_digit c 16) (is_digit d 16) h.0 in
     let q = and_parts (is_digit a 16 && is_digit b 16) (is_digit c 16) p.0 in
     let r = and_parts (is_digit a 16) (is_digit b 16) q.0 in

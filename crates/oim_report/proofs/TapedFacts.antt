@@ -1,19 +1,7 @@
 -- Members and facts that are read from a tape.
-use Rattle.std.proofs.Common.{◌≡◌, ℕ, ◌-◌, ◌<◌, ◌≤◌, List, Some, None, option_and_then, option_map, OnOk, Result, refl, ap, ◌∙◌, arith, [], ◌++◌, Option, sym, subst}
-use Rattle.std.proofs.lemmas.Result.{on_ok_weaker}
-use Rattle.json.specs.Token.{Token}
-use Rattle.json.specs.Json.{Json, value, if_last, document}
-use Rattle.json.specs.Tree.{depth, members_depth, json_tokens}
+use Rattle.oim_report.proofs.Shared.{◌≡◌, ℕ, ◌-◌, ◌<◌, ◌≤◌, List, Some, None, option_and_then, option_map, OnOk, Result, refl, ap, ◌∙◌, arith, [], ◌++◌, Option, sym, subst, on_ok_weaker, Token, Json, value, if_last, document, depth, members_depth, json_tokens, tokens, value-json_tokens, value-json_tokens_back, Data, null, boolean, string, array, no_items, item, Members, no_members, put, member, of_json, of_items, of_members, max_depth, Ascends, AreData, IsRead, IsReadWhere, one, alone, HasMember, IsPiece, put_all, append}
 use Rattle.json.specs.Find.{as_array, as_number, as_object, BeginsWith, InItems, InMembers, NextItem, NextMember}
-use Rattle.json.specs.Lex.{tokens}
 use Rattle.json.specs.Json as j
-use Rattle.json.proofs.Printed.Trees.{value-json_tokens}
-use Rattle.json.proofs.Unique.Spelling.{value-json_tokens_back}
-use Rattle.serde_json.specs.Data.{Data, null, boolean, string, array, no_items, item, Members, no_members, put, member}
-use Rattle.serde_json.specs.Read.{of_json, of_items, of_members, max_depth}
-use Rattle.oim_report.specs.code.TapeValues.{Ascends, AreData, IsRead, IsReadWhere, one}
-use Rattle.oim_report.specs.Pieces.{alone, HasMember, IsPiece, put_all}
-use Rattle.oim_report.specs.code.FoundFacts.{append}
 use Rattle.oim_report.proofs.Accepted.{map_some}
 use Rattle.oim_report.proofs.PutMembers.{ascends_put}
 use Rattle.oim_report.proofs.JoinedMembers.{Reads}

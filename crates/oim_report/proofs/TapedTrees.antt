@@ -1,15 +1,7 @@
 -- Lists of values that are read from a tape.
-use Rattle.std.proofs.Common.{◌≡◌, ℕ, ◌≤◌, List, [], ◌∷◌, ◌++◌, Some, None, option_map, option_and_then, refl, sym, ap, ◌∙◌, arith}
+use Rattle.oim_report.proofs.Shared.{◌≡◌, ℕ, ◌≤◌, List, [], ◌∷◌, ◌++◌, Some, None, option_map, option_and_then, refl, sym, ap, ◌∙◌, arith, Json, Token, BeginsWith, InItems, NextItem, items_depth, Items, no_items, item, of_items, view, items_view, IsReadAs}
 use Rattle.json.specs.Json as j
-use Rattle.json.specs.Json.{Json}
-use Rattle.json.specs.Token.{Token}
-use Rattle.json.specs.Find.{BeginsWith, InItems, NextItem}
-use Rattle.json.specs.Tree.{items_depth}
-use Rattle.serde_json.specs.Data.{Items, no_items, item}
-use Rattle.serde_json.specs.Read.{of_items}
-use Rattle.serde_json.specs.View.{view, items_view}
 use Rattle.serde_json.specs.declared.value.Value.{Value}
-use Rattle.oim_report.specs.code.TapeValues.{IsReadAs}
 
 abbrev pub items_before : List Value → Items → Items
 items_before [] rest = rest

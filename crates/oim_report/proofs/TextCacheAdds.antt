@@ -1,9 +1,6 @@
 -- The meanings in a cache after a text was added.
-use Rattle.std.proofs.Common.{◌≡◌, ◌⊎◌, inl, inr, ℕ, List, Bool, true, false, cond, bytes_eq, String, string_bytes, Result, Ok, Err, refl, sym, ap, subst, ◌∙◌, Option, Some, None, OnOk, OnErr, string_eq}
-use Rattle.std.specs.Cmp.Lexicographic.{bytes_decides}
+use Rattle.oim_report.proofs.Shared.{◌≡◌, ◌⊎◌, inl, inr, ℕ, List, Bool, true, false, cond, bytes_eq, String, string_bytes, Result, Ok, Err, refl, sym, ap, subst, ◌∙◌, Option, Some, None, OnOk, OnErr, string_eq, bytes_decides, lookup, update, hash_map_updates_text}
 use Rattle.std.specs.HashMap.{HashMap, Updates, IsUnchanged, get_by_text}
-use Rattle.std.specs.Map.{lookup, update}
-use Rattle.std.proofs.lemmas.Map.Text.{hash_map_updates_text}
 use Rattle.oim_report.specs.declared.fact_reader.text_cache.TextCache.{TextCache}
 use Rattle.oim_report.specs.code.TextCache.{Adds, IsTextCache, meaning}
 

@@ -1,12 +1,5 @@
 -- Texts in one buffer: they stay the same when a text is added after them, and each is found by its index.
-use Rattle.std.proofs.Common.{◌≡◌, ℕ, ◌+◌, ◌-◌, ◌<◌, ◌≤◌, List, [], ◌∷◌, ◌++◌, length, take, slice_range, slice_get, Option, Some, None, option_map, Bor, IsUtf8, refl, sym, ap, subst, ◌∙◌, arith, append_assoc, append-nil, zero, suc}
-use Rattle.std.proofs.Math.Seq.{drop-append_seam, take-append_seam}
-use Rattle.std.proofs.lemmas.List.{length-append, map-append, take_more}
-use Rattle.std.proofs.lemmas.Option.{get_or_from_slice_get, slice_get-get_or, slice_get-map, slice_get_within}
-use Rattle.std.proofs.lemmas.Str.{IsCharBoundary-at_seam, IsUtf8-append, IsUtf8-nil}
-use Rattle.std.specs.Str.{IsCharBoundary}
-use Rattle.std.specs.Str.Pattern.{GetsRange}
-use Rattle.oim_report.specs.code.Texts.{AreTextSpans, IsTextSpan, texts_at}
+use Rattle.oim_report.proofs.Shared.{◌≡◌, ℕ, ◌+◌, ◌-◌, ◌<◌, ◌≤◌, List, [], ◌∷◌, ◌++◌, length, take, slice_range, slice_get, Option, Some, None, option_map, Bor, IsUtf8, refl, sym, ap, subst, ◌∙◌, arith, append_assoc, append-nil, zero, suc, length-append, IsCharBoundary, drop-append_seam, take-append_seam, map-append, take_more, get_or_from_slice_get, slice_get-get_or, slice_get-map, slice_get_within, IsCharBoundary-at_seam, IsUtf8-append, IsUtf8-nil, GetsRange, AreTextSpans, IsTextSpan, texts_at}
 
 cut : (front text back : List ℕ) → slice_range (front ++ (text ++ back)) (length front) (length front + length text) ≡ text
 cut front text back =

@@ -1,28 +1,15 @@
 -- The compact text of a plain value is read as that value, if the value is at most `max_depth` levels deep.
-use Rattle.std.proofs.Common.{◌≡◌, ℕ, suc, ◌≤◌, negsuc, List, [], Some, option_map, option_and_then, Less, Greater, refl, sym, ap, ◌∙◌, append-nil, ◌∷◌, Bool, true, false, cond, Option, None}
-use Rattle.std.specs.Prelude.{⊤, IsUtf8}
-use Rattle.std.specs.Ordering.{nat_cmp, ordering_reverse}
-use Rattle.std.specs.Cmp.Lexicographic.{slice_cmp}
-use Rattle.std.proofs.lemmas.Cmp.{nat_list_cmp_total}
-use Rattle.std.proofs.lemmas.Str.{IsUtf8-append, IsUtf8-nil, IsUtf8-from_ascii}
+use Rattle.oim_report.proofs.Shared.{◌≡◌, ℕ, suc, ◌≤◌, negsuc, List, [], Some, option_map, option_and_then, Less, Greater, refl, sym, ap, ◌∙◌, append-nil, ◌∷◌, Bool, true, false, cond, Option, None, IsUtf8, nat_cmp, ⊤, ordering_reverse, slice_cmp, nat_list_cmp_total, IsUtf8-append, IsUtf8-nil, IsUtf8-from_ascii, or_from, is_utf8, tokens, value-json_tokens, ArePrintable-json_tokens, IsUtf8-quoted, IsUtf8-boolean, IsUtf8-are_ascii, number_of, of_json, of_items, of_members, read, max_depth, IsWhole, IsBefore, IsPlain, ItemsArePlain, MembersArePlain, PlainTextReadsBack, HasUtf8, ItemsHaveUtf8, MembersHaveUtf8, without_mark}
 use Rattle.std.proofs.lemmas.Fmt.{IsAscii-decimal, IsAscii-signed}
-use Rattle.std.proofs.lemmas.Bool.{or_from}
-use Rattle.std.specs.Str.{is_utf8}
-use Rattle.json.specs.Lex.{tokens}
 use Rattle.json.proofs.Printed.Tokens.{tokens-print}
-use Rattle.json.proofs.Printed.Trees.{value-json_tokens, ArePrintable-json_tokens}
 use Rattle.json.proofs.Printed.Decimals.{IsNumber-decimal, IsNumber-signed_decimal}
-use Rattle.json.proofs.Printed.Utf8.{IsUtf8-quoted, IsUtf8-boolean, IsUtf8-are_ascii}
 use Rattle.json.specs.Json as json
 use Rattle.json.specs.Tree as tree
 use Rattle.serde_json.specs.Data.{Num, unsigned, negative, Data, number, array, object, Items, no_items, item, Members, no_members, member, put, depth, items_depth, members_depth, float, null, boolean, string}
-use Rattle.serde_json.specs.Read.{number_of, of_json, of_items, of_members, read, max_depth}
 use Rattle.serde_json.specs.Written.{number_text, outline, items_outline, members_outline, compact_text, comma_if, items_text, members_text, has_float, items_have_float, members_have_float}
 use Rattle.serde_json.proofs.Numbers.{number_of-decimal, number_of-negative}
 use Rattle.serde_json.proofs.Texts.{print-outline}
 use Rattle.serde_json.proofs.Nesting.{depth-read}
-use Rattle.oim_report.specs.PlainJson.{IsWhole, IsBefore, IsPlain, ItemsArePlain, MembersArePlain, PlainTextReadsBack, HasUtf8, ItemsHaveUtf8, MembersHaveUtf8}
-use Rattle.oim_report.specs.Json.{without_mark}
 use Rattle.oim_report.specs.Limits.{NestsWithinLimit}
 use Rattle.oim_report.proofs.Texts.{passes}
 

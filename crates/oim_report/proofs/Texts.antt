@@ -1,7 +1,5 @@
 -- The test `is_utf8` in `json_text` agrees with `IsUtf8`.
-use Rattle.std.proofs.Common.{◌≡◌, ℕ, List, Bool, true, false, cond, Option, None, refl, ap}
-use Rattle.std.specs.Str.{IsUtf8, is_utf8}
-use Rattle.std.proofs.lemmas.Str.{IsUtf8-from_is_utf8, is_utf8-from_IsUtf8}
+use Rattle.oim_report.proofs.Shared.{◌≡◌, ℕ, List, Bool, true, false, cond, Option, None, refl, ap, IsUtf8, is_utf8, IsUtf8-from_is_utf8, is_utf8-from_IsUtf8}
 
 pub passes : {A : Type 0} (text : List ℕ) (found : Option A) → IsUtf8 text → cond (is_utf8 text) found None ≡ found
 passes text found utf8 = ap (λ b. cond b found None) (is_utf8-from_IsUtf8 text utf8)

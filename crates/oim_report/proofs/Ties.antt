@@ -1,22 +1,11 @@
 -- The derived comparisons of values, dimensions and levels agree with the definitions.
-use Rattle.std.proofs.Common.{◌≡◌, cond, true, refl, sym, ap, ◌∙◌}
-use Rattle.std.specs.Cmp.{Equal-is}
-use Rattle.std.specs.Ordering.{is_eq, is_lt, ord_max, partial_lt}
-use Rattle.oim_value.specs.Level.{level_cmp}
+use Rattle.oim_report.proofs.Shared.{◌≡◌, cond, true, refl, sym, ap, ◌∙◌, is_eq, is_lt, Equal-is, ord_max, partial_lt, level_cmp, Level, values_agree, Value, value_cmp, dimensions_agree, dimensions_cmp_exact, dimensions_eq, DimensionSet, dimensions_cmp}
 use Rattle.oim_value.specs.contracts.level.LevelOrd.TheImpl.{cmp-value as derived}
 use Rattle.oim_value.specs.contracts.level.LevelPartialOrd.TheImpl.{partial_cmp-value as partial}
-use Rattle.oim_value.specs.declared.level.Level.{Level}
 use Rattle.oim_value.specs.declared.level.Level.TheVariants.{Unique, Complete, Consistent, All}
-use Rattle.oim_value.proofs.ValueOrders.{values_agree}
 use Rattle.oim_value.specs.contracts.value.ValueOrd.TheImpl.Laws.{matches_eq-law as values_match}
 use Rattle.oim_value.specs.contracts.value.ValuePartialEq.TheImpl.{eq-value as value_eq}
-use Rattle.oim_value.specs.declared.value.Value.{Value}
-use Rattle.oim_value.specs.ValueOrder.{value_cmp}
-use Rattle.oim_dims.proofs.Orders.{dimensions_agree, dimensions_cmp_exact}
 use Rattle.oim_dims.specs.contracts.dimensions.DimensionsOrd.TheImpl.Laws.{matches_eq-law as dimensions_match}
-use Rattle.oim_dims.specs.contracts.dimensions.DimensionsPartialEq.TheImpl.{eq-value as dimensions_eq}
-use Rattle.oim_dims.specs.DimensionSet.{DimensionSet}
-use Rattle.oim_dims.specs.FactOrder.{dimensions_cmp}
 
 pub equal_values_tie : (v w : Value) → value_eq.it v w ≡ is_eq (value_cmp v w)
 equal_values_tie v w = values_match v w ∙ ap is_eq (values_agree v w)

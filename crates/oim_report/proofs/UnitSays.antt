@@ -1,32 +1,8 @@
 -- The units that texts denote, and what `unit_of` returns for the texts.
-use Rattle.std.proofs.Common.{◌≡◌, ◌≢◌, ℕ, zero, suc, ◌+◌, List, [], ◌∷◌, false, refl, ap, ◌∙◌, arith, ℤ, Bool, true, not, ◌&&◌, cond, sym, Option, Some, None, subst, ◌==◌, length, IfSome, option_map, if◌then◌else◌, option_and_then, All, IsSorted, IsPermutation, is_lt, is_eq, Less, Equal, Greater, IsUtf8}
-use Rattle.std.specs.List.{AllZip, list_all, list_any, before_first}
-use Rattle.std.proofs.lemmas.Bool.{cond-true, cond-false, cond_both, and_parts}
-use Rattle.std.proofs.lemmas.Cmp.{tied_itself}
-use Rattle.std.proofs.lemmas.List.Sorted.{IsPermutation-refl, IsPermutation-cons, IsPermutation-insert, IsPermutation-trans, All-permutation, length_permutation}
-use Rattle.std.specs.Cmp.{Equal-is}
-use Rattle.std.proofs.lemmas.List.Elements.{All-cons, All-head, All-tail}
-use Rattle.oim_names.specs.QName.{QName, is_name, exact_name, prefix_part}
-use Rattle.oim_names.specs.Bindings.{Binding}
-use Rattle.oim_names.specs.Expansion.{Expands}
-use Rattle.oim_names.specs.contracts.name.NameOrd.TheImpl.Laws.{total-law as name_total}
-use Rattle.oim_names.specs.declared.reason.Reason.TheVariants.{NumberForm, NumberDigits}
-use Rattle.oim_value.specs.ValueOrder.{name_cmp}
-use Rattle.oim_value.specs.Number.{Denotes, is_number, is_short, number_refusal}
-use Rattle.oim_value.specs.Units.{units_of}
-use Rattle.oim_value.specs.declared.value.Value.TheVariants.{Number}
-use Rattle.oim_value.proofs.Denoted.{denotes_units}
+use Rattle.oim_report.proofs.Shared.{◌≡◌, ◌≢◌, ℕ, zero, suc, ◌+◌, List, [], ◌∷◌, false, refl, ap, ◌∙◌, arith, ℤ, Bool, true, not, ◌&&◌, cond, sym, Option, Some, None, subst, ◌==◌, length, IfSome, option_map, if◌then◌else◌, option_and_then, All, IsSorted, IsPermutation, is_lt, is_eq, Less, Equal, Greater, IsUtf8, not-true, cond-true, cond-false, cond_both, and_parts, AllZip, list_all, list_any, before_first, tied_itself, Equal-is, IsPermutation-refl, IsPermutation-cons, IsPermutation-insert, IsPermutation-trans, All-permutation, length_permutation, All-cons, All-head, All-tail, QName, is_name, exact_name, prefix_part, name_cmp, Binding, Expands, name_total, NumberForm, NumberDigits, Denotes, is_number, is_short, number_refusal, units_of, Number, denotes_units, is_slash, all_named, in_order, side_of, unit_of, unit_with, with_name, said_unit, text_said, ConceptKind, Numeric, Given, text, absent, SaysUnit, named, FitsName, UnitFits, none_sorted}
 use Rattle.oim_dims.specs.Unit.{Measures, NamesEach, HasMeasures, UnitOf, IsUnit, numerator_pieces, denominator_pieces, pure_name, pure_alone, is_unit_text, IsMeasure, inner, is_mark, is_piece}
-use Rattle.oim_dims.specs.Separators.{is_slash}
 use Rattle.oim_dims.proofs.SortedOnce.{sorted_once}
 use Rattle.oim_dims.proofs.Naming.{side_some, no_mark_after}
-use Rattle.oim_report.specs.Said.{all_named, in_order, side_of, unit_of, unit_with, with_name, said_unit, text_said}
-use Rattle.oim_report.specs.declared.concept_kind.ConceptKind.{ConceptKind}
-use Rattle.oim_report.specs.declared.concept_kind.ConceptKind.TheVariants.{Numeric}
-use Rattle.oim_report.specs.Json.{Given, text, absent}
-use Rattle.oim_report.specs.Fact.{SaysUnit}
-use Rattle.oim_report.specs.Names.{named}
-use Rattle.oim_report.specs.FactFits.{FitsName, UnitFits}
 use Rattle.oim_report.proofs.Naming.{expanded, stands}
 use Rattle.oim_report.proofs.MemberOrder.{other_way}
 use Rattle.oim_report.proofs.Accepted.{and_then_some, map_some}
@@ -99,9 +75,6 @@ both_sides bs t m has up down =
 
 alone_sorted : IsSorted name_cmp (pure_name ∷ [])
 alone_sorted = sorted_from pure_name [] tt
-
-none_sorted : IsSorted name_cmp []
-none_sorted = sorted [] tt
 
 is_none : unit_with (pure_name ∷ []) [] ≡ None
 is_none = cond-true (is_eq (name_cmp pure_name pure_name)) None (Some pure_alone) (ap is_eq (tied_itself name_total pure_name))
@@ -223,17 +196,13 @@ unit_says bs kind g u e = absurd (cc)
 -- ---- if the URIs of all bindings are namespaces, a unit that a UTF-8 text denotes satisfies `IsUnit` and fits the kind of
 -- the concept.
 
-was_false : (b : Bool) → not b ≡ true → b ≡ false
-was_false true e = absurd (cc)
-was_false false e = refl
-
 abbrev IsGood : QName → Type 0
 IsGood n = IsMeasure n × FitsName n
 
 good : (bs : List Binding) (p : List ℕ) (n : QName) → AreNamespaces bs → is_piece p ≡ true → IsUtf8 p → Expands bs p n → IsGood n
 good bs p n are piece utf8 e =
     let uri = bound_uri bs (prefix_part p) n.uri are e.uri in
-    let plain = was_false (list_any is_mark p) (and_parts (not (length p == 0)) (not (list_any is_mark p)) piece).1 in
+    let plain = not-true (list_any is_mark p) (and_parts (not (length p == 0)) (not (list_any is_mark p)) piece).1 in
     let fits = name_fits bs p n are utf8 e in
     (record { filled = uri.0; allowed = e.allowed; form = fits.form; plain = subst (λ l. list_any is_mark l ≡ false) (sym e.local_part) (no_mark_after _ p plain) }, fits)
 

@@ -1,32 +1,6 @@
 -- If the code cannot read a part of a fact object, and no request for memory was refused, the part denotes nothing.
-use Rattle.std.proofs.Common.{◌≡◌, ◌⊎◌, inl, inr, ⊎_elim, ℕ, ℤ, List, Bool, true, false, not, ◌&&◌, cond, Ok, refl, sym, ap, ◌∙◌, Option, Some, None, IsTrue, if◌then◌else◌, option_and_then, option_map}
-use Rattle.oim_names.specs.Bindings.{Binding}
-use Rattle.oim_names.specs.Expansion.{entity_refusal, name_refusal, refusal_as}
-use Rattle.oim_names.specs.QName.{is_entity, is_name}
-use Rattle.oim_names.specs.declared.reason.Reason.{Reason}
-use Rattle.oim_names.specs.declared.reason.Reason.TheVariants.{NumberForm, NumberDigits}
+use Rattle.oim_report.proofs.Shared.{◌≡◌, ◌⊎◌, inl, inr, ⊎_elim, ℕ, ℤ, List, Bool, true, false, not, ◌&&◌, cond, Ok, refl, sym, ap, ◌∙◌, Option, Some, None, IsTrue, if◌then◌else◌, option_and_then, option_map, not-false, Binding, entity_refusal, name_refusal, refusal_as, is_entity, is_name, Reason, NumberForm, NumberDigits, named_kept, is_number, is_short, number_refusal, units_of, Value, Number, is_language, unit_refusal, Fact, not_refused, Data, ConceptKind, Numeric, DimensionMembers, FactMembers, HasForm, fact_parts, holds, text, least, named, named_as, fact_outcome, fact_of, said_entity, said_fact, said_language, said_unit, text_said, Sheet, Unread}
 use Rattle.oim_names.specs.declared.reason.Reason.TheVariants as reasons
-use Rattle.oim_names.proofs.Refusals.{named_kept}
-use Rattle.oim_value.specs.Number.{is_number, is_short, number_refusal}
-use Rattle.oim_value.specs.Units.{units_of}
-use Rattle.oim_value.specs.declared.value.Value.{Value}
-use Rattle.oim_value.specs.declared.value.Value.TheVariants.{Number}
-use Rattle.oim_dims.specs.Language.{is_language}
-use Rattle.oim_dims.specs.Unit.{unit_refusal}
-use Rattle.oim_dims.specs.declared.fact.Fact.{Fact}
-use Rattle.oim_dims.proofs.OneUnit.{not_refused}
-use Rattle.serde_json.specs.Data.{Data}
-use Rattle.oim_report.specs.declared.concept_kind.ConceptKind.{ConceptKind}
-use Rattle.oim_report.specs.declared.concept_kind.ConceptKind.TheVariants.{Numeric}
-use Rattle.oim_report.specs.FactMembers.{DimensionMembers, FactMembers, HasForm, fact_parts}
-use Rattle.oim_report.specs.Holds.{holds}
-use Rattle.oim_report.specs.Json.{text}
-use Rattle.oim_report.specs.Least.{least}
-use Rattle.oim_report.specs.Names.{named, named_as}
-use Rattle.oim_report.specs.Outcome.{fact_outcome}
-use Rattle.oim_report.specs.Said.{fact_of, said_entity, said_fact, said_language, said_unit, text_said}
-use Rattle.oim_report.specs.Sheet.{Sheet}
-use Rattle.oim_report.specs.declared.unread.Unread.{Unread}
 use Rattle.oim_report.specs.declared.unread.Unread.TheVariants.{OutOfMemory}
 use Rattle.oim_report.proofs.Accepted.{ok_or}
 use Rattle.oim_report.proofs.FreeMembers.{language_free}
@@ -39,10 +13,6 @@ Stops said e = (e ≡ OutOfMemory) ⊎ (said ≡ None)
 pub none_unless : {A : Type 0} (o : Option A) → ((a : A) → o ≡ Some a → ⊥) → o ≡ None
 none_unless None never = refl
 none_unless (Some a) never = absurd (never a refl)
-
-was_true : (b : Bool) → not b ≡ false → b ≡ true
-was_true true e = refl
-was_true false e = absurd (cc)
 
 -- ---- names, entities, units and languages
 
@@ -62,7 +32,7 @@ unit_unsaid bs kind t r e passes stops =
     stops
 
 pub language_unsaid : (kind : ConceptKind) (t : List ℕ) → ¬ (IsTrue (is_language t)) → said_language kind (text t) ≡ None
-language_unsaid kind t never = none_unless (said_language kind (text t)) (λ l e. never (was_true (is_language t) (language_free kind (text t) l e).form))
+language_unsaid kind t never = none_unless (said_language kind (text t)) (λ l e. never (not-false (is_language t) (language_free kind (text t) l e).form))
 
 number_if : (number short : Bool) (v : Value) (r : Reason) → cond (not number) (Some NumberForm) (cond (not short) (Some NumberDigits) None) ≡ Some r → (if number && short then Some v else None) ≡ None
 number_if false short v r e = refl

@@ -1,12 +1,5 @@
 -- The conditions of `Holds` test values of type `Data`, the reader tests values of type `Given`, and the tests agree.
-use Rattle.std.proofs.Common.{◌≡◌, ℕ, ℤ, pos, List, ◌∷◌, map, Bool, true, false, not, ◌&&◌, cond, refl, ap}
-use Rattle.std.specs.Prelude.{⊤, Option, Some, None, is_none, is_some, option_and_then, if◌then◌else◌}
-use Rattle.std.specs.Str.{is_utf8}
-use Rattle.serde_json.specs.Data.{Data, Members, no_members, member, null, number, string, unsigned, negative}
-use Rattle.serde_json.specs.Find.{as_null}
-use Rattle.oim_report.specs.Json.{Given, absent, given, given_of, has_colon, is_absent, is_no_text, nil, other, text, text_of, whole}
-use Rattle.oim_report.specs.FactMembers.{defined_in, defined_members}
-use Rattle.oim_report.specs.Holds.{as_text, as_whole, is_some_and, no_text, no_text_or_null}
+use Rattle.oim_report.proofs.Shared.{◌≡◌, ℕ, ℤ, pos, List, ◌∷◌, map, Bool, true, false, not, ◌&&◌, cond, refl, ap, Option, Some, None, is_none, is_some, option_and_then, if◌then◌else◌, ⊤, is_utf8, Data, Members, no_members, member, null, number, string, unsigned, negative, as_null, Given, absent, given, given_of, has_colon, is_absent, is_no_text, nil, other, text, text_of, whole, defined_in, defined_members, as_text, as_whole, is_some_and, no_text, no_text_or_null}
 
 -- a property holds for each value if it holds for null, texts, whole numbers and all other values
 pub by_given : (P : Given → Option (List ℕ) → Option ℤ → Option ⊤ → Type 0) → P nil None None (Some tt) → ((t : List ℕ) → P (text t) (Some t) None None) → ((n : ℤ) → P (whole n) None (Some n) None) → P other None None None

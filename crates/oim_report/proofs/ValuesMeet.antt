@@ -1,25 +1,9 @@
 -- `values_meet` decides `Meets`. Different values meet exactly if they have intervals that meet.
-use Rattle.std.proofs.Common.{◌≡◌, Bool, true, false, ◌&&◌, refl, sym, ap, subst, ◌∙◌, arith}
-use Rattle.std.specs.Prelude.{◌≤ℤ◌, int_le, Option, Some, None}
-use Rattle.std.specs.Int.{int_max, int_min}
-use Rattle.std.specs.Ordering.{is_eq}
-use Rattle.std.specs.Cmp.{Equal-is, both_ways}
-use Rattle.std.specs.declared.cmp.Ordering.TheVariants.{Less, Equal}
-use Rattle.std.proofs.lemmas.Bool.{false≢true, and_parts, and_from}
+use Rattle.oim_report.proofs.Shared.{◌≡◌, Bool, true, false, ◌&&◌, refl, sym, ap, subst, ◌∙◌, arith, ◌≤ℤ◌, int_le, Option, Some, None, is_eq, Less, Equal, int_max, int_min, Equal-is, both_ways, false≢true, and_parts, and_from, is_eq-slice_cmp, bytes_eq-Decides, exact_name, name_cmp, Interval, Value, Nil, Number, AText, AName, value_cmp, value_cmp_self, both_common, both_meet, interval_at, values_meet, ValuesMeetIsMeets}
 use Rattle.std.proofs.lemmas.Int.{ints, clamps}
-use Rattle.std.proofs.lemmas.Map.Text.{is_eq-slice_cmp}
-use Rattle.std.proofs.lemmas.Slice.Eq.{bytes_eq-Decides}
-use Rattle.oim_names.specs.QName.{exact_name}
-use Rattle.oim_value.specs.declared.interval.Interval.{Interval}
-use Rattle.oim_value.specs.declared.value.Value.{Value}
-use Rattle.oim_value.specs.declared.value.Value.TheVariants.{Nil, Number, Text as AText, Name as AName}
 use Rattle.oim_value.specs.Interval.{common_part, intervals_meet}
-use Rattle.oim_value.specs.ValueOrder.{name_cmp, value_cmp}
 use Rattle.oim_value.proofs.Meeting.{meets_is_reflexive, meets_is_symmetric}
-use Rattle.oim_value.proofs.ValueOrders.{value_cmp_self}
 use Rattle.oim_value.proofs.Ends.{le_from, le_to}
-use Rattle.oim_report.specs.code.Beside.{both_common, both_meet, interval_at}
-use Rattle.oim_report.specs.Duplicates.{values_meet, ValuesMeetIsMeets}
 
 pub never : {P : Type 0} → false ≡ true → P
 never h = absurd (false≢true h)

@@ -1,35 +1,12 @@
 -- If a name satisfies `FitsName`, the text that spells it expands to it, is UTF-8 and has a colon. Different names have different
 -- texts.
-use Rattle.std.proofs.Common.{◌≡◌, ◌≢◌, ◌<◌, ℕ, List, [], ◌∷◌, length, true, not, Some, refl, sym, ap, ◌∙◌, arith, ◌++◌, Bool, false, cond, None}
-use Rattle.std.specs.Prelude.{◌==◌, IsUtf8, ℤ, All, IfSome, nat_lt, ◌&&◌}
-use Rattle.std.specs.List.{list_all, slice_split, onto_first, zip}
-use Rattle.std.specs.Char.{is_ascii_alphanumeric}
-use Rattle.std.specs.Str.{IsAscii}
-use Rattle.std.proofs.lemmas.Bool.{and_parts, and_from, or_right, eqb-true}
-use Rattle.std.proofs.lemmas.Bool.Decides.{nat_tests}
-use Rattle.std.proofs.lemmas.List.Folds.{list_any-append}
-use Rattle.std.proofs.lemmas.Str.{IsUtf8-append, IsUtf8-from_ascii, IsUtf8-nil}
+use Rattle.oim_report.proofs.Shared.{◌≡◌, ◌≢◌, ◌<◌, ℕ, List, [], ◌∷◌, length, true, not, Some, refl, sym, ap, ◌∙◌, arith, ◌++◌, Bool, false, cond, None, ◌==◌, IsUtf8, ℤ, All, IfSome, nat_lt, ◌&&◌, zip, IsAscii, eqb-true, list_all, slice_split, onto_first, is_ascii_alphanumeric, and_parts, and_from, or_right, nat_tests, list_any-append, IsUtf8-append, IsUtf8-from_ascii, IsUtf8-nil, is_in_range, All-head, All-tail, QName, is_name_byte, is_colon, is_part, is_name, is_entity, prefix_part, local_part, Binding, uri_of, Expands, ExpandsEntity, prefix_part-spelled, local_part-spelled, filled, IsShort, is_hyphen, is_group, is_language, period_text, HasMoments, Period, Forever, Instant, Duration, has_colon, named, entity_named, FitsName, FitsEntity, SpellsName}
 use Rattle.std.proofs.lemmas.Str.Ascii.{IsAscii-nil, IsAscii-cons}
-use Rattle.std.specs.Int.{is_in_range}
-use Rattle.std.proofs.lemmas.List.Elements.{All-head, All-tail}
-use Rattle.oim_names.specs.QName.{QName, is_name_byte, is_colon, is_part, is_name, is_entity, prefix_part, local_part}
-use Rattle.oim_names.specs.Bindings.{Binding, uri_of}
-use Rattle.oim_names.specs.Expansion.{Expands, ExpandsEntity}
-use Rattle.oim_names.proofs.Spelling.{prefix_part-spelled, local_part-spelled, filled}
-use Rattle.oim_value.specs.Number.{IsShort}
 use Rattle.oim_value.specs.Plain.{plain}
 use Rattle.oim_value.proofs.PlainLaws.{plain_is_ascii, short_is_writable}
 use Rattle.oim_dims.specs.DateTime.{picture, matches_picture, has_picture, second_at, is_date_time, moment_text, IsMoment}
-use Rattle.oim_dims.specs.Language.{is_hyphen, is_group, is_language}
-use Rattle.oim_dims.specs.Period.{period_text, HasMoments}
 use Rattle.oim_dims.specs.Unit.{Measures, product_text, side_text, unit_text}
-use Rattle.oim_dims.specs.declared.period.Period.{Period}
-use Rattle.oim_dims.specs.declared.period.Period.TheVariants.{Forever, Instant, Duration}
 use Rattle.oim_dims.proofs.MomentText.{moment_back}
-use Rattle.oim_report.specs.Json.{has_colon}
-use Rattle.oim_report.specs.Names.{named, entity_named}
-use Rattle.oim_report.specs.FactFits.{FitsName, FitsEntity}
-use Rattle.oim_report.specs.ReadBack.{SpellsName}
 use Rattle.oim_report.proofs.Naming.{expanded}
 
 simple_byte : (c : ℕ) → is_ascii_alphanumeric c ≡ true → is_name_byte c ≡ true

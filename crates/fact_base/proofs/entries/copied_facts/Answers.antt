@@ -1,6 +1,4 @@
-use Rattle.std.proofs.Common.{◌≡◌, ◌<◌, ◌++◌, slice_get, Some, sym, ap, subst, ◌∙◌}
-use Rattle.std.specs.Option.{option_map}
-use Rattle.fact_base.specs.Entries.{Entry, facts_of_entries, facts_with}
+use Rattle.fact_base.proofs.Shared.{◌≡◌, ◌<◌, ◌++◌, slice_get, Some, sym, ap, subst, ◌∙◌, option_map, Entry, facts_of_entries, facts_with}
 use Rattle.fact_base.proofs.Walks.{facts_further, no_entry}
 use Rattle.fact_base.proofs.entries.copied_facts.Goals as goal
 use Rattle.fact_base.proofs.entries.copied_facts.Goals.{in-Some+in_ok-push_facts, in_default}

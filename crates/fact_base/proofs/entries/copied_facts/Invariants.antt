@@ -1,5 +1,4 @@
-use Rattle.std.proofs.Common.{◌≡◌, ◌++◌, drop}
-use Rattle.fact_base.specs.Entries.{facts_of_entries}
+use Rattle.fact_base.proofs.Shared.{◌≡◌, ◌++◌, drop, facts_of_entries}
 use Rattle.fact_base.proofs.entries.copied_facts.Given as goal
 
 -- appending the facts of the remaining entries gives all facts

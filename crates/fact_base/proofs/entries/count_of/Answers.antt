@@ -1,6 +1,4 @@
-use Rattle.std.proofs.Common.{◌≡◌, length, slice_get, ◌+◌, ◌<◌, ◌≤◌, Some, sym, ap, subst, ◌∙◌, arith}
-use Rattle.std.specs.Option.{option_map}
-use Rattle.fact_base.specs.Entries.{facts_of_entries, Entry}
+use Rattle.fact_base.proofs.Shared.{◌≡◌, length, slice_get, ◌+◌, ◌<◌, ◌≤◌, Some, sym, ap, subst, ◌∙◌, arith, option_map, facts_of_entries, Entry}
 use Rattle.fact_base.proofs.entries.count_of.Goals as goal
 use Rattle.fact_base.proofs.Walks.{count_ends, count_further, no_entry}
 use Rattle.fact_base.proofs.entries.count_of.Goals.{in-Some, in_default}

@@ -1,5 +1,4 @@
-use Rattle.std.proofs.Common.{◌≡◌, length, ◌+◌, ◌*◌, ◌≤◌, drop}
-use Rattle.fact_base.specs.Entries.{facts_of_entries}
+use Rattle.fact_base.proofs.Shared.{◌≡◌, length, ◌+◌, ◌*◌, ◌≤◌, drop, facts_of_entries}
 use Rattle.fact_base.proofs.entries.count_of.Given as goal
 
 abbrev pub invariant-loop-index : goal.invariant-loop-index

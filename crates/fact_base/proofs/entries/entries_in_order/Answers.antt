@@ -1,8 +1,4 @@
-use Rattle.std.proofs.Common.{◌+◌, ◌++◌, ◌∷◌, [], length, sym, ap, subst, ◌∙◌}
-use Rattle.std.specs.Prelude.{reverse}
-use Rattle.std.specs.Option.{option_to_list}
-use Rattle.std.proofs.lemmas.List.{length_push, reverse-reverse}
-use Rattle.fact_base.specs.code.Entries.{AreEntriesOf}
+use Rattle.fact_base.proofs.Shared.{◌+◌, ◌++◌, ◌∷◌, [], length, sym, ap, subst, ◌∙◌, reverse, option_to_list, length_push, reverse-reverse, AreEntriesOf}
 use Rattle.fact_base.proofs.Stored.{rises_too, one_taken, taken_is_there, taken_is_within, ReachedIn, next_reached_in, none_reached_in, none_of_none, one_more}
 use Rattle.fact_base.proofs.entries.entries_in_order.Goals as goal
 

@@ -1,7 +1,4 @@
-use Rattle.std.proofs.Common.{◌≡◌, List, ◌++◌, length}
-use Rattle.std.specs.Prelude.{reverse}
-use Rattle.oim_dims.specs.declared.fact.Fact.{Fact}
-use Rattle.fact_base.specs.code.Entries.{AreEntriesOf}
+use Rattle.fact_base.proofs.Shared.{◌≡◌, List, ◌++◌, length, reverse, Fact, AreEntriesOf}
 use Rattle.fact_base.proofs.Stored.{ReachedIn}
 use Rattle.fact_base.proofs.entries.entries_in_order.Given as goal
 

@@ -1,5 +1,4 @@
-use Rattle.std.proofs.Common.{◌<◌, ◌≤◌, subst, take_all}
-use Rattle.std.specs.List.{All}
+use Rattle.fact_base.proofs.Shared.{◌<◌, ◌≤◌, subst, take_all, All}
 use Rattle.fact_base.proofs.EntryFacts.{HasRow, rows_there}
 use Rattle.fact_base.proofs.Walks.{row_passed}
 use Rattle.fact_base.proofs.entries.has_all_rows.Goals as goal

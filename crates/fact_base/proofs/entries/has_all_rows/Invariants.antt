@@ -1,5 +1,4 @@
-use Rattle.std.proofs.Common.{take}
-use Rattle.std.specs.List.{All}
+use Rattle.fact_base.proofs.Shared.{take, All}
 use Rattle.fact_base.proofs.EntryFacts.{HasRow}
 use Rattle.fact_base.proofs.entries.has_all_rows.Given as goal
 

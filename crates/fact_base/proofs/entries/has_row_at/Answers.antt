@@ -1,10 +1,4 @@
-use Rattle.std.proofs.Common.{◌≡◌, slice_get, Some, sym, ap, subst, ◌∙◌}
-use Rattle.std.specs.Prelude.{Contains, IfSome}
-use Rattle.std.specs.List.{All}
-use Rattle.std.specs.Option.{option_copied, option_map}
-use Rattle.merge_laws.specs.Sorted.{value_at}
-use Rattle.oim_dims.specs.FactOrder.{dimensions_cmp}
-use Rattle.fact_base.specs.Entries.{Entry}
+use Rattle.fact_base.proofs.Shared.{◌≡◌, slice_get, Some, sym, ap, subst, ◌∙◌, Contains, IfSome, All, option_copied, option_map, value_at, dimensions_cmp, Entry}
 use Rattle.fact_base.proofs.EntryFacts.{HasRow, row_there}
 use Rattle.fact_base.proofs.Stored.{value_at_is}
 use Rattle.fact_base.proofs.entries.has_row_at.Goals as goal

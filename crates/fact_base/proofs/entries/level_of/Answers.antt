@@ -1,12 +1,5 @@
-use Rattle.std.proofs.Common.{◌≡◌, slice_get, ◌<◌, ◌≤◌, Some, sym, ap, subst, ◌∙◌}
-use Rattle.std.specs.Option.{option_map}
-use Rattle.fact_base.specs.Entries.{facts_of_entries, Entry}
-use Rattle.oim_report.specs.Duplicates.{level_of}
+use Rattle.fact_base.proofs.Shared.{◌≡◌, slice_get, ◌<◌, ◌≤◌, Some, sym, ap, subst, ◌∙◌, option_map, facts_of_entries, Entry, level_of, ord_max, level_cmp, level_max_is, verdict_of}
 use Rattle.fact_base.proofs.entries.level_of.Goals as goal
-use Rattle.std.specs.Ordering.{ord_max}
-use Rattle.oim_value.specs.Level.{level_cmp}
-use Rattle.oim_report.proofs.Ties.{level_max_is}
-use Rattle.fact_base.specs.Verdict.{verdict_of}
 use Rattle.fact_base.proofs.Levels.{level_is, level_of_values}
 use Rattle.fact_base.proofs.Walks.{level_ends, level_further, no_entry, starts}
 use Rattle.fact_base.proofs.entries.level_of.Goals.{in-Some, in_default}

@@ -1,6 +1,4 @@
-use Rattle.std.proofs.Common.{◌≡◌, drop}
-use Rattle.fact_base.specs.Entries.{facts_of_entries}
-use Rattle.oim_report.specs.Duplicates.{level_of}
+use Rattle.fact_base.proofs.Shared.{◌≡◌, drop, facts_of_entries, level_of}
 use Rattle.fact_base.proofs.Levels.{highest}
 use Rattle.fact_base.proofs.entries.level_of.Given as goal
 

@@ -1,5 +1,4 @@
-use Rattle.std.proofs.Common.{◌≡◌, ◌++◌, drop}
-use Rattle.fact_base.specs.Entries.{facts_with}
+use Rattle.fact_base.proofs.Shared.{◌≡◌, ◌++◌, drop, facts_with}
 use Rattle.fact_base.proofs.entries.push_facts.Given as goal
 
 -- appending the facts of the remaining values gives the facts at the start, followed by the facts of all values

@@ -1,10 +1,4 @@
-use Rattle.std.proofs.Common.{◌≡◌, suc, length, sym, ap, ◌∙◌, ◌<◌, ◌++◌, ◌∷◌, [], arith}
-use Rattle.std.specs.Ordering.{is_eq}
-use Rattle.std.proofs.lemmas.List.{get_or_default}
-use Rattle.std.proofs.lemmas.Result.{on_ok_weaker}
-use Rattle.oim_dims.specs.FactOrder.{dimensions_cmp}
-use Rattle.oim_report.proofs.Ties.{equal_dimensions, equal_dimensions_tie}
-use Rattle.fact_base.specs.Entries.{Entry}
+use Rattle.fact_base.proofs.Shared.{◌≡◌, suc, length, sym, ap, ◌∙◌, ◌<◌, ◌++◌, ◌∷◌, [], arith, is_eq, get_or_default, on_ok_weaker, dimensions_cmp, equal_dimensions, equal_dimensions_tie, Entry}
 use Rattle.fact_base.proofs.Stored.{AllBelow, all_below, none_below, put_behind, put_last}
 use Rattle.fact_base.proofs.entries.push_given.Goals as goal
 use Rattle.fact_base.proofs.entries.push_given.Goals.{in_default-via-in-Some+else-eq, in_default-via-in_default}

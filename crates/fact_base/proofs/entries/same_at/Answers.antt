@@ -1,8 +1,5 @@
-use Rattle.std.proofs.Common.{◌≡◌, slice_get, Some, sym, ap, ◌∙◌}
-use Rattle.std.specs.Option.{option_map}
+use Rattle.fact_base.proofs.Shared.{◌≡◌, slice_get, Some, sym, ap, ◌∙◌, option_map, Entry, equal_dimensions}
 use Rattle.fact_base.proofs.entries.same_at.Goals as goal
-use Rattle.fact_base.specs.Entries.{Entry}
-use Rattle.oim_report.proofs.Ties.{equal_dimensions}
 use Rattle.fact_base.proofs.Walks.{rows_alike, rows_unlike}
 
 pub returns-then-eq : goal.returns-then-eq

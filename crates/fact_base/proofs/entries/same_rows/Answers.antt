@@ -1,6 +1,5 @@
-use Rattle.std.proofs.Common.{◌<◌, ◌≤◌, refl, sym, subst, ◌∙◌}
+use Rattle.fact_base.proofs.Shared.{◌<◌, ◌≤◌, refl, sym, subst, ◌∙◌, true≢false}
 use Rattle.fact_base.proofs.entries.same_rows.Goals as goal
-use mathlib.Core.Bool.{true≢false}
 use Rattle.fact_base.proofs.Walks.{row_differs, rows_all, rows_further}
 
 pub loop-index-init : goal.loop-index-init

@@ -1,5 +1,4 @@
-use Rattle.std.proofs.Common.{map, ◌≡◌, length, take}
-use Rattle.fact_base.specs.Shown.{row_of}
+use Rattle.fact_base.proofs.Shared.{map, ◌≡◌, length, take, row_of}
 use Rattle.fact_base.proofs.entries.same_rows.Given as goal
 
 abbrev pub invariant-loop-index : goal.invariant-loop-index

@@ -1,5 +1,4 @@
-use Rattle.std.proofs.Common.{All, Contains, sym, subst, ◌∙◌, arith, take_all}
-use Rattle.std.proofs.lemmas.List.Elements.{All-more}
+use Rattle.fact_base.proofs.Shared.{All, Contains, sym, subst, ◌∙◌, arith, take_all, All-more}
 use Rattle.fact_base.proofs.Stored.{found_there}
 use Rattle.fact_base.proofs.ordering.has_all.Goals as goal
 

@@ -1,5 +1,4 @@
-use Rattle.std.proofs.Common.{arith}
-use Rattle.oim_dims.specs.FactOrder.{fact_cmp}
+use Rattle.fact_base.proofs.Shared.{arith, fact_cmp}
 use Rattle.fact_base.proofs.Placed.{as_many, each_once, picked_moved, picked_sorted}
 use Rattle.fact_base.proofs.ordering.in_order.Goals as goal
 

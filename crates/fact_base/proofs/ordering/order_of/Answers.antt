@@ -1,12 +1,7 @@
-use Rattle.std.proofs.Common.{rules, ◌≡◌, ◌++◌, ℕ, List, Ok, IsPermutation, length, slice_get, subst, refl, ap, ◌∙◌, arith}
-use Rattle.std.specs.Cmp.Lexicographic.{options_total}
-use Rattle.std.specs.List.{range_with_len}
-use Rattle.std.specs.Option.{option_cmp}
-use Rattle.std.specs.Ordering.{is_lt}
+use Rattle.fact_base.proofs.Shared.{rules, ◌≡◌, ◌++◌, ℕ, List, Ok, IsPermutation, length, slice_get, subst, refl, ap, ◌∙◌, arith, options_total, range_with_len, option_cmp, is_lt, ranks_by}
 use Rattle.std.proofs.lemmas.Fn.{always_returns_same}
 use Rattle.std.proofs.lemmas.Iterator.{YieldsList-from_range}
 use Rattle.std.proofs.lemmas.Iterator.Adapters.{items_from_extend}
-use Rattle.std.proofs.lemmas.List.Sorted.{ranks_by}
 use Rattle.fact_base.proofs.ordering.order_of.Goals as goal
 
 pub returns-clause-each_once : goal.returns-clause-each_once

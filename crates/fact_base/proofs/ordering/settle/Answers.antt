@@ -1,5 +1,4 @@
-use Rattle.std.proofs.Common.{ap, ◌∙◌}
-use Rattle.fact_base.specs.Sets.{set_of}
+use Rattle.fact_base.proofs.Shared.{ap, ◌∙◌, set_of}
 use Rattle.fact_base.proofs.BuilderLaws.{set_of_set}
 use Rattle.fact_base.proofs.ordering.settle.Goals as goal
 

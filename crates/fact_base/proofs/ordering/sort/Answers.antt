@@ -1,6 +1,4 @@
-use Rattle.std.proofs.Common.{◌≡◌, ℕ, List, IsPermutation, IsSorted, length, slice_get, subst, arith}
-use Rattle.std.specs.List.{range_with_len}
-use Rattle.std.specs.Option.{option_cmp}
+use Rattle.fact_base.proofs.Shared.{◌≡◌, ℕ, List, IsPermutation, IsSorted, length, slice_get, subst, arith, range_with_len, option_cmp}
 use Rattle.fact_base.proofs.Placed.{as_many, each_once, picked_moved, picked_sorted}
 use Rattle.fact_base.proofs.ordering.sort.Goals as goal
 

@@ -1,8 +1,4 @@
-use Rattle.std.proofs.Common.{All, Contains, arith, sym, ap, subst, ◌∙◌}
-use Rattle.fact_base.specs.Body.{text_cmp}
-use Rattle.merge_laws.specs.Sorted.{IsSet}
-use Rattle.merge_laws.specs.Union.{set_union}
-use Rattle.fact_base.specs.Sets.{set_of}
+use Rattle.fact_base.proofs.Shared.{All, Contains, arith, sym, ap, subst, ◌∙◌, text_cmp, IsSet, set_union, set_of}
 use Rattle.fact_base.proofs.Sets.{all_there, set_of_is_set}
 use Rattle.fact_base.proofs.Stored.{set_among}
 use Rattle.fact_base.proofs.TextOrder.{text_cmp_exact, text_cmp_total}

@@ -1,7 +1,5 @@
-use Rattle.std.proofs.Common.{◌≡◌, Some, false, sym, subst, ◌∙◌}
+use Rattle.fact_base.proofs.Shared.{◌≡◌, Some, false, sym, subst, ◌∙◌, index_of_least_high, IsApartPair}
 use Rattle.fact_base.proofs.verdict.apart.Goals as goal
-use Rattle.oim_value.specs.SeveralMeet.{index_of_least_high}
-use Rattle.fact_base.specs.Verdict.{IsApartPair}
 use Rattle.fact_base.proofs.Summaries.{crossed_are_apart, nil_is_apart, no_number_is_apart}
 
 pub returns-in-Some : goal.returns-in-Some

@@ -1,6 +1,4 @@
-use Rattle.std.proofs.Common.{◌≡◌, ◌+◌, drop}
-use Rattle.oim_value.specs.SeveralMeet.{has_high}
-use Rattle.std.specs.List.{position_or_len}
+use Rattle.fact_base.proofs.Shared.{◌≡◌, ◌+◌, drop, has_high, position_or_len}
 use Rattle.fact_base.proofs.verdict.first_high.Given as goal
 
 abbrev pub invariant-loop-index : goal.invariant-loop-index

@@ -1,6 +1,4 @@
-use Rattle.std.proofs.Common.{◌≡◌, ◌+◌, drop}
-use Rattle.oim_value.specs.SeveralMeet.{has_low}
-use Rattle.std.specs.List.{position_or_len}
+use Rattle.fact_base.proofs.Shared.{◌≡◌, ◌+◌, drop, has_low, position_or_len}
 use Rattle.fact_base.proofs.verdict.first_low.Given as goal
 
 abbrev pub invariant-loop-index : goal.invariant-loop-index

@@ -1,5 +1,4 @@
-use Rattle.std.proofs.Common.{sym, ap, ◌∙◌}
-use Rattle.std.specs.Prelude.{is_some}
+use Rattle.fact_base.proofs.Shared.{sym, ap, ◌∙◌, is_some}
 use Rattle.fact_base.proofs.Summaries.{verdict_by_shared}
 use Rattle.fact_base.proofs.verdict.verdict_of.Goals as goal
 

@@ -1,7 +1,4 @@
-use Rattle.std.proofs.Common.{rules, arith, ℕ, ◌≤◌, List, Err, Ok, ◌≡◌, ◌++◌, ◌∷◌, ◌+◌, [], inl, inr, ⊎_elim, refl, sym, ap, ◌∙◌, length}
-use Rattle.serde_json.specs.View.{view, members_view}
-use Rattle.oim_report.specs.Json.{values}
-use Rattle.oim_report.specs.Outcome.{fact_outcome}
+use Rattle.oim_report.proofs.Shared.{rules, arith, ℕ, ◌≤◌, List, Err, Ok, ◌≡◌, ◌++◌, ◌∷◌, ◌+◌, [], inl, inr, ⊎_elim, refl, sym, ap, ◌∙◌, length, view, members_view, values, fact_outcome}
 use Rattle.oim_report.proofs.Facts.{facts_after, facts_step, all_facts}
 use Rattle.oim_report.proofs.FaultLaws.{fact_other}
 use Rattle.oim_report.proofs.fact_reader.read_each.Goals as goal
@@ -11,9 +8,6 @@ one_less xs ys x n m k p e more same h = omega (arith, ap length e)
 
 as_long : {A : Type 0} (xs ys : List A) (n m : ℕ) → xs ≡ ys → n + length ys ≤ m → n + length xs ≤ m
 as_long xs ys n m e h = omega (arith, ap length e)
-
-one_more : (n : ℕ) → 1 + n ≤ n + 1
-one_more n = omega arith
 
 pub returns-in-Err-clause-errors : goal.returns-in-Err-clause-errors
 returns-in-Err-clause-errors c =
@@ -49,7 +43,7 @@ loop-identifier-init c =
     let none : facts_after read 1 c.args.facts.now.items (values (members_view all)) ≡ facts_after read 1 [] (values (members_view all)) = ap (λ fs. facts_after read 1 fs (values (members_view all))) c.requires.empty in
     record {
       said = none ∙ ap (λ es. facts_after read 1 [] (values (members_view es))) whole;
-      count = one_more (length all);
+      count = omega arith;
       room = as_long _ _ _ _ whole c.requires.room;
       same = refl;
     }

@@ -1,7 +1,4 @@
-use Rattle.std.proofs.Common.{◌≡◌, ◌+◌, ◌≤◌, [], length, vec_len, vec_capacity}
-use Rattle.serde_json.specs.View.{members_view}
-use Rattle.oim_report.specs.Json.{values}
-use Rattle.oim_report.specs.Outcome.{fact_outcome}
+use Rattle.oim_report.proofs.Shared.{◌≡◌, ◌+◌, ◌≤◌, [], length, vec_len, vec_capacity, members_view, values, fact_outcome}
 use Rattle.oim_report.proofs.Facts.{facts_after}
 use Rattle.oim_report.proofs.fact_reader.read_each.Given as goal
 

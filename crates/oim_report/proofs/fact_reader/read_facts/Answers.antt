@@ -1,8 +1,4 @@
-use Rattle.std.proofs.Common.{◌≡◌, sym, ap, ◌∙◌}
-use Rattle.serde_json.specs.View.{view, members_view}
-use Rattle.oim_report.specs.Info.{facts_of}
-use Rattle.oim_report.specs.Json.{members}
-use Rattle.oim_report.specs.Outcome.{facts_said}
+use Rattle.oim_report.proofs.Shared.{◌≡◌, sym, ap, ◌∙◌, view, members_view, facts_of, members, facts_said}
 use Rattle.oim_report.proofs.fact_reader.read_facts.Goals as goal
 
 pub returns-clause-ok : goal.returns-clause-ok

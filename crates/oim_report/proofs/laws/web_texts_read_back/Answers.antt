@@ -1,7 +1,4 @@
-use Rattle.std.proofs.Common.{subst}
-use Rattle.std.specs.Str.{IsUtf8}
-use Rattle.std.proofs.lemmas.Str.{is_utf8-from_IsUtf8}
-use Rattle.url.specs.Parts.{serialize}
+use Rattle.oim_report.proofs.Shared.{subst, IsUtf8, is_utf8-from_IsUtf8, serialize}
 use Rattle.oim_report.proofs.ReferenceLaws.{web_text-parsed, web_text-valid}
 use Rattle.oim_report.proofs.laws.web_texts_read_back.Goals as goal
 

@@ -1,27 +1,9 @@
-use Rattle.std.proofs.Common.{◌≡◌, Bor, Option, Some, None, option_map, refl, sym, ap, ◌∙◌}
-use Rattle.std.specs.Cmp.{tied_itself}
-use Rattle.std.specs.Cmp.Lexicographic.{slice_cmp}
-use Rattle.std.specs.Option.{option_cmp}
-use Rattle.std.specs.Ordering.{nat_cmp, ordering_then}
-use Rattle.std.specs.declared.cmp.Ordering.{Ordering}
-use Rattle.std.specs.declared.cmp.Ordering.TheVariants.{Equal}
-use Rattle.oim_names.specs.QName.{QName, name_cmp}
-use Rattle.oim_value.specs.contracts.value.ValueOrd.TheImpl.{cmp-value as derived_value}
-use Rattle.oim_dims.proofs.Orders.{facts_agree}
-use Rattle.oim_dims.specs.DimensionSet.{DimensionSet}
-use Rattle.oim_dims.specs.FactOrder.{unit_cmp}
+use Rattle.oim_report.proofs.Shared.{◌≡◌, sym, ap, ◌∙◌, nat_cmp, tied_itself, slice_cmp, option_cmp, ordering_then, QName, name_cmp, derived_value, facts_agree, DimensionSet, unit_cmp, Member, Ordering, Equal}
 use Rattle.oim_dims.specs.contracts.member.MemberOrd.TheImpl.{cmp-value as derived_member}
 use Rattle.oim_dims.specs.contracts.period.PeriodOrd.TheImpl.{cmp-value as derived_period}
-use Rattle.oim_dims.specs.declared.member.Member.{Member}
-use Rattle.oim_report.proofs.DimensionRuns.{by_entity, by_language, by_members, by_period, by_unit, by_values}
+use Rattle.oim_report.proofs.DimensionRuns.{by_entity, by_language, by_members, by_period, by_unit, by_values, answers}
 use Rattle.oim_report.proofs.SheetEntries.{name_total}
 use Rattle.oim_report.proofs.order.compared_in_concept.Goals as goal
-
-answers : {X : Type 0} (R : X → X → Ordering) (r s : Option (Bor X)) → option_cmp (λ (x y : Bor X). R x.now y.now) r s ≡ option_cmp R (option_map (λ x. x.now) r) (option_map (λ x. x.now) s)
-answers R None None = refl
-answers R None (Some y) = refl
-answers R (Some x) None = refl
-answers R (Some x) (Some y) = refl
 
 -- the parts in the order in which dimension sets are compared
 abbrev concepts : DimensionSet → DimensionSet → Ordering

@@ -1,8 +1,6 @@
-use Rattle.std.proofs.Common.{◌≡◌, ◌++◌, ℕ, List, Ok, length, subst, sym, refl, ap, ◌∙◌, arith, IsPermutation, Vec, Global}
-use Rattle.std.specs.List.{range_with_len}
+use Rattle.oim_report.proofs.Shared.{◌≡◌, ◌++◌, ℕ, List, Ok, length, subst, sym, refl, ap, ◌∙◌, arith, IsPermutation, Vec, Global, range_with_len, IsPermutation-refl}
 use Rattle.std.proofs.lemmas.Iterator.{YieldsList-from_range}
 use Rattle.std.proofs.lemmas.Iterator.Adapters.{items_from_extend}
-use Rattle.std.proofs.lemmas.List.Sorted.{IsPermutation-refl}
 use Rattle.oim_report.proofs.order.indices_of.Goals as goal
 use Rattle.oim_report.proofs.order.indices_of.Goals.{then-not-is_empty, else-not-is_empty}
 

@@ -1,9 +1,6 @@
-use Rattle.std.proofs.Common.{ap, rules}
-use Rattle.std.specs.Ordering.{is_lt}
+use Rattle.oim_report.proofs.Shared.{ap, rules, is_lt, IsPermutation-trans, index_cmp}
 use Rattle.std.proofs.lemmas.Fn.{always_returns_same}
-use Rattle.std.proofs.lemmas.List.Sorted.{IsPermutation-trans}
 use Rattle.oim_report.proofs.Indices.{index_cmp_ranks}
-use Rattle.oim_report.specs.Report.{index_cmp}
 use Rattle.oim_report.proofs.order.order_of.Goals as goal
 
 pub returns : goal.returns

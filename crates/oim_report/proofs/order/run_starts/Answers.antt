@@ -1,9 +1,4 @@
-use Rattle.std.proofs.Common.{◌≡◌, ℕ, zero, suc, ◌<◌, ◌≤◌, nat_lt, true, length, sym, ap, ◌∙◌, arith, rules}
-use Rattle.std.proofs.lemmas.Bool.{false≢true}
-use Rattle.std.specs.Prelude.{Some}
-use Rattle.oim_dims.specs.contracts.dimensions.DimensionsPartialEq.TheImpl.{eq-value as dimensions_eq}
-use Rattle.oim_dims.specs.declared.fact.Fact.{Fact}
-use Rattle.oim_report.specs.code.DimensionRuns.{dimensions_at}
+use Rattle.oim_report.proofs.Shared.{◌≡◌, ℕ, zero, suc, ◌<◌, ◌≤◌, nat_lt, true, length, sym, ap, ◌∙◌, arith, rules, Some, false≢true, dimensions_eq, Fact, dimensions_at}
 use Rattle.oim_report.proofs.DimensionRuns.{one_more, own}
 use Rattle.oim_report.proofs.Ties.{equal_dimensions}
 use Rattle.oim_report.proofs.order.run_starts.Goals as goal

@@ -1,6 +1,4 @@
-use Rattle.std.proofs.Common.{◌≡◌, ◌≤◌, Some, map, take}
-use Rattle.oim_dims.specs.declared.fact.Fact.{Fact}
-use Rattle.oim_report.specs.code.DimensionRuns.{dimensions_at}
+use Rattle.oim_report.proofs.Shared.{◌≡◌, ◌≤◌, Some, map, take, Fact, dimensions_at}
 use Rattle.oim_report.proofs.order.run_starts.Given as goal
 
 abbrev pub invariant-loop-i : goal.invariant-loop-i

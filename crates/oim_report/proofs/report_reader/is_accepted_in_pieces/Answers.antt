@@ -1,5 +1,4 @@
-use Rattle.std.proofs.Common.{rules, ◌≡◌, Ok, ap, sym, ◌∙◌}
-use Rattle.oim_report.specs.Outcome.{outcome}
+use Rattle.oim_report.proofs.Shared.{rules, ◌≡◌, Ok, ap, sym, ◌∙◌, outcome}
 use Rattle.oim_report.proofs.report_reader.is_accepted_in_pieces.Goals as goal
 
 pub returns-in-Ok-Ok : goal.returns-in-Ok-Ok

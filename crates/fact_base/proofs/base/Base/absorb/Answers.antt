@@ -1,8 +1,5 @@
-use Rattle.std.proofs.Common.{◌≡◌, sym, ap, ◌∙◌}
-use Rattle.fact_base.specs.Body.{union}
+use Rattle.fact_base.proofs.Shared.{◌≡◌, sym, ap, ◌∙◌, union, Contents, facts_of_entries}
 use Rattle.fact_base.proofs.base.Base.absorb.Goals as goal
-use Rattle.fact_base.specs.Contents.{Contents}
-use Rattle.fact_base.specs.Entries.{facts_of_entries}
 use Rattle.fact_base.proofs.Stored.{union_is, Leaves, join_leaves}
 
 pub invariant_of-self-2 : goal.invariant_of-self-2

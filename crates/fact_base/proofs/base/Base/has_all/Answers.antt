@@ -1,9 +1,4 @@
-use Rattle.std.proofs.Common.{◌≡◌, sym, ap, subst, ◌∙◌}
-use Rattle.std.specs.Prelude.{Contains}
-use Rattle.std.specs.List.{All}
-use Rattle.fact_base.specs.Body.{Body, union}
-use Rattle.fact_base.specs.Contents.{Contents}
-use Rattle.fact_base.specs.Entries.{facts_of_entries}
+use Rattle.fact_base.proofs.Shared.{◌≡◌, sym, ap, subst, ◌∙◌, Contains, All, Body, union, Contents, facts_of_entries}
 use Rattle.fact_base.proofs.BuilderLaws.{union_itself, union_of_known}
 use Rattle.fact_base.proofs.Stored.{stored_fits}
 use Rattle.fact_base.proofs.base.Base.has_all.Goals as goal

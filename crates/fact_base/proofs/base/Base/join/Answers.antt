@@ -1,8 +1,5 @@
-use Rattle.std.proofs.Common.{◌≡◌, sym, ap, ◌∙◌}
-use Rattle.fact_base.specs.Body.{union}
+use Rattle.fact_base.proofs.Shared.{◌≡◌, sym, ap, ◌∙◌, union, Contents, facts_of_entries}
 use Rattle.fact_base.proofs.base.Base.join.Goals as goal
-use Rattle.fact_base.specs.Contents.{Contents}
-use Rattle.fact_base.specs.Entries.{facts_of_entries}
 use Rattle.fact_base.proofs.Stored.{union_is, Leaves, join_leaves}
 
 leaves : (c : goal.After-replace) → Leaves c.self.inside.sheet.now c.merge.new.self c.replace.new.references (union (record { facts = facts_of_entries c.self.inside.entries; references = c.self.inside.references }) (record { facts = facts_of_entries c.other.inside.entries; references = c.other.inside.references }))

@@ -1,5 +1,4 @@
-use Rattle.std.proofs.Common.{◌∙◌, sym}
-use Rattle.fact_base.specs.Entries.{facts_of_entries}
+use Rattle.fact_base.proofs.Shared.{◌∙◌, sym, facts_of_entries}
 use Rattle.fact_base.proofs.base.Base.level.Goals as goal
 use Rattle.fact_base.proofs.Levels.{sets_are_never_complete}
 use Rattle.fact_base.proofs.Stored.{stored_fits}

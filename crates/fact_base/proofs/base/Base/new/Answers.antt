@@ -1,7 +1,5 @@
-use Rattle.std.proofs.Common.{[], ℕ, List, sym, subst}
+use Rattle.fact_base.proofs.Shared.{[], ℕ, List, sym, subst, Entry, facts_of_entries, AreStored}
 use Rattle.fact_base.proofs.base.Base.new.Goals as goal
-use Rattle.fact_base.specs.Entries.{Entry, facts_of_entries}
-use Rattle.fact_base.specs.code.Entries.{AreStored}
 use Rattle.fact_base.specs.Sets.{set_of}
 use Rattle.fact_base.proofs.Stored.{nothing_stored}
 

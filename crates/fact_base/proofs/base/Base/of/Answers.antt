@@ -1,5 +1,4 @@
-use Rattle.std.proofs.Common.{◌∙◌}
-use Rattle.fact_base.specs.Body.{gathered}
+use Rattle.fact_base.proofs.Shared.{◌∙◌, gathered}
 use Rattle.fact_base.proofs.BuilderLaws.{Bases, becomes_base, derived_sorted}
 use Rattle.fact_base.proofs.base.Base.of.Goals as goal
 

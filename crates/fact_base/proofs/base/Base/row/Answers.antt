@@ -1,11 +1,4 @@
-use Rattle.std.proofs.Common.{◌≡◌, [], None, Some, sym, ap, subst, ◌∙◌}
-use Rattle.std.specs.Prelude.{MatchOption}
-use Rattle.std.specs.Option.{option_copied}
-use Rattle.merge_laws.specs.Sorted.{value_at}
-use Rattle.oim_dims.specs.FactOrder.{dimensions_cmp}
-use Rattle.fact_base.specs.Contents.{Contents}
-use Rattle.fact_base.specs.Rows.{values_at}
-use Rattle.fact_base.specs.code.Judged.{AreSummarised}
+use Rattle.fact_base.proofs.Shared.{◌≡◌, [], None, Some, sym, ap, subst, ◌∙◌, MatchOption, option_copied, value_at, dimensions_cmp, Contents, values_at, AreSummarised}
 use Rattle.fact_base.proofs.Stored.{value_at_is}
 use Rattle.fact_base.proofs.Walks.{found_entry, values_found}
 use Rattle.fact_base.proofs.base.Base.row.Goals as goal

@@ -1,9 +1,5 @@
-use Rattle.std.proofs.Common.{length, sym, ap, ◌∙◌}
-use Rattle.fact_base.specs.Rows.{rows_of}
+use Rattle.fact_base.proofs.Shared.{length, sym, ap, ◌∙◌, rows_of, length-map, Contents, row_of}
 use Rattle.fact_base.proofs.base.Base.row_count.Goals as goal
-use Rattle.std.proofs.lemmas.List.{length-map}
-use Rattle.fact_base.specs.Contents.{Contents}
-use Rattle.fact_base.specs.Shown.{row_of}
 use Rattle.fact_base.proofs.Walks.{rows_stored}
 
 pub returns : goal.returns

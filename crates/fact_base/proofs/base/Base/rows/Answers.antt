@@ -1,7 +1,5 @@
-use Rattle.fact_base.specs.Rows.{rows_of}
+use Rattle.fact_base.proofs.Shared.{rows_of, sym, ap, ◌∙◌, Contents}
 use Rattle.fact_base.proofs.base.Base.rows.Goals as goal
-use Rattle.std.proofs.Common.{sym, ap, ◌∙◌}
-use Rattle.fact_base.specs.Contents.{Contents}
 use Rattle.fact_base.proofs.Walks.{all_summarised, rows_stored}
 
 pub invariant_of-result : goal.invariant_of-result

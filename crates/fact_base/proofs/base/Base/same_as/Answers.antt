@@ -1,12 +1,6 @@
-use Rattle.std.proofs.Common.{◌≡◌, refl, sym, ap, ◌∙◌}
-use Rattle.fact_base.specs.Rows.{rows_of}
+use Rattle.fact_base.proofs.Shared.{◌≡◌, refl, sym, ap, ◌∙◌, rows_of, true≢false, Body, Contents, pointwise, bytes_eq}
 use Rattle.fact_base.proofs.base.Base.same_as.Goals as goal
-use mathlib.Core.Bool.{true≢false}
-use Rattle.fact_base.specs.Body.{Body}
-use Rattle.fact_base.specs.Contents.{Contents}
 use Rattle.fact_base.proofs.Walks.{equal_texts, rows_stored, same_facts}
-use lib.Pointwise.{pointwise}
-use Rattle.std.specs.Str.{bytes_eq}
 
 pub returns-then-same_rows : goal.returns-then-same_rows
 returns-then-same_rows c =

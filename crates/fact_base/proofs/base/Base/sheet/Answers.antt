@@ -1,7 +1,5 @@
-use Rattle.fact_base.specs.Fits.{Fits}
+use Rattle.fact_base.proofs.Shared.{Fits, subst, Contents}
 use Rattle.fact_base.proofs.base.Base.sheet.Goals as goal
-use Rattle.std.proofs.Common.{subst}
-use Rattle.fact_base.specs.Contents.{Contents}
 use Rattle.fact_base.proofs.Stored.{stored_fits}
 
 pub returns-clause-fits : goal.returns-clause-fits

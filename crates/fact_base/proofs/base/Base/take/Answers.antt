@@ -1,8 +1,5 @@
-use Rattle.std.proofs.Common.{◌≡◌, [], ◌∷◌, sym, ap, ◌∙◌}
-use Rattle.fact_base.specs.Body.{body, union}
+use Rattle.fact_base.proofs.Shared.{◌≡◌, [], ◌∷◌, sym, ap, ◌∙◌, body, union, Contents, facts_of_entries}
 use Rattle.fact_base.proofs.base.Base.take.Goals as goal
-use Rattle.fact_base.specs.Contents.{Contents}
-use Rattle.fact_base.specs.Entries.{facts_of_entries}
 use Rattle.fact_base.proofs.Stored.{union_is, Leaves, take_leaves, all_moved}
 
 leaves : (c : goal.After-replace) → Leaves c.self.inside.sheet.now c.absorb.new.self c.replace.new.references (union (record { facts = facts_of_entries c.self.inside.entries; references = c.self.inside.references }) (body (c.args.report.now.document ∷ [])))

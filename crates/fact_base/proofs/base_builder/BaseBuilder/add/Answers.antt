@@ -1,6 +1,4 @@
-use Rattle.std.proofs.Common.{◌∷◌, [], ap, ◌∙◌}
-use Rattle.fact_base.specs.Body.{Body, body, gathered, union}
-use Rattle.fact_base.specs.Contents.{Contents}
+use Rattle.fact_base.proofs.Shared.{◌∷◌, [], ap, ◌∙◌, Body, body, gathered, union, Contents}
 use Rattle.fact_base.proofs.BuilderLaws.{union_swaps}
 use Rattle.fact_base.proofs.base_builder.BaseBuilder.add.Goals as goal
 

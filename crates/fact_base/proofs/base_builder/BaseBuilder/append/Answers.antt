@@ -1,7 +1,4 @@
-use Rattle.std.proofs.Common.{◌≡◌, ◌++◌, if◌then◌else◌, sym, ap, subst, ◌∙◌, arith}
-use Rattle.fact_base.specs.Body.{Body, gathered, union}
-use Rattle.fact_base.specs.Contents.{Contents}
-use Rattle.fact_base.specs.Fits.{Fits}
+use Rattle.fact_base.proofs.Shared.{◌≡◌, ◌++◌, if◌then◌else◌, sym, ap, subst, ◌∙◌, arith, Body, gathered, union, Contents, Fits}
 use Rattle.fact_base.proofs.Bodies.{union_fits}
 use Rattle.fact_base.proofs.BuilderLaws.{always_ok, gathered_both, union_associates}
 use Rattle.fact_base.proofs.base_builder.BaseBuilder.append.Goals as goal

@@ -1,9 +1,4 @@
-use Rattle.std.proofs.Common.{◌∷◌, [], sym, ap, subst, ◌∙◌}
-use Rattle.std.proofs.lemmas.Result.{on_ok_weaker}
-use Rattle.merge_laws.specs.Members.{SameMembers}
-use Rattle.fact_base.specs.Body.{Body, body, gathered, union}
-use Rattle.fact_base.specs.Contents.{Contents}
-use Rattle.fact_base.specs.Fits.{Fits}
+use Rattle.fact_base.proofs.Shared.{◌∷◌, [], sym, ap, subst, ◌∙◌, on_ok_weaker, SameMembers, Body, body, gathered, union, Contents, Fits}
 use Rattle.fact_base.proofs.BuilderLaws.{document_fits, gathered_document}
 use Rattle.fact_base.proofs.Stored.{same_moved}
 use Rattle.fact_base.proofs.base_builder.BaseBuilder.gather.Goals as goal

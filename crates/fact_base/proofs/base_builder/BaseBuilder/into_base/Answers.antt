@@ -1,10 +1,4 @@
-use Rattle.std.proofs.Common.{◌≡◌, length, sym, ap, subst, ◌∙◌, arith}
-use Rattle.std.proofs.lemmas.Bool.Decides.{nat_tests}
-use Rattle.std.proofs.lemmas.List.{nil_from_length}
-use Rattle.std.proofs.lemmas.Result.{IfOk-weaker}
-use Rattle.fact_base.specs.Body.{Body, gathered, union}
-use Rattle.fact_base.specs.Contents.{Contents}
-use Rattle.fact_base.specs.Fits.{Fits}
+use Rattle.fact_base.proofs.Shared.{◌≡◌, length, sym, ap, subst, ◌∙◌, arith, nat_tests, nil_from_length, IfOk-weaker, Body, gathered, union, Contents, Fits}
 use Rattle.fact_base.specs.Sets.{set_of}
 use Rattle.fact_base.proofs.Bodies.{union_fits}
 use Rattle.fact_base.proofs.BuilderLaws.{gathered_with_body, union_commutes, with_nothing}

@@ -1,6 +1,4 @@
-use Rattle.std.proofs.Common.{◌≡◌, ap, subst, ◌∙◌}
-use Rattle.fact_base.specs.Body.{Body, gathered, union}
-use Rattle.fact_base.specs.Contents.{Contents}
+use Rattle.fact_base.proofs.Shared.{◌≡◌, ap, subst, ◌∙◌, Body, gathered, union, Contents}
 use Rattle.fact_base.proofs.BuilderLaws.{adds_nothing, union_swaps}
 use Rattle.fact_base.proofs.base_builder.BaseBuilder.join.Goals as goal
 

@@ -1,10 +1,4 @@
-use Rattle.std.proofs.Common.{◌≡◌, ℕ, List, [], ◌++◌, sym, ap, subst, ◌∙◌}
-use Rattle.oim_dims.specs.declared.fact.Fact.{Fact}
-use Rattle.std.proofs.lemmas.Result.{on_ok_weaker}
-use Rattle.fact_base.specs.Body.{Body, gathered, union}
-use Rattle.fact_base.specs.BodyLaws.{IsBody}
-use Rattle.fact_base.specs.Contents.{Contents}
-use Rattle.fact_base.specs.Fits.{Fits}
+use Rattle.fact_base.proofs.Shared.{◌≡◌, ℕ, List, [], ◌++◌, sym, ap, subst, ◌∙◌, Fact, on_ok_weaker, Body, gathered, union, IsBody, Contents, Fits}
 use Rattle.fact_base.proofs.BuilderLaws.{gathered_body}
 use Rattle.fact_base.proofs.base_builder.BaseBuilder.join_small.Goals as goal
 

@@ -1,8 +1,4 @@
-use Rattle.std.proofs.Common.{ℕ, List, [], sym, ap, subst, ◌∙◌}
-use Rattle.oim_dims.specs.declared.fact.Fact.{Fact}
-use Rattle.fact_base.specs.Body.{Body, gathered, union}
-use Rattle.fact_base.specs.Contents.{Contents}
-use Rattle.fact_base.specs.Fits.{Fits}
+use Rattle.fact_base.proofs.Shared.{ℕ, List, [], sym, ap, subst, ◌∙◌, Fact, Body, gathered, union, Contents, Fits}
 use Rattle.fact_base.proofs.BuilderLaws.{nothing_fits, with_nothing}
 use Rattle.fact_base.proofs.base_builder.BaseBuilder.of.Goals as goal
 

@@ -1,7 +1,4 @@
-use Rattle.std.proofs.Common.{refl, sym, ap, subst, ◌∙◌}
-use Rattle.fact_base.specs.Body.{Body, union}
-use Rattle.fact_base.specs.Contents.{Contents}
-use Rattle.fact_base.specs.Fits.{Fits}
+use Rattle.fact_base.proofs.Shared.{refl, sym, ap, subst, ◌∙◌, Body, union, Contents, Fits}
 use Rattle.fact_base.proofs.BuilderLaws.{derived_gathered}
 use Rattle.fact_base.proofs.base_builder.BaseBuilder.settle.Goals as goal
 

@@ -1,7 +1,4 @@
-use Rattle.std.proofs.Common.{subst}
-use Rattle.fact_base.specs.Body.{gathered}
-use Rattle.fact_base.specs.Contents.{Contents}
-use Rattle.fact_base.specs.Fits.{Fits}
+use Rattle.fact_base.proofs.Shared.{subst, gathered, Contents, Fits}
 use Rattle.fact_base.proofs.Bodies.{union_fits}
 use Rattle.fact_base.proofs.base_builder.BaseBuilder.sheet.Goals as goal
 

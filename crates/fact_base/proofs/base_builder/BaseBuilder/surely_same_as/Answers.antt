@@ -1,8 +1,4 @@
-use Rattle.std.proofs.Common.{◌≡◌, length, sym, ap, ◌∙◌, arith}
-use Rattle.std.proofs.lemmas.Bool.Decides.{nat_tests}
-use Rattle.std.proofs.lemmas.List.{nil_from_length}
-use Rattle.fact_base.specs.Body.{gathered, union}
-use Rattle.fact_base.specs.Contents.{Contents}
+use Rattle.fact_base.proofs.Shared.{◌≡◌, length, sym, ap, ◌∙◌, arith, nat_tests, nil_from_length, gathered, union, Contents}
 use Rattle.fact_base.specs.Sets.{set_of}
 use Rattle.fact_base.proofs.BuilderLaws.{with_nothing}
 use Rattle.fact_base.proofs.base_builder.BaseBuilder.surely_same_as.Goals as goal

@@ -1,8 +1,5 @@
-use Rattle.std.proofs.Common.{◌≡◌, Some, sym, ap, ◌∙◌}
-use Rattle.std.specs.Prelude.{slice_get}
-use Rattle.std.specs.Option.{option_map}
+use Rattle.fact_base.proofs.Shared.{◌≡◌, Some, sym, ap, ◌∙◌, slice_get, option_map, Entry}
 use Rattle.oim_names.specs.QName.{QName}
-use Rattle.fact_base.specs.Entries.{Entry}
 use Rattle.fact_base.proofs.Walks.{told_uri}
 use Rattle.fact_base.proofs.rows.Rows.has_uri.Goals as goal
 

@@ -1,6 +1,4 @@
-use Rattle.std.proofs.Common.{drop, arith}
-use Rattle.std.proofs.lemmas.List.{length-drop, length-map}
-use Rattle.fact_base.specs.Shown.{row_of}
+use Rattle.fact_base.proofs.Shared.{drop, arith, length-drop, length-map, row_of}
 use Rattle.fact_base.proofs.Stored.{rises_as_derived}
 use Rattle.fact_base.proofs.Walks.{run_further}
 use Rattle.fact_base.proofs.rows.Rows.uri_run.Goals as goal

@@ -1,5 +1,4 @@
-use Rattle.std.proofs.Common.{◌≡◌, ◌≤◌, ◌-◌}
-use Rattle.fact_base.specs.Shown.{HoldForUris, rows_left}
+use Rattle.fact_base.proofs.Shared.{◌≡◌, ◌≤◌, ◌-◌, HoldForUris, rows_left}
 use Rattle.fact_base.proofs.rows.Rows.uri_run.Given as goal
 
 -- the first rows have the URI

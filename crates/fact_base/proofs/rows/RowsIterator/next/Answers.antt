@@ -1,10 +1,5 @@
-use Rattle.std.proofs.Common.{◌≡◌, ◌+◌, List, ◌∷◌, Some, map, drop, sym, ap, ◌∙◌}
+use Rattle.fact_base.proofs.Shared.{◌≡◌, ◌+◌, List, ◌∷◌, Some, map, drop, sym, ap, ◌∙◌, slice_get, option_map, Value, Entry, row_of}
 use Rattle.fact_base.proofs.rows.RowsIterator.next.Goals as goal
-use Rattle.std.specs.Prelude.{slice_get}
-use Rattle.std.specs.Option.{option_map}
-use Rattle.oim_value.specs.declared.value.Value.{Value}
-use Rattle.fact_base.specs.Entries.{Entry}
-use Rattle.fact_base.specs.Shown.{row_of}
 use Rattle.fact_base.proofs.Walks.{next_drop}
 
 pub returns-clause-steps : goal.returns-clause-steps

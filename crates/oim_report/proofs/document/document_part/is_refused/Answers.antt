@@ -1,9 +1,4 @@
-use Rattle.std.proofs.Common.{ap, ◌∙◌}
-use Rattle.std.specs.Prelude.{is_none}
-use Rattle.std.specs.Option.{option_copied}
-use Rattle.serde_json.specs.View.{view}
-use Rattle.oim_names.specs.declared.reason.Reason.TheVariants.{TaxonomyUrl}
-use Rattle.oim_report.specs.Info.{said_reference}
+use Rattle.oim_report.proofs.Shared.{ap, ◌∙◌, is_none, option_copied, view, TaxonomyUrl, said_reference}
 use Rattle.oim_report.proofs.DocumentHolds.{one_reference, from_some, none_is}
 use Rattle.oim_report.proofs.document.document_part.is_refused.Goals as goal
 

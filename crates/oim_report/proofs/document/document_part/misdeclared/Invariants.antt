@@ -1,9 +1,4 @@
-use Rattle.std.proofs.Common.{◌≡◌}
-use Rattle.std.specs.List.{find}
-use Rattle.serde_json.specs.View.{view, members_view}
-use Rattle.oim_report.specs.Info.{features_of}
-use Rattle.oim_report.specs.Json.{entries}
-use Rattle.oim_report.specs.code.MemberTests.{is_misdeclared}
+use Rattle.oim_report.proofs.Shared.{◌≡◌, find, view, members_view, features_of, entries, is_misdeclared}
 use Rattle.oim_report.proofs.document.document_part.misdeclared.Given as goal
 
 abbrev pub invariant-loop-key : goal.invariant-loop-key

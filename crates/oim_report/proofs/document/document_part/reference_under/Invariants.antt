@@ -1,9 +1,4 @@
-use Rattle.std.proofs.Common.{◌≡◌, drop}
-use Rattle.std.specs.Option.{option_copied}
-use Rattle.serde_json.specs.View.{view, items_view}
-use Rattle.oim_report.specs.Holds.{is_no_reference}
-use Rattle.oim_report.specs.Info.{taxonomy_of}
-use Rattle.oim_report.specs.Shown.{first_item}
+use Rattle.oim_report.proofs.Shared.{◌≡◌, drop, option_copied, view, items_view, is_no_reference, taxonomy_of, first_item}
 use Rattle.oim_report.proofs.document.document_part.reference_under.Given as goal
 
 abbrev pub invariant-loop-reference : goal.invariant-loop-reference

@@ -1,8 +1,5 @@
-use Rattle.std.proofs.Common.{ap, ◌∙◌}
-use Rattle.std.specs.Prelude.{codes, is_none}
-use Rattle.serde_json.specs.View.{view}
+use Rattle.oim_report.proofs.Shared.{ap, ◌∙◌, codes, is_none, view, info}
 use Rattle.oim_report.specs.Holds.{document_holds}
-use Rattle.oim_report.specs.Info.{info}
 use Rattle.oim_report.specs.Shown.{document_shown, value_or_nothing, when}
 use Rattle.oim_report.proofs.DocumentHolds.{base_same, from_some}
 use Rattle.oim_report.proofs.document.document_part.refused_base.Goals as goal

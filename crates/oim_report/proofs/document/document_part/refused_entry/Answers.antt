@@ -1,11 +1,5 @@
-use Rattle.std.proofs.Common.{rules, ◌≡◌, ap, option_map, ◌∙◌}
-use Rattle.std.proofs.lemmas.Result.{IfOk-weaker}
-use Rattle.std.specs.List.{find}
-use Rattle.serde_json.specs.View.{view, members_view}
+use Rattle.oim_report.proofs.Shared.{rules, ◌≡◌, ap, option_map, ◌∙◌, find, IfOk-weaker, view, members_view, namespaces_of, entries, members, binds_nothing}
 use Rattle.oim_report.specs.Holds.{document_holds}
-use Rattle.oim_report.specs.Info.{namespaces_of}
-use Rattle.oim_report.specs.Json.{entries, members}
-use Rattle.oim_report.specs.Namespaces.{binds_nothing}
 use Rattle.oim_report.specs.Shown.{document_shown, entry}
 use Rattle.oim_report.proofs.ShownFaults.{entry_shown}
 use Rattle.oim_report.proofs.document.document_part.refused_entry.Goals as goal

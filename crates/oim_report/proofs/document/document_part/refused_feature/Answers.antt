@@ -1,7 +1,4 @@
-use Rattle.std.proofs.Common.{sym, ap, ◌∙◌}
-use Rattle.std.specs.Prelude.{option_and_then}
-use Rattle.serde_json.specs.View.{view}
-use Rattle.oim_report.specs.code.MemberTests.{misdeclared}
+use Rattle.oim_report.proofs.Shared.{sym, ap, ◌∙◌, option_and_then, view, misdeclared}
 use Rattle.oim_report.proofs.ShownFaults.{feature_shown}
 use Rattle.oim_report.proofs.document.document_part.refused_feature.Goals as goal
 

@@ -1,10 +1,5 @@
-use Rattle.std.proofs.Common.{rules, ◌≡◌, ap, ◌∙◌, option_map}
-use Rattle.std.proofs.lemmas.Result.{IfOk-weaker}
-use Rattle.std.specs.Prelude.{codes}
-use Rattle.std.specs.Option.{option_copied, option_flatten}
-use Rattle.serde_json.specs.View.{view}
+use Rattle.oim_report.proofs.Shared.{rules, ◌≡◌, ap, ◌∙◌, option_map, codes, option_copied, IfOk-weaker, option_flatten, view, info, taxonomy_of}
 use Rattle.oim_report.specs.Holds.{document_base_url, document_holds, is_no_reference}
-use Rattle.oim_report.specs.Info.{info, taxonomy_of}
 use Rattle.oim_report.specs.Shown.{document_shown, first_item, value}
 use Rattle.oim_report.proofs.DocumentHolds.{flat_base}
 use Rattle.oim_report.proofs.ShownFaults.{item_shown}

@@ -1,5 +1,4 @@
-use Rattle.std.proofs.Common.{sym, ◌∙◌}
-use Rattle.std.proofs.lemmas.Bool.{false≢true}
+use Rattle.oim_report.proofs.Shared.{sym, ◌∙◌, false≢true}
 use Rattle.oim_report.proofs.Passed.{none_apart}
 use Rattle.oim_report.proofs.document.duplicates.level_of.Goals as goal
 

@@ -1,14 +1,8 @@
-use Rattle.std.proofs.Common.{◌≡◌, ◌<◌, List, ◌∷◌, get_or, length, sym, subst, ap, ◌∙◌, rules}
-use Rattle.std.specs.Ordering.{ord_max}
-use Rattle.oim_value.specs.Level.{level_cmp}
-use Rattle.oim_value.specs.declared.level.Level.TheVariants.{Unique}
-use Rattle.oim_dims.specs.declared.fact.Fact.{Fact}
+use Rattle.oim_report.proofs.Shared.{◌≡◌, ◌<◌, List, ◌∷◌, get_or, length, sym, subst, ap, ◌∙◌, rules, ord_max, level_cmp, Unique, Fact, both_common, interval_at, level_beside, are_duplicates}
 use Rattle.oim_report.proofs.Passed.{Passed, passed_above, passed_all, passed_none, passed_one, unique_is_within}
 use Rattle.oim_report.proofs.Indices.{first_within, level_of_none, rest_within}
 use Rattle.oim_report.proofs.Runs.{walk, walk-duplicate, walk-other}
 use Rattle.oim_report.proofs.Ties.{equal_dimensions_tie, level_max_is, lesser_levels_tie}
-use Rattle.oim_report.specs.code.Beside.{both_common, interval_at, level_beside}
-use Rattle.oim_report.specs.Duplicates.{are_duplicates}
 use Rattle.oim_report.proofs.document.duplicates.level_within.Goals as goal
 use Rattle.oim_report.proofs.document.duplicates.level_within.Goals.{After-lt, then-eq, else-eq}
 

@@ -1,6 +1,4 @@
-use Rattle.std.proofs.Common.{◌≡◌, false}
-use Rattle.std.specs.Ordering.{is_lt}
-use Rattle.oim_value.specs.Level.{level_cmp}
+use Rattle.oim_report.proofs.Shared.{◌≡◌, false, is_lt, level_cmp}
 use Rattle.oim_report.proofs.Passed.{Passed}
 use Rattle.oim_report.proofs.document.duplicates.level_within.Given as goal
 

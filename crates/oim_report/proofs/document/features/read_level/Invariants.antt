@@ -1,6 +1,4 @@
-use Rattle.std.proofs.Common.{◌≡◌}
-use Rattle.serde_json.specs.View.{view, members_view}
-use Rattle.oim_report.specs.Info.{declarations, features_of, said_level}
+use Rattle.oim_report.proofs.Shared.{◌≡◌, view, members_view, declarations, features_of, said_level}
 use Rattle.oim_report.proofs.ReadInTurn.{level_after}
 use Rattle.oim_report.proofs.document.features.read_level.Given as goal
 

@@ -1,7 +1,4 @@
-use Rattle.std.proofs.Common.{◌≡◌, ◌++◌}
-use Rattle.serde_json.specs.View.{view, members_view}
-use Rattle.oim_report.specs.Identifiers.{identifiers_in, tree_identifiers}
-use Rattle.oim_report.specs.Json.{entries}
+use Rattle.oim_report.proofs.Shared.{◌≡◌, ◌++◌, view, members_view, identifiers_in, tree_identifiers, entries}
 use Rattle.oim_report.proofs.document.identifiers.identifiers_of.Given as goal
 
 abbrev pub invariant-loop-key : goal.invariant-loop-key

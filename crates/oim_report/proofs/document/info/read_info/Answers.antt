@@ -1,6 +1,4 @@
-use Rattle.std.proofs.Common.{◌≡◌, ◌∙◌, rules}
-use Rattle.std.specs.Result.{result_err}
-use Rattle.serde_json.specs.View.{view}
+use Rattle.oim_report.proofs.Shared.{◌≡◌, ◌∙◌, rules, result_err, view}
 use Rattle.oim_report.proofs.DocumentHolds.{document_least, shape_refusal, shape_same}
 use Rattle.oim_report.proofs.document.info.read_info.Goals as goal
 

@@ -1,7 +1,4 @@
-use Rattle.std.proofs.Common.{◌≡◌, Some, None, option_map, sym, ap, ◌∙◌}
-use Rattle.std.proofs.lemmas.Result.{IfOk-weaker}
-use Rattle.serde_json.specs.View.{view}
-use Rattle.oim_report.specs.Json.{given, text_of}
+use Rattle.oim_report.proofs.Shared.{◌≡◌, Some, None, option_map, sym, ap, ◌∙◌, IfOk-weaker, view, given, text_of}
 use Rattle.oim_report.proofs.DocumentHolds.{with_text, without_text}
 use Rattle.oim_report.proofs.document.namespaces.binds_nothing.Goals as goal
 

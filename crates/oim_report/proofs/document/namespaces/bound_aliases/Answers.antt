@@ -1,9 +1,4 @@
-use Rattle.std.proofs.Common.{◌∙◌, option_map}
-use Rattle.std.proofs.lemmas.Result.{IfOk-weaker, IfErr-weaker}
-use Rattle.serde_json.specs.View.{members_view}
-use Rattle.oim_names.specs.declared.reason.Reason.TheVariants.{Namespace}
-use Rattle.oim_report.specs.Json.{any_in, members}
-use Rattle.oim_report.specs.Namespaces.{binds_nothing, bindings_in}
+use Rattle.oim_report.proofs.Shared.{◌∙◌, option_map, IfOk-weaker, IfErr-weaker, members_view, Namespace, any_in, members, binds_nothing, bindings_in}
 use Rattle.oim_report.proofs.DocumentHolds.{found_is, unless_bad, where_bad}
 use Rattle.oim_report.proofs.document.namespaces.bound_aliases.Goals as goal
 

@@ -1,6 +1,4 @@
-use Rattle.std.proofs.Common.{ap, ◌∙◌}
-use Rattle.std.specs.Prelude.{is_none}
-use Rattle.oim_names.specs.Bindings.{is_refused_binding}
+use Rattle.oim_report.proofs.Shared.{ap, ◌∙◌, is_none, is_refused_binding}
 use Rattle.oim_report.proofs.DocumentHolds.{alone, from_some}
 use Rattle.oim_report.proofs.document.namespaces.is_no_binding.Goals as goal
 

@@ -1,8 +1,4 @@
-use Rattle.std.proofs.Common.{◌≡◌, Some, None, Err, option_map, inl, inr, ⊎_elim, refl, sym, ap, subst, ◌∙◌, true}
-use Rattle.std.proofs.lemmas.Result.{err_from_is_err_and}
-use Rattle.oim_names.specs.Bindings.{is_refused_binding}
-use Rattle.serde_json.specs.View.{view, members_view}
-use Rattle.oim_report.specs.Json.{given, text_of}
+use Rattle.oim_report.proofs.Shared.{◌≡◌, Some, None, Err, option_map, inl, inr, ⊎_elim, refl, sym, ap, subst, ◌∙◌, true, err_from_is_err_and, is_refused_binding, view, members_view, given, text_of}
 use Rattle.oim_report.proofs.ReadInTurn.{bound_after, all_refused, all_bound, stops_at, refused_at}
 use Rattle.oim_report.proofs.document.namespaces.read_namespaces.Goals as goal
 

@@ -1,6 +1,4 @@
-use Rattle.std.proofs.Common.{◌≡◌, [], option_map}
-use Rattle.serde_json.specs.View.{members_view}
-use Rattle.oim_report.specs.Json.{members}
+use Rattle.oim_report.proofs.Shared.{◌≡◌, [], option_map, members_view, members}
 use Rattle.oim_report.proofs.ReadInTurn.{bound_after}
 use Rattle.oim_report.proofs.document.namespaces.read_namespaces.Given as goal
 

@@ -1,8 +1,4 @@
-use Rattle.std.proofs.Common.{◌≡◌, option_map}
-use Rattle.std.specs.List.{find}
-use Rattle.serde_json.specs.View.{members_view}
-use Rattle.oim_report.specs.Json.{entries, members}
-use Rattle.oim_report.specs.Namespaces.{binds_nothing}
+use Rattle.oim_report.proofs.Shared.{◌≡◌, option_map, find, members_view, entries, members, binds_nothing}
 use Rattle.oim_report.proofs.document.namespaces.unbound.Given as goal
 
 abbrev pub invariant-loop-prefix : goal.invariant-loop-prefix

@@ -1,5 +1,4 @@
-use Rattle.std.proofs.Common.{◌<◌, ◌≤◌, length, sym, ◌∙◌, inl, inr, ⊎_elim, arith}
-use Rattle.std.proofs.lemmas.Result.{err_from_is_err_and}
+use Rattle.oim_report.proofs.Shared.{◌<◌, ◌≤◌, length, sym, ◌∙◌, inl, inr, ⊎_elim, arith, err_from_is_err_and}
 use Rattle.oim_report.proofs.ReadInTurn.{kept_all, kept_stops, ends}
 use Rattle.oim_report.proofs.document.references.read_taxonomy.Goals as goal
 

@@ -1,7 +1,4 @@
-use Rattle.std.proofs.Common.{◌≡◌, [], drop}
-use Rattle.std.specs.Option.{option_copied}
-use Rattle.serde_json.specs.View.{view, items_view}
-use Rattle.oim_report.specs.Info.{taxonomy_of}
+use Rattle.oim_report.proofs.Shared.{◌≡◌, [], drop, option_copied, view, items_view, taxonomy_of}
 use Rattle.oim_report.proofs.ReadInTurn.{kept_after}
 use Rattle.oim_report.proofs.document.references.read_taxonomy.Given as goal
 

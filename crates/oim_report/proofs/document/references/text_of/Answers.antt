@@ -1,5 +1,4 @@
-use Rattle.std.proofs.Common.{Some, ap, sym, ◌∙◌, rules, subst}
-use Rattle.std.specs.Str.{IsUtf8}
+use Rattle.oim_report.proofs.Shared.{Some, ap, sym, ◌∙◌, rules, subst, IsUtf8}
 use Rattle.oim_report.proofs.ReferenceLaws.{web_text-valid}
 use Rattle.oim_report.proofs.document.references.text_of.Goals as goal
 

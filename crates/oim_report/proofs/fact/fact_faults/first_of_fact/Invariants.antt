@@ -1,7 +1,4 @@
-use Rattle.std.proofs.Common.{◌≡◌, drop}
-use Rattle.std.specs.List.{find}
-use Rattle.serde_json.specs.View.{view}
-use Rattle.oim_report.specs.Holds.{holds}
+use Rattle.oim_report.proofs.Shared.{◌≡◌, drop, find, view, holds}
 use Rattle.oim_report.proofs.fact.fact_faults.first_of_fact.Given as goal
 
 abbrev pub invariant-loop-reason : goal.invariant-loop-reason

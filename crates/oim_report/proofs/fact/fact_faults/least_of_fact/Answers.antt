@@ -1,6 +1,4 @@
-use Rattle.std.proofs.Common.{sym, ◌∙◌}
-use Rattle.std.proofs.lemmas.Result.{IfOk-weaker}
-use Rattle.serde_json.specs.View.{view}
+use Rattle.oim_report.proofs.Shared.{sym, ◌∙◌, IfOk-weaker, view}
 use Rattle.oim_report.proofs.AllFaults.{fact_least}
 use Rattle.oim_report.proofs.fact.fact_faults.least_of_fact.Goals as goal
 

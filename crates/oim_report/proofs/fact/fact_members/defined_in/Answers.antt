@@ -1,9 +1,4 @@
-use Rattle.std.proofs.Common.{◌≡◌, ◌++◌, ◌∷◌, true, false, cond, string_bytes, append-nil, subst, sym, ap, ◌∙◌, ◌&&◌, IsUtf8}
-use Rattle.std.specs.Str.{is_utf8}
-use Rattle.serde_json.specs.View.{view, members_view}
-use Rattle.oim_report.specs.Json.{given, has_colon}
-use Rattle.oim_report.specs.FactMembers.{defined_in}
-use Rattle.oim_report.specs.code.SeenMembers.{seen_defined}
+use Rattle.oim_report.proofs.Shared.{◌≡◌, ◌++◌, ◌∷◌, true, false, cond, string_bytes, append-nil, subst, sym, ap, ◌∙◌, ◌&&◌, IsUtf8, is_utf8, view, members_view, given, has_colon, defined_in, seen_defined}
 use Rattle.oim_report.proofs.MembersPut.{push_defined}
 use Rattle.oim_report.proofs.fact.fact_members.defined_in.Goals as goal
 

@@ -1,5 +1,4 @@
-use Rattle.std.proofs.Common.{rules, ◌≡◌, ◌+◌, length, sym, ap, ◌∙◌, insert}
-use Rattle.oim_report.specs.code.SeenMembers.{seen_defined}
+use Rattle.oim_report.proofs.Shared.{rules, ◌≡◌, ◌+◌, length, sym, ap, ◌∙◌, insert, seen_defined}
 use Rattle.oim_report.proofs.MembersPut.{above_next, before_next, behind_all}
 use Rattle.oim_report.proofs.fact.fact_members.insertion_index.Goals as goal
 

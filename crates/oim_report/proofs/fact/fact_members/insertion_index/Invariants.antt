@@ -1,5 +1,4 @@
-use Rattle.std.proofs.Common.{◌≡◌}
-use Rattle.oim_report.specs.code.SeenMembers.{seen_defined}
+use Rattle.oim_report.proofs.Shared.{◌≡◌, seen_defined}
 use Rattle.oim_report.proofs.MembersPut.{Above}
 use Rattle.oim_report.proofs.fact.fact_members.insertion_index.Given as goal
 

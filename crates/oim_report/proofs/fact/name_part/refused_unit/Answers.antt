@@ -1,5 +1,4 @@
-use Rattle.std.proofs.Common.{sym, ap, ◌∙◌, option_map, rules}
-use Rattle.oim_names.specs.Expansion.{refuses}
+use Rattle.oim_report.proofs.Shared.{sym, ap, ◌∙◌, option_map, rules, refuses}
 use Rattle.oim_report.proofs.ShownFaults.{piece_shown}
 use Rattle.oim_report.proofs.fact.name_part.refused_unit.Goals as goal
 

@@ -1,7 +1,4 @@
-use Rattle.std.proofs.Common.{⊎_elim, sym, ap, ◌∙◌, option_map}
-use Rattle.serde_json.specs.View.{view}
-use Rattle.oim_report.specs.Outcome.{fact_outcome}
-use Rattle.oim_report.specs.code.SeenMembers.{seen_parts}
+use Rattle.oim_report.proofs.Shared.{⊎_elim, sym, ap, ◌∙◌, option_map, view, fact_outcome, seen_parts}
 use Rattle.oim_report.proofs.fact_reader.FactReader.read.Goals as goal
 
 pub refusal_of-requires-in-Err-NeedsTree : goal.refusal_of-requires-in-Err-NeedsTree

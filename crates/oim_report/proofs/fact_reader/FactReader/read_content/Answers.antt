@@ -1,10 +1,4 @@
-use Rattle.std.proofs.Common.{◌≡◌, Some, IfSome, sym, subst, ◌∙◌}
-use Rattle.std.proofs.lemmas.Option.{same_Some}
-use Rattle.oim_report.specs.Said.{said_concept, said_dimensions}
-use Rattle.oim_report.specs.code.JsonMember.{seen}
-use Rattle.oim_report.specs.code.Ranks.{IsRank}
-use Rattle.oim_report.specs.code.Scope.{Scope}
-use Rattle.oim_report.specs.code.SeenMembers.{seen_dimensions}
+use Rattle.oim_report.proofs.Shared.{◌≡◌, Some, IfSome, sym, subst, ◌∙◌, same_Some, said_concept, said_dimensions, seen, IsRank, Scope, seen_dimensions}
 use Rattle.oim_report.proofs.Accepted.{each_says}
 use Rattle.oim_report.proofs.fact_reader.FactReader.read_content.Goals as goal
 

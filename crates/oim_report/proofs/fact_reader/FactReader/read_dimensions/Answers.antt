@@ -1,17 +1,7 @@
-use Rattle.std.proofs.Common.{◌≡◌, List, Some, refl, sym, ap, ◌∙◌}
-use Rattle.oim_names.specs.Bindings.{Binding}
-use Rattle.oim_dims.specs.DimensionSet.{DimensionSet}
-use Rattle.oim_report.specs.declared.concept_kind.ConceptKind.{ConceptKind}
-use Rattle.oim_report.specs.FactMembers.{DimensionMembers}
-use Rattle.oim_report.specs.Said.{said_dimensions, said_entity, said_members, said_unit}
-use Rattle.oim_report.specs.Sheet.{Sheet}
-use Rattle.oim_report.specs.code.JsonMember.{seen}
-use Rattle.oim_report.specs.code.SeenMembers.{seen_defined, seen_dimensions}
+use Rattle.oim_report.proofs.Shared.{◌≡◌, Some, sym, ap, ◌∙◌, DimensionSet, said_entity, said_members, said_unit, seen, seen_defined, seen_dimensions}
 use Rattle.oim_report.proofs.Accepted.{EachSays}
 use Rattle.oim_report.proofs.fact_reader.FactReader.read_dimensions.Goals as goal
-
-together : (sheet : Sheet) (bs : List Binding) (kind : ConceptKind) (ds : DimensionMembers) (d : DimensionSet) → EachSays sheet bs kind ds d → said_dimensions sheet bs kind ds ≡ Some d
-together sheet bs kind ds d each = rw (each.concept, each.entity, each.period, each.unit, each.language, each.members) refl
+use Rattle.oim_report.proofs.SaidWhereFree.{together}
 
 pub returns-clause-said : goal.returns-clause-said
 returns-clause-said c =

@@ -1,10 +1,4 @@
-use Rattle.std.proofs.Common.{◌≡◌, ◌+◌, get_or, inr, Err, Some, sym, ap, ◌∙◌}
-use Rattle.std.proofs.lemmas.Result.{err_from_is_err_and}
-use Rattle.std.proofs.lemmas.Bool.{false_from_ne_true}
-use Rattle.oim_dims.specs.DimensionSet.{repeats}
-use Rattle.oim_report.specs.Names.{named}
-use Rattle.oim_report.specs.Said.{said_member}
-use Rattle.oim_report.specs.Sheet.{dimension_kind}
+use Rattle.oim_report.proofs.Shared.{◌≡◌, ◌+◌, get_or, inr, Err, Some, sym, ap, ◌∙◌, err_from_is_err_and, false_from_ne_true, repeats, named, said_member, dimension_kind}
 use Rattle.oim_report.proofs.MembersSay.{found_more, put_in_order, seen_item, unsaid_again}
 use Rattle.oim_report.proofs.fact_reader.FactReader.read_members.Goals as goal
 

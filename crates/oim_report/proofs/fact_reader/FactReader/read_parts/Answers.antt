@@ -1,13 +1,4 @@
-use Rattle.std.proofs.Common.{◌≡◌, ◌≢◌, ◌⊎◌, inl, inr, ⊎_elim, ℕ, List, Some, Result, Ok, Err, IfErr, IfOk}
-use Rattle.serde_json.specs.Data.{Data}
-use Rattle.oim_names.specs.Bindings.{Binding}
-use Rattle.oim_dims.specs.declared.fact.Fact.{Fact}
-use Rattle.oim_report.specs.Outcome.{fact_outcome}
-use Rattle.oim_report.specs.FactMembers.{DimensionMembers, FactMembers, HasForm, fact_parts}
-use Rattle.oim_report.specs.Said.{fact_of}
-use Rattle.oim_report.specs.Sheet.{Sheet}
-use Rattle.oim_report.specs.code.SeenMembers.{seen_dimensions, seen_parts}
-use Rattle.oim_report.specs.declared.unread.Unread.{Unread}
+use Rattle.oim_report.proofs.Shared.{◌≡◌, ◌≢◌, ◌⊎◌, inl, inr, ⊎_elim, ℕ, List, Some, Result, Ok, Err, IfErr, IfOk, Data, Binding, Fact, fact_outcome, DimensionMembers, FactMembers, HasForm, fact_parts, fact_of, Sheet, seen_dimensions, seen_parts, Unread}
 use Rattle.oim_report.specs.declared.unread.Unread.TheVariants.{OutOfMemory}
 use Rattle.oim_report.proofs.SaidWhereFree.{free_form, outcome_free, said_outcome}
 use Rattle.oim_report.proofs.Unsaid.{Stops, fact_unsaid}

@@ -1,5 +1,4 @@
-use Rattle.std.proofs.Common.{sym, subst}
-use Rattle.oim_names.specs.Expansion.{Expands}
+use Rattle.oim_report.proofs.Shared.{sym, subst, Expands}
 use Rattle.oim_report.proofs.TextCacheAdds.{still}
 use Rattle.oim_report.proofs.fact_reader.fact_content.cached_name.Goals as goal
 

@@ -1,8 +1,4 @@
-use Rattle.std.proofs.Common.{option_copied, sym, ap, ◌∙◌}
-use Rattle.std.specs.Result.{result_ok}
-use Rattle.oim_report.specs.Said.{said_period}
-use Rattle.oim_report.specs.code.JsonMember.{seen}
-use Rattle.oim_report.specs.code.TextCache.{TextSaysPeriod}
+use Rattle.oim_report.proofs.Shared.{option_copied, sym, ap, ◌∙◌, result_ok, said_period, seen, TextSaysPeriod}
 use Rattle.oim_report.proofs.TextCacheAdds.{still}
 use Rattle.oim_report.proofs.fact_reader.fact_content.cached_period.Goals as goal
 

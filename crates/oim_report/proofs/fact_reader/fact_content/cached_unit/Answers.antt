@@ -1,12 +1,9 @@
-use Rattle.std.proofs.Common.{Some, option_copied, sym, ap, subst, ◌∙◌}
-use Rattle.std.proofs.lemmas.Result.{err_from_is_err_and}
-use Rattle.oim_report.specs.Said.{said_unit}
-use Rattle.oim_report.specs.code.JsonMember.{seen}
-use Rattle.oim_report.specs.code.TextCache.{TextSaysUnit}
+use Rattle.oim_report.proofs.Shared.{Some, option_copied, sym, ap, subst, ◌∙◌, err_from_is_err_and, said_unit, seen, TextSaysUnit, IsTextCache}
 use Rattle.oim_report.proofs.TextCacheAdds.{still}
 use Rattle.oim_report.proofs.UnitSays.{unit_read}
 use Rattle.oim_report.proofs.Unsaid.{Stops, unit_unsaid}
 use Rattle.oim_report.proofs.fact_reader.fact_content.cached_unit.Goals as goal
+use Rattle.oim_report.proofs.fact_reader.fact_content.cached_unit.Goals.{After-add}
 
 pub returns-in-Some-clause-said : goal.returns-in-Some-clause-said
 returns-in-Some-clause-said c =
@@ -19,21 +16,19 @@ returns-in_ok-add-in-Numeric-Text-clause-said c =
     let read = c.in_ok-read-in-Numeric-Text in
     unit_read c.args.aliases.now c.args.kind (seen c.args.unit) c.in-Numeric-Text.text.now read.read c.in-Numeric-Text.is-0 (ap seen c.in-Numeric-Text.is-1) read.ensures.unit read.ensures.sorted
 
-pub returns-in_ok-add-in-Numeric-Text-clause-known : goal.returns-in_ok-add-in-Numeric-Text-clause-known
-returns-in_ok-add-in-Numeric-Text-clause-known c =
+known : (c : After-add) → IsTextCache (TextSaysUnit c.args.aliases.now) c.add.new.self
+known c =
     let bs = c.args.aliases.now in
     let t = c.in-Numeric-Text.text.now in
     let read = c.in_ok-read-in-Numeric-Text in
     let copied = c.in_ok-copied-in-Numeric-Text-2 in
     still (TextSaysUnit bs) c.args.units.now c.add.new.self t copied.field-0 c.requires.known (subst (TextSaysUnit bs t) (sym copied.ensures) (read.ensures.unit, read.ensures.sorted)) c.add.ensures
 
+pub returns-in_ok-add-in-Numeric-Text-clause-known : goal.returns-in_ok-add-in-Numeric-Text-clause-known
+returns-in_ok-add-in-Numeric-Text-clause-known c = known (goal.at.returns-in_ok-add-in-Numeric-Text-clause-known c).After-add
+
 pub returns-in_err-add-in-Numeric-Text-clause-known : goal.returns-in_err-add-in-Numeric-Text-clause-known
-returns-in_err-add-in-Numeric-Text-clause-known c =
-    let bs = c.args.aliases.now in
-    let t = c.in-Numeric-Text.text.now in
-    let read = c.in_ok-read-in-Numeric-Text in
-    let copied = c.in_ok-copied-in-Numeric-Text-2 in
-    still (TextSaysUnit bs) c.args.units.now c.add.new.self t copied.field-0 c.requires.known (subst (TextSaysUnit bs t) (sym copied.ensures) (read.ensures.unit, read.ensures.sorted)) c.add.ensures
+returns-in_err-add-in-Numeric-Text-clause-known c = known (goal.at.returns-in_err-add-in-Numeric-Text-clause-known c).After-add
 
 pub returns-in_err-read-in-Numeric-Text-clause-errors : goal.returns-in_err-read-in-Numeric-Text-clause-errors
 returns-in_err-read-in-Numeric-Text-clause-errors c =

@@ -1,8 +1,4 @@
-use Rattle.std.proofs.Common.{◌++◌, map, ap, sym}
-use Rattle.std.proofs.lemmas.Result.{IfOk-equal}
-use Rattle.serde_json.specs.View.{view}
-use Rattle.oim_report.specs.Faults.{listed}
-use Rattle.oim_report.specs.code.ListedFaults.{document_fault}
+use Rattle.oim_report.proofs.Shared.{◌++◌, map, ap, sym, IfOk-equal, view, listed, document_fault}
 use Rattle.oim_report.proofs.AllFaults.{document_told}
 use Rattle.oim_report.proofs.fault_list.Faults.add_document.Goals as goal
 

@@ -1,10 +1,4 @@
-use Rattle.std.proofs.Common.{◌≡◌, ◌++◌, map, drop}
-use Rattle.std.specs.List.{filter}
-use Rattle.serde_json.specs.View.{view}
-use Rattle.oim_report.specs.Faults.{listed}
-use Rattle.oim_report.specs.Holds.{document_holds}
-use Rattle.oim_report.specs.Least.{is_shown}
-use Rattle.oim_report.specs.code.ListedFaults.{document_fault}
+use Rattle.oim_report.proofs.Shared.{◌≡◌, ◌++◌, map, drop, filter, view, listed, document_holds, is_shown, document_fault}
 use Rattle.oim_report.proofs.fault_list.Faults.add_each_of_document.Given as goal
 
 abbrev pub invariant-loop-reason : goal.invariant-loop-reason

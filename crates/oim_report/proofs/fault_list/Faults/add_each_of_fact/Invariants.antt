@@ -1,9 +1,4 @@
-use Rattle.std.proofs.Common.{◌≡◌, ◌++◌, map, drop}
-use Rattle.std.specs.List.{filter}
-use Rattle.serde_json.specs.View.{view}
-use Rattle.oim_report.specs.Faults.{listed}
-use Rattle.oim_report.specs.Holds.{holds}
-use Rattle.oim_report.specs.code.ListedFaults.{fact_fault}
+use Rattle.oim_report.proofs.Shared.{◌≡◌, ◌++◌, map, drop, filter, view, listed, holds, fact_fault}
 use Rattle.oim_report.proofs.fault_list.Faults.add_each_of_fact.Given as goal
 
 abbrev pub invariant-loop-reason : goal.invariant-loop-reason

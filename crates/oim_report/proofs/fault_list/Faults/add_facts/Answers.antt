@@ -1,17 +1,9 @@
-use Rattle.std.proofs.Common.{rules, arith, ℕ, ◌+◌, ◌≤◌, ◌≡◌, List, [], ◌∷◌, ◌++◌, append_assoc, length, refl, sym, ap, ◌∙◌}
-use Rattle.serde_json.specs.Data.{Data}
-use Rattle.serde_json.specs.View.{view, members_view}
+use Rattle.oim_report.proofs.Shared.{rules, arith, ℕ, ◌+◌, ◌≤◌, ◌≡◌, List, [], ◌∷◌, ◌++◌, append_assoc, length, refl, sym, ap, ◌∙◌, Data, view, members_view, ShownFault, listed, members, values, fact_faults, facts_faults}
 use Rattle.oim_report.specs.declared.place.Place.TheVariants.{Fact}
-use Rattle.oim_report.specs.Faults.{ShownFault, listed}
-use Rattle.oim_report.specs.Json.{members, values}
-use Rattle.oim_report.specs.code.ListedFaults.{fact_faults, facts_faults}
 use Rattle.oim_report.proofs.fault_list.Faults.add_facts.Goals as goal
 
 one_less : {A : Type 0} (xs ys : List A) (x : A) (n m : ℕ) → xs ≡ x ∷ ys → n + length xs ≤ m → n + 1 + length ys ≤ m
 one_less xs ys x n m e h = omega (arith, ap length e)
-
-one_more : (n : ℕ) → 1 + n ≤ n + 1
-one_more n = omega arith
 
 nothing_more : (rs : List ShownFault) → rs ≡ rs ++ []
 nothing_more [] = refl
@@ -29,7 +21,7 @@ loop-identifier-init c =
     let found : List ShownFault → List Data → List ShownFault = λ fs ds. fs ++ facts_faults c.args.sheet.now c.args.aliases.now 1 ds in (
       ap (λ es. found (listed c.args.self.now) (values (members_view es))) whole
           ∙ ap (λ o. found (listed c.args.self.now) (values (members o))) c.in-Some.ensures,
-      one_more (length all),
+      omega arith,
     )
 
 pub loop-identifier-preserved : goal.loop-identifier-preserved

@@ -1,9 +1,4 @@
-use Rattle.std.proofs.Common.{◌≡◌, ◌+◌, ◌≤◌, ◌++◌, length}
-use Rattle.serde_json.specs.View.{view, members_view}
-use Rattle.oim_report.specs.Faults.{listed}
-use Rattle.oim_report.specs.Info.{facts_of}
-use Rattle.oim_report.specs.Json.{values}
-use Rattle.oim_report.specs.code.ListedFaults.{facts_faults}
+use Rattle.oim_report.proofs.Shared.{◌≡◌, ◌+◌, ◌≤◌, ◌++◌, length, view, members_view, listed, facts_of, values, facts_faults}
 use Rattle.oim_report.proofs.fault_list.Faults.add_facts.Given as goal
 
 abbrev pub invariant-loop-identifier : goal.invariant-loop-identifier

@@ -1,5 +1,4 @@
-use Rattle.std.proofs.Common.{◌≡◌, ◌++◌, drop, map}
-use Rattle.oim_report.specs.Faults.{listed, refusals_of, shown_fault}
+use Rattle.oim_report.proofs.Shared.{◌≡◌, ◌++◌, drop, map, listed, refusals_of, shown_fault}
 use Rattle.oim_report.proofs.fault_list.Faults.refusals.Given as goal
 
 abbrev pub invariant-loop-fault : goal.invariant-loop-fault

@@ -1,6 +1,4 @@
-use Rattle.std.proofs.Common.{◌≡◌, Bool, true, false, refl, sym, ap, ◌∙◌}
-use Rattle.std.specs.Prelude.{IsTrue}
-use Rattle.oim_report.specs.Duplicates.{allows_values, values_meet}
+use Rattle.oim_report.proofs.Shared.{◌≡◌, Bool, true, false, refl, sym, ap, ◌∙◌, IsTrue, allows_values, values_meet}
 use Rattle.oim_report.proofs.Ties.{equal_values_tie}
 use Rattle.oim_report.proofs.ValuesMeet.{values_meet_is_meets}
 use Rattle.oim_report.proofs.findings.facts_apart.allows_values.Goals as goal

@@ -1,6 +1,4 @@
-use Rattle.std.proofs.Common.{◌≡◌, drop}
-use Rattle.std.specs.List.{list_any}
-use Rattle.oim_report.specs.Apart.{are_apart}
+use Rattle.oim_report.proofs.Shared.{◌≡◌, drop, list_any, are_apart}
 use Rattle.oim_report.proofs.findings.facts_apart.first_beside.Given as goal
 
 -- the level forbids some fact beside the fact at `last` exactly if it forbids one of the remaining facts beside that fact

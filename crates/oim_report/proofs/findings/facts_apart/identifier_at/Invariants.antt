@@ -1,7 +1,4 @@
-use Rattle.std.proofs.Common.{◌≡◌, [], get_or}
-use Rattle.serde_json.specs.View.{view, members_view}
-use Rattle.oim_report.specs.Identifiers.{identifiers_in, tree_identifiers}
-use Rattle.oim_report.specs.Json.{entries}
+use Rattle.oim_report.proofs.Shared.{◌≡◌, [], get_or, view, members_view, identifiers_in, tree_identifiers, entries}
 use Rattle.oim_report.proofs.findings.facts_apart.identifier_at.Given as goal
 
 -- the identifier is that of the fact after `left` of the remaining ones

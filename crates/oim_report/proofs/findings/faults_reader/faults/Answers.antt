@@ -1,10 +1,6 @@
-use Rattle.std.proofs.Common.{◌≡◌, [], ◌∷◌, ◌++◌, None, ap, sym, ◌∙◌}
-use Rattle.std.specs.Option.{option_map_or}
-use Rattle.oim_names.specs.declared.reason.Reason.TheVariants.{NotJson}
+use Rattle.oim_report.proofs.Shared.{◌≡◌, [], ◌∷◌, ◌++◌, None, ap, sym, ◌∙◌, option_map_or, NotJson, json, at}
 use Rattle.oim_report.specs.declared.place.Place.TheVariants.{Document}
 use Rattle.oim_report.specs.Faults.{faults, tree_faults}
-use Rattle.oim_report.specs.Json.{json}
-use Rattle.oim_report.specs.Outcome.{at}
 use Rattle.oim_report.proofs.DocumentHolds.{nothing_said}
 use Rattle.oim_report.proofs.findings.faults_reader.faults.Goals as goal
 

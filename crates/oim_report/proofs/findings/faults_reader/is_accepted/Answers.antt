@@ -1,6 +1,4 @@
-use Rattle.std.proofs.Common.{Some, ap, sym, ◌∙◌}
-use Rattle.serde_json.specs.View.{view}
-use Rattle.oim_report.specs.Outcome.{tree_outcome}
+use Rattle.oim_report.proofs.Shared.{Some, ap, sym, ◌∙◌, view, tree_outcome}
 use Rattle.oim_report.proofs.FaultLaws.{accepted_has_none}
 use Rattle.oim_report.proofs.findings.faults_reader.is_accepted.Goals as goal
 

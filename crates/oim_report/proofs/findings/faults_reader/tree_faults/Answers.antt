@@ -1,16 +1,4 @@
-use Rattle.std.proofs.Common.{◌≡◌, ◌≢◌, rules, [], ◌∷◌, ◌++◌, true, false, Ok, Option, Some, IfSome, is_some, subst, ap, sym, ◌∙◌, inr}
-use Rattle.std.specs.List.{AllByRecursion}
-use Rattle.serde_json.specs.Data.{Data}
-use Rattle.serde_json.specs.View.{view}
-use Rattle.oim_names.specs.declared.reason.Reason.TheVariants.{OutOfMemory}
-use Rattle.oim_report.specs.declared.fault.Fault.{Fault}
-use Rattle.oim_report.specs.Faults.{HasPart, IsOfDuplicates, listed, refusals_of, shown_fault}
-use Rattle.oim_report.specs.Holds.{document_refusal}
-use Rattle.oim_report.specs.Info.{facts_of}
-use Rattle.oim_report.specs.Json.{values}
-use Rattle.oim_report.specs.Outcome.{facts_said}
-use Rattle.oim_report.specs.Sheet.{Sheet}
-use Rattle.oim_report.specs.code.ListedFaults.{document_faults, facts_faults}
+use Rattle.oim_report.proofs.Shared.{◌≡◌, ◌≢◌, rules, [], ◌∷◌, ◌++◌, true, false, Ok, Option, Some, IfSome, is_some, subst, ap, sym, ◌∙◌, inr, AllByRecursion, Data, view, OutOfMemory, Fault, HasPart, IsOfDuplicates, listed, refusals_of, shown_fault, document_refusal, facts_of, values, facts_said, Sheet, document_faults, facts_faults}
 use Rattle.oim_report.proofs.FaultLaws.{above_declared, all_said, no_document_fault}
 use Rattle.oim_report.proofs.FaultParts.{document_free, document_listed, document_parts, facts_free, facts_listed, facts_parts, last_listed}
 use Rattle.oim_report.proofs.Naming.{only_memory}

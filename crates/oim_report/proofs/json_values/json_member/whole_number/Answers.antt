@@ -1,8 +1,4 @@
-use Rattle.std.proofs.Common.{◌≡◌, ℕ, ℤ, List, Option, Some, None, IfSome, sym}
-use Rattle.serde_json.specs.Data.{Num}
-use Rattle.serde_json.specs.Find.{as_integer}
-use Rattle.serde_json.specs.Read.{number_of}
-use Rattle.serde_json.specs.View.{number_view}
+use Rattle.oim_report.proofs.Shared.{◌≡◌, ℕ, ℤ, List, Option, Some, None, IfSome, sym, Num, as_integer, number_of, number_view}
 use Rattle.oim_report.proofs.json_values.json_member.whole_number.Goals as goal
 
 whole_of : (r : Option ℤ) (x : Num) (s : List ℕ) → r ≡ as_integer x → Some x ≡ number_of s → IfSome r (λ n. (found : Num) × (number_of s ≡ Some found) × (as_integer found ≡ Some n))

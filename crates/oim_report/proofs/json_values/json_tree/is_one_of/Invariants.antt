@@ -1,5 +1,4 @@
-use Rattle.std.proofs.Common.{◌≡◌, map, drop, bytes_eq}
-use Rattle.std.specs.List.{list_any}
+use Rattle.oim_report.proofs.Shared.{◌≡◌, map, drop, bytes_eq, list_any}
 use Rattle.oim_report.proofs.json_values.json_tree.is_one_of.Given as goal
 
 abbrev pub invariant-loop-name : goal.invariant-loop-name

@@ -1,6 +1,4 @@
-use Rattle.std.proofs.Common.{rules, ◌≡◌, Some, None, subst, ◌∙◌, inr, refl}
-use Rattle.serde_json.specs.View.{view}
-use Rattle.oim_report.specs.Json.{json_text}
+use Rattle.oim_report.proofs.Shared.{rules, ◌≡◌, Some, None, subst, ◌∙◌, inr, refl, view, json_text}
 use Rattle.oim_report.proofs.Texts.{passes, fails}
 use Rattle.oim_report.proofs.json_values.json_tree.read_json.Goals as goal
 

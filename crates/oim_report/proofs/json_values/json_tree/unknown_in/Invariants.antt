@@ -1,8 +1,4 @@
-use Rattle.std.proofs.Common.{◌≡◌, map, option_map}
-use Rattle.std.specs.Prelude.{Some}
-use Rattle.serde_json.specs.View.{members_view}
-use Rattle.oim_report.specs.Json.{any_in, any_member, is_unknown}
-use Rattle.oim_report.specs.Shown.{unknown_in}
+use Rattle.oim_report.proofs.Shared.{◌≡◌, map, option_map, Some, members_view, any_in, any_member, is_unknown, unknown_in}
 use Rattle.oim_report.proofs.json_values.json_tree.unknown_in.Given as goal
 
 abbrev pub invariant-loop-key : goal.invariant-loop-key

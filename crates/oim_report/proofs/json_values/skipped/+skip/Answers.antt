@@ -1,6 +1,4 @@
-use Rattle.std.proofs.Common.{OnOk, option_map, sym, ap, subst, arith}
-use Rattle.serde_json.specs.Data.{object}
-use Rattle.oim_report.specs.code.TapeValues.{IsRead}
+use Rattle.oim_report.proofs.Shared.{OnOk, option_map, sym, ap, subst, arith, object, IsRead}
 use Rattle.oim_report.proofs.TapedFacts.{begun, one_member, all_read, one_skipped, all_skipped, number_skipped, plain_skipped}
 use Rattle.oim_report.proofs.json_values.skipped.+skip.Goals as goal
 

@@ -1,7 +1,5 @@
-use Rattle.std.proofs.Common.{◌+◌, ◌-◌, ◌*◌, length}
-use Rattle.std.specs.Prelude.{⊤}
+use Rattle.oim_report.proofs.Shared.{◌+◌, ◌-◌, ◌*◌, length, ⊤, InItems, InMembers}
 use Rattle.json.specs.Json as j
-use Rattle.json.specs.Find.{InItems, InMembers}
 use Rattle.oim_report.proofs.TapedFacts.{AreSkipped, IsReading}
 use Rattle.oim_report.proofs.json_values.skipped.+skip.Given as goal
 

@@ -1,7 +1,4 @@
-use Rattle.std.proofs.Common.{◌≡◌, ℕ, List, Option, Some, None, true, option_map, is_some, sym, ap, ◌∙◌, arith}
-use Rattle.serde_json.specs.Data.{Num, number}
-use Rattle.serde_json.specs.Read.{number_of}
-use Rattle.serde_json.specs.View.{number_view}
+use Rattle.oim_report.proofs.Shared.{◌≡◌, ℕ, List, Option, Some, None, true, option_map, is_some, sym, ap, ◌∙◌, arith, Num, number, number_of, number_view}
 use Rattle.serde_json.specs.declared.number.Number.{Number}
 use Rattle.oim_report.proofs.json_values.skipped.skip_number.Goals as goal
 

@@ -1,8 +1,4 @@
-use Rattle.std.proofs.Common.{option_map, Some, refl, sym, ap, subst, ◌∙◌}
-use Rattle.std.proofs.lemmas.Result.{on_ok_weaker}
-use Rattle.json.specs.Find.{BeginsWith}
-use Rattle.serde_json.specs.Data.{no_members}
-use Rattle.oim_report.specs.code.Pieces.{IsBeside}
+use Rattle.oim_report.proofs.Shared.{option_map, Some, refl, sym, ap, subst, ◌∙◌, on_ok_weaker, BeginsWith, no_members, IsBeside}
 use Rattle.oim_report.proofs.TapedFacts.{taped_piece}
 use Rattle.oim_report.proofs.pieces.beside.read_beside.Goals as goal
 

@@ -1,10 +1,4 @@
-use Rattle.std.proofs.Common.{rules, ◌≡◌, true, codes, string_bytes, sym, ap, ◌∙◌, subst}
-use Rattle.std.proofs.lemmas.Result.{on_ok_weaker}
-use Rattle.serde_json.specs.Data.{put}
-use Rattle.serde_json.specs.View.{view, members_view}
-use Rattle.serde_json.proofs.Views.{members_view-insert_entry}
-use Rattle.oim_report.specs.Json.{has_colon}
-use Rattle.oim_report.specs.code.Pieces.{IsLike}
+use Rattle.oim_report.proofs.Shared.{rules, ◌≡◌, true, codes, string_bytes, sym, ap, ◌∙◌, subst, on_ok_weaker, put, view, members_view, members_view-insert_entry, has_colon, IsLike}
 use Rattle.oim_report.proofs.BesideFacts.{extension_added, info_added}
 use Rattle.oim_report.proofs.pieces.beside.read_member.Goals as goal
 

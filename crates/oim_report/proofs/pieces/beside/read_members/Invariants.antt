@@ -1,9 +1,5 @@
-use Rattle.std.proofs.Common.{◌≡◌, false, length}
+use Rattle.oim_report.proofs.Shared.{◌≡◌, false, length, InMembers, members_view, HasMember, Adds}
 use Rattle.json.specs.Json as j
-use Rattle.json.specs.Find.{InMembers}
-use Rattle.serde_json.specs.View.{members_view}
-use Rattle.oim_report.specs.Pieces.{HasMember}
-use Rattle.oim_report.specs.code.Pieces.{Adds}
 use Rattle.oim_report.proofs.TapedFacts.{IsReading}
 use Rattle.oim_report.proofs.pieces.beside.read_members.Given as goal
 

@@ -1,5 +1,4 @@
-use Rattle.std.proofs.Common.{length, drop, ◌≤◌}
-use Rattle.oim_report.specs.code.Pieces.{AreSpaces}
+use Rattle.oim_report.proofs.Shared.{length, drop, ◌≤◌, AreSpaces}
 use Rattle.oim_report.proofs.pieces.cuts.back_start.Given as goal
 
 abbrev pub invariant-loop-at : goal.invariant-loop-at

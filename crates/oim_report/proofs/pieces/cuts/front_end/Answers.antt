@@ -1,6 +1,4 @@
-use Rattle.std.proofs.Common.{◌≡◌, ℕ, zero, suc, ◌+◌, ◌<◌, true, List, [], ◌∷◌, length, take, get_or, sym, subst, ◌∙◌, arith}
-use Rattle.json.specs.Word.{is_space}
-use Rattle.oim_report.specs.code.Pieces.{AreSpaces}
+use Rattle.oim_report.proofs.Shared.{◌≡◌, ℕ, zero, suc, ◌+◌, ◌<◌, true, List, [], ◌∷◌, length, take, get_or, sym, subst, ◌∙◌, arith, is_space, AreSpaces}
 use Rattle.oim_report.proofs.pieces.cuts.front_end.Goals as goal
 
 one_more : (xs : List ℕ) (n d : ℕ) → n < length xs → AreSpaces (take n xs) → is_space (get_or xs n d) ≡ true → AreSpaces (take (suc n) xs)

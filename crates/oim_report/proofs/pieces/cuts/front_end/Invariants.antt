@@ -1,5 +1,4 @@
-use Rattle.std.proofs.Common.{length, take, ◌≤◌, ◌-◌}
-use Rattle.oim_report.specs.code.Pieces.{AreSpaces}
+use Rattle.oim_report.proofs.Shared.{length, take, ◌≤◌, ◌-◌, AreSpaces}
 use Rattle.oim_report.proofs.pieces.cuts.front_end.Given as goal
 
 abbrev pub invariant-loop-at : goal.invariant-loop-at

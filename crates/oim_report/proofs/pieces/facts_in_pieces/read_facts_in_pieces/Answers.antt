@@ -1,15 +1,5 @@
-use Rattle.std.proofs.Common.{rules, ◌≡◌, ℕ, List, Some, option_map, Err, IfErr, IfOk, Ok, Result, refl, sym, ap, ◌∙◌, subst}
-use Rattle.json.specs.Find.{BeginsWith}
+use Rattle.oim_report.proofs.Shared.{rules, ◌≡◌, ℕ, List, Some, option_map, Err, IfErr, IfOk, Ok, Result, refl, sym, ap, ◌∙◌, subst, BeginsWith, Json, document, Members, no_members, alone, HasMember, IsPiece, put_all, AreMore, append, with_rest, Scope, AreData, one, FactsSoFar}
 use Rattle.json.specs.Json as j
-use Rattle.json.specs.Json.{Json, document}
-use Rattle.serde_json.specs.Data.{Members, no_members}
-use Rattle.oim_report.specs.Pieces.{alone, HasMember, IsPiece, put_all}
-use Rattle.oim_report.specs.code.FactsSoFar.{AreMore}
-use Rattle.oim_report.specs.code.FoundFacts.{append}
-use Rattle.oim_report.specs.code.Pieces.{with_rest}
-use Rattle.oim_report.specs.code.Scope.{Scope}
-use Rattle.oim_report.specs.code.TapeValues.{AreData, one}
-use Rattle.oim_report.specs.declared.pieces.facts_so_far.FactsSoFar.{FactsSoFar}
 use Rattle.oim_report.proofs.FoundInOrder.{none_found, none_ranked}
 use Rattle.oim_report.proofs.PiecesInTurn.{one_more, last_one}
 use Rattle.oim_report.proofs.TapedFacts.{piece_of_facts}

@@ -1,9 +1,6 @@
-use Rattle.std.proofs.Common.{◌≡◌}
+use Rattle.oim_report.proofs.Shared.{◌≡◌, Members, AreSoFar, IsUpTo}
 use denote.Text.{Utf8}
 use denote.Shadow.{shadow}
-use Rattle.serde_json.specs.Data.{Members}
-use Rattle.oim_report.specs.code.FactsSoFar.{AreSoFar}
-use Rattle.oim_report.specs.code.Pieces.{IsUpTo}
 use Rattle.oim_report.proofs.pieces.facts_in_pieces.read_facts_in_pieces.Given as goal
 
 -- the rest of the text is UTF-8, the facts before the rest were read, and the reader is unchanged

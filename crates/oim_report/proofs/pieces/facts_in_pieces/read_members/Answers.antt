@@ -1,7 +1,4 @@
-use Rattle.std.proofs.Common.{refl, ◌∙◌, subst}
-use Rattle.serde_json.specs.Data.{no_members, member}
-use Rattle.oim_report.specs.code.FactsSoFar.{IsOneMore}
-use Rattle.oim_report.specs.code.Scope.{Scope}
+use Rattle.oim_report.proofs.Shared.{refl, ◌∙◌, subst, no_members, member, IsOneMore, Scope}
 use Rattle.oim_report.proofs.FactsSoFar.{both_more, has_one_more, none_more}
 use Rattle.oim_report.proofs.TapedFacts.{none_reading, one_read, all_found}
 use Rattle.oim_report.proofs.pieces.facts_in_pieces.read_members.Goals as goal

@@ -1,8 +1,5 @@
-use Rattle.std.proofs.Common.{◌≡◌, false, length}
+use Rattle.oim_report.proofs.Shared.{◌≡◌, false, length, InMembers, HasMember, AreMore}
 use Rattle.json.specs.Json as j
-use Rattle.json.specs.Find.{InMembers}
-use Rattle.oim_report.specs.Pieces.{HasMember}
-use Rattle.oim_report.specs.code.FactsSoFar.{AreMore}
 use Rattle.oim_report.proofs.TapedFacts.{AreReading}
 use Rattle.oim_report.proofs.pieces.facts_in_pieces.read_members.Given as goal
 

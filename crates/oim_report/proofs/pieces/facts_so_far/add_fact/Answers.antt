@@ -1,8 +1,4 @@
-use Rattle.std.proofs.Common.{ℕ, ap, ◌∙◌}
-use Rattle.oim_dims.specs.declared.fact.Fact.{Fact}
-use Rattle.oim_report.specs.Refusal.{map_ok}
-use Rattle.serde_json.specs.Data.{no_members, member}
-use Rattle.oim_report.specs.code.Ranks.{IsRank}
+use Rattle.oim_report.proofs.Shared.{ℕ, ap, ◌∙◌, Fact, map_ok, no_members, member, IsRank}
 use Rattle.oim_report.specs.declared.pieces.facts_so_far.FactsSoFar.TheVariants.{Refused}
 use Rattle.oim_report.specs.declared.pieces.judgement.Judgement.TheVariants as judged
 use Rattle.oim_report.proofs.FactsSoFar.{accepted_more, judged_more, refused_more}

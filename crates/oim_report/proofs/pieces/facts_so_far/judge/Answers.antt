@@ -1,9 +1,4 @@
-use Rattle.std.proofs.Common.{◌≡◌, ℕ, Result, Ok, Err, IfErr, IfOk, subst, sym}
-use Rattle.oim_names.specs.declared.reason.Reason.{Reason}
-use Rattle.oim_dims.specs.declared.fact.Fact.{Fact}
-use Rattle.oim_report.specs.Refusal.{map_ok}
-use Rattle.oim_report.specs.code.Judged.{IsJudged}
-use Rattle.oim_report.specs.declared.pieces.judgement.Judgement.{Judgement}
+use Rattle.oim_report.proofs.Shared.{◌≡◌, ℕ, Result, Ok, Err, IfErr, IfOk, subst, sym, Reason, Fact, map_ok, IsJudged, Judgement}
 use Rattle.oim_report.specs.declared.pieces.judgement.Judgement.TheVariants.{Accepted, Refused}
 use Rattle.oim_report.proofs.pieces.facts_so_far.judge.Goals as goal
 

@@ -1,10 +1,4 @@
-use Rattle.std.proofs.Common.{IfOk, subst, sym, ap, ◌∙◌}
-use Rattle.std.proofs.lemmas.Result.{IfOk-weaker}
-use Rattle.serde_json.specs.View.{view}
-use Rattle.oim_report.specs.Holds.{holds}
-use Rattle.oim_report.specs.Least.{least}
-use Rattle.oim_report.specs.code.FactsSoFar.{IsSaid}
-use Rattle.oim_report.specs.code.Scope.{Scope}
+use Rattle.oim_report.proofs.Shared.{IfOk, subst, sym, ap, ◌∙◌, IfOk-weaker, view, holds, least, IsSaid, Scope}
 use Rattle.oim_report.proofs.FaultLaws.{refused_least}
 use Rattle.oim_report.proofs.pieces.facts_so_far.read_fact.Goals as goal
 

@@ -1,8 +1,4 @@
-use Rattle.std.proofs.Common.{rules, ◌≡◌, ◌++◌, ◌∷◌, [], ℕ, ◌≤◌, length, map, string_bytes, Some, option_map, take, slice_get, refl, sym, ap, ◌∙◌}
-use Rattle.std.proofs.lemmas.List.{take_all}
-use Rattle.std.specs.BTreeMap.{insert_entry}
-use Rattle.std.specs.String.{string_cmp}
-use Rattle.oim_dims.specs.declared.fact.Fact.{Fact}
+use Rattle.oim_report.proofs.Shared.{rules, ◌≡◌, ◌++◌, ◌∷◌, [], ℕ, ◌≤◌, length, map, string_bytes, Some, option_map, take, slice_get, refl, sym, ap, ◌∙◌, take_all, string_cmp, insert_entry, Fact}
 use Rattle.oim_report.proofs.FoundInOrder.{put_one_more, all_kept, taken_one, longer, all_ranked, keys_more}
 use Rattle.oim_report.proofs.pieces.found_facts.by_identifier.Goals as goal
 

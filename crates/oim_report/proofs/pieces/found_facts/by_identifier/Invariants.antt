@@ -1,5 +1,4 @@
-use Rattle.std.proofs.Common.{◌≡◌, ◌++◌, ℕ, List, [], length, map, take, String, Global, string_bytes}
-use Rattle.oim_dims.specs.declared.fact.Fact.{Fact}
+use Rattle.oim_report.proofs.Shared.{◌≡◌, ◌++◌, ℕ, List, [], length, map, take, String, Global, string_bytes, Fact}
 use Rattle.oim_report.proofs.FoundInOrder.{put_entries}
 use Rattle.oim_report.proofs.pieces.found_facts.by_identifier.Given as goal
 

@@ -1,5 +1,4 @@
-use Rattle.std.proofs.Common.{◌≡◌, ◌++◌, ◌∷◌, ℕ, List, [], String, Global, map, string_bytes, sym, ap, ◌∙◌, append-nil, append_assoc}
-use Rattle.oim_dims.specs.declared.fact.Fact.{Fact}
+use Rattle.oim_report.proofs.Shared.{◌≡◌, ◌++◌, ◌∷◌, ℕ, List, [], String, Global, map, string_bytes, sym, ap, ◌∙◌, append-nil, append_assoc, Fact}
 use Rattle.oim_report.proofs.pieces.found_facts.found_in.Goals as goal
 
 one_on : {A B : Type 0} (f : A → B) (xs ys more : List B) (e : A) (es rest : List A) → more ≡ xs ++ f e ∷ [] → es ≡ e ∷ rest → xs ++ map f es ≡ ys → more ++ map f rest ≡ ys

@@ -1,5 +1,4 @@
-use Rattle.std.proofs.Common.{◌≡◌, ◌+◌, Some, true, false, drop, slice_get, option_map, sym, ap, ◌∙◌}
-use Rattle.oim_report.specs.code.FoundFacts.{is_above, rise_after}
+use Rattle.oim_report.proofs.Shared.{◌≡◌, ◌+◌, Some, true, false, drop, slice_get, option_map, sym, ap, ◌∙◌, is_above, rise_after}
 use Rattle.oim_report.proofs.FoundInOrder.{at_index, goes_on, stops}
 use Rattle.oim_report.proofs.pieces.found_facts.rise.Goals as goal
 

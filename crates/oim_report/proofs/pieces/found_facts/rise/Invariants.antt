@@ -1,5 +1,4 @@
-use Rattle.std.proofs.Common.{◌≡◌, None, drop, option_map}
-use Rattle.oim_report.specs.code.FoundFacts.{rise_after}
+use Rattle.oim_report.proofs.Shared.{◌≡◌, None, drop, option_map, rise_after}
 use Rattle.oim_report.proofs.pieces.found_facts.rise.Given as goal
 
 -- all identifiers ascend exactly if `last` and the remaining identifiers ascend

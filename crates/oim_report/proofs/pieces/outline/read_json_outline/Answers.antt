@@ -1,6 +1,4 @@
-use Rattle.std.proofs.Common.{sym, ◌∙◌, subst}
-use Rattle.std.specs.Prelude.{IsUtf8}
-use Rattle.serde_json.specs.View.{view}
+use Rattle.oim_report.proofs.Shared.{sym, ◌∙◌, subst, IsUtf8, view}
 use Rattle.oim_report.proofs.FoundInOrder.{json_outline}
 use Rattle.oim_report.proofs.pieces.outline.read_json_outline.Goals as goal
 

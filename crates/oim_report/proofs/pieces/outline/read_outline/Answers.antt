@@ -1,8 +1,5 @@
-use Rattle.std.proofs.Common.{option_map, subst}
-use Rattle.serde_json.specs.View.{view, members_view}
+use Rattle.oim_report.proofs.Shared.{option_map, subst, view, members_view, view-Object, Adds}
 use Rattle.serde_json.specs.declared.value.Value.{Object}
-use Rattle.serde_json.proofs.Views.{view-Object}
-use Rattle.oim_report.specs.code.Pieces.{Adds}
 use Rattle.oim_report.proofs.Outlines.{outline_is}
 use Rattle.oim_report.proofs.pieces.outline.read_outline.Goals as goal
 

@@ -1,8 +1,6 @@
-use Rattle.std.proofs.Common.{◌≡◌, List, Option, Some, None, MatchOption, ap, ◌∙◌, IfSome}
-use Rattle.json.specs.Token.{Token}
+use Rattle.oim_report.proofs.Shared.{◌≡◌, List, Option, Some, None, MatchOption, ap, ◌∙◌, IfSome, Token, one}
 use Rattle.json.specs.Json.{Json, array, object, Items, no_items, item, Members}
 use Rattle.json.specs.Find.{InMembers, as_object}
-use Rattle.oim_report.specs.code.TapeValues.{one}
 use Rattle.oim_report.proofs.pieces.piece_tape.only_object.Goals as goal
 
 members_of : (r : Option (List Token)) (v w : Json) (vs rest : Items) → v ≡ array vs → vs ≡ item w rest → rest ≡ no_items → MatchOption r (as_object w ≡ None) (λ m. (ms : Members) × (w ≡ object ms) × InMembers m ms) → IfSome r (λ m. (ms : Members) × (v ≡ one ms) × InMembers m ms)

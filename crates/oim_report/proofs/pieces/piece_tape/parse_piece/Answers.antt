@@ -1,6 +1,4 @@
-use Rattle.std.proofs.Common.{rules, ◌≡◌, Option, Some, None, IsSome, refl, sym, ap, ◌∙◌}
-use Rattle.json.specs.Json.{Json, document}
-use Rattle.oim_report.specs.Pieces.{alone}
+use Rattle.oim_report.proofs.Shared.{rules, ◌≡◌, Option, Some, None, IsSome, refl, sym, ap, ◌∙◌, Json, document, alone}
 use Rattle.oim_report.proofs.pieces.piece_tape.parse_piece.Goals as goal
 
 one_value : (o : Option Json) → IsSome o → (v : Json) × (o ≡ Some v)

@@ -1,10 +1,4 @@
-use Rattle.std.proofs.Common.{◌≡◌, ℕ, ◌-◌, Some, option_map, string_bytes, sym, ap, ◌∙◌, subst, arith, rules}
-use Rattle.std.proofs.lemmas.Result.{IfOk-weaker}
-use Rattle.json.specs.Json.{Json}
-use Rattle.serde_json.specs.Data.{Data, array, object, put}
-use Rattle.serde_json.specs.View.{view, members_view}
-use Rattle.serde_json.proofs.Views.{view-Array, view-Object, members_view-insert_entry}
-use Rattle.oim_report.specs.code.TapeValues.{IsReadAs}
+use Rattle.oim_report.proofs.Shared.{◌≡◌, ℕ, ◌-◌, Some, option_map, string_bytes, sym, ap, ◌∙◌, subst, arith, rules, IfOk-weaker, Json, Data, array, object, put, view, members_view, view-Array, view-Object, members_view-insert_entry, IsReadAs}
 use Rattle.oim_report.proofs.TapedFacts.{begun, one_member, all_read}
 use Rattle.oim_report.proofs.TapedTrees.{items_before, one_taken, all_taken}
 use Rattle.oim_report.proofs.pieces.taped_tree.+tree.Goals as goal

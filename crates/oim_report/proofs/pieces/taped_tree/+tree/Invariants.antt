@@ -1,7 +1,5 @@
-use Rattle.std.proofs.Common.{◌≡◌, ◌+◌, ◌-◌, ◌*◌, length}
+use Rattle.oim_report.proofs.Shared.{◌≡◌, ◌+◌, ◌-◌, ◌*◌, length, InItems, InMembers, members_view}
 use Rattle.json.specs.Json as j
-use Rattle.json.specs.Find.{InItems, InMembers}
-use Rattle.serde_json.specs.View.{members_view}
 use Rattle.oim_report.proofs.TapedFacts.{IsReading}
 use Rattle.oim_report.proofs.TapedTrees.{AreTaken}
 use Rattle.oim_report.proofs.pieces.taped_tree.+tree.Given as goal

@@ -1,12 +1,6 @@
-use Rattle.std.proofs.Common.{rules, ◌≡◌, ℕ, List, Bool, true, Some, option_map, string_bytes, sym, ap, ◌∙◌, arith}
-use Rattle.json.specs.Find.{as_bool, as_number, as_str, is_null}
+use Rattle.oim_report.proofs.Shared.{rules, ◌≡◌, ℕ, List, Bool, true, Some, option_map, string_bytes, sym, ap, ◌∙◌, arith, as_bool, as_number, as_str, is_null, Json, Data, Num, null, boolean, number, string, number_of, number_view, view, IsReadAs}
 use Rattle.json.specs.Json as j
-use Rattle.json.specs.Json.{Json}
-use Rattle.serde_json.specs.Data.{Data, Num, null, boolean, number, string}
-use Rattle.serde_json.specs.Read.{number_of}
-use Rattle.serde_json.specs.View.{number_view, view}
 use Rattle.serde_json.specs.declared.value.Value.{Bool as BoolValue, Null, Number as NumberValue, String, the_lemmas}
-use Rattle.oim_report.specs.code.TapeValues.{IsReadAs}
 use Rattle.oim_report.proofs.pieces.taped_tree.leaf_of.Goals as goal
 
 text_read : (v : Json) (s : List ℕ) (d : Data) → as_str v ≡ Some s → d ≡ string s → IsReadAs 0 v d

@@ -1,9 +1,4 @@
-use Rattle.std.proofs.Common.{rules, ◌≡◌, Ok, Some, subst, IfOk}
-use Rattle.std.proofs.lemmas.Result.{IfOk-weaker}
-use Rattle.serde_json.specs.View.{view}
-use Rattle.oim_report.specs.Document.{SaysDocument}
-use Rattle.oim_report.specs.Outcome.{outcome, tree_outcome}
-use Rattle.oim_report.specs.Report.{Reading}
+use Rattle.oim_report.proofs.Shared.{rules, ◌≡◌, Ok, Some, subst, IfOk, IfOk-weaker, view, SaysDocument, outcome, tree_outcome, Reading}
 use Rattle.oim_report.proofs.Documents.{document_said, outcomes_are_said}
 use Rattle.oim_report.proofs.report_reader.ReportReader.read.Goals as goal
 

@@ -1,19 +1,9 @@
-use Rattle.std.proofs.Common.{◌≡◌, Some, Ok, Err, false, true, sym, ◌∙◌, subst, ap, option_map, is_lt}
-use Rattle.oim_value.specs.Level.{level_cmp}
-use Rattle.serde_json.specs.View.{view}
-use Rattle.oim_report.specs.Duplicates.{level_of}
-use Rattle.oim_report.specs.Identifiers.{identifiers_in, tree_identifiers}
-use Rattle.oim_report.specs.Json.{entries}
-use Rattle.oim_report.specs.Info.{bindings_of}
-use Rattle.oim_report.specs.Report.{IsOrderOf}
-use Rattle.oim_report.specs.Outcome.{facts_said, outcome}
-use Rattle.oim_report.specs.code.Scope.{Scope}
+use Rattle.oim_report.proofs.Shared.{◌≡◌, Some, Ok, Err, false, true, sym, ◌∙◌, subst, ap, option_map, is_lt, level_cmp, view, level_of, identifiers_in, tree_identifiers, entries, bindings_of, IsOrderOf, facts_said, outcome, Scope, OrderConcepts}
 use Rattle.oim_report.proofs.AcceptedFacts.{facts_fit}
 use Rattle.oim_report.proofs.Documents.{bindings_are_namespaces}
 use Rattle.oim_report.proofs.FoundInOrder.{facts_same, found_said, if_err, if_ok, keys_found, whole_above, whole_outcome, whole_refused}
 use Rattle.oim_report.proofs.Ranks.{order_concepts}
 use Rattle.oim_report.proofs.ReferenceTexts.{references_kept}
-use Rattle.oim_report.specs.code.Ranks.{OrderConcepts}
 use Rattle.oim_report.proofs.report_reader.ReportReader.read_in_pieces.Goals as goal
 
 pub new-report-requires-clause-facts : goal.new-report-requires-clause-facts

@@ -1,8 +1,4 @@
-use Rattle.serde_json.specs.View.{view}
-use Rattle.std.proofs.Common.{ap, sym, ◌∙◌}
-use Rattle.oim_report.specs.Info.{facts_of}
-use Rattle.oim_report.specs.Outcome.{facts_said}
-use Rattle.oim_report.specs.code.Scope.{Scope}
+use Rattle.oim_report.proofs.Shared.{view, ap, sym, ◌∙◌, facts_of, facts_said, Scope}
 use Rattle.oim_report.proofs.Documents.{report_fits}
 use Rattle.oim_report.proofs.ReferenceTexts.{references_kept}
 use Rattle.oim_report.proofs.report_reader.ReportReader.read_tree.Goals as goal

@@ -1,8 +1,4 @@
-use Rattle.std.proofs.Common.{◌≡◌}
-use Rattle.std.specs.List.{find}
-use Rattle.serde_json.specs.View.{members_view}
-use Rattle.oim_report.specs.Json.{entries}
-use Rattle.oim_report.specs.Shown.{spell_same}
+use Rattle.oim_report.proofs.Shared.{◌≡◌, find, members_view, entries, spell_same}
 use Rattle.oim_report.proofs.sheet.same_names.beside_first.Given as goal
 
 abbrev pub invariant-loop-first : goal.invariant-loop-first

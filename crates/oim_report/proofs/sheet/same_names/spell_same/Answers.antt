@@ -1,5 +1,4 @@
-use Rattle.std.proofs.Common.{rules, refl, sym}
-use Rattle.oim_names.specs.QName.{is_name}
+use Rattle.oim_report.proofs.Shared.{rules, refl, sym, is_name}
 use Rattle.oim_report.proofs.Naming.{expanded}
 use Rattle.oim_report.proofs.ShownFaults.{refused_none}
 use Rattle.oim_report.proofs.sheet.same_names.spell_same.Goals as goal

@@ -1,9 +1,4 @@
-use Rattle.std.proofs.Common.{◌≡◌, option_map}
-use Rattle.std.specs.List.{find}
-use Rattle.serde_json.specs.View.{members_view}
-use Rattle.oim_names.specs.Expansion.{refuses}
-use Rattle.oim_report.specs.Json.{members}
-use Rattle.oim_report.specs.Sheet.{key_names}
+use Rattle.oim_report.proofs.Shared.{◌≡◌, option_map, find, members_view, refuses, members, key_names}
 use Rattle.oim_report.proofs.sheet.sheet_form.refused_key.Given as goal
 
 abbrev pub invariant-loop-key : goal.invariant-loop-key

@@ -1,7 +1,4 @@
-use Rattle.std.proofs.Common.{◌≡◌, option_map}
-use Rattle.serde_json.specs.View.{members_view}
-use Rattle.oim_report.specs.Json.{members}
-use Rattle.oim_report.specs.Shown.{kindless}
+use Rattle.oim_report.proofs.Shared.{◌≡◌, option_map, members_view, members, kindless}
 use Rattle.oim_report.proofs.sheet.sheet_part.first_without_kind.Given as goal
 
 abbrev pub invariant-loop-key : goal.invariant-loop-key

@@ -1,12 +1,4 @@
-use Rattle.std.proofs.Common.{◌≡◌, Some, List, [], ◌∷◌, sym, ap, ◌∙◌, option_map}
-use Rattle.std.specs.Prelude.{Option, None}
-use Rattle.std.specs.Option.{option_map_or, unwrap_or}
-use Rattle.serde_json.specs.Data.{Data}
-use Rattle.serde_json.specs.View.{view}
-use Rattle.oim_report.specs.declared.part.Part.{Part}
-use Rattle.oim_report.specs.declared.part.Part.TheVariants.{Nothing}
-use Rattle.oim_report.specs.Json.{members}
-use Rattle.oim_report.specs.Sheet.{concept_kind_named, dimension_kind_named, same_concept_kind, same_dimension_kind, sheet_bindings, sheet_concepts, sheet_dimensions}
+use Rattle.oim_report.proofs.Shared.{◌≡◌, Some, List, [], ◌∷◌, sym, ap, ◌∙◌, option_map, Option, None, unwrap_or, option_map_or, Data, view, Part, Nothing, members, concept_kind_named, dimension_kind_named, same_concept_kind, same_dimension_kind, sheet_bindings, sheet_concepts, sheet_dimensions}
 use Rattle.oim_report.specs.Shown.{Shown, entry, first_shown, kindless, nothing, seen, sheet_shown, two_kinds}
 use Rattle.oim_report.proofs.sheet.sheet_part.kind_at_fault.Goals as goal
 

@@ -1,8 +1,4 @@
-use Rattle.std.proofs.Common.{◌≡◌, true, sym, ap, ◌∙◌, option_map}
-use Rattle.std.specs.List.{find}
-use Rattle.serde_json.specs.View.{view, members_view}
-use Rattle.oim_report.specs.Json.{any_in, entries, members}
-use Rattle.oim_report.specs.Namespaces.{binds_nothing, bindings_in}
+use Rattle.oim_report.proofs.Shared.{◌≡◌, true, sym, ap, ◌∙◌, option_map, find, view, members_view, any_in, entries, members, binds_nothing, bindings_in}
 use Rattle.oim_report.specs.Shown.{entry, seen, sheet_shown, unbound_entry}
 use Rattle.oim_report.proofs.ShownFaults.{namespaces_first, or_nothing, refused_if}
 use Rattle.oim_report.proofs.sheet.sheet_part.part_at_fault.Goals as goal

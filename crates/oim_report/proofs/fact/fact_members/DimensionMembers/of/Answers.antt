@@ -1,8 +1,4 @@
-use Rattle.std.proofs.Common.{◌≡◌, Some, codes, option_map, rules, sym, ap, ◌∙◌}
-use Rattle.serde_json.specs.Find.{as_object}
-use Rattle.serde_json.specs.View.{view, members_view}
-use Rattle.oim_report.specs.Json.{any_member, given_of, is_unknown}
-use Rattle.oim_report.specs.FactMembers.{core_keys, dimension_parts}
+use Rattle.oim_report.proofs.Shared.{◌≡◌, Some, codes, option_map, rules, sym, ap, ◌∙◌, as_object, view, members_view, any_member, given_of, is_unknown, core_keys, dimension_parts}
 use Rattle.oim_report.proofs.MembersPut.{get_in}
 use Rattle.oim_report.proofs.fact.fact_members.DimensionMembers.of.Goals as goal
 

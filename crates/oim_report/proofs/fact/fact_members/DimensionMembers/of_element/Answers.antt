@@ -1,7 +1,4 @@
-use Rattle.std.proofs.Common.{option_map, sym, ap, ◌∙◌, arith}
-use Rattle.json.specs.Tree.{depth}
-use Rattle.serde_json.specs.Data.{object}
-use Rattle.serde_json.specs.Read.{of_json}
+use Rattle.oim_report.proofs.Shared.{option_map, sym, ap, ◌∙◌, arith, depth, object, of_json}
 use Rattle.oim_report.proofs.TapedFacts.{begun, one_member, all_read}
 use Rattle.oim_report.proofs.fact.fact_members.DimensionMembers.of_element.Goals as goal
 

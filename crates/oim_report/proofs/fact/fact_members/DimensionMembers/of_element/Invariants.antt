@@ -1,8 +1,5 @@
-use Rattle.std.proofs.Common.{◌≡◌, length}
+use Rattle.oim_report.proofs.Shared.{◌≡◌, length, InMembers, dimension_parts, seen_dimensions}
 use Rattle.json.specs.Json as j
-use Rattle.json.specs.Find.{InMembers}
-use Rattle.oim_report.specs.FactMembers.{dimension_parts}
-use Rattle.oim_report.specs.code.SeenMembers.{seen_dimensions}
 use Rattle.oim_report.proofs.TapedFacts.{IsReading}
 use Rattle.oim_report.proofs.fact.fact_members.DimensionMembers.of_element.Given as goal
 

@@ -1,6 +1,4 @@
-use Rattle.std.proofs.Common.{codes, refl, sym, ◌∙◌}
-use Rattle.oim_report.specs.code.JsonMember.{seen}
-use Rattle.oim_report.specs.code.SeenMembers.{seen_dimensions}
+use Rattle.oim_report.proofs.Shared.{codes, refl, sym, ◌∙◌, seen, seen_dimensions}
 use Rattle.oim_report.proofs.MembersPut.{core_at, defined_at}
 use Rattle.oim_report.proofs.fact.fact_members.DimensionMembers.put.Goals as goal
 

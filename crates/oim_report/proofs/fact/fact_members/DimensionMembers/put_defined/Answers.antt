@@ -1,8 +1,4 @@
-use Rattle.std.proofs.Common.{◌≡◌, ℕ, List, Bor, sym, ap, ◌∙◌, insert}
-use Rattle.oim_report.specs.declared.json_values.json_member.JsonMember.{JsonMember}
-use Rattle.oim_report.specs.ReadBack.{with_given}
-use Rattle.oim_report.specs.code.JsonMember.{seen}
-use Rattle.oim_report.specs.code.SeenMembers.{seen_defined}
+use Rattle.oim_report.proofs.Shared.{◌≡◌, ℕ, List, Bor, sym, ap, ◌∙◌, insert, JsonMember, with_given, seen, seen_defined}
 use Rattle.oim_report.proofs.MembersPut.{seen_insert}
 use Rattle.oim_report.proofs.fact.fact_members.DimensionMembers.put_defined.Goals as goal
 

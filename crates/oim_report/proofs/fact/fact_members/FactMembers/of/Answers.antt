@@ -1,8 +1,4 @@
-use Rattle.std.proofs.Common.{◌≡◌, ◌||◌, Some, codes, option_map, option_and_then, rules, sym, ap, ◌∙◌}
-use Rattle.serde_json.specs.Find.{as_object}
-use Rattle.serde_json.specs.View.{view, members_view}
-use Rattle.oim_report.specs.Json.{any_member, given_of, has_member, is_no_object, is_unknown}
-use Rattle.oim_report.specs.FactMembers.{dimension_parts, fact_keys, parts_of}
+use Rattle.oim_report.proofs.Shared.{◌≡◌, ◌||◌, Some, codes, option_map, option_and_then, rules, sym, ap, ◌∙◌, as_object, view, members_view, any_member, given_of, has_member, is_no_object, is_unknown, dimension_parts, fact_keys, parts_of}
 use Rattle.oim_report.proofs.MembersPut.{get_in}
 use Rattle.oim_report.proofs.fact.fact_members.FactMembers.of.Goals as goal
 

@@ -1,11 +1,5 @@
-use Rattle.std.proofs.Common.{◌≡◌, Some, ap, sym, subst, ◌∙◌, arith}
+use Rattle.oim_report.proofs.Shared.{◌≡◌, Some, ap, sym, subst, ◌∙◌, arith, depth, object, no_members, put, of_json, seen, seen_dimensions, seen_parts, IsSoFar}
 use Rattle.json.specs.Json as j
-use Rattle.json.specs.Tree.{depth}
-use Rattle.serde_json.specs.Data.{object, no_members, put}
-use Rattle.serde_json.specs.Read.{of_json}
-use Rattle.oim_report.specs.code.JsonMember.{seen}
-use Rattle.oim_report.specs.code.SeenMembers.{seen_dimensions, seen_parts}
-use Rattle.oim_report.specs.code.TapeValues.{IsSoFar}
 use Rattle.oim_report.proofs.MembersPut.{value_put, decimals_put, dimensions_put, extension_put, links_put}
 use Rattle.oim_report.proofs.fact.fact_members.FactMembers.put.Goals as goal
 

@@ -1,13 +1,6 @@
-use Rattle.std.proofs.Common.{◌≡◌, [], sym, ap, ◌∙◌, option_map}
-use Rattle.std.proofs.lemmas.Result.{IfOk-weaker}
-use Rattle.std.specs.Prelude.{codes}
-use Rattle.std.specs.Option.{option_or}
-use Rattle.oim_names.specs.declared.reason.Reason.TheVariants.{DimensionValue}
-use Rattle.serde_json.specs.View.{view, members_view}
+use Rattle.oim_report.proofs.Shared.{◌≡◌, [], sym, ap, ◌∙◌, option_map, codes, IfOk-weaker, option_or, DimensionValue, view, members_view, entries, members, object_at, defined_members}
 use Rattle.oim_report.specs.Holds.{holds, holds_with}
-use Rattle.oim_report.specs.Json.{entries, members, object_at}
 use Rattle.oim_report.specs.Shown.{beside_first, fact_shown, repeated, seen, shown_with, when}
-use Rattle.oim_report.specs.FactMembers.{defined_members}
 use Rattle.oim_report.proofs.ShownFaults.{misfit_shown}
 use Rattle.oim_report.proofs.fact.fact_part.FactInScope.misfit.Goals as goal
 

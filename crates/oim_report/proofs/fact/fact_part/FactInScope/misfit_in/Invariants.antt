@@ -1,7 +1,4 @@
-use Rattle.std.proofs.Common.{◌≡◌}
-use Rattle.serde_json.specs.View.{members_view}
-use Rattle.oim_report.specs.Holds.{is_misfit}
-use Rattle.oim_report.specs.code.MemberTests.{first_defined}
+use Rattle.oim_report.proofs.Shared.{◌≡◌, members_view, is_misfit, first_defined}
 use Rattle.oim_report.proofs.fact.fact_part.FactInScope.misfit_in.Given as goal
 
 abbrev pub invariant-loop-key : goal.invariant-loop-key

@@ -1,9 +1,5 @@
-use Rattle.std.proofs.Common.{sym, ap, ◌∙◌, option_map, string_bytes}
-use Rattle.std.specs.List.{find}
-use Rattle.oim_names.specs.Expansion.{refuses}
-use Rattle.serde_json.specs.View.{view, members_view}
+use Rattle.oim_report.proofs.Shared.{sym, ap, ◌∙◌, option_map, string_bytes, find, refuses, view, members_view, names_at, names_in}
 use Rattle.oim_report.specs.Shown.{name, seen}
-use Rattle.oim_report.specs.code.MemberTests.{names_at, names_in}
 use Rattle.oim_report.proofs.ShownFaults.{found_before}
 use Rattle.oim_report.proofs.fact.fact_part.FactInScope.refused_dimension.Goals as goal
 

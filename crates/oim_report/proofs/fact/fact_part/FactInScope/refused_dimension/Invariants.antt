@@ -1,10 +1,4 @@
-use Rattle.std.proofs.Common.{◌≡◌}
-use Rattle.std.specs.Prelude.{codes}
-use Rattle.std.specs.List.{find}
-use Rattle.serde_json.specs.View.{view, members_view}
-use Rattle.oim_names.specs.Expansion.{refuses}
-use Rattle.oim_report.specs.Json.{members, object_at}
-use Rattle.oim_report.specs.code.MemberTests.{names_in}
+use Rattle.oim_report.proofs.Shared.{◌≡◌, codes, find, view, members_view, refuses, members, object_at, names_in}
 use Rattle.oim_report.proofs.fact.fact_part.FactInScope.refused_dimension.Given as goal
 
 abbrev pub invariant-loop-key : goal.invariant-loop-key

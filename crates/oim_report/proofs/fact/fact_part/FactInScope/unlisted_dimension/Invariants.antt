@@ -1,9 +1,4 @@
-use Rattle.std.proofs.Common.{◌≡◌}
-use Rattle.std.specs.Prelude.{codes}
-use Rattle.serde_json.specs.View.{view, members_view}
-use Rattle.oim_report.specs.Json.{members, object_at}
-use Rattle.oim_report.specs.Holds.{is_unlisted}
-use Rattle.oim_report.specs.code.MemberTests.{first_defined}
+use Rattle.oim_report.proofs.Shared.{◌≡◌, codes, view, members_view, members, object_at, is_unlisted, first_defined}
 use Rattle.oim_report.proofs.fact.fact_part.FactInScope.unlisted_dimension.Given as goal
 
 abbrev pub invariant-loop-key : goal.invariant-loop-key

@@ -1,11 +1,5 @@
-use Rattle.std.proofs.Common.{◌≡◌, ℕ, List, Bor, Option, Some, None, IfSome, option_and_then, option_copied, option_map, refl, sym, ap, subst, ◌∙◌}
+use Rattle.oim_report.proofs.Shared.{◌≡◌, ℕ, List, Bor, Option, Some, None, IfSome, option_and_then, option_copied, option_map, refl, sym, ap, subst, ◌∙◌, FinMap, QName, is_name, name_cmp, Binding, uri_of, named, IsFound}
 use Rattle.std.specs.FinMap as map
-use Rattle.std.specs.FinMap.{FinMap}
-use Rattle.oim_names.specs.QName.{QName, is_name}
-use Rattle.oim_names.specs.Bindings.{Binding, uri_of}
-use Rattle.oim_value.specs.ValueOrder.{name_cmp}
-use Rattle.oim_report.specs.Names.{named}
-use Rattle.oim_report.specs.code.Ranks.{IsFound}
 use Rattle.oim_report.specs.code.TextCache.{IsNameCache, NamesListed, kind_of}
 use Rattle.oim_report.proofs.Naming.{expanded}
 use Rattle.oim_report.proofs.ShownFaults.{refused_none}

@@ -1,8 +1,5 @@
-use Rattle.std.proofs.Common.{sym, ap, subst, ◌∙◌, option_copied}
+use Rattle.oim_report.proofs.Shared.{sym, ap, subst, ◌∙◌, option_copied, same_Some, IsSpan, IsReached}
 use Rattle.std.specs.FinMap as map
-use Rattle.std.proofs.lemmas.Option.{same_Some}
-use Rattle.oim_report.specs.code.Ranks.{IsSpan}
-use Rattle.oim_report.specs.code.TextCache.{IsReached}
 use Rattle.oim_report.proofs.Grouped.{each_after}
 use Rattle.oim_report.proofs.fact_reader.text_cache.NameCache.span.Goals as goal
 

@@ -1,5 +1,4 @@
-use Rattle.oim_names.specs.Expansion.{Expands, ExpandsEntity}
-use Rattle.oim_report.specs.code.TextCache.{TextSaysLanguage, TextSaysPeriod, TextSaysUnit}
+use Rattle.oim_report.proofs.Shared.{Expands, ExpandsEntity, TextSaysLanguage, TextSaysPeriod, TextSaysUnit}
 use Rattle.oim_report.proofs.TextCacheAdds.{none_wrong}
 use Rattle.oim_report.proofs.fact_reader.text_cache.TextCaches.new.Goals as goal
 

@@ -1,15 +1,6 @@
-use Rattle.std.proofs.Common.{rules, ◌≡◌, ℕ, List, true, Some, option_map, refl, sym, ap, ◌∙◌, arith}
-use Rattle.std.specs.Option.{option_map_or}
+use Rattle.oim_report.proofs.Shared.{rules, ◌≡◌, ℕ, List, true, Some, option_map, refl, sym, ap, ◌∙◌, arith, option_map_or, Json, depth, Num, null, number, string, as_integer, of_json, number_of, Given, nil, whole, other, given, seen, IsLeaf}
 use Rattle.json.specs.Json as j
-use Rattle.json.specs.Json.{Json}
 use Rattle.json.specs.Find as find
-use Rattle.json.specs.Tree.{depth}
-use Rattle.serde_json.specs.Data.{Num, null, number, string}
-use Rattle.serde_json.specs.Find.{as_integer}
-use Rattle.serde_json.specs.Read.{of_json, number_of}
-use Rattle.oim_report.specs.Json.{Given, nil, whole, other, given}
-use Rattle.oim_report.specs.code.JsonMember.{seen}
-use Rattle.oim_report.specs.code.TapeValues.{IsLeaf}
 use Rattle.oim_report.proofs.json_values.json_member.JsonMember.of_element.Goals as goal
 
 is_string : (v : Json) (s : List ℕ) → find.as_str v ≡ Some s → v ≡ j.string s

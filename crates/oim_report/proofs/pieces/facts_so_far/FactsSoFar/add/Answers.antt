@@ -1,5 +1,4 @@
-use Rattle.std.proofs.Common.{IfSome, subst, sym}
-use Rattle.oim_report.specs.code.FactsSoFar.{IsOneMore}
+use Rattle.oim_report.proofs.Shared.{IfSome, subst, sym, IsOneMore}
 use Rattle.oim_report.specs.declared.pieces.facts_so_far.FactsSoFar.TheVariants.{Accepted, Refused}
 use Rattle.oim_report.proofs.pieces.facts_so_far.FactsSoFar.add.Goals as goal
 

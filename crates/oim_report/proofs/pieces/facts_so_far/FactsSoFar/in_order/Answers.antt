@@ -1,7 +1,4 @@
-use Rattle.std.proofs.Common.{subst}
-use Rattle.serde_json.specs.Data.{no_members}
-use Rattle.oim_report.specs.Pieces.{put_all}
-use Rattle.oim_report.specs.code.FactsSoFar.{AreSoFar}
+use Rattle.oim_report.proofs.Shared.{subst, no_members, put_all, AreSoFar}
 use Rattle.oim_report.proofs.pieces.facts_so_far.FactsSoFar.in_order.Goals as goal
 
 pub returns-in-Accepted-clause-found : goal.returns-in-Accepted-clause-found

@@ -1,6 +1,4 @@
-use Rattle.std.proofs.Common.{sym, ◌∙◌}
-use Rattle.serde_json.specs.Data.{no_members}
-use Rattle.oim_report.specs.Pieces.{put_all}
+use Rattle.oim_report.proofs.Shared.{sym, ◌∙◌, no_members, put_all}
 use Rattle.oim_report.proofs.FoundInOrder.{rising_found, found_by, ranked_by}
 use Rattle.oim_report.proofs.pieces.found_facts.FoundFacts.in_order.Goals as goal
 

@@ -1,12 +1,8 @@
-use Rattle.std.proofs.Common.{rules, arith, ◌≡◌, ◌+◌, ◌≤◌, ◌∷◌, ℕ, List, Err, length, refl, subst, sym, ap, ◌∙◌}
-use Rattle.oim_report.specs.code.Judged.{AreJudged}
+use Rattle.oim_report.proofs.Shared.{rules, arith, ◌≡◌, ◌+◌, ◌≤◌, ◌∷◌, ℕ, List, Err, length, refl, subst, sym, ap, ◌∙◌, AreJudged}
 use Rattle.oim_report.specs.declared.pieces.judgement.Judgement.TheVariants.{Accepted, Refused}
 use Rattle.oim_report.proofs.FaultLaws.{fact_other}
 use Rattle.oim_report.proofs.Judged.{accepted_first, refused_first}
 use Rattle.oim_report.proofs.pieces.judgements.Judgements.first_refusal.Goals as goal
-
-one_more : (n : ℕ) → 1 + n ≤ n + 1
-one_more n = omega arith
 
 one_less : {A : Type 0} (xs ys : List A) (x : A) (n m k : ℕ) → xs ≡ x ∷ ys → k ≡ n + 1 → n + length xs ≤ m → k + length ys ≤ m
 one_less xs ys x n m k e more h = omega (arith, ap length e)
@@ -16,7 +12,7 @@ loop-identifier-init c =
     let all = c.into_iter-identifier-iterator.result in
     record {
       later = λ sheet bs ms h. (ms, subst (AreJudged sheet bs ms) (search rules) h, λ r e. e);
-      count = one_more (length all);
+      count = omega arith;
     }
 
 pub loop-identifier-preserved : goal.loop-identifier-preserved

@@ -1,11 +1,4 @@
-use Rattle.std.proofs.Common.{◌≡◌, ◌+◌, ◌≤◌, List, Err, length, map}
-use Rattle.oim_names.specs.Bindings.{Binding}
-use Rattle.serde_json.specs.Data.{Members}
-use Rattle.oim_report.specs.Json.{values}
-use Rattle.oim_report.specs.Outcome.{all_or_first, fact_outcome, facts_said}
-use Rattle.oim_report.specs.Sheet.{Sheet}
-use Rattle.oim_report.specs.declared.refusal.Refusal.{Refusal}
-use Rattle.oim_report.specs.code.Judged.{AreJudged}
+use Rattle.oim_report.proofs.Shared.{◌≡◌, ◌+◌, ◌≤◌, List, Err, length, map, Binding, Members, values, all_or_first, fact_outcome, facts_said, Sheet, Refusal, AreJudged}
 use Rattle.oim_report.proofs.pieces.judgements.Judgements.first_refusal.Given as goal
 
 -- the facts so far are accepted, so the first refusal of the rest is that of all

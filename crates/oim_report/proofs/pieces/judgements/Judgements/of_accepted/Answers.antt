@@ -1,10 +1,4 @@
-use Rattle.std.proofs.Common.{rules, ◌≡◌, ◌<◌, ◌≤◌, ◌++◌, ◌∷◌, [], Some, None, length, map, option_map, slice_get, string_bytes, string_cmp, subst, refl, sym, ap, ◌∙◌}
-use Rattle.std.specs.BTreeMap.{insert_entry}
-use Rattle.std.proofs.lemmas.List.{take_all}
-use Rattle.serde_json.specs.Data.{no_members}
-use Rattle.oim_report.specs.Pieces.{put_all}
-use Rattle.oim_report.specs.code.FoundFacts.{AreFound}
-use Rattle.oim_report.specs.code.Judged.{AreJudged}
+use Rattle.oim_report.proofs.Shared.{rules, ◌≡◌, ◌<◌, ◌≤◌, ◌++◌, ◌∷◌, [], Some, None, length, map, option_map, slice_get, string_bytes, string_cmp, subst, refl, sym, ap, ◌∙◌, take_all, insert_entry, no_members, put_all, AreFound, AreJudged}
 use Rattle.oim_report.specs.declared.pieces.judgement.Judgement.TheVariants.{Accepted}
 use Rattle.oim_report.proofs.FoundInOrder.{keys_more}
 use Rattle.oim_report.proofs.Judged.{accepted_one, accepted_put}

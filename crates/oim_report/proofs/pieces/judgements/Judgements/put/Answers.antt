@@ -1,5 +1,4 @@
-use Rattle.std.proofs.Common.{rules, ◌≡◌, string_bytes, string_cmp}
-use Rattle.std.specs.BTreeMap.{insert_entry}
+use Rattle.oim_report.proofs.Shared.{rules, ◌≡◌, string_bytes, string_cmp, insert_entry}
 use Rattle.oim_report.proofs.pieces.judgements.Judgements.put.Goals as goal
 
 pub returns : goal.returns

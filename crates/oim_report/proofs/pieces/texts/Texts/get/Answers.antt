@@ -1,6 +1,4 @@
-use Rattle.std.proofs.Common.{◌≡◌, Some, length, string_bytes, slice_get, refl, subst, ap, ◌∙◌}
-use Rattle.std.proofs.lemmas.Option.{slice_get_read}
-use Rattle.std.specs.Str.Pattern.{GetsRange}
+use Rattle.oim_report.proofs.Shared.{◌≡◌, Some, length, string_bytes, slice_get, refl, subst, ap, ◌∙◌, slice_get_read, GetsRange}
 use Rattle.oim_report.proofs.TextSpans.{text_got}
 use Rattle.oim_report.proofs.pieces.texts.Texts.get.Goals as goal
 

@@ -1,6 +1,5 @@
-use Rattle.std.proofs.Common.{rules, ◌≡◌, ◌++◌, ◌∷◌, [], ℕ, string_bytes, subst, sym, ap, ◌∙◌}
+use Rattle.oim_report.proofs.Shared.{rules, ◌≡◌, ◌++◌, ◌∷◌, [], ℕ, string_bytes, subst, sym, ap, ◌∙◌, AreTextSpans, texts_at}
 use Rattle.oim_report.proofs.TextSpans.{spans_push, spans_stay, texts_push}
-use Rattle.oim_report.specs.code.Texts.{AreTextSpans, texts_at}
 use Rattle.oim_report.proofs.pieces.texts.Texts.push.Goals as goal
 
 pub invariant_of-self-in_err-push : goal.invariant_of-self-in_err-push

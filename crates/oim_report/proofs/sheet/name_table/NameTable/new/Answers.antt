@@ -1,7 +1,5 @@
-use Rattle.std.proofs.Common.{ap}
+use Rattle.oim_report.proofs.Shared.{ap, name_cmp, grouped_entries}
 use Rattle.std.specs.FinMap as map
-use Rattle.oim_names.specs.QName.{name_cmp}
-use Rattle.oim_report.specs.code.Groups.{grouped_entries}
 use Rattle.oim_report.proofs.Grouped.{no_groups}
 use Rattle.oim_report.proofs.sheet.name_table.NameTable.new.Goals as goal
 

@@ -1,5 +1,4 @@
-use Rattle.std.proofs.Common.{Some, ap, cond, string_bytes, ◌∙◌, bytes_eq, option_map}
-use Rattle.std.specs.BTreeMap.{get_by_text}
+use Rattle.oim_report.proofs.Shared.{Some, ap, cond, string_bytes, ◌∙◌, bytes_eq, option_map, get_by_text}
 use Rattle.std.specs.FinMap as map
 use Rattle.oim_report.proofs.Grouped.{are_still, are_with, get_updated, name}
 use Rattle.oim_report.proofs.sheet.name_table.NameTable.set.Goals as goal

@@ -1,7 +1,5 @@
-use Rattle.std.proofs.Common.{None, cond, sym, subst, ap, ◌∙◌, IfSome, bytes_eq, option_map}
-use Rattle.std.specs.BTreeMap.{get_by_text}
+use Rattle.oim_report.proofs.Shared.{None, cond, sym, subst, ap, ◌∙◌, IfSome, bytes_eq, option_map, get_by_text, IsGroup}
 use Rattle.std.specs.FinMap as map
-use Rattle.oim_report.specs.code.Groups.{IsGroup}
 use Rattle.oim_report.proofs.Grouped.{are_without, get_grouped, get_updated, in_group, is_group, name, or_empty_kinds, or_empty_named}
 use Rattle.oim_report.proofs.sheet.name_table.NameTable.take.Goals as goal
 

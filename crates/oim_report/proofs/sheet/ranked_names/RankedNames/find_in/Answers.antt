@@ -1,8 +1,5 @@
-use Rattle.std.proofs.Common.{◌+◌, ◌-◌, ◌/◌, ◌<◌, ◌≤◌, length, sym, ap, ◌∙◌, arith}
-use Rattle.std.specs.Cmp.Lexicographic.{slice_cmp}
+use Rattle.oim_report.proofs.Shared.{◌+◌, ◌-◌, ◌/◌, ◌<◌, ◌≤◌, length, sym, ap, ◌∙◌, arith, nat_cmp, slice_cmp, QName, name_cmp}
 use Rattle.std.specs.FinMap as map
-use Rattle.std.specs.Ordering.{nat_cmp}
-use Rattle.oim_names.specs.QName.{QName, name_cmp}
 use Rattle.oim_report.proofs.Ranks.{entries_read, entry_at, find_at, go_down, go_up, keys_rise, named, rank_of, search_all, search_none}
 use Rattle.oim_report.proofs.sheet.ranked_names.RankedNames.find_in.Goals as goal
 

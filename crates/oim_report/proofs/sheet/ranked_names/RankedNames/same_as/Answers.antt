@@ -1,9 +1,5 @@
-use Rattle.std.proofs.Common.{◌≡◌, ◌<◌, ◌++◌, ◌∷◌, [], length, slice_get, Some, take, refl, sym, ap, subst, ◌∙◌, arith, rules}
+use Rattle.oim_report.proofs.Shared.{◌≡◌, ◌<◌, ◌++◌, ◌∷◌, [], length, slice_get, Some, take, refl, sym, ap, subst, ◌∙◌, arith, rules, take_all, false≢true, take_more, same_Some, slice_get-get_or, name_cmp}
 use Rattle.std.specs.FinMap as map
-use Rattle.std.proofs.lemmas.Bool.{false≢true}
-use Rattle.std.proofs.lemmas.List.{take_more, take_all}
-use Rattle.std.proofs.lemmas.Option.{same_Some, slice_get-get_or}
-use Rattle.oim_names.specs.QName.{name_cmp}
 use Rattle.oim_report.proofs.Ranks.{same_entries}
 use Rattle.oim_report.proofs.sheet.ranked_names.RankedNames.same_as.Goals as goal
 

@@ -1,7 +1,5 @@
-use Rattle.std.proofs.Common.{◌≡◌, Some, None, unwrap_or, option_copied, sym, ap, subst, ◌∙◌}
-use Rattle.std.specs.BTreeMap.{get_by_text}
+use Rattle.oim_report.proofs.Shared.{◌≡◌, Some, None, unwrap_or, option_copied, sym, ap, subst, ◌∙◌, get_by_text, IsSpan}
 use Rattle.std.specs.FinMap as map
-use Rattle.oim_report.specs.code.Ranks.{IsSpan}
 use Rattle.oim_report.proofs.Ranks.{entries_rising}
 use Rattle.oim_report.proofs.sheet.ranked_names.RankedNames.span.Goals as goal
 
