@@ -61,10 +61,8 @@ def script(path):
 
 
 def built_program(named=None):
-    """Returns the path of the program: `named` if given, otherwise $XBRLMERGE if set, otherwise the built program.
-
-    If there is no such executable file, the function prints a line and ends the process with status 2.
-    """
+    """Returns the path of the program: `named` if given, otherwise $XBRLMERGE if set, otherwise the built program. If there is
+    no such executable file, the function prints a line and ends the process with status 2."""
     given = named or os.environ.get("XBRLMERGE")
     paths = [given] if given else [os.path.join(TOP, path) for path in BUILT]
     for path in paths:

@@ -10,11 +10,8 @@ from text_files import as_file
 
 
 class Parser(argparse.ArgumentParser):
-    """A parser with the rules that all tools share.
-
-    After `--`, each argument is the whole name of a file, so that a file such as `--output=x.json` is no option. Names of files
-    come from untrusted sources, so messages are escaped.
-    """
+    """A parser with the rules that all tools share. After `--`, each argument is the whole name of a file, so that a file such
+    as `--output=x.json` is no option. Names of files come from untrusted sources, so messages are escaped."""
 
     def __init__(self, tool: str, description: Optional[str], usage: str) -> None:
         super().__init__(prog=os.path.basename(command(tool)), description=with_commands(description or ""), usage=usage,

@@ -1,7 +1,5 @@
-"""Lets SIGINT end a tool that is still importing its modules. Python itself would show a traceback, with status 1.
-
-Import this module first. The launchers ignore SIGINT until then, and set HELD unless it was already ignored.
-"""
+"""Lets SIGINT end a tool that is still importing its modules. Python itself would show a traceback, with status 1. Import this
+module first. The launchers ignore SIGINT until then, and set HELD unless it was already ignored."""
 import os
 import signal
 

@@ -78,9 +78,7 @@ def read_options() -> argparse.Namespace:
 @contextlib.contextmanager
 def standard_input_kept(inputs: list[str]) -> Iterator[list[str]]:
     """Yields the inputs, with a temporary copy of standard input in place of `-`, because a package is not read in order.
-
-    Errors: NotDone, OSError; exceptions of the block.
-    """
+    Errors: NotDone, OSError; exceptions of the block."""
     if STANDARD not in inputs:
         yield inputs
         return

@@ -35,12 +35,10 @@ class Stopped(BaseException):
 
 
 def run(main: Callable[[], Status]) -> NoReturn:
-    """Ends the process with the status that `main` returns.
-
-    An exception of `main` becomes lines on standard error and NOT_DONE, so it never leads to status 1. SystemExit, which
-    argparse raises, becomes USAGE or DONE. A failed write to standard output or standard error leads to NOT_DONE. After a
-    signal in STOPPING that is not ignored at the start, the process cleans up, and then ends by that signal.
-    """
+    """Ends the process with the status that `main` returns. An exception of `main` becomes lines on standard error and
+    NOT_DONE, so it never leads to status 1. SystemExit, which argparse raises, becomes USAGE or DONE. A failed write to
+    standard output or standard error leads to NOT_DONE. After a signal in STOPPING that is not ignored at the start, the
+    process cleans up, and then ends by that signal."""
     fill_standard_files()
     handled = [number for number in STOPPING if signal.getsignal(number) is not signal.SIG_IGN]  # SIGHUP stays ignored under `nohup`
     try:
@@ -116,12 +114,10 @@ def signals_held() -> Iterator[None]:
 
 
 def fill_standard_files() -> None:
-    """Opens the null device in place of each closed standard stream: standard input for writing, the others for reading.
-
-    Each use of a closed stream then fails. Otherwise the next opened file would get the file descriptor of a closed stream, and
+    """Opens the null device in place of each closed standard stream: standard input for writing, the others for reading. Each
+    use of a closed stream then fails. Otherwise the next opened file would get the file descriptor of a closed stream, and
     lines for that stream would be written to the file. Standard output and standard error are buffered, even if
-    PYTHONUNBUFFERED is set: an unbuffered stream may take a part of the bytes and raise no exception.
-    """
+    PYTHONUNBUFFERED is set: an unbuffered stream may take a part of the bytes and raise no exception."""
     for number, mode in enumerate((os.O_WRONLY, os.O_RDONLY, os.O_RDONLY)):
         try:
             os.fstat(number)
@@ -145,11 +141,8 @@ def are_flushed() -> bool:
 
 def print_lines(lines: Iterable[str]) -> None:
     """Prints lines on standard error, each after the name of the tool. Characters that are not printable are escaped; a tool
-    prints nothing else there, except the usage and, on a terminal, the progress.
-
-    Call this function before the output is written: if standard error fails, the tool then stops before it changes any file.
-    Errors: OSError.
-    """
+    prints nothing else there, except the usage and, on a terminal, the progress. Call this function before the output is
+    written: if standard error fails, the tool then stops before it changes any file. Errors: OSError."""
     name = os.path.basename(sys.argv[0]).removesuffix(".py")
     for line in lines:
         print(printable(f"{name}: {line}"), file=sys.stderr)

@@ -24,10 +24,7 @@ def add_program(parser: argparse.ArgumentParser) -> None:
 
 def program_at(given: Optional[str]) -> str:
     """Returns the path of the program. Without `given`, looks beside tools/, in tools/, beside the command that runs the tool,
-    and then on the PATH.
-
-    Errors: NotDone if there is none.
-    """
+    and then on the PATH. Errors: NotDone if there is none."""
     folders = [os.path.dirname(HERE), HERE, *[os.path.dirname(os.path.realpath(sys.argv[0]))] * (os.sep in sys.argv[0])]
     beside = [os.path.join(folder, NAME) for folder in folders]
     usable = [path for path in beside if os.path.isfile(path) and os.access(path, os.X_OK)]

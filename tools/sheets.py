@@ -1,8 +1,5 @@
-"""Concept sheets, and the types of their names.
-
-A sheet must satisfy the conditions of `xbrlmerge`, and list each concept in xbrlmerge:sets as a text. The types are in members
-that the program ignores: in the sheet, or in a file of its own beside it.
-"""
+"""Concept sheets, and the types of their names. A sheet must satisfy the conditions of `xbrlmerge`, and list each concept in
+xbrlmerge:sets as a text. The types are in members that the program ignores: in the sheet, or in a file of its own beside it."""
 import os
 from typing import Any, Dict, Mapping, Optional
 

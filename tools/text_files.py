@@ -23,10 +23,8 @@ def pieces_of_file(path: str) -> Iterator[str]:
 
 
 def read_text(path: str) -> str:
-    """Returns the text of a file. A byte order mark is dropped.
-
-    Errors: OSError; NotUtf8; ValueError if the file is too long.
-    """
+    """Returns the text of a file. A byte order mark is dropped. Errors: OSError; NotUtf8; ValueError if the file is too
+    long."""
     pieces, length = [], 0
     with opened(path) as file:
         start = file.peek()

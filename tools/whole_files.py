@@ -122,14 +122,12 @@ def remove_leftovers(folder: str) -> None:
 
 @contextlib.contextmanager
 def files_written(texts: Iterable[tuple[str, Iterable[Piece]]], limit: Optional[OutputLimit] = None) -> Iterator[None]:
-    """Writes all files or none. `texts` contains the path and the pieces of each file.
-
-    Each file is written in a new folder beside its path. When the `with` block ends, all files are moved to their paths, unless
-    the block raises. A file is not written through a link at its path. A new file gets the owner, the group and the permissions
-    of the file that it replaces, where the system permits this. The setuid, setgid and sticky bits are not copied. A signal that
-    `process.run` handles stops the writing, and the new files are removed; the moves are not interrupted. Errors: NotDone if the
-    limit is exceeded; OSError; exceptions of the pieces. After an error, no file has changed, unless a move cannot be undone.
-    """
+    """Writes all files or none. `texts` contains the path and the pieces of each file. Each file is written in a new folder
+    beside its path. When the `with` block ends, all files are moved to their paths, unless the block raises. A file is not
+    written through a link at its path. A new file gets the owner, the group and the permissions of the file that it replaces,
+    where the system permits this. The setuid, setgid and sticky bits are not copied. A signal that `process.run` handles stops
+    the writing, and the new files are removed; the moves are not interrupted. Errors: NotDone if the limit is exceeded;
+    OSError; exceptions of the pieces. After an error, no file has changed, unless a move cannot be undone."""
     limit = limit or OutputLimit(sys.maxsize)
     with contextlib.ExitStack() as folders:
         outputs = [write_beside(path, limit.encoded(pieces), folders) for path, pieces in texts]

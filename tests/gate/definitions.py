@@ -1,8 +1,6 @@
-"""Definitions, contracts and types of this repository, and the names that they use. tests/gate/doubt uses this module.
-
-A variable hides a definition of the same name within the variable's scope. A record field hides a definition of the same name in
-the later fields of the record.
-"""
+"""Definitions, contracts and types of this repository, and the names that they use. tests/gate/doubt uses this module. A
+variable hides a definition of the same name within the variable's scope. A record field hides a definition of the same name in
+the later fields of the record."""
 import functools
 import os
 import re
@@ -30,11 +28,9 @@ def imports_of(text):
 
 
 def pieces(text):
-    """Yields each definition of a file in order: its name, the other names that it owns, and its text.
-
-    A `data` definition owns its constructors. A mutual definition is listed under its first name, and owns its other names.
-    A record does not own its fields.
-    """
+    """Yields each definition of a file in order: its name, the other names that it owns, and its text. A `data` definition owns
+    its constructors. A mutual definition is listed under its first name, and owns its other names. A record does not own its
+    fields."""
     for block in re.split(r"\n[ \t]*\n", text):
         lines = [it for it in block.split("\n") if it.strip() and not re.match(r"\s*(-- ----|use |module )", it)]
         code = [it for it in lines if not it.lstrip().startswith("--")]
@@ -117,10 +113,8 @@ def of_code(path, name):
 
 
 def free_identifiers(code, bound, is_record=False):
-    """Yields the free identifiers of a clause or a record.
-
-    λ, let and (x : T) bind a name up to the end of the surrounding brackets. A record field binds its name in the later fields.
-    """
+    """Yields the free identifiers of a clause or a record. λ, let and (x : T) bind a name up to the end of the surrounding
+    brackets. A record field binds its name in the later fields."""
     scopes, opened, lets, field = [set(bound)], [], [], None
     for token in (FIELD_TOKEN if is_record else TOKEN).findall(re.sub(r"([{;]\s*)\w+ = ", r"\1", code)):
         names = re.findall(r"\w+", token)

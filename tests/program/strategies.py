@@ -1,7 +1,5 @@
-"""Draws sheets, reports, schedules and hostile texts for the tests of this folder.
-
-`chance` is a random.Random. With the one of running.py, Hypothesis draws, and makes a failing case smaller.
-"""
+"""Draws sheets, reports, schedules and hostile texts for the tests of this folder. `chance` is a random.Random. With the one of
+running.py, Hypothesis draws, and makes a failing case smaller."""
 import json
 import re
 

@@ -1,10 +1,7 @@
-"""Breaks reports, sheets, schedules and bundles, and runs the program on them.
-
-Each run must end within 10 seconds, and not by a signal. Its status and lines must be possible for its input. A broken report is
-read in pieces. A copy with an extension before its first member is read whole; both results must be equal. A refused report must
-not change the merged text of two good ones. If the broken report is accepted, the merged text must be accepted too, and must
-merge to the same bytes.
-"""
+"""Breaks reports, sheets, schedules and bundles, and runs the program on them. Each run must end within 10 seconds, and not by
+a signal. Its status and lines must be possible for its input. A broken report is read in pieces. A copy with an extension
+before its first member is read whole; both results must be equal. A refused report must not change the merged text of two good
+ones. If the broken report is accepted, the merged text must be accepted too, and must merge to the same bytes."""
 import re
 
 from running import cases, counts, expect_all, merged, run, write

@@ -1,12 +1,10 @@
-"""Breaks packages, reports, sheets, merged texts and lines, and runs the tools on them.
-
-In most cases one file is broken, or the package that contains the file, or both. Some files have odd names, which follow `--`. Some
-taxonomies are read with another one, which must not change their kinds. Some outputs are longer than a bound. No cell of a table
-may begin with a sign of a formula where a spreadsheet could split the table. Each run must end within 10 seconds of processor time
-and 1 GiB of memory, with status 0, 1 or 3, printable lines and no unexpected exception. With status 0 or 1 all outputs must be
-complete, and a second run of normalise on its output must change nothing; with status 3 no output may change. The tools run inside
-this module; in about one run in 20, a tool also runs as a process, and its result must be the same.
-"""
+"""Breaks packages, reports, sheets, merged texts and lines, and runs the tools on them. In most cases one file is broken, or
+the package that contains the file, or both. Some files have odd names, which follow `--`. Some taxonomies are read with another
+one, which must not change their kinds. Some outputs are longer than a bound. No cell of a table may begin with a sign of a
+formula where a spreadsheet could split the table. Each run must end within 10 seconds of processor time and 1 GiB of memory,
+with status 0, 1 or 3, printable lines and no unexpected exception. With status 0 or 1 all outputs must be complete, and a
+second run of normalise on its output must change nothing; with status 3 no output may change. The tools run inside this module;
+in about one run in 20, a tool also runs as a process, and its result must be the same."""
 import contextlib
 import csv
 import importlib

@@ -1,11 +1,9 @@
-"""Runs tools/contradictions with the program on planted mismatches, and on inputs that change during a run.
-
-In each case of MISMATCHES, all rows of a provider differ from those of another one by the same mistake. The tool must name it on
-standard error, and return status 1; a second run with the map that it writes must find that all rows agree. Then a wrapper of the
-program replaces an input after each call, and all files must be those of a run without changes. On a second night, since.csv must
-have the contradiction that is new, and the workbook the rows of table.csv. With --latest, a restated figure contradicts nothing,
-unless its report is refused.
-"""
+"""Runs tools/contradictions with the program on planted mismatches, and on inputs that change during a run. In each case of
+MISMATCHES, all rows of a provider differ from those of another one by the same mistake. The tool must name it on standard
+error, and return status 1; a second run with the map that it writes must find that all rows agree. Then a wrapper of the
+program replaces an input after each call, and all files must be those of a run without changes. On a second night, since.csv
+must have the contradiction that is new, and the workbook the rows of table.csv. With --latest, a restated figure contradicts
+nothing, unless its report is refused."""
 import csv
 import hashlib
 import html

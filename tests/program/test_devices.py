@@ -1,9 +1,6 @@
-"""Runs the program on failing devices, and on files that cannot be read or are not regular. The tables have the expected status and
-line.
-
-If the line contains a number of bytes, standard output must have accepted exactly that many bytes from the start of the text;
-otherwise all of the text or nothing. No input file may change.
-"""
+"""Runs the program on failing devices, and on files that cannot be read or are not regular. The tables have the expected status
+and line. If the line contains a number of bytes, standard output must have accepted exactly that many bytes from the start of
+the text; otherwise all of the text or nothing. No input file may change."""
 import collections
 import fcntl
 import json
@@ -193,8 +190,7 @@ def waiting(pipe):
 
 def take_five(child, reader):
     """Reads 5 bytes, waits until the pipe is full, the program has ended or LIMIT seconds have passed, and closes the pipe.
-    Returns the 5 bytes, and the number of bytes that the program had written to the pipe.
-    """
+    Returns the 5 bytes, and the number of bytes that the program had written to the pipe."""
     front, end = b"", time.monotonic() + LIMIT
     while len(front) < 5 and (more := os.read(reader, 5 - len(front))):
         front += more
@@ -216,8 +212,7 @@ def take_late(child, reader):
 
 def run_with_pipe(scratch, words, take, waits):
     """Runs the program with a pipe as standard output. Without `take`, the reading end is closed first. Without `waits`, the
-    pipe does not block. Returns the result with the bytes that were read, and the number of bytes that the pipe accepted.
-    """
+    pipe does not block. Returns the result with the bytes that were read, and the number of bytes that the pipe accepted."""
     reader, writer = os.pipe()
     os.set_blocking(writer, waits)
     if not take:

@@ -1,12 +1,10 @@
-"""Compares folds, which merge many reports in groups, with one run of the program. A node of a fold merges one group.
-
-Drawn reports ($REPORTS, 200) overlap, agree, contradict each other, or are refused. examples/fold/Makefile with three numbers of
+"""Compares folds, which merge many reports in groups, with one run of the program. A node of a fold merges one group. Drawn
+reports ($REPORTS, 200) overlap, agree, contradict each other, or are refused. examples/fold/Makefile with three numbers of
 branches and examples/fold/fold_dask.py with three numbers of files per node must give the bytes of one run, with which
-tools/recheck must agree. Late, changed and removed reports, odd names, and nodes that fail or are stopped are tested, too. If Dask
-is not installed, a small module runs the nodes in turn. With python3-distributed, three processes of a cluster run them: a node
-that fails ends the fold with its message, and a killed process changes no byte. Nodes call the library if there is a
-lib/libxbrlmerge.so, which ./build --library makes.
-"""
+tools/recheck must agree. Late, changed and removed reports, odd names, and nodes that fail or are stopped are tested, too. If
+Dask is not installed, a small module runs the nodes in turn. With python3-distributed, three processes of a cluster run them: a
+node that fails ends the fold with its message, and a killed process changes no byte. Nodes call the library if there is a
+lib/libxbrlmerge.so, which ./build --library makes."""
 import json
 import os
 import random

@@ -1,10 +1,8 @@
-"""Compares the formats of `verdicts` and `sources` with those that tools/recheck computes.
-
-The program runs on the examples, on texts with quotes, line ends and formulas, and on drawn reports. Each `--format` must be that
-of tools/recheck, byte for byte. `--spreadsheet` must begin with a byte order mark, and may only add a ' to cells. It must guard a
-text as tools/contradictions does: exactly so if the text is ASCII, otherwise at least so. SQLite joins the sources of the examples
-to their verdicts: each pair must have the concept and the value that the report's file has. Last, the output repeats a long URI.
-"""
+"""Compares the formats of `verdicts` and `sources` with those that tools/recheck computes. The program runs on the examples, on
+texts with quotes, line ends and formulas, and on drawn reports. Each `--format` must be that of tools/recheck, byte for byte.
+`--spreadsheet` must begin with a byte order mark, and may only add a ' to cells. It must guard a text as tools/contradictions
+does: exactly so if the text is ASCII, otherwise at least so. SQLite joins the sources of the examples to their verdicts: each
+pair must have the concept and the value that the report's file has. Last, the output repeats a long URI."""
 import csv
 import decimal
 import io

@@ -1,17 +1,12 @@
-"""Checks the results of tools/normalise with the program.
-
-Each report in normalise/cases.jsonl is normalised with its options. `check` must accept or refuse the result as the case requires,
-and the output files must equal the files beside the report. If nothing is lost and the report was accepted before, `check`,
-`verdicts` and `merge` must print the same for the report and the result. If normalising also respells a set of names, only
-the output of `check` must be the same.
-
-A drawn tidy report must be accepted. It is then respelled as another tool might. Once both are normalised, the program must print the
-same for each as it printed for the tidy report. A drawn untidy report must be accepted once it is normalised with all lossy options.
-
-`check` must accept or refuse each shape of report_shapes.py as its mark requires. Drawn pairs of facts are compared by
-`tools/contradictions --normalise`: the row of a pair must be complete exactly if the values are equal, and each item of a merged set
-must have its namespace.
-"""
+"""Checks the results of tools/normalise with the program. Each report in normalise/cases.jsonl is normalised with its options.
+`check` must accept or refuse the result as the case requires, and the output files must equal the files beside the report. If
+nothing is lost and the report was accepted before, `check`, `verdicts` and `merge` must print the same for the report and the
+result. If normalising also respells a set of names, only the output of `check` must be the same. A drawn tidy report must be
+accepted. It is then respelled as another tool might. Once both are normalised, the program must print the same for each as it
+printed for the tidy report. A drawn untidy report must be accepted once it is normalised with all lossy options. `check` must
+accept or refuse each shape of report_shapes.py as its mark requires. Drawn pairs of facts are compared by `tools/contradictions
+--normalise`: the row of a pair must be complete exactly if the values are equal, and each item of a merged set must have its
+namespace."""
 import json
 import os
 import random

@@ -1,10 +1,8 @@
 """Lets offices exchange merged texts, and compares the text of each with one merge of the reports that reached that office.
-
-Three offices, each with its own folder, use only `merge` and `check`. They take reports, of which some are refused, and exchange
-texts, which arrive late, repeated or reordered; an office may lose everything. A sent text must be canonical and declare the strictest
-level that its facts satisfy; tools/recheck computes the level too. Some texts are then sent in the earlier form, without a level.
-In the end, tools/recheck must agree with the text of each office.
-"""
+Three offices, each with its own folder, use only `merge` and `check`. They take reports, of which some are refused, and
+exchange texts, which arrive late, repeated or reordered; an office may lose everything. A sent text must be canonical and
+declare the strictest level that its facts satisfy; tools/recheck computes the level too. Some texts are then sent in the
+earlier form, without a level. In the end, tools/recheck must agree with the text of each office."""
 import json
 import os
 import re

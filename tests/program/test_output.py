@@ -1,8 +1,6 @@
-"""Checks `--output` when a call that writes the file fails, and when the run is killed at that call. The module needs cc.
-
-The file must always be the old one or the complete new one, and only killed runs may leave other files. Outputs that cannot be
-replaced, such as links, are tested too.
-"""
+"""Checks `--output` when a call that writes the file fails, and when the run is killed at that call. The module needs cc. The
+file must always be the old one or the complete new one, and only killed runs may leave other files. Outputs that cannot be
+replaced, such as links, are tested too."""
 import os
 import shutil
 import stat

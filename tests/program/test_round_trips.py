@@ -1,9 +1,6 @@
-"""Checks the round trip of tools/respell with the program.
-
-For the example and for drawn reports, the program merges reports, and the result is respelled, with a reference if it has none.
-`--check` must find no fault in the respelled text. The text is then normalised and merged: the bytes must be those of the first
-merge, except for an added reference.
-"""
+"""Checks the round trip of tools/respell with the program. For the example and for drawn reports, the program merges reports,
+and the result is respelled, with a reference if it has none. `--check` must find no fault in the respelled text. The text is
+then normalised and merged: the bytes must be those of the first merge, except for an added reference."""
 import json
 import os
 

@@ -1,8 +1,6 @@
-"""Compares another build of the program, $OTHER, with $XBRLMERGE: both must merge or refuse drawn reports alike.
-
-Most reports are broken, some have more than one piece, and one in five is read whole. In one of five runs, two URIs are long. Both
-programs must end with the same status, 0 or 1, and print the same bytes and lines. So each refusal has the same reason and place.
-"""
+"""Compares another build of the program, $OTHER, with $XBRLMERGE: both must merge or refuse drawn reports alike. Most reports
+are broken, some have more than one piece, and one in five is read whole. In one of five runs, two URIs are long. Both programs
+must end with the same status, 0 or 1, and print the same bytes and lines. So each refusal has the same reason and place."""
 import os
 
 import pytest

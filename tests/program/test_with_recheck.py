@@ -1,10 +1,8 @@
-"""Compares the program with tools/recheck on drawn sheets and reports.
-
-Each case draws a sheet and up to four reports. About a third of the reports have a fault: a member from a table of faults, or
-broken bytes. So has one sheet in ten. `merge`, `verdicts` and `sources` read them, and tools/recheck must agree with what they
-print and with the status of `merge`. Then the run is forged: a report is thrown away, other bytes are read, or texts or the status
-are changed. tools/recheck must differ, or name what it takes on trust.
-"""
+"""Compares the program with tools/recheck on drawn sheets and reports. Each case draws a sheet and up to four reports. About a
+third of the reports have a fault: a member from a table of faults, or broken bytes. So has one sheet in ten. `merge`,
+`verdicts` and `sources` read them, and tools/recheck must agree with what they print and with the status of `merge`. Then the
+run is forged: a report is thrown away, other bytes are read, or texts or the status are changed. tools/recheck must differ, or
+name what it takes on trust."""
 import collections
 import contextlib
 import io

@@ -1,7 +1,5 @@
-"""table.csv: a line for each row, with columns for each provider.
-
-The lines are written to a temporary file while the rows are read, so that only contradictions are kept in memory.
-"""
+"""table.csv: a line for each row, with columns for each provider. The lines are written to a temporary file while the rows are
+read, so that only contradictions are kept in memory."""
 import collections
 import os
 from typing import Iterator, NamedTuple, Optional, Sequence

@@ -75,11 +75,9 @@ def weights_of(holders: Mapping[str, Holders]) -> Weights:
 
 
 def groups_of(facts: Mapping[str, Fact], weights: Weights) -> tuple[Group, ...]:
-    """Returns the groups of a row's facts, the heaviest first, and of equal ones the one with the lowest fact first.
-
-    Again and again, the heaviest set of numbers that a common number fits becomes a group; of equal sets, the one that the least
-    number fits. Any other value is a group of its own, since different texts, names and nil never agree.
-    """
+    """Returns the groups of a row's facts, the heaviest first, and of equal ones the one with the lowest fact first. Again and
+    again, the heaviest set of numbers that a common number fits becomes a group; of equal sets, the one that the least number
+    fits. Any other value is a group of its own, since different texts, names and nil never agree."""
     numbers = {name: fact.interval() for name, fact in facts.items() if isinstance(fact.value, Decimal)}
     indices = {name: index for index, name in enumerate(facts)}
     found: list[Group] = [(name,) for name in facts if name not in numbers]

@@ -28,14 +28,12 @@ class Kept(NamedTuple):
 
 
 class Near:
-    """Pairs of rows that differ in one dimension only, perhaps by mistake. No provider reports both rows of a pair.
-
-    The difference may be: an entity, a concept or an explicit member with the same local part in another namespace; letter
-    case or white space; dates at most a day apart; another unit or language; a dimension that one row lacks.
-    Rows form a group if they are equal in all dimensions but one, and their values of that dimension share a key of `buckets`.
-    Two rows also form a group if one lacks a dimension of the other and they are otherwise equal. In a group, neighbours in the
-    order of the rows are compared first. `uncompared` counts the pairs that MOST_PAIRS and MOST_FACTS exclude.
-    """
+    """Pairs of rows that differ in one dimension only, perhaps by mistake. No provider reports both rows of a pair. The
+    difference may be: an entity, a concept or an explicit member with the same local part in another namespace; letter case or
+    white space; dates at most a day apart; another unit or language; a dimension that one row lacks. Rows form a group if they
+    are equal in all dimensions but one, and their values of that dimension share a key of `buckets`. Two rows also form a group
+    if one lacks a dimension of the other and they are otherwise equal. In a group, neighbours in the order of the rows are
+    compared first. `uncompared` counts the pairs that MOST_PAIRS and MOST_FACTS exclude."""
 
     def __init__(self, providers: Sequence[str]) -> None:
         self.everybody, self.uncompared = {*providers}, 0
@@ -57,11 +55,9 @@ class Near:
         return [(*pair, found[pair]) for pair in sorted(found)]
 
     def groups(self) -> Iterator[list[int]]:
-        """Yields, for each group that the class describes, the numbers of its rows in order.
-
-        Rows are compared by the sum of the hashes of their dimensions: subtracting a hash leaves out its dimension. Hashes may
-        collide, so `difference` compares the dimensions themselves.
-        """
+        """Yields, for each group that the class describes, the numbers of its rows in order. Rows are compared by the sum of
+        the hashes of their dimensions: subtracting a hash leaves out its dimension. Hashes may collide, so `difference`
+        compares the dimensions themselves."""
         sums = {number: sum(map(hash, items.items())) for number, items in self.items.items()}
         whole = {total & WORD: number for number, total in sums.items()}
         first: dict[int, int] = {}

@@ -98,10 +98,8 @@ class Normalised:
 
 
 def shown(change: dict[str, Tree], key: str) -> str:
-    """Returns a member of a change as the text of a cell. The text is empty if the member is absent.
-
-    Members in VALUES are written as JSON. For other keys, a text is not quoted, and null gives an empty text.
-    """
+    """Returns a member of a change as the text of a cell. The text is empty if the member is absent. Members in VALUES are
+    written as JSON. For other keys, a text is not quoted, and null gives an empty text."""
     value = change.get(key)
     if key in VALUES and key in change:
         return text_of(value)

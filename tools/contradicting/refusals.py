@@ -91,10 +91,8 @@ class Refusals:
         yield from pieces_of_file(self.path)
 
     def lacking_lines(self, most: int = MOST_NAMES) -> Iterator[str]:
-        """Yields a line with the concepts that the sheet lacks, and one with the dimensions. Each shows up to `most` names.
-
-        If the sheet lacks a name, `advice` follows, unless it is empty.
-        """
+        """Yields a line with the concepts that the sheet lacks, and one with the dimensions. Each shows up to `most` names. If
+        the sheet lacks a name, `advice` follows, unless it is empty."""
         for kind, names in self.lacking.items():
             if names:
                 count = f"{len(names)}{' or more' * (len(names) == MOST_NAMES)} {kind}{'s' * (len(names) > 1)}"

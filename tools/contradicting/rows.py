@@ -22,12 +22,9 @@ LONGEST_LINE = 1_000  # characters; each line of `verdicts` has fewer
 
 
 class Row(NamedTuple):
-    """A row with its verdict, its facts and the providers of each fact.
-
-    A contradiction also has groups of facts that agree, the facts that are not in the largest group, and hints at why the groups
-    differ. Its `gap` lies between the intervals of the two facts that contradict each other. `gap` is None unless both facts are
-    numbers.
-    """
+    """A row with its verdict, its facts and the providers of each fact. A contradiction also has groups of facts that agree,
+    the facts that are not in the largest group, and hints at why the groups differ. Its `gap` lies between the intervals of the
+    two facts that contradict each other. `gap` is None unless both facts are numbers."""
 
     number: int
     dimensions: Dimensions
@@ -102,10 +99,8 @@ class Reader:
         self.providers = len(set(sources.names))
 
     def rows(self, path: str) -> list[Row]:
-        """Returns the rows that are contradictions, and passes each row to the observers.
-
-        Errors: NotDone if an input cannot be read or is malformed, or if a verdict or a source does not match the facts.
-        """
+        """Returns the rows that are contradictions, and passes each row to the observers. Errors: NotDone if an input cannot be
+        read or is malformed, or if a verdict or a source does not match the facts."""
         kept, groups = [], itertools.groupby(self.text.facts(), dimensions_given)
         with using(path), open(path, encoding="utf-8", newline="\n") as file:
             lines = iter(functools.partial(file.readline, LONGEST_LINE), "")

@@ -115,10 +115,9 @@ def input_file(path: str, copy: str) -> InputFile:
 
 @contextlib.contextmanager
 def output_folder(path: str, is_below: bool = False) -> Iterator[None]:
-    """Makes the output folder, or one below it, unless it exists. After the `with` block, a new folder is removed unless it contains files.
-
-    Errors: NotDone if the path is not a folder, or if a folder below the output folder is a link; OSError; exceptions of the block.
-    """
+    """Makes the output folder, or one below it, unless it exists. After the `with` block, a new folder is removed unless it
+    contains files. Errors: NotDone if the path is not a folder, or if a folder below the output folder is a link; OSError;
+    exceptions of the block."""
     is_made = not os.path.isdir(path) or is_below and os.path.islink(path)
     if is_made and os.path.lexists(path):
         raise NotDone(f"{path} is not a folder; -o needs one")
@@ -135,10 +134,8 @@ def output_folder(path: str, is_below: bool = False) -> Iterator[None]:
 @contextlib.contextmanager
 def locked(path: str) -> Iterator[None]:
     """Locks a folder, so that one run at a time writes to it, and removes what killed runs left there. The lock ends with the
-    process, and leaves no file.
-
-    Errors: NotDone if another run holds the lock; OSError. A file system without locks is no error.
-    """
+    process, and leaves no file. Errors: NotDone if another run holds the lock; OSError. A file system without locks is no
+    error."""
     folder = os.open(path, os.O_RDONLY)
     try:
         with contextlib.suppress(OSError):

@@ -23,11 +23,9 @@ class Report(NamedTuple):
 
 
 def reports_named(options: argparse.Namespace) -> list[Report]:
-    """Returns the reports that the arguments name: FILE or NAME=FILE before `--`, and only FILE after it.
-
-    Without NAME, the provider is named after the file. Errors: ValueError if a part of NAME=FILE is empty; except with --from,
-    also as in `checked`.
-    """
+    """Returns the reports that the arguments name: FILE or NAME=FILE before `--`, and only FILE after it. Without NAME, the
+    provider is named after the file. Errors: ValueError if a part of NAME=FILE is empty; except with --from, also as in
+    `checked`."""
     reports = [*map(report_of, options.words), *((False, Report(provider_of(path), path)) for path in options.files)]
     return [report for _, report in reports] if options.texts else checked(reports)
 
@@ -112,10 +110,8 @@ Holders = tuple[Holder, ...]  # of one fact
 
 
 class Sources:
-    """The output of `xbrlmerge sources`, which is in the order of the facts. `reports` contains all reports, in order.
-
-    `names` contains the provider of each report that is not refused.
-    """
+    """The output of `xbrlmerge sources`, which is in the order of the facts. `reports` contains all reports, in order. `names`
+    contains the provider of each report that is not refused."""
 
     def __init__(self, path: str, reports: list[Report], refused: Container[int] = ()) -> None:
         self.path, self.reports, self.files = path, reports, files_of(reports)

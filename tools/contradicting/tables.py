@@ -1,6 +1,5 @@
 """The cells of tables, and the table of contradictions. Names are written as {URI}local. A ' precedes anything that a
-spreadsheet might read as a formula.
-"""
+spreadsheet might read as a formula."""
 import functools
 import re
 from typing import Iterable, Iterator, Mapping, Sequence, Union

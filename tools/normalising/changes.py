@@ -18,12 +18,10 @@ class Reason(NamedTuple):
 
 
 class Log:
-    """Collects the lines for one fact, or for the document: `lines` for changes, and `left` for parts that a rule left unchanged.
-    `faults` has the sets among these, in the form of `explain --format json`: two spellings of one set would count as two values.
-
-    Identifiers, URIs and texts may be long, and lines repeat them, so all three are shortened. A line with a shortened
-    fact identifier also has the number of the fact.
-    """
+    """Collects the lines for one fact, or for the document: `lines` for changes, and `left` for parts that a rule left
+    unchanged. `faults` has the sets among these, in the form of `explain --format json`: two spellings of one set would count
+    as two values. Identifiers, URIs and texts may be long, and lines repeat them, so all three are shortened. A line with a
+    shortened fact identifier also has the number of the fact."""
 
     def __init__(self, fact: Optional[str] = None, number: int = 0) -> None:
         self.fact, self.number, self.is_lossy = fact, number, False

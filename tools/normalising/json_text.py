@@ -1,8 +1,6 @@
-"""Reads and writes JSON. Numbers keep their spelling, and no member is lost.
-
-`json.loads` parses a text; its hooks keep the spelling of numbers and find repeated members. `pieces_of` writes JSON,
-because the encoder of `json` writes only ints and floats as numbers, and would change 1.50, -0 and 1e400.
-"""
+"""Reads and writes JSON. Numbers keep their spelling, and no member is lost. `json.loads` parses a text; its hooks keep the
+spelling of numbers and find repeated members. `pieces_of` writes JSON, because the encoder of `json` writes only ints and
+floats as numbers, and would change 1.50, -0 and 1e400."""
 import json
 import re
 import sys
@@ -49,11 +47,9 @@ def read_json(path: str, is_sheet: bool = False) -> Tree:
 
 
 def read_json_of_length(path: str, is_sheet: bool = False) -> tuple[Tree, int]:
-    """Returns the tree of a report or a sheet, and the length of the file in characters.
-
-    Raises NotDone if the file cannot be read, is too long, is not JSON, is nested too deeply or has half a surrogate pair, or
-    if two members of one object share a name.
-    """
+    """Returns the tree of a report or a sheet, and the length of the file in characters. Raises NotDone if the file cannot be
+    read, is too long, is not JSON, is nested too deeply or has half a surrogate pair, or if two members of one object share a
+    name."""
     shown, start = shown_path(path), b""
     try:
         text = read_text(path)

@@ -86,11 +86,8 @@ def read_map(path: str) -> NameMap:
 
 
 class ReportMap(Prefixes):
-    """Applies a map to the names of one report.
-
-    Errors of all methods: NotDone if two names of the report would become equal. A measure that is scaled may become equal to
-    another one.
-    """
+    """Applies a map to the names of one report. Errors of all methods: NotDone if two names of the report would become equal. A
+    measure that is scaled may become equal to another one."""
 
     def __init__(self, given: NameMap, namespaces: Tree, uris: Uris, limit: OutputLimit) -> None:
         super().__init__(namespaces, uris)

@@ -16,10 +16,8 @@ Rewriting = Callable[["re.Match[str]", bool], Optional[str]]
 
 
 def each_moment(period: str, rewritten: Rewriting) -> str:
-    """Returns a period with its moments rewritten by a function. Parts that are not moments stay.
-
-    A text with more than two parts, separated by `/`, is returned unchanged.
-    """
+    """Returns a period with its moments rewritten by a function. Parts that are not moments stay. A text with more than two
+    parts, separated by `/`, is returned unchanged."""
     texts = period.split("/")
     if len(texts) > 2:
         return period
@@ -43,10 +41,8 @@ def with_time(moment: re.Match[str], is_start: bool) -> Optional[str]:
 
 
 def in_utc(moment: re.Match[str], _: bool) -> Optional[str]:
-    """Returns a moment in UTC without its zone. The time 24:00:00 stays if the zone is UTC already.
-
-    Returns None if the moment has no zone or no time, has a fraction, or is invalid, or if the year would not be from 1 to 9999.
-    """
+    """Returns a moment in UTC without its zone. The time 24:00:00 stays if the zone is UTC already. Returns None if the moment
+    has no zone or no time, has a fraction, or is invalid, or if the year would not be from 1 to 9999."""
     day, time, part, zone = moment.groups(default="")
     if not zone or not time or part:
         return None

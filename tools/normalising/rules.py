@@ -36,11 +36,8 @@ class Normaliser:
         self.sheet, self.options, self.program = sheet, options, program
 
     def normalise(self, tree: Tree, length: int = 0, names: Optional[NameMap] = None) -> Log:
-        """Changes the tree of a report, and replaces its names by a map if there is one. Returns a log of the changes, and of the
-        parts that a rule left unchanged: first the document's, then each fact's, in order.
-
-        Errors: NotDone, OSError.
-        """
+        """Changes the tree of a report, and replaces its names by a map if there is one. Returns a log of the changes, and of
+        the parts that a rule left unchanged: first the document's, then each fact's, in order. Errors: NotDone, OSError."""
         check_root(tree)
         whole, logs, limit = Log(), dict[str, Log](), self.limit(length)
         drop_unknown_members(Part(tree, (), whole), "report", self.options)

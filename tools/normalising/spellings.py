@@ -52,12 +52,9 @@ def scale_value(fact: Part, scale: int) -> None:
 
 
 def whole_number(text: str) -> Optional[str]:
-    """Returns the plain spelling of a whole number, or None for any other text.
-
-    The number is a JSON number, such as 2.0 or 2e3, or a text of digits with or without a sign. A text may have at most 18
-    digits, and white space around them. A JSON number may have at most 18 characters, and at most 18 digits when written
-    without its exponent.
-    """
+    """Returns the plain spelling of a whole number, or None for any other text. The number is a JSON number, such as 2.0 or
+    2e3, or a text of digits with or without a sign. A text may have at most 18 digits, and white space around them. A JSON
+    number may have at most 18 characters, and at most 18 digits when written without its exponent."""
     if isinstance(text, Number):
         number = Decimal(text) if len(text) <= 18 else None
         if not number:

@@ -105,10 +105,8 @@ def prefixes_for(uris: Iterable[str], bound: Mapping[str, str]) -> dict[str, str
     return {uri: own.get(uri, prefix) for uri, prefix in spelled.for_uris(uris).items()}
 
 def respelled(content: bytes, sheet: Sheet, taxonomy: Sequence[str]) -> dict[str, Any]:
-    """Returns the tree of a merged report with other prefixes. `taxonomy` replaces references if the report has none.
-
-    Errors: NotDone if the report is refused, is not canonical, or has a set that tools/normalise would spell differently.
-    """
+    """Returns the tree of a merged report with other prefixes. `taxonomy` replaces references if the report has none. Errors:
+    NotDone if the report is refused, is not canonical, or has a set that tools/normalise would spell differently."""
     try:
         objects, kept, unjudged = recheck.read_report(content, {"concepts": sheet.concepts, "dimensions": sheet.dimensions})
     except recheck.Refused as fault:

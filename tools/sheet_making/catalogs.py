@@ -56,9 +56,8 @@ class Rules:
             around.append(index)
 
     def rules_of(self, location: str) -> Iterator[Rewrite]:
-        """Returns the rules whose start matches: those with longer starts first, and those with one start in their order.
-
-        The sorted start before the location begins with all starts that match."""
+        """Returns the rules whose start matches: those with longer starts first, and those with one start in their order. The
+        sorted start before the location begins with all starts that match."""
         if len(self.starts) < len(self.rules):
             self.sort()
         last = bisect.bisect_right(self.starts, location) - 1
@@ -72,12 +71,10 @@ class Rules:
 
 
 class Rewrites(Visitor):
-    """The rules of all catalogs.
-
-    Only absolute URIs are rewritten. The package of a document is the nearest folder around it with a META-INF/catalog.xml; a rule
-    of this catalog precedes the rules of all others, so that no package replaces what another one maps to its own files. Packages
-    of one publisher may have rules with the same start, so several rules are tried.
-    """
+    """The rules of all catalogs. Only absolute URIs are rewritten. The package of a document is the nearest folder around it
+    with a META-INF/catalog.xml; a rule of this catalog precedes the rules of all others, so that no package replaces what
+    another one maps to its own files. Packages of one publisher may have rules with the same start, so several rules are
+    tried."""
 
     def __init__(self, most_tries: int) -> None:
         self.tries = Tries(most_tries)

@@ -64,11 +64,9 @@ class Package:
             self.entries[path] = entry
 
     def pieces(self, path: str) -> Iterator[bytes]:
-        """Yields the bytes of a file. Errors: ValueError if the file is too long, damaged, encrypted or compressed by another method
-        than deflate, or if with it the package is unpacked to too many bytes, or has too many tags and attributes; OSError.
-
-        The signs < and = are counted, because they are found far faster than the tags and the attributes.
-        """
+        """Yields the bytes of a file. Errors: ValueError if the file is too long, damaged, encrypted or compressed by another
+        method than deflate, or if with it the package is unpacked to too many bytes, or has too many tags and attributes;
+        OSError. The signs < and = are counted, because they are found far faster than the tags and the attributes."""
         entry, length = self.entries[path], 0
         if entry.compress_type not in METHODS:
             raise ValueError("it is compressed by a method other than deflate")
@@ -131,18 +129,14 @@ class Files:
         return sorted(path for path in self.listed if path.lower().endswith(".xml"))
 
     def is_found(self, path: str, origin: str) -> bool:
-        """Returns whether the document at `origin` may refer to the path, and a file is there.
-
-        Packages cannot refer to files on disk.
-        """
+        """Returns whether the document at `origin` may refer to the path, and a file is there. Packages cannot refer to files
+        on disk."""
         return path in self.packed or origin not in self.packed and os.path.isfile(path)
 
     def pieces(self, path: str) -> Iterable[bytes]:
-        """Returns the bytes of a file in pieces.
-
-        Errors, some of them raised by the iterator: OSError; those of `Package.pieces`; ValueError if the file is not regular, is
-        too long or changed since it was read before, or if it is outside the named folders and --outside is not given.
-        """
+        """Returns the bytes of a file in pieces. Errors, some of them raised by the iterator: OSError; those of
+        `Package.pieces`; ValueError if the file is not regular, is too long or changed since it was read before, or if it is
+        outside the named folders and --outside is not given."""
         if path in self.packed:
             return self.packed[path].pieces(path)
         really = os.path.realpath(path)
@@ -156,10 +150,8 @@ class Files:
 
 
 def read_regular(path: str, limits: Limits) -> bytes:
-    """Returns the bytes of a regular file. A FIFO does not block the call.
-
-    Errors: ValueError if the file is not regular, is too long or grew while it was read; OSError.
-    """
+    """Returns the bytes of a regular file. A FIFO does not block the call. Errors: ValueError if the file is not regular, is
+    too long or grew while it was read; OSError."""
     with open(path, "rb", opener=lambda name, flags: os.open(name, flags | os.O_NONBLOCK)) as file:
         status = os.fstat(file.fileno())
         if not stat.S_ISREG(status.st_mode):

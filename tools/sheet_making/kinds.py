@@ -241,10 +241,8 @@ def is_followed(name: Name) -> bool:
 
 
 def ends_of(following: Mapping[Name, Optional[Name]]) -> dict[Name, Optional[Name]]:
-    """Returns the end of the chain from each name: None, a name that the mapping lacks, or a name that the chain repeats.
-
-    The ends of visited names are reused, so each name is visited once.
-    """
+    """Returns the end of the chain from each name: None, a name that the mapping lacks, or a name that the chain repeats. The
+    ends of visited names are reused, so each name is visited once."""
     ends: dict[Name, Optional[Name]] = {}
     for start in following:
         path: dict[Name, None] = {}

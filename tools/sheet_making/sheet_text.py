@@ -46,11 +46,9 @@ def sheet_at(path: str, limits: Limits) -> Sheet:
 
 
 class Texts:
-    """The text of a sheet, and of a file with all types. Names are sorted.
-
-    A concept of the kind set is listed as a text, and also under SETS. Unless the types are apart, the sheet also lists TYPES, if they
-    make a long sheet at most a SHARE-th longer.
-    """
+    """The text of a sheet, and of a file with all types. Names are sorted. A concept of the kind set is listed as a text, and
+    also under SETS. Unless the types are apart, the sheet also lists TYPES, if they make a long sheet at most a SHARE-th
+    longer."""
 
     def __init__(self, kinds: Kinds, is_apart: bool) -> None:
         self.prefixes = kinds.spelled.for_uris({name.uri for table in kinds.tables.values() for name in table})

@@ -1,8 +1,5 @@
-"""Reads XML tag by tag, and keeps only the open tags.
-
-Prefixes are resolved here. expat would put the whole namespace into each name, so a long namespace could take quadratic
-memory.
-"""
+"""Reads XML tag by tag, and keeps only the open tags. Prefixes are resolved here. expat would put the whole namespace into each
+name, so a long namespace could take quadratic memory."""
 import sys
 from typing import Iterable, Optional, Sequence
 
@@ -82,13 +79,11 @@ class Visitor:
 
 
 def read_xml(pieces: Iterable[bytes], visitor: Visitor) -> int:
-    """Passes the tags of a document to a visitor, and the texts if the visitor's `takes_text` is true. Returns how many bytes the
-    document has.
-
-    Errors: LookupError or ValueError if the encoding is not supported; ValueError if the document is not well-formed, has a
-    document type, more than MOST_LEVELS levels or a longer tag or comment than LONGEST_TAG, has an element with an unbound prefix,
-    or binds a prefix to an empty namespace; MemoryError; exceptions of the pieces and of the visitor.
-    """
+    """Passes the tags of a document to a visitor, and the texts if the visitor's `takes_text` is true. Returns how many bytes
+    the document has. Errors: LookupError or ValueError if the encoding is not supported; ValueError if the document is not
+    well-formed, has a document type, more than MOST_LEVELS levels or a longer tag or comment than LONGEST_TAG, has an element
+    with an unbound prefix, or binds a prefix to an empty namespace; MemoryError; exceptions of the pieces and of the
+    visitor."""
     bindings, opened = Bindings(), []
 
     def start(tag: str, attributes: dict[str, str]) -> None:

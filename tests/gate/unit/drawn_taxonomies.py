@@ -52,10 +52,8 @@ def drawn_taxonomy(chance):
 
 
 def drawn_other_taxonomy(chance):
-    """Returns the files of a taxonomy whose catalog has rules for references of `drawn_taxonomy`.
-
-    The rules lead to schemas without a namespace, which declare the same elements with other types.
-    """
+    """Returns the files of a taxonomy whose catalog has rules for references of `drawn_taxonomy`. The rules lead to schemas
+    without a namespace, which declare the same elements with other types."""
     starts = chance.sample(STOLEN, 4)
     rules = "".join(f'<rewriteURI uriStartString="{start}" rewritePrefix="../evil/{end}"/>' for start, end in starts)
     evil = re.sub(' targetNamespace="[^"]*"', "", drawn_schema(chance, NAMESPACE, "OfPart").decode())

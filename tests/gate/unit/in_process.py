@@ -81,9 +81,7 @@ def peak(work, *words):
 
 def growth(run_at, size):
     """Returns the time of a run at four times the size, divided by the time at the size: 4 if time is linear, 16 if quadratic.
-
-    Each time is the least processor time of three runs. Time that does not depend on the size lowers the ratio.
-    """
+    Each time is the least processor time of three runs. Time that does not depend on the size lowers the ratio."""
     def least(at):
         return min(seconds(run_at, at) for _ in range(3))
 

@@ -1,9 +1,8 @@
-"""Reads report_shapes.txt: rules of standards, and then shapes in which software writes facts and reports. Each shape has the rule
-that decides what it means, options, what tools/normalise makes of it, and a mark. <A,..> stands for `dimensions` with the concept
-eg:A and other members, {INFO,..} for the start of a report.
-
-Marks: `=` nothing is lost; `!` something is lost, and needs the option; `left` the tool leaves it, and says so; a number: the
-program refuses it, by this number; `dropped`; `guess` the tool refuses the file, and says what it looks like."""
+"""Reads report_shapes.txt: rules of standards, and then shapes in which software writes facts and reports. Each shape has the
+rule that decides what it means, options, what tools/normalise makes of it, and a mark. <A,..> stands for `dimensions` with the
+concept eg:A and other members, {INFO,..} for the start of a report. Marks: `=` nothing is lost; `!` something is lost, and
+needs the option; `left` the tool leaves it, and says so; a number: the program refuses it, by this number; `dropped`; `guess`
+the tool refuses the file, and says what it looks like."""
 import json
 import os
 import re

@@ -1,11 +1,9 @@
-"""A program in place of `xbrlmerge`. Each command prints the output prepared in the program's folder. The program also
-records each command with the names of its reports (of copies, the digests) in the file `log`, and copies the sheet to the file `sheet`.
-
---version prints a line and records nothing. If they exist, COMMAND.out goes to standard output, and COMMAND.err to standard error. The status is the number in
-COMMAND.status, or 0 without this file. If COMMAND.waits exists, the command first prints `waiting` on standard error, and
-waits for a minute. The output of `explain` for a list of reports is in explain_all.out. For a report named `normalised`, `explain` prints only the faults of the document and of facts in the
-report.
-"""
+"""A program in place of `xbrlmerge`. Each command prints the output prepared in the program's folder. The program also records
+each command with the names of its reports (of copies, the digests) in the file `log`, and copies the sheet to the file `sheet`.
+--version prints a line and records nothing. If they exist, COMMAND.out goes to standard output, and COMMAND.err to standard
+error. The status is the number in COMMAND.status, or 0 without this file. If COMMAND.waits exists, the command first prints
+`waiting` on standard error, and waits for a minute. The output of `explain` for a list of reports is in explain_all.out. For a
+report named `normalised`, `explain` prints only the faults of the document and of facts in the report."""
 import hashlib
 import json
 import os
