@@ -57,10 +57,10 @@ def make(name, folder):
     return words, bytes_of(files)
 
 
-def made(name, folder):
-    """Makes the files in another process: a program's peak memory includes that of the process that starts it."""
+def in_child(work, *words):
+    """Runs a function in another process: a program's peak memory includes that of the process that starts it."""
     with multiprocessing.get_context("fork").Pool(1) as pool:
-        return pool.apply(make, (name, folder))
+        return pool.apply(work, words)
 
 
 def limit():
@@ -111,7 +111,7 @@ def too_costly(shapes, program, folder):
     costly = []
     for shape in shapes:
         name, place = shape.replace("_", " "), os.path.join(folder, shape)
-        words, size = made(shape, place)
+        words, size = in_child(make, shape, place)
         seconds, kilobytes, done = measure([program, *words], place)
         is_costly = seconds > MOST_SECONDS or kilobytes > MOST_KILOBYTES or not done
         note = ("too much, listed" if MEASURED[shape].is_costly else "too much") if is_costly else ""

@@ -90,11 +90,6 @@ def with_axis(facts, namespaces=None):
     return merging(sheet(dimensions={"eg:D": "explicit"}), report(numbered(facts), namespaces))
 
 
-def explaining(*files):
-    words, files = merging(sheet(), *files)
-    return ["explain", *words[1:]], files
-
-
 def by(command, make):
     """The function of a shape with the files of another shape, for another command."""
     def made(*sizes):
@@ -103,11 +98,15 @@ def by(command, make):
     return made
 
 
+def explaining(*files):
+    return by("explain", merging)(sheet(), *files)
+
+
 def taken(make):
     """The function of a shape in which a replica takes the only report of another shape."""
     def made(*sizes):
-        words, files = make(*sizes)
-        return ["replay", "--replicas", "1", "--events", "events.txt", *words[1:]], {**files, "events.txt": "take 1 1\n"}
+        words, files = by("replay", make)(*sizes)
+        return [*words[:1], "--replicas", "1", "--events", "events.txt", *words[1:]], {**files, "events.txt": "take 1 1\n"}
     return made
 
 
@@ -205,20 +204,13 @@ def names_and_bytes_of_a_uri(n):
 def names_and_bytes_of_a_uri_in_no_order(n):
     """The same names; neither their facts nor the identifiers are in order."""
     a_sheet, a_report = long_uri(n, 20 * n)
-    facts = list(a_report["facts"].items())
-    random.Random(1).shuffle(facts)
-    return merging(a_sheet, {**a_report, "facts": dict(zip((identifier for identifier, _ in reversed(facts)), (one for _, one in facts)))})
+    names = shuffled(a_report["facts"])
+    return merging(a_sheet, {**a_report, "facts": {name: a_report["facts"][other] for name, other in zip(reversed(names), names)}})
 
 
 def objects_behind_dimensions(n, extension=None):
     """n facts of different lengths, each with an object as an extension. A piece may be cut before this object."""
     return one_report({**fact("v" * (place % 50)), "x:e": extension or {"a": 1}} for place in range(n))
-
-
-def facts_in_no_order(n):
-    members = list(apart(n).items())
-    random.Random(1).shuffle(members)
-    return merging(sheet(), report(dict(members)))
 
 
 def facts_with_one_repeated(n):
@@ -253,8 +245,7 @@ def faults_of_names_of_a_long_uri(n, size=50_000):
     """n refused facts, each with another concept; the concepts share a URI of about `size` bytes."""
     a_sheet, a_report = long_uri(n, size)
     refused = {identifier: {**one, "decimals": "x"} for identifier, one in a_report["facts"].items()}
-    words, files = merging(a_sheet, {**a_report, "facts": refused})
-    return ["explain", *words[1:]], files
+    return by("explain", merging)(a_sheet, {**a_report, "facts": refused})
 
 
 def duplicates_that_are_denied(n):
@@ -385,7 +376,7 @@ SHAPES = {
     "facts": Shape(5_000, lambda n: merging(sheet(), report(apart(n)))),
     "facts_on_lines_of_their_own": Shape(5_000, lambda n: merging(sheet(), json.dumps(report(apart(n)), indent=2))),
     "facts_before_document_info": Shape(5_000, lambda n: merging(sheet(), dict(reversed(report(apart(n)).items())))),
-    "facts_in_no_order": Shape(5_000, facts_in_no_order),
+    "facts_in_no_order": Shape(5_000, lambda n: merging(sheet(), report(dict(shuffled(apart(n).items()))))),
     "facts_with_one_repeated": Shape(5_000, facts_with_one_repeated),
     "facts_with_the_last_refused": Shape(5_000, facts_with_the_last_refused),
     "reports": Shape(500, lambda n: merging(sheet(), *tiny_reports(n))),
