@@ -38,9 +38,7 @@ PERIODS = """2023-12-31 2023-12-31Z 2023-12-31+01:00 2023-12-31T00:00:00.000 202
 
 def drawn_period(chance, moments):
     first = chance.choice(moments)
-    if chance.random() < 0.5:
-        return first
-    return chance.choice(("/", "/", "/ ")).join((first, chance.choice(moments)))
+    return first if chance.random() < 0.5 else chance.choice(("/", "/", "/ ")).join((first, chance.choice(moments)))
 
 
 def tidy_dimensions(chance, concept):
@@ -106,18 +104,14 @@ def roughened(chance, text):
         members["dimensions"] = json.dumps(rough_dimensions(chance, fact["dimensions"]))
         kind = SHEET["concepts"][fact["dimensions"]["concept"]]
         if kind != "text" and fact["value"] is not None:
-            members["value"] = json.dumps(chance.choice(["{}", " {}\n"]).format(rough_number(chance, fact["value"])))
+            form = chance.choice(["{}", " {}\n"])  # a name may stand there, but no drawn name ends with a digit
+            members["value"] = json.dumps(form.format(fact["value"] + "E0" * (fact["value"][-1].isdigit() and chance.random() < 0.4)))
         if "decimals" in fact:
             members["decimals"] = chance.choice(["{}", '"{}"', '" {}"', "{}.0"]).format(fact["decimals"])
         elif chance.random() < 0.3:
             members["decimals"] = '"INF"'
         facts[name] = fact_text(members | ({"id": '"7"'} if chance.random() < 0.3 else {}))
     return report(facts, {"id": '"x"'}, "\n")
-
-
-def rough_number(chance, value):
-    """Appends E0 to some numbers that end with a digit. The value may be a name, but no drawn name ends with a digit."""
-    return f"{value}E0" if value[-1].isdigit() and chance.random() < 0.4 else value
 
 
 def rough_dimensions(chance, dimensions):

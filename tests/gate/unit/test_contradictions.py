@@ -151,9 +151,7 @@ class Providers(ToolTest):
         said = {cell["fact"]: cell["providers"] for cell in cells}
         self.assertEqual((said["f05"], said["f06"], said["f09"]), ("'+SUM(A1)", "A & <B>, +SUM(A1)", "A & <B>, +SUM(A1)"))
         self.assertIn("A &amp; &lt;B&gt;", page)
-
-    def test_a_provider_with_several_texts_counts_once(self):
-        _, cells = self.written(MERGED, SHEET, VERDICTS, f"A={MERGED}", f"A={MERGED}")
+        _, cells = self.written(MERGED, SHEET, VERDICTS, f"A={MERGED}", f"A={MERGED}")  # several texts of a provider count once
         self.assertEqual({cell["providers"] for cell in cells}, {"A"})
 
     def test_a_side_of_a_unit_with_several_names_is_in_parentheses(self):
@@ -226,27 +224,12 @@ class BadInputs(ToolTest):
             self.check_refused("nowhere", *inputs)
 
     def test_lines_of_another_run(self):
-        facts = fact("1"), fact("2"), fact("x", None, "n1:T")
-        for lines in (
-            "",
-            "1 f1 f2 inconsistent apart f1 f2",
-            "1 f1 f2 inconsistent apart f1 f2\n",
-            "1 f1 f2 inconsistent apart f1 f2\n2 f3 f3 complete",
-            "1 f1 f2 inconsistent apart f1 f2\n2 f3 f3 complete\n3 f4 f4 complete\n",
-            "1 f1 f2 inconsistent apart f1 f2\n3 f3 f3 complete\n",
-            "1 f1 f2 inconsistent apart f1 f3\n2 f3 f3 complete\n",
-            "1 f1 f2 inconsistent apart f3 f1\n2 f3 f3 complete\n",
-            "1 f1 f2 inconsistent apart f1 f1\n2 f3 f3 complete\n",
-            "1 f1 f2 inconsistent apart f2 f1\n2 f3 f3 complete\n",
-            "1 f1 f2 consistent common 1 2\n2 f3 f3 complete\n",
-            "1 f1 f2 complete\n2 f3 f3 complete\n",
-            "1 f1 f1 complete\n2 f2 f3 complete\n",
-            "1 f1 f2 inconsistent apart f1 f2 \n2 f3 f3 complete\n",
-        ):
-            self.check_refused("lines", *self.inputs(facts, KINDS, lines))
-
-    def test_a_sheet_of_other_concepts(self):
-        self.check_refused("merged.json", MERGED, self.inputs([], KINDS)[1], VERDICTS)
+        facts, apart = (fact("1"), fact("2"), fact("x", None, "n1:T")), "1 f1 f2 inconsistent apart "
+        lines = ["", *(f"{apart}f1 f2{end}" for end in ("", "\n", "\n2 f3 f3 complete", "\n3 f3 f3 complete\n", "\n2 f3 f3 complete\n3 f4 f4 complete\n"))]
+        lines += [f"{first}\n2 f3 f3 complete\n" for first in (*(apart + pair for pair in ("f1 f3", "f3 f1", "f1 f1", "f2 f1", "f1 f2 ")),
+                                                              "1 f1 f2 consistent common 1 2", "1 f1 f2 complete")]
+        for wrong in (*lines, "1 f1 f1 complete\n2 f2 f3 complete\n"):
+            self.check_refused("lines", *self.inputs(facts, KINDS, wrong))
 
     def test_what_is_no_merged_text(self):
         for bad in (fact("1e5"), fact("1", 0.5), fact("\ud800", None, "n1:T")):
@@ -267,18 +250,14 @@ class BadInputs(ToolTest):
         self.assertEqual(subprocess.run([sys.executable, TOOL, "--help"], capture_output=True).returncode, 0)
 
 
-EXAMPLES = os.path.join(TOP, "examples")
-NAMES = "issuer,ledgerline,statfeed"
-
-
 def example(name):
-    return os.path.join(EXAMPLES, name)
+    return os.path.join(TOP, "examples", name)
 
 
 class Sources(ToolTest):
     inputs = [example(name) for name in ("merged.json", "sheet.json", "verdicts.txt")]
 
-    def words(self, lines=example("sources.txt"), names=NAMES):
+    def words(self, lines=example("sources.txt"), names="issuer,ledgerline,statfeed"):
         return ["--sources", lines, "--names", names]
 
     def test_who_reports_each_value_is_shown(self):
@@ -298,17 +277,9 @@ class Sources(ToolTest):
 
     def test_lines_of_other_reports_are_refused(self):
         lines = content(example("sources.txt")).splitlines(keepends=True)
-        for other in (
-            lines[:-1] + [lines[-1].rstrip("\n")],
-            [it for it in lines if not it.startswith("f018 ")],
-            [*lines, lines[0]],
-            lines[::-1],
-            ['f001 4 "a"\n', *lines],
-            ['f001 0 "a"\n', *lines],
-            ["f001 1 a\n", *lines],
-            ['f001 1 "\\ud800"\n', *lines],
-            [],
-        ):
+        others = [[line, *lines] for line in ('f001 4 "a"\n', 'f001 0 "a"\n', "f001 1 a\n", 'f001 1 "\\ud800"\n')]
+        others += [lines[:-1] + [lines[-1].rstrip("\n")], [it for it in lines if not it.startswith("f018 ")], [*lines, lines[0]], lines[::-1], []]
+        for other in others:
             self.check_refused("lines", *self.inputs, *self.words(self.write("lines", "".join(other))))
 
     def test_usage(self):

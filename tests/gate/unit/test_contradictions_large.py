@@ -10,6 +10,7 @@ import workload
 from contradicting import texts
 from support import content
 
+INPUTS = (test_contradictions.MERGED, test_contradictions.SHEET, test_contradictions.VERDICTS)
 SCHEMA = """<xs:schema xmlns:xs="http://www.w3.org/2001/XMLSchema" xmlns:xbrli="http://www.xbrl.org/2003/instance"
     targetNamespace="https://norlake.example/2023">%s</xs:schema>"""
 ITEM = '<xs:element id="nor_{0}" name="{0}" type="xbrli:monetaryItemType" substitutionGroup="xbrli:item"/>'
@@ -50,9 +51,6 @@ class Labels(test_contradictions.ToolTest):
 
     def test_a_taxonomy_that_cannot_be_read(self):
         self.check_refused("a.zip", *INPUTS, "--labels", self.write("a.zip", "no zip"))
-
-
-INPUTS = (test_contradictions.MERGED, test_contradictions.SHEET, test_contradictions.VERDICTS)
 
 
 URIS = {"n1": "http://a.example", "n2": "https://a.example", "n3": "http://b.example/t"}
@@ -99,11 +97,8 @@ class Large(test_contradictions.ToolTest):
         page, cells = self.written(*inputs, *own)
         self.assertEqual(len({cell["row"] for cell in cells}), self.COUNT)
         self.assertTrue(all(cell["providers"] for cell in cells))
-        self.check_order(page, cells)
-
-    def check_order(self, page, cells):
-        """Checks the order of the page: the contradictions with the largest relative differences first, where a text or nil ranks
-        highest, and then the other rows. The first 100 work without the script."""
+        # the contradictions with the largest relative differences are first, where a text or nil ranks highest, and then the other
+        # rows; the first 100 work without the script
         data = test_contradictions.data_of(page)
         numbers = [str(row[0]) for row in data["rows"]]
         apart, others = numbers[: self.COUNT], [*map(int, numbers[self.COUNT :])]

@@ -74,7 +74,6 @@ class Remedies(in_process.RoomTest):
         for name, part in WITHOUT:
             self.assertIsNone(FOR_NAMES[name](part), (name, part))
 
-
     def test_what_only_the_sentence_tells(self):
         for name, sentence, wanted in (
             ("DecimalsForm", '"decimals" must be an integer from -18 to 18', None), ("ValueForm", "numbers need quotes", NUMBER),

@@ -60,9 +60,7 @@ class Respelled(ToolTest):
     def test_an_expected_text(self):
         text, lines = self.respelled(json.dumps(SHEET), merged(json.dumps(SHEET), [json.dumps(REPORT)]))
         self.assertEqual((text, lines), (json.dumps(RESPELLED, ensure_ascii=False, indent=2) + "\n", ""))
-
-    def test_measures_are_in_the_order_of_their_texts(self):
-        text = json.dumps(REPORT).replace("m:EUR*b:t", "i:z*m:EUR")
+        text = json.dumps(REPORT).replace("m:EUR*b:t", "i:z*m:EUR")  # measures are in the order of their texts
         self.assertIn('"(iso4217:EUR*xbrli:z)/xbrli:shares"', self.respelled(json.dumps(SHEET), merged(json.dumps(SHEET), [text]))[0])
 
     def test_round_trips(self):
@@ -143,11 +141,9 @@ class Checked(ToolTest):
         _, lines = self.check(planted("facts/t/dimensions/language", "en-GB"))
         self.assertEqual(lines[0], "language-case xbrlje:invalidLanguageCodeCase at /facts/t/dimensions/language: write the language in lower case")
 
-    def test_repeated_members(self):
+    def test_repeated_members_and_what_is_no_json(self):
         status, lines = self.check('{"documentInfo":{},"facts":{"a":1,"a":2}}')
         self.assertEqual((status, lines[0].startswith("repeated-member xbrlje:invalidJSON at /facts/a: "), len(lines)), (1, True, 2))
-
-    def test_what_is_no_json(self):
         for text in ("", "{", "<x/>"):
             status, lines = in_process.run(respell, "--check", self.write("report.json", text))
             self.assertEqual((status, lines.count("\n")), (3, 1))

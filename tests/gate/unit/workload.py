@@ -39,13 +39,10 @@ def values_of(chance, dimensions, is_apart):
     return ([(None, None)] if chance.random() < 0.02 else []) + values
 
 
-def row_order(dimensions):
-    return [dimensions.get(key, "") for key in ("concept", "entity", "period", "unit", "language", "n3:MillAxis", "n3:SegmentsAxis")]
-
-
 def facts_of(contradictions):
     chance = random.Random(11)
-    rows = sorted((dimensions_of(chance, rank) for rank in range(contradictions * 2)), key=row_order)
+    order = "concept entity period unit language n3:MillAxis n3:SegmentsAxis".split()
+    rows = sorted((dimensions_of(chance, rank) for rank in range(contradictions * 2)), key=lambda row: [row.get(key, "") for key in order])
     apart = set(chance.sample(range(len(rows)), contradictions))
     for rank, dimensions in enumerate(rows):
         for value, decimals in values_of(chance, dimensions, rank in apart):
