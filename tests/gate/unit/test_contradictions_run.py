@@ -131,12 +131,6 @@ class Files(Stubbed):
         self.assertEqual((done.returncode, done.stderr), (1, b""))
         self.assertEqual(self.run_on(os.path.join(self.output, "merged.json")).returncode, 2)
 
-    def test_a_folder_of_any_name(self):
-        self.set_output(self.path_of("a\udcff\n"))
-        done = self.run_on(*REPORTS)
-        self.assertEqual((done.returncode, done.stderr), (1, ""))
-        self.assertTrue(done.stdout.endswith("a\\udcff\\n/page.html\n"), done.stdout)
-
     def test_the_status_is_zero_without_a_contradiction_or_with_an_option(self):
         self.assertEqual(self.run_on(*REPORTS, "--exit-zero").returncode, 0)
         self.prints_nothing()
@@ -153,9 +147,8 @@ class Files(Stubbed):
         for text in ("<bdi>A issuer.json, f33; statfeed.json, TS08474</bdi>", "<bdi>B; \u00e4 ", f"<dt>Files<dd><bdi>{REPORTS[0]}</bdi>; <bdi>{REPORTS[2]}</bdi>"):
             self.assertIn(text, page)
         self.assertEqual((row["provider: A"], row["files: A"]), ("212640000", "issuer.json, statfeed.json"))
-
-    def test_a_path_may_have_an_equals_sign(self):
         odd = self.write("a=b.json", "{}")
+        self.forget_log()
         self.prints_nothing()
         self.assertEqual(self.run_on(odd, REPORTS[0], odd).returncode, 0)
         self.assertEqual(self.log()[0][1], [odd, REPORTS[0]])
@@ -238,15 +231,13 @@ class Refused(Stubbed):
             f"contradictions: repeated members are not listed: xbrlmerge explain: {line.strip()}",
             f"contradictions: {REPORTS[0]}: 13 UnboundPrefix at fact 1 (xbrlmerge explain: {line.strip()})"]))
 
-    def test_repeated_members_of_accepted_reports_are_shown(self):
+    def test_repeated_members_of_accepted_reports_and_unexplained_refusals_are_shown(self):
         fault = {"report": 2, "number": None, "name": None, "identifier": "a", "part": "value", "sentence": '"value" is repeated'}
         self.prints("explain_all", (json.dumps(fault) + "\n") * 3, status=1)
         done = self.run_on(*REPORTS)
         self.assertEqual((done.returncode, done.stderr),
                          (1, f'contradictions: {REPORTS[1]}: fact "a": "value" is repeated (and 2 more of this kind)\n'))
         self.assertIn("; 1 report with repeated members; page: ", done.stdout)
-
-    def test_a_refusal_that_explain_does_not_know_is_shown(self):
         self.refuses("report 2: 31 DisallowedDuplicates at document\n")
         self.assertIn(f"{REPORTS[1]}: 31 DisallowedDuplicates at document\n", self.run_on(*REPORTS).stderr)
 
@@ -367,14 +358,19 @@ class BadInputs(Stubbed):
         self.refused_run("is not a regular file", "B=" + self.bin)
         self.refused_run("No such file or directory", *REPORTS, sheet=("--sheet", "nowhere"))
         self.refused_run("there is no such file", *REPORTS, sheet=("--taxonomy", "nowhere"))
+        self.write("out", "a file")
+        self.refused_run("out is not a folder; -o needs one", *REPORTS)
+        self.assertEqual(content(self.output), "a file")
 
-    def test_a_name_that_is_not_utf_8(self):
+    def test_names_that_are_not_utf_8(self):
+        self.set_output(self.path_of("a\udcff\n"))
         path = os.fsdecode(b"odd\xff.json")
         shutil.copy(REPORTS[0], self.path_of(path))
         self.prints_nothing()
         done = self.run_on("B=" + self.path_of(path))
         self.assertEqual((done.returncode, done.stderr), (0, ""))
         self.assertIn("odd\\xff.json</bdi>", content(self.page))
+        self.assertTrue(done.stdout.endswith("a\\udcff\\n/page.html\n"), done.stdout)
 
     def test_one_run_at_a_time_writes_to_a_folder(self):
         os.mkdir(self.output)
@@ -383,11 +379,6 @@ class BadInputs(Stubbed):
         self.refused_run(f"another run writes to {self.output}: wait until it ends, or name another folder", *REPORTS)
         os.close(folder)
         self.assertEqual(self.run_on(*REPORTS).returncode, 1)
-
-    def test_an_output_folder_that_is_a_file(self):
-        self.write("out", "a file")
-        self.refused_run("out is not a folder; -o needs one", *REPORTS)
-        self.assertEqual(content(self.output), "a file")
 
     def test_a_program_that_fails(self):
         for command, out, err, status, wanted in (
@@ -412,15 +403,12 @@ class BadInputs(Stubbed):
             resource.setrlimit(resource.RLIMIT_FSIZE, (20_000, 20_000))
             signal.signal(signal.SIGXFSZ, signal.SIG_IGN)
 
-        self.refused_run("File too large", *REPORTS, sheet=self.large_taxonomy(), preexec_fn=limit)
+        elements = "".join(f'<xs:element name="E{n}" type="xbrli:stringItemType" substitutionGroup="xbrli:item"/>' for n in range(2_000))
+        self.refused_run("File too large", *REPORTS, sheet=["--taxonomy", self.write("large.xsd", SCHEMA % elements)], preexec_fn=limit)
         self.prints_nothing()
         self.prints("merge", NONE.replace("{}}", "{}}" + " " * 15_000, 1))
         large = OTHER_TOOLS.replace('"a":', "".join(f'"{n}":{{"value":"1","dimensions":{{}}}},' for n in range(2_000)) + '"a":')
         self.refused_run("File too large", "--normalise", self.write("large.json", large), preexec_fn=limit)
-
-    def large_taxonomy(self):
-        elements = "".join(f'<xs:element name="E{n}" type="xbrli:stringItemType" substitutionGroup="xbrli:item"/>' for n in range(2_000))
-        return ["--taxonomy", self.write("large.xsd", SCHEMA % elements)]
 
     def test_a_signal_leaves_nothing(self):
         self.write(os.path.join("bin", "verdicts.waits"), "")

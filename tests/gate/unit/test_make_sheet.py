@@ -65,9 +65,6 @@ class Taxonomies(ToolTest):
         paths = [os.path.join(at, name) for at, _, names in os.walk(TOY) for name in names]
         return self.pack({os.path.join("toy", os.path.relpath(path, TOY)): bytes_of(path) for path in paths}, "toy.zip")
 
-    def test_each_case_of_the_toy_taxonomy(self):
-        self.check_sheet(TOY_SHEET, os.path.join(TOY, "toy", "core.xsd"))
-
     def test_file_folder_and_package_give_the_same_bytes(self):
         package = self.toy_package()
         text = self.check_sheet(TOY_SHEET, package)
@@ -83,8 +80,6 @@ class Taxonomies(ToolTest):
         self.assertEqual(sheet["namespaces"]["n1"], "http://issuer.example/2024")
         self.assertEqual(len(sheet["concepts"]), len(TOY_SHEET["concepts"]) + 1)
         self.assertEqual(run(TOY, EXTENSION).stdout, run(EXTENSION, package).stdout)
-
-    def test_a_missing_import_is_reported(self):
         self.check_refused("http://toy.example/2024/core.xsd", EXTENSION)
 
     def test_what_is_in_doubt_is_left_out_with_a_line_each(self):
@@ -231,6 +226,9 @@ class BadInputs(ToolTest):
         self.check_refused("xsd", TOY, self.write("e.xsd", "no XML"), self.write("f.xsd", "nor this"))
         self.check_refused("not well-formed", self.write("g.xsd", SCHEMA % ITEM % ("A", "string") + "&"))
         self.check_refused("a.xsd", self.write("a.xsd", b"\xff\xfe\x00"))
+        self.check_refused("declared in two ways", self.write("a.xsd", SCHEMA % (ITEM % ("A", "string") + ITEM % ("A", "monetary"))))
+        inner = self.pack({"inner.zip": b"PK"}, "p.zip")
+        self.check_refused("p.zip/inner.zip: not read, because it is in a folder or a package", inner, lines=2)
 
     def test_an_entity_is_not_read(self):
         secret = self.write("secret", "monetary")
@@ -259,14 +257,6 @@ class BadInputs(ToolTest):
             changed[listed * bool(is_listed) + place] = byte
             self.write("p.zip", bytes(changed) if is_listed is not None else data[:20] + data[listed:])
             self.check_refused(f"/{wanted}", package)
-
-    def test_a_package_in_a_package_is_named(self):
-        package = self.pack({"inner.zip": b"PK"}, "p.zip")
-        self.check_refused("p.zip/inner.zip: not read, because it is in a folder or a package", package, lines=2)
-
-    def test_two_declarations_of_one_name(self):
-        path = self.write("a.xsd", SCHEMA % (ITEM % ("A", "string") + ITEM % ("A", "monetary")))
-        self.check_refused("declared in two ways", path)
 
     def test_names_cannot_break_a_line(self):
         text = SCHEMA.replace("http://made", "http://made&#10;&#27;[31m") % ITEM % ("A", "fraction")
@@ -310,12 +300,9 @@ class Unions(ToolTest):
         self.assertEqual(list(json.loads(run("--union", first).stdout)["namespaces"]), [*kept, "y.Z-1"])
         self.assertEqual(list(json.loads(run("--union", first, other).stdout)["namespaces"]), [*kept, "n6"])
 
-    def test_a_concept_of_two_kinds_is_named(self):
-        first = self.sheet("a.json", "http://a.example", {"p:A": "numeric"}, {})
-        second = self.sheet("b.json", "http://a.example", {"p:A": "text"}, {})
-        self.check_refused("{http://a.example}A is text, but numeric", "--union", first, second)
-
-    def test_what_is_no_sheet(self):
+    def test_what_is_no_sheet_and_a_concept_of_two_kinds(self):
+        sheets = (self.sheet(f"{kind}.json", "http://a.example", {"p:A": kind}, {}) for kind in ("numeric", "text"))
+        self.check_refused("{http://a.example}A is text, but numeric", "--union", *sheets)
         texts = ["", "[]", "{", '{"facts":{}}', '{"concepts":{"p:A":"text"}}', '{"concepts":[]}']
         texts += ['{"namespaces":{"p":"u"},"concepts":{"%s":"%s"}}' % each for each in (("A", "text"), ("p:A", "explicit"))]
         for text in texts:

@@ -13,7 +13,7 @@ import make_sheet
 import process
 from test_make_sheet import ITEM, SCHEMA, ToolTest, run
 
-from contradicting.labels import Labelled, Labels
+from contradicting.labels import Labelled
 from sheet_making import files
 from sheet_making.limits import Limits
 from sheet_making.taxonomy import Taxonomy
@@ -33,7 +33,7 @@ LABEL = '<link:label xlink:label="{}" xml:lang="en">{}</link:label>'
 ARC = '<link:labelArc xlink:from="{}" xlink:to="{}"/>'
 
 
-def labels_of(path: str) -> Labels:
+def labels_of(path):
     """Returns the English labels in a package."""
     return Labelled(files.Files([path], Limits()), "en").read_labels()
 
@@ -204,8 +204,7 @@ class Packages(ToolTest):
             made.writestr("b/B.XSD", SCHEMA % ITEM % ("B", "string"))
             made.writestr("b/C.XSD", SCHEMA % ITEM % ("C", "string"))
         self.assertEqual(list(json.loads(run(package).stdout)["concepts"]), ["this:A", "this:B", "this:C"])
-
-    def test_a_schema_with_another_ending_is_read_when_it_is_referred_to(self):
+        # a schema with another ending is read when it is referred to
         package = self.pack({"a.xsd": SCHEMA % INCLUDE.format("b.schema"), "b.schema": SCHEMA % ITEM % ("B", "string")})
         self.assertEqual(list(json.loads(run(package).stdout)["concepts"]), ["this:B"])
 
@@ -305,10 +304,7 @@ class Folders(ToolTest):
             if location == "link.xsd":
                 os.unlink(link)
         self.check_refused("/etc/passwd", self.folder(a_xsd=SCHEMA % INCLUDE.format("/etc/passwd")))
-
-    def test_a_file_in_a_named_folder_may_be_referred_to_from_another(self):
-        self.folder(a_xsd=SCHEMA % INCLUDE.format("../other/b.xsd"))
-        os.mkdir(self.path_of("other"))
+        self.folder(a_xsd=SCHEMA % INCLUDE.format("../other/b.xsd"))  # a named folder may be referred to from another
         self.write("other/b.xsd", SCHEMA % ITEM % ("B", "string"))
         done = run(self.path_of("folder/a.xsd"), self.path_of("other"))
         self.assertEqual((done.returncode, list(json.loads(done.stdout)["concepts"])), (0, ["this:B"]))
@@ -335,14 +331,12 @@ class Statuses(ToolTest):
             done = subprocess.run(["bash", "-c", f"{sys.executable} {tool} {words}"], capture_output=True)
             self.assertEqual((done.returncode, bool(done.stdout), done.stderr.splitlines()[-1:]), (status, not status, [line] * bool(line)), words)
 
-    def test_what_input_can_raise(self):
+    def test_what_input_can_raise_and_usage(self):
         self.check_refused("a.json: nested too deeply", "--union", self.write("a.json", '{"x:x":' * 100_000))
         path = self.write("a.xsd", SCHEMA % "")
         with mock.patch.object(files, "read_regular", side_effect=MemoryError):
             self.check_refused("a.xsd: out of memory", path)
         self.check_refused("there is no such file", self.path_of("no\0where"))
-
-    def test_usage(self):
         for words in ((), ("--megabytes", "0", "a"), ("--megabytes", "x", "a"), ("--unknown",)):
             self.assertEqual(run(*words).returncode, 2)
         self.assertEqual(run("--help").returncode, 0)

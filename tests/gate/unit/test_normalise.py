@@ -183,8 +183,7 @@ class Unreadable(ToolTest):
         out = self.path_of("nowhere/out.json")
         status, errors = self.run_tool(self.report, out, self.changes, "--sheet", self.sheet, *self.refusing({}))
         self.assertEqual((status, errors), (3, f"normalise: {out}: No such file or directory\n"))
-
-    def test_a_sheet_that_cannot_be_read_twice(self):
+        # a sheet that cannot be read twice
         os.mkfifo(self.path_of("fifo"))
         status, errors = self.run_tool(self.report, self.out, self.changes, "--sheet", self.path_of("fifo"), *self.refusing({}))
         self.assertEqual(status, 2, errors)
@@ -224,6 +223,9 @@ class BadInputs(ToolTest):
         for text in ("{", '{"a":01}', "[" * 100_000, '{"a":"\n"}'):  # test_normalise_hostile.py has more
             self.check_report("bad.json", text)
         self.check_report("not a report", "[]")
+        self.write("out.json", "of a run before")
+        self.check_report("bad.json", "{")
+        self.assertEqual(content(self.out), "of a run before")
 
     def test_files_that_are_missing_or_that_cannot_be_written(self):
         report = self.write("good.json", EMPTY)
@@ -231,11 +233,6 @@ class BadInputs(ToolTest):
         self.check_refused("nowhere", report, self.out, self.changes, "--sheet", self.path_of("nowhere"))
         self.check_refused("/no", report, self.out, os.path.join(self.scratch, "no", "x"))
         self.check_refused("not a file", report, self.out, self.scratch)
-
-    def test_files_that_were_there_stay_where_it_fails(self):
-        self.write("out.json", "of a run before")
-        self.check_report("bad.json", "{")
-        self.assertEqual(content(self.out), "of a run before")
 
     def test_what_is_no_sheet(self):
         report = self.write("good.json", EMPTY)

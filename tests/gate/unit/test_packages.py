@@ -81,10 +81,6 @@ class Contents(Packages):
         self.assertIn('\n.SH OPTIONS\n.TP\n.B \\-\\-allow <LEVEL>\nLoosest', texts["xbrlmerge-merge.1"])
         self.assertIn("\n.SH COMMANDS\n.TP\n.B merge\nWrites\n", texts["xbrlmerge.1"])
 
-    def test_the_newest_version_of_the_c_library_counts(self):
-        self.assertEqual(newest_libc(PROGRAM), "2.34")
-
-
 FILES = [File("bin/a", b"a", RUNS), File("bin/b", b"b"), File("share/c", b"a", is_link=True)]
 ACTIONS = (installation.uninstall, lambda prefix: installation.install(FILES, prefix))
 
@@ -227,18 +223,14 @@ class Archives(Packages):
             names.append(wheel_of_library.make_wheel(top, self.path_of(contents.SHARED), self.path_of("program")))
         self.assertEqual(*map(bytes_of, (self.path_of(names[0]), os.path.join(top, names[1]))))
 
-    def test_the_module_alone_needs_no_program(self):
-        name = wheel_of_library.make_wheel(self.scratch, self.path_of(contents.SHARED))
+        name = wheel_of_library.make_wheel(self.scratch, self.path_of(contents.SHARED))  # the module alone needs no program
         with zipfile.ZipFile(self.path_of(name)) as wheel:
             self.assertFalse([it for it in wheel.namelist() if "tools" in it or "scripts" in it])
 
-    def test_debian_compares_versions_as_meant(self):
-        self.assertEqual(debian.version_of("0.3.0-dev"), "0.3.0~dev")
-        targets = {it.target for it in debian.moved(self.program())}
-        self.assertLessEqual({"usr/bin/xbrlmerge", "usr/share/man/man1/xbrlmerge-recheck.1.gz",
-                              "usr/share/zsh/vendor-completions/_xbrlmerge"}, targets)
-
-    def test_no_file_is_in_two_packages(self):
+    def test_debian_has_its_own_versions_and_folders_and_no_file_is_in_two_packages(self):
+        self.assertEqual((debian.version_of("0.3.0-dev"), newest_libc(PROGRAM)), ("0.3.0~dev", "2.34"))
+        moved = {it.target for it in debian.moved(self.program())}
+        self.assertLessEqual({"usr/bin/xbrlmerge", "usr/share/man/man1/xbrlmerge-recheck.1.gz", "usr/share/zsh/vendor-completions/_xbrlmerge"}, moved)
         targets = [it.target for package in debian.packages(self.source()) for it in package.files]
         self.assertEqual(len(targets), len(set(targets)))
         self.assertTrue(all(it.startswith("usr/") for it in targets))
@@ -274,15 +266,13 @@ class Bill(Packages):
         ends = {it[end] for it in found["relationships"] for end in ("spdxElementId", "relatedSpdxElement")}
         self.assertEqual(ends - {"SPDXRef-DOCUMENT"}, {*parts})
 
-    def test_the_page_of_a_crate_names_its_version(self):
+    def test_the_page_of_a_crate_names_its_version_and_its_files_the_licences(self):
         for name, page, wanted in (("jiff_core", "after `jiff-core` 0.1.2 and `jiff` 0.2.39", "jiff-core 0.1.2"),
                                  ("jiff_span", "from the crate `jiff` 0.2.39", "jiff 0.2.39"),
                                  ("clap", "with clap_builder 4.6.7: clap_lex 1.1.1", "clap_builder 4.6.7"),
                                  ("idna", "`tests/uts46.rs` of version 1.1.0, `idna_adapter` 1.2.2", "idna 1.1.0"),
                                  ("json", "compared with serde_json 1.0.154", "")):
             self.assertEqual(bill.ported(name, page), wanted)
-
-    def test_the_files_of_a_crate_name_its_licences(self):
         self.assertEqual(bill.licence("", ["LICENSE-MIT", "LICENSE-APACHE", "LICENSE-UNICODE"]), "(MIT OR Apache-2.0) AND Unicode-3.0")
         self.assertEqual(bill.licence("others are (MIT)", ["README.md"]), "NOASSERTION")
         self.assertEqual(bill.licence("(Unlicense or MIT, `COPYING`)", ["LICENSE-MIT"]), "Unlicense OR MIT")
@@ -321,12 +311,8 @@ class Sources(Packages):
 
 
 class Files(Packages):
-    def test_folders_come_after_those_that_contain_them(self):
+    def test_files_and_their_folders(self):
+        """Folders come after those that contain them. Permissions are read, and files that Python made are left out."""
         self.assertEqual(folders_of([File("a/b/c", b""), File("a/d", b"")]), ["a", "a/b"])
-
-    def test_permissions_are_read(self):
-        self.assertEqual([(it.target, it.mode) for it in read_below(self.scratch, "x", ("am",))], [("x/program", RUNS)])
-
-    def test_files_that_python_made_are_left_out(self):
         self.write("__pycache__/program", "")
-        self.assertEqual([it.target for it in read_below(self.scratch, "x", ("program",))], ["x/program"])
+        self.assertEqual([(it.target, it.mode) for it in read_below(self.scratch, "x", ("program",))], [("x/program", RUNS)])

@@ -34,11 +34,9 @@ class ProcessTest(RoomTest):
 
 
 class Statuses(ProcessTest):
-    def test_a_status_is_the_one_that_is_returned(self):
+    def test_a_status_is_the_one_that_is_returned_and_no_exception_ends_in_1(self):
         for status in range(4):
             self.check(status, "", f"return Status({status})")
-
-    def test_no_exception_ends_in_status_1(self):
         raised = {
             "NotDone('a', 'b')": "tool: a\ntool: b\n",
             "KeyError('k')": "tool: a defect of this tool, which you can report: KeyError 'k'\n",
@@ -115,7 +113,7 @@ class Signals(ProcessTest):
                 out, errors = run.communicate()
             self.assertIn((run.returncode, b"Traceback" in errors), ((-2, False), (2, False), (3, False)), (out, errors))
 
-    def test_an_interrupt_that_is_ignored_at_the_start_stays_ignored(self):
+    def test_a_signal_that_is_ignored_at_the_start_stays_ignored(self):
         launched = self.write("tool", content("tools/make_sheet"))
         self.write("tool.py", f"#!{sys.executable}\nimport sys\nsys.dont_write_bytecode = True\nsys.path.append({TOOLS!r})\nimport interrupts\n"
                               "import os, signal\nprint(signal.getsignal(signal.SIGINT) is signal.SIG_IGN, interrupts.HELD in os.environ)\n")
@@ -125,8 +123,6 @@ class Signals(ProcessTest):
             for path in (launched, launched + ".py"):
                 done = subprocess.run([path], stdout=subprocess.PIPE, preexec_fn=lambda handler=handler: signal.signal(signal.SIGINT, handler))
                 self.assertEqual(done.stdout, wanted)
-
-    def test_an_ignored_signal_stays_ignored(self):
         body = "import os, signal; os.kill(os.getpid(), signal.SIGHUP); return Status.DONE"
         done = self.shell(body, preexec_fn=lambda: signal.signal(signal.SIGHUP, signal.SIG_IGN))
         self.assertEqual(done.returncode, 0)
