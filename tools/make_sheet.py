@@ -44,7 +44,7 @@ import os  # noqa: E402
 from typing import Iterator  # noqa: E402
 from arguments import Parser  # noqa: E402
 from process import NotDone, Status, print_lines, run  # noqa: E402
-from sheet_making.limits import Limits, reading  # noqa: E402
+from sheet_making.files import Limits, reading  # noqa: E402
 from sheet_making.sheet_text import Texts, union  # noqa: E402
 from sheet_making.taxonomy import kinds_in  # noqa: E402
 from text_files import LONGEST, PIECE, STANDARD, opened  # noqa: E402

@@ -6,8 +6,7 @@ import shutil
 import stat
 import sys
 import tempfile
-from dataclasses import dataclass
-from typing import Iterable, Iterator, Optional, Union
+from typing import Iterable, Iterator, NamedTuple, Optional, Union
 
 from process import NotDone, Stopped, signals_held
 
@@ -32,20 +31,12 @@ def new_folder(beside: Optional[str] = None) -> Iterator[str]:
             raise
 
 
-@dataclass(frozen=True)
-class Output:
-    """A file to write at `path`, and a temporary folder beside it."""
+class Output(NamedTuple):
+    """A file to write at `path`, and the paths of the new and the old file in a temporary folder beside it."""
 
     path: str
-    folder: str
-
-    @property
-    def new(self) -> str:
-        return os.path.join(self.folder, "new")
-
-    @property
-    def old(self) -> str:
-        return os.path.join(self.folder, "old")
+    new: str
+    old: str
 
     def keep_old(self) -> None:
         """Keeps the file that will be replaced: as a link, or as a copy if linking fails."""
@@ -144,7 +135,7 @@ def write_beside(path: str, pieces: Iterable[bytes], folders: contextlib.ExitSta
     try:
         with signals_held():  # a signal must not arrive between making the folder and recording it
             folder = folders.enter_context(new_folder(os.path.dirname(target)))
-        output = Output(target, folder)
+        output = Output(target, os.path.join(folder, "new"), os.path.join(folder, "old"))
         with open(output.new, "xb") as file:
             file.writelines(pieces)
             copy_permissions(target, file.fileno())

@@ -2,6 +2,7 @@
 and line. If the line contains a number of bytes, standard output must have accepted exactly that many bytes from the start of
 the text; otherwise all of the text or nothing. No input file may change."""
 import collections
+import contextlib
 import fcntl
 import json
 import os
@@ -239,9 +240,10 @@ def test_pipes(scratch, words):
         assert whole.startswith(ran.out) and (0 < taken < len(whole) if words in LONG else taken == len(whole)), take
 
 
-def make(scratch, kind, name):
-    """Makes the file `strange`, except for the kind `missing`. Returns the process that writes to a FIFO, otherwise None."""
-    strange, content = f"{scratch.folder}/strange", scratch.contents[name]
+@contextlib.contextmanager
+def made(scratch, kind, name):
+    """Makes the file `strange`, except for the kind `missing`, and removes it at the end. A process writes to a FIFO."""
+    strange, content, writer = f"{scratch.folder}/strange", scratch.contents[name], None
     if kind == "a folder":
         os.mkdir(strange)
     elif kind == "without permission":
@@ -255,23 +257,18 @@ def make(scratch, kind, name):
             opened.bind(strange)
     elif kind.startswith("endless"):
         os.symlink("/dev/zero", strange)
-    if not kind.startswith("a FIFO"):
-        return None
-    os.mkfifo(strange)
-    length = {"nothing": 0, "one half": len(content) // 2, "all": len(content)}[kind.removeprefix("a FIFO of ")]
-    return subprocess.Popen(["sh", "-c", f"exec head -c {length} {name} >strange"], cwd=scratch.folder)
-
-
-def remove(scratch, writer):
-    """Removes the file `strange`, and ends the process that writes to it, if there is one."""
-    if writer:
-        writer.kill()
-        writer.wait()
-    strange = f"{scratch.folder}/strange"
-    if os.path.isdir(strange) and not os.path.islink(strange):
-        os.rmdir(strange)
-    elif os.path.lexists(strange):
-        os.remove(strange)
+    elif kind.startswith("a FIFO"):
+        os.mkfifo(strange)
+        length = {"nothing": 0, "one half": len(content) // 2, "all": len(content)}[kind.removeprefix("a FIFO of ")]
+        writer = subprocess.Popen(["sh", "-c", f"exec head -c {length} {name} >strange"], cwd=scratch.folder)
+    try:
+        yield
+    finally:
+        if writer:
+            writer.kill()
+            writer.wait()
+        if kind != "missing":
+            (os.rmdir if kind == "a folder" else os.remove)(strange)
 
 
 def run_strange(scratch, kind, words):
@@ -294,11 +291,9 @@ def test_files(scratch, kind, name, words):
     both."""
     if kind == "endless" and (free_memory() < MUCH or words != PLACES[name][0]):
         pytest.skip(f"endless files without a limit on memory need {MUCH:,} kB, and are read by one command each")
-    writer, ends = make(scratch, kind, name), FILES[kind][[*PLACES].index(name)]
-    try:
+    ends = FILES[kind][[*PLACES].index(name)]
+    with made(scratch, kind, name):
         ran = run_strange(scratch, kind, words)
-    finally:
-        remove(scratch, writer)
     plain = "empty" if kind in ("/dev/null", "a FIFO of nothing", "a FIFO of one half") else name
     out = b"" if ends[0] == 3 else scratch.run(words.replace("strange", plain)).out
     assert ran == (ends[0], out, ends[1])
@@ -323,11 +318,8 @@ def test_causes(scratch, kind, words, place):
     """Reading or writing fails with --verbose. A second line must state why."""
     if not CAUSES[kind][place]:
         pytest.skip("such an output can be written")
-    make(scratch, kind, "report")
-    try:
+    with made(scratch, kind, "report"):
         ran = run_strange(scratch, kind, words)
-    finally:
-        remove(scratch, None)
     expect_second(ran, CAUSES[kind][place])
 
 

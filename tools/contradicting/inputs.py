@@ -18,8 +18,7 @@ from contradicting.texts import Provider, Text, sheet_at
 from process import NotDone, Progress, shortened
 from program import Program
 from respelling.rules import respelled, text_of
-from sheet_making.files import Files
-from sheet_making.limits import Limits
+from sheet_making.files import Files, Limits
 from sheet_making.sheet_text import Texts
 from sheet_making.taxonomy import kinds_from
 from sheets import Sheet, types_path

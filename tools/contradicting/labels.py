@@ -5,8 +5,7 @@ import os
 from typing import Dict, Mapping, NamedTuple, Optional
 
 from names import SPACE, Name
-from sheet_making.files import Files
-from sheet_making.limits import reading
+from sheet_making.files import Files, reading
 from sheet_making.taxonomy import Taxonomy
 from sheet_making.xml_reading import XML, Element, Visitor, read_xml
 

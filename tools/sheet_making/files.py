@@ -8,11 +8,12 @@ import pathlib
 import stat
 import zipfile
 import zlib
+from dataclasses import dataclass
 from typing import Iterable, Iterator
 
-from process import shortened
-from sheet_making.limits import PIECE, Limits, reading, too_long
+from process import NotDone, sentence, shortened
 
+PIECE = 1 << 20  # bytes to read at a time
 MOST_ENTRIES = 100_000
 LONGEST_PATH = 1_024  # characters
 MOST_UNPACKED = 100  # times the size of the package
@@ -20,6 +21,46 @@ TAG, ATTRIBUTES = 4, 4  # the bytes of a package that permit one more tag, and t
 METHODS = (zipfile.ZIP_STORED, zipfile.ZIP_DEFLATED)  # for other methods, `zipfile` does not limit how much it unpacks at once
 ENCRYPTED = 1
 CATALOG = os.path.join(os.sep, "META-INF", "catalog.xml")
+
+
+@dataclass(frozen=True)
+class Limits:
+    """How much may be read, and whether schemas may refer to files outside the named folders."""
+
+    megabytes: int = 64
+    outside: bool = False
+    tags: int = 100_000  # in a package, besides those that its size permits
+
+    @property
+    def file(self) -> int:
+        """The most bytes in a file that is not a package."""
+        return self.megabytes * 1_000_000
+
+    @property
+    def again(self) -> int:
+        """How many bytes of schemas without a namespace may be read again for further namespaces."""
+        return self.file // 16
+
+    @property
+    def tries(self) -> int:
+        """How often rules of catalogs may be tried."""
+        return 2 * self.tags
+
+
+@contextlib.contextmanager
+def reading(path: str) -> Iterator[None]:
+    """Turns each exception except NotDone into NotDone, with the name of the file."""
+    try:
+        yield
+    except NotDone:
+        raise
+    except Exception as fault:  # expat, zipfile and zlib raise their own exceptions
+        why = fault.strerror if isinstance(fault, OSError) and fault.strerror else sentence(fault)
+        raise NotDone(f"{path}: {why}") from None
+
+
+def too_long(limits: Limits) -> ValueError:
+    return ValueError(f"it is longer than {limits.megabytes} MB (make_sheet --megabytes)")
 
 
 @contextlib.contextmanager

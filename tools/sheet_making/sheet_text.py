@@ -5,9 +5,8 @@ from typing import Any, Iterable, Mapping
 
 from names import Name
 from process import NotDone
-from sheet_making.files import read_regular
+from sheet_making.files import Limits, read_regular, reading
 from sheet_making.kinds import Kinds
-from sheet_making.limits import Limits, reading
 from sheets import GROUPS, SETS, TABLES, TYPES, Sheet, types_path
 
 SMALL = 1 << 16  # characters: so many types may stand in any sheet, however small

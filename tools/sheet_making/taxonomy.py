@@ -5,9 +5,8 @@ from typing import Iterable, Optional
 from names import SPACE, Name, Spelled
 from process import NotDone, shortened
 from sheet_making.catalogs import Rewrites
-from sheet_making.files import Files
+from sheet_making.files import Files, Limits, reading
 from sheet_making.kinds import Kinds, is_specification, kinds_of
-from sheet_making.limits import Limits, reading
 from sheet_making.schemas import Declaration, Derivation, Part, SchemaVisitor
 from sheet_making.xml_reading import Element, read_xml
 

@@ -6,6 +6,7 @@ import signal
 import sys
 import tempfile
 import time
+import timeit
 import tracemalloc
 import unittest
 import warnings
@@ -82,13 +83,8 @@ def peak(work, *words):
 def growth(run_at, size):
     """Returns the time of a run at four times the size, divided by the time at the size: 4 if time is linear, 16 if quadratic.
     Each time is the least processor time of three runs. Time that does not depend on the size lowers the ratio."""
-    def least(at):
-        return min(seconds(run_at, at) for _ in range(3))
-
-    return least(4 * size) / least(size)
+    return least_seconds(run_at, 4 * size) / least_seconds(run_at, size)
 
 
-def seconds(run_at, size):
-    start = time.process_time()
-    run_at(size)
-    return time.process_time() - start
+def least_seconds(run_at, size):
+    return min(timeit.repeat(lambda: run_at(size), timer=time.process_time, repeat=3, number=1))

@@ -106,10 +106,7 @@ class Hostile(ToolTest):
         distances = {int(two[1:]) - int(one[1:]) for one, two in pairs}
         self.assertEqual(distances, {1, 3, 5, 7, 9, 11})  # only near rows; rows at an even distance share a provider
         self.assertLess(len(pairs), 1_001)
-
-    def test_as_many_pairs_as_are_compared_are_all_listed(self):
-        facts = [number(1, unit=f"e:u{each:04}") for each in range(45)]
-        status, errors = in_process.run(contradictions, *self.words(facts, is_near=True))
+        status, errors = in_process.run(contradictions, *self.words(facts[:45], is_near=True))  # as many pairs as are compared
         self.assertEqual((status, self.other_lines(errors), len(table_in(self.near))), (0, [], 2 * 22 * 23))
 
     def test_the_page_has_eighty_characters_of_a_name_and_the_table_all(self):

@@ -84,9 +84,6 @@ class Latest(Stubbed):
         self.assertEqual((done.returncode, done.stdout, os.path.exists(self.output)), (3, "", False))
         self.assertTrue(done.stderr.startswith(f"contradictions: {self.paths[0]}: the member \"facts\" is repeated"), done.stderr)
 
-    def test_from_takes_no_latest(self):
-        self.assertEqual(self.run_on("--latest", sheet=("--from", *self.paths[:3])).returncode, 2)
-
     def test_only_the_last_report_of_a_row_counts(self):
         # a row of eleven facts, and one in which a report repeats itself
         verdicts = self.write("verdicts", "1 f01 f11 inconsistent apart f01 f02\n2 f12 f13 inconsistent apart f12 f13\n")

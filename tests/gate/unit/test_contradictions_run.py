@@ -349,7 +349,8 @@ class BadInputs(Stubbed):
         for words in ([], [*REPORTS, "--sources", "x"], [*REPORTS, "--names", "a"], [*REPORTS, "--drop-links"], [*REPORTS, "--from", "a", "b", "c"],
                       [*REPORTS, "--near", REPORTS[0]], [*REPORTS, "--taxonomy", "x"], [*REPORTS, self.page]):
             self.refused_run("error: ", *words, status=2)
-        self.assertEqual(self.run_on(*REPORTS, sheet=()).returncode, 2)
+        for sheet, words in (((), REPORTS), (("--from", *REPORTS), ["--latest"])):
+            self.assertEqual(self.run_on(*words, sheet=sheet).returncode, 2)
 
     def test_inputs_that_are_missing_or_no_files(self):
         os.mkfifo(self.path_of("fifo"))

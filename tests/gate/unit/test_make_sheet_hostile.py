@@ -15,7 +15,7 @@ from test_make_sheet import ITEM, SCHEMA, ToolTest, run
 
 from contradicting.labels import Labelled
 from sheet_making import files
-from sheet_making.limits import Limits
+from sheet_making.files import Limits
 from sheet_making.taxonomy import Taxonomy
 
 HEAD = '<xs:element name="{}" type="xbrli:stringItemType" substitutionGroup="{}"/>'

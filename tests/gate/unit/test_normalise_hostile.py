@@ -95,7 +95,7 @@ class Long(HostileTest):
                 written = sum(os.path.getsize(path) for path in (self.out, self.changes) if os.path.exists(path))
                 self.assertLess(most, 100 * (len(text) + written) + 1_000_000)
 
-    def test_no_line_repeats_a_long_identifier_or_uri(self):
+    def test_no_line_repeats_a_long_identifier_or_uri_and_eighty_characters_are_whole(self):
         long = {"f" * 5_000 + str(number): fact("x" * 5_000, "long:" + "B" * 5_000, extra="y") for number in range(20)}
         text = report({**long, "short": {"value": "1", "m" * 5_000: "z" * 5_000}})
         status, _, _, changes = self.normalised(self.write("report.json", text), "--sheet", self.sheet, "--drop-unknown", "--drop-unknown-members")
@@ -109,19 +109,15 @@ class Long(HostileTest):
         self.assertEqual(dropped["was"]["value"], "x" * 80 + "..")
         self.assertEqual(removed["pointer"], "/facts/short/" + "m" * 80 + "..")
         self.assertEqual((removed["was"], removed["shortened"], "number" in removed), ("z" * 80 + "..", True, False))
-
-    def test_texts_of_eighty_characters_are_whole(self):
         text = report({"f" * 80: {**fact(), "m" * 80: "z" * 80}})
         (change,) = self.normalised(self.write("report.json", text), "--sheet", self.sheet, "--drop-unknown-members")[3]
         self.assertEqual((change["fact"], change["was"], "shortened" in change), ("f" * 80, "z" * 80, False))
 
-    def test_sets_that_would_be_far_longer_are_refused(self):
+    def test_sets_that_would_have_far_more_bytes_are_refused(self):
         text = report({f"f{number}": fact("long:a eg:b", "eg:S") for number in range(400)})
         status, errors = self.run_tool(*self.words(text))
         self.assertEqual((status, os.listdir(self.scratch).count("out.json")), (3, 0))
         self.assertIn("--most-output BYTES sets the bound", errors)
-
-    def test_the_growth_of_sets_is_counted_in_bytes(self):
         facts = {f"f{number}": fact("wide:a", "eg:S") for number in range(100)}
         for sign, status in (("u", 0), ("\U0001f40b", 3)):
             uris = {**SHEET["namespaces"], "wide": "http://example.org/" + sign * 10_000}
