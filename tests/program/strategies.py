@@ -3,7 +3,7 @@ running.py, Hypothesis draws, and makes a failing case smaller."""
 import json
 import re
 
-import lines_of_verdicts
+import workload
 
 REASONS = """NotJson MemberForm UnknownMember DocumentType Namespace BaseUrl TaxonomyUrl Feature Links Notes DimensionsMissing
     NameForm UnboundPrefix ReservedNamespace MissingConcept UnknownConcept UnknownDimension DimensionValue PeriodForm PeriodOrder
@@ -45,7 +45,7 @@ def base(chance):
     text = json.dumps({"documentInfo": {"namespaces": URIS}, "facts": dict(zip(names, facts))}, indent=chance.choice((None, None, 1)))
     sources = "".join(f'{name} {chance.randint(1, 3)} {json.dumps(chance.choice(("id ", "=", "a;@")) + name)}\n'
                       for name in names for _ in range(chance.randint(1, 2)))
-    return text.encode(), lines_of_verdicts.lines(text).encode(), sources.encode()
+    return text.encode(), workload.lines(text).encode(), sources.encode()
 
 
 # ---- reports of all forms, mostly without faults

@@ -13,7 +13,7 @@ import types
 
 import in_process
 import contradictions
-import lines_of_verdicts
+import workload
 from contradicting import tables
 from contradicting.facts import Dimensions
 from names import Name
@@ -88,7 +88,7 @@ class ToolTest(in_process.RoomTest):
         each fact, also writes the sources. Returns the words that name these files after --from."""
         named = {f"f{rank:0{len(str(len(facts)))}}": fact for rank, fact in enumerate(facts, 1)}
         text = json.dumps({"documentInfo": {"namespaces": sheet["namespaces"]}, "facts": named})
-        lines = lines_of_verdicts.lines(text) if lines is None else lines
+        lines = workload.lines(text) if lines is None else lines
         sources = "".join(f'{name} {number} "i{number}{name}"\n' for name, numbers in zip(named, reports) for number in numbers)
         words = [self.write("merged.json", text), self.write("sheet.json", json.dumps(sheet)), self.write("lines", lines)]
         return [*words, *["--sources", self.write("sources", sources), "--names", names] * bool(reports)]
@@ -122,7 +122,7 @@ class Pages(ToolTest):
 
     def test_the_page_and_the_tables(self):
         """The texts of the report have tags, signs of formulas, and numbers on lines and with gaps."""
-        self.assertEqual(lines_of_verdicts.lines(content(MERGED)), content(VERDICTS))
+        self.assertEqual(workload.lines(content(MERGED)), content(VERDICTS))
         self.expect_kept("norlake", "page.html", "contradictions.csv", "table.csv")
 
     def test_strangers_texts_are_texts(self):

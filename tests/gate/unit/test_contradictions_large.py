@@ -4,7 +4,6 @@ import os
 import re
 from unittest import mock
 
-import lines_of_verdicts
 import test_contradictions
 import workload
 from contradicting import texts
@@ -132,4 +131,4 @@ class Large(test_contradictions.ToolTest):
         merged = self.write("merged.json", json.dumps(tree))
         _, cells = self.written(merged, *INPUTS[1:], f"A={merged}", f"B={INPUTS[0]}")
         self.assertEqual({cell["providers"] for cell in cells}, {"A, B"})
-        self.assertEqual(lines_of_verdicts.lines(content(merged)), content(INPUTS[2]))
+        self.assertEqual(workload.lines(content(merged)), content(INPUTS[2]))

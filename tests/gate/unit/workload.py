@@ -1,8 +1,9 @@
 """Makes a large merged text with contradictions, its sheet, its lines of verdicts and the texts of three providers."""
+import itertools
 import json
 import random
 
-import lines_of_verdicts
+import recheck
 from support import write
 
 URIS = {"n1": "http://standards.iso.org/iso/17442", "n2": "http://www.xbrl.org/2003/iso4217", "n3": "https://norlake.example/2023"}
@@ -64,6 +65,22 @@ def make(folder, contradictions):
     kinds = {"namespaces": URIS, "concepts": concepts, "dimensions": {"n3:SegmentsAxis": "explicit", "n3:MillAxis": "typed"}}
     write(f"{folder}/sheet.json", json.dumps(kinds))
     write(f"{folder}/merged.json", text := text_of(facts))
-    write(f"{folder}/verdicts.txt", lines_of_verdicts.lines(text))
+    write(f"{folder}/verdicts.txt", lines(text))
     for rank, provider in enumerate(PROVIDERS):
         write(f"{folder}/{provider}.json", text_of(facts[rank :: len(PROVIDERS)]))
+
+
+def value_of(fact):
+    is_number = fact["value"] is not None and not recheck.read_number(fact["value"])[1]
+    return recheck.read_value("numeric" if is_number else "text", fact["value"], fact.get("decimals"), {})[0]
+
+
+def lines(text):
+    """Returns the lines that `xbrlmerge verdicts` prints for a merged text, as tools/recheck judges its rows. A value that can be read as
+    a number is one, and all others are texts: names are compared as they are spelled."""
+    facts = json.loads(text)["facts"]
+    made = []
+    for row, (_, names) in enumerate(itertools.groupby(sorted(facts), key=lambda name: facts[name]["dimensions"]), 1):
+        identifiers = {(row, value_of(facts[name])): name for name in names}
+        made.append(recheck.verdict_text("lines", recheck.row_of(row, [*identifiers], identifiers)))
+    return "".join(made)
