@@ -1,6 +1,7 @@
 """Lists what is installed: the program with the tools, the library, and the documents. Places are below the prefix. Links the
 libraries for C, from the archive of the crate and the kit's allocator."""
 import os
+from dataclasses import replace
 
 from packing.completions import completions
 from packing.files import PLAIN, RUNS, File, put, read, read_below, run_tool
@@ -64,12 +65,7 @@ def tools(top: str) -> list[File]:
     """Returns the commands of the tools, and what they run."""
     commands = [File(f"bin/{command_of(it)}", LAUNCHER.format(command=command_of(it), share=SHARE, tool=it).encode(), RUNS)
                 for it in TOOLS]
-    return [*commands, File(f"{SHARE}/run_tool.py", RUN_TOOL.encode()), *(plain(it) for it in tool_package(top, SHARE))]
-
-
-def plain(file: File) -> File:
-    """Returns a file that is not executable: the commands run it."""
-    return File(file.target, file.content, PLAIN)
+    return [*commands, File(f"{SHARE}/run_tool.py", RUN_TOOL.encode()), *(replace(it, mode=PLAIN) for it in tool_package(top, SHARE))]
 
 
 def program(top: str, built: str) -> list[File]:

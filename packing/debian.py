@@ -113,7 +113,9 @@ def make(source: Source, folder: str, scratch: str) -> None:
         tree = os.path.join(scratch, package.name)
         lay_out(files, tree, source.seconds)
         name = f"{package.name}_{version_of(source.version)}_{package.fields['Architecture']}.deb"
-        build(tree, os.path.join(folder, name), source.seconds)
+        # one thread, because the number of threads changes the bytes
+        around = {"SOURCE_DATE_EPOCH": str(source.seconds), "DPKG_DEB_THREADS_MAX": "1"}
+        run_tool("dpkg-deb", "--root-owner-group", "-Zxz", "-z9", "--build", tree, os.path.join(folder, name), variables=around)
 
 
 def lay_out(files: Sequence[File], tree: str, seconds: int) -> None:
@@ -125,9 +127,3 @@ def lay_out(files: Sequence[File], tree: str, seconds: int) -> None:
         if not os.path.islink(path) and os.path.isdir(path):
             os.chmod(path, RUNS)
         os.utime(path, (seconds, seconds), follow_symlinks=False)
-
-
-def build(tree: str, path: str, seconds: int) -> None:
-    """Runs dpkg-deb, with one thread, because the number of threads changes the bytes."""
-    run_tool("dpkg-deb", "--root-owner-group", "-Zxz", "-z9", "--build", tree, path,
-             variables={"SOURCE_DATE_EPOCH": str(seconds), "DPKG_DEB_THREADS_MAX": "1"})

@@ -7,10 +7,11 @@ import sys
 import tarfile
 import tempfile
 from dataclasses import replace
+from pathlib import Path
 from typing import Iterable
 
 from packing import bill, contents, debian
-from packing.files import RUNS, File, folders_of, read, run_tool
+from packing.files import RUNS, File, folders_of, run_tool
 from packing.manual import PROGRAM
 from packing.source import Source, newest_libc
 
@@ -31,10 +32,10 @@ def make(source: Source, folder: str) -> list[str]:
         source = replace(source, program=program)
         debian.make(source, new, trees)
         wheel(source, new)
-        put(os.path.join(new, f"xbrlmerge-{source.version}-x86_64.tar.xz"), archive(source))
-        put(os.path.join(new, f"xbrlmerge-{source.version}.spdx.json"), bill.bill(source, packed(new)))
+        Path(new, f"xbrlmerge-{source.version}-x86_64.tar.xz").write_bytes(archive(source))
+        Path(new, f"xbrlmerge-{source.version}.spdx.json").write_bytes(bill.bill(source, packed(new)))
         sums = "".join(f"{hashlib.sha256(content).hexdigest()}  {name}\n" for name, content in packed(new).items())
-        put(os.path.join(new, SUMS), sums.encode())
+        Path(new, SUMS).write_text(sums, encoding="utf-8")
         names = sorted(os.listdir(new))
         for name in names:
             os.replace(os.path.join(new, name), os.path.join(folder, name))
@@ -60,12 +61,7 @@ def archive(source: Source) -> bytes:
 
 def packed(folder: str) -> dict[str, bytes]:
     """Returns the files in a folder, by name."""
-    return {name: read(os.path.join(folder, name), name).content for name in sorted(os.listdir(folder))}
-
-
-def put(path: str, content: bytes) -> None:
-    with open(path, "wb") as file:
-        file.write(content)
+    return {it.name: it.read_bytes() for it in sorted(Path(folder).iterdir())}
 
 
 def tarball(files: Iterable[File], folder: str, seconds: int) -> bytes:

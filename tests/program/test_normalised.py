@@ -4,7 +4,7 @@ nothing is lost and the report was accepted before, `check`, `verdicts` and `mer
 result. If normalising also respells a set of names, only the output of `check` must be the same. A drawn tidy report must be
 accepted. It is then respelled as another tool might. Once both are normalised, the program must print the same for each as it
 printed for the tidy report. A drawn untidy report must be accepted once it is normalised with all lossy options. `check` must
-accept or refuse each shape of report_shapes.py as its mark requires. Drawn pairs of facts are compared by `tools/contradictions
+accept or refuse each shape of report_shapes.txt as its mark requires. Drawn pairs of facts are compared by `tools/contradictions
 --normalise`: the row of a pair must be complete exactly if the values are equal, and each item of a merged set must have its
 namespace."""
 import json
@@ -19,7 +19,7 @@ from running import PROGRAM, SEED, TOP, cases, run, write
 from support import content, table_in
 import drawn_pairs
 import drawn_reports
-import report_shapes
+import test_normalise_shapes as shapes
 
 FOLDER = os.path.join(TOP, "tests", "program", "normalise")
 TOOL, CONTRADICTIONS = (os.path.join(TOP, "tools", f"{name}.py") for name in ("normalise", "contradictions"))
@@ -65,11 +65,11 @@ def test_drawn_reports(chance):
     assert run("check", "--sheet", sheet, out)[0] == 0
 
 
-@pytest.mark.parametrize("row", [row for row in report_shapes.rows() if row[4] not in ("guess", "dropped")], ids=lambda row: row[0])
+@pytest.mark.parametrize("row", [row for row in shapes.rows() if row[4] not in ("guess", "dropped")], ids=lambda row: row[0])
 def test_shape(row, tmp_path):
     _, options, before, _, mark = row
-    sheet = write(f"{tmp_path}/sheet.json", json.dumps(report_shapes.SHEET))
-    _, out = normalised(tmp_path, write(f"{tmp_path}/shape.json", report_shapes.report(before)), sheet, *options)
+    sheet = write(f"{tmp_path}/sheet.json", json.dumps(shapes.SHEET))
+    _, out = normalised(tmp_path, write(f"{tmp_path}/shape.json", shapes.report(before)), sheet, *options)
     status, _, errors = run("check", "--sheet", sheet, out)
     wanted = f"report 1: {mark} " if mark.isdigit() else ""
     assert errors.startswith(wanted) and bool(status) == bool(wanted), errors
