@@ -1,9 +1,5 @@
 -- A sink that is given bytes again and again stays within its bound.
-use Rattle.std.proofs.Common.{◌≡◌, ℕ, ◌<◌, List, [], ◌∷◌, ◌++◌, take, append-nil, ⊎_elim, Option, Some, None, Result, Ok, Err, sym, subst, ◌∙◌, arith}
-use Rattle.std.proofs.KnownBytes.{Appends-nil, Appends-trans}
-use Rattle.std.proofs.lemmas.Bool.{cases_lt}
-use Rattle.std.proofs.lemmas.List.{length-take-le, length-append}
-use Rattle.std.specs.Io.KnownBytes.{Appends, Keeps}
+use Rattle.oim_write.proofs.Shared.{◌≡◌, ℕ, ◌<◌, List, [], ◌∷◌, ◌++◌, take, append-nil, ⊎_elim, Option, Some, None, Result, Ok, Err, sym, subst, ◌∙◌, arith, Appends-nil, Appends-trans, cases_lt, length-take-le, length-append, Appends, Keeps}
 use Rattle.oim_write.specs.BoundedSink.{Bounded, Puts, RunsStayBounded, StaysBounded, overruns}
 use Rattle.oim_write.specs.declared.sink.SinkError.{SinkError}
 

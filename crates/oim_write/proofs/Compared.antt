@@ -1,11 +1,5 @@
 -- What a sink that compares knows of its text.
-use Rattle.std.proofs.Common.{◌≡◌, ◌≢◌, ℕ, suc, ◌+◌, ◌<◌, ◌≤◌, List, [], ◌∷◌, ◌++◌, Option, None, Some, length, take, drop, get_or, slice_get, refl, sym, ap, subst, ◌∙◌, arith, append_assoc, append-nil, take-add, take_all, take_at, drop_at, length-take-le, take-suc, get_or-append-add}
-use Rattle.std.proofs.lemmas.Bool.{false≢true}
-use Rattle.std.proofs.lemmas.Bool.Decides.{Decides-eqb}
-use Rattle.std.proofs.lemmas.Option.{slice_get_past}
-use Rattle.std.specs.Prelude.{◌↔◌, Bool, true, false, not, IsTrue, is_some, nat_eq}
-use Rattle.std.specs.Option.{ForSome}
-use Rattle.oim_write.specs.code.Compared.{failures_since, held, taken}
+use Rattle.oim_write.proofs.Shared.{◌≡◌, ◌≢◌, ℕ, suc, ◌+◌, ◌<◌, ◌≤◌, List, [], ◌∷◌, ◌++◌, Option, None, Some, length, take, drop, get_or, slice_get, refl, sym, ap, subst, ◌∙◌, arith, append_assoc, append-nil, take-add, take_all, take_at, drop_at, length-take-le, take-suc, false≢true, Decides-eqb, slice_get_past, ◌↔◌, Bool, true, not, IsTrue, is_some, nat_eq, ForSome, failures_since, held, taken}
 
 -- the sink took n bytes, and all are those of its text
 pub held_more : (text bytes : List ℕ) (equal n : ℕ) → take n (drop equal text) ≡ take n bytes → held text (equal + n) None ≡ held text equal None ++ take n bytes

@@ -1,7 +1,6 @@
 -- The second key of `documentInfo` is `namespaces` in the earlier form and `features` in the canonical form.
-use Rattle.std.proofs.Common.{◌≡◌, ℕ, get_or, refl}
+use Rattle.oim_write.proofs.Shared.{◌≡◌, ℕ, get_or, refl, Body}
 use Rattle.json.specs.Print.{escape_byte}
-use Rattle.fact_base.specs.Body.{Body}
 use Rattle.oim_write.specs.Bytes.{canonical, earlier}
 
 -- the index, in the text of a body, of the first letter of the second key

@@ -1,3 +1,4 @@
+pub mod Shared
 mod Compared
 pub mod BoundedRuns
 pub mod Ranks

@@ -1,21 +1,7 @@
 -- Names in order whose first and last have one URI, and the URIs that a set gains from them.
-use Rattle.std.proofs.Common.{◌≡◌, ℕ, ◌<◌, ◌≤◌, ◌-◌, false, List, [], ◌∷◌, length, get_or, inl, inr, ⊎_elim, refl, sym, ap, subst, ◌∙◌, arith}
-use Rattle.std.specs.Prelude.{Contains}
-use Rattle.std.specs.List.Sorted.{IsSorted}
-use Rattle.std.specs.Ordering.{is_lt, ordering_reverse, ordering_then}
-use Rattle.std.specs.declared.cmp.Ordering.{Ordering}
-use Rattle.std.specs.declared.cmp.Ordering.TheVariants.{Less, Equal, Greater}
-use Rattle.std.proofs.lemmas.List.{get_or_default}
-use Rattle.std.proofs.lemmas.List.Elements.{All-contains}
-use Rattle.std.proofs.lemmas.List.Sorted.{ranks_by, sorted_far}
-use Rattle.oim_names.specs.QName.{QName}
+use Rattle.oim_write.proofs.Shared.{◌≡◌, ℕ, ◌<◌, ◌≤◌, ◌-◌, false, List, [], ◌∷◌, length, get_or, inl, inr, ⊎_elim, refl, sym, ap, subst, ◌∙◌, arith, Contains, IsSorted, is_lt, ordering_reverse, ordering_then, Ordering, Less, Equal, Greater, get_or_default, All-contains, ranks_by, sorted_far, QName, text_cmp, first_there, from_map, in_map, first_or_later, none_there, text_cmp_exact, text_cmp_total, uris_of_names, Gains, ShareUri}
 use Rattle.oim_names.specs.contracts.name.NameOrd.TheImpl.Laws.{total-law as names_total}
 use Rattle.oim_value.specs.ValueOrder.{name_cmp}
-use Rattle.fact_base.specs.Body.{text_cmp}
-use Rattle.fact_base.proofs.Members.{first_there, from_map, in_map, first_or_later, none_there}
-use Rattle.fact_base.proofs.TextOrder.{text_cmp_exact, text_cmp_total}
-use Rattle.oim_write.specs.Uris.{uris_of_names}
-use Rattle.oim_write.specs.code.Table.{Gains, ShareUri}
 
 first_not_less : (a b : Ordering) → is_lt (ordering_then a b) ≡ false → is_lt a ≡ false
 first_not_less Less b h = h

@@ -1,22 +1,6 @@
 -- If facts fit a sheet, the URIs of their names are namespaces.
-use Rattle.std.proofs.Common.{List, [], ◌∷◌, ◌++◌, Option, Some, None, ⊎_elim, subst}
-use Rattle.std.specs.Prelude.{Contains, flat_map, All}
-use Rattle.std.proofs.lemmas.Cmp.{nat_list_cmp_total}
-use Rattle.std.proofs.lemmas.List.Elements.{Contains-append_left, Contains-append_right, All-contains}
-use Rattle.std.proofs.lemmas.Map.Lookups.{exact_bytes}
-use Rattle.oim_names.specs.QName.{QName}
-use Rattle.oim_dims.specs.declared.fact.Fact.{Fact}
-use Rattle.oim_dims.specs.declared.member.Member.{Member}
-use Rattle.oim_dims.specs.declared.member.Member.TheVariants.{Nil, Text, Name, Name as MemberName}
+use Rattle.oim_write.proofs.Shared.{List, [], ◌∷◌, ◌++◌, Option, Some, None, ⊎_elim, subst, Contains, flat_map, All, nat_list_cmp_total, Contains-append_left, Contains-append_right, All-contains, exact_bytes, QName, Fact, Member, Nil, Text, Name, MemberName, text_cmp, Body, first_there, in_flat_map, in_map, later_there, some_there, each_by_there, first_or_later, from_map, in_one_of_both, none_there, IsSetOf, set_of_is_set, defined_names, dimension_names, entity_names, fact_names, unit_names, uris, uris_of_names, value_names, Value, AName, Measures, Fits}
 use Rattle.fact_base.specs.Passed.{IsSet, ConceptKind, DimensionFits, DimensionKind, EntityFits, Explicit, FactFits, FitsName, IsNamespace, MemberFits, Name, Sheet, Typed, UnitFits, ValueFits}
-use Rattle.fact_base.specs.Body.{text_cmp, Body}
-use Rattle.fact_base.proofs.Members.{first_there, in_flat_map, in_map, later_there, some_there, each_by_there, first_or_later, from_map, in_one_of_both, none_there}
-use Rattle.fact_base.proofs.Sets.{IsSetOf, set_of_is_set}
-use Rattle.oim_write.specs.Uris.{defined_names, dimension_names, entity_names, fact_names, unit_names, uris, uris_of_names, value_names}
-use Rattle.oim_value.specs.declared.value.Value.{Value}
-use Rattle.oim_value.specs.declared.value.Value.TheVariants.{Name as AName}
-use Rattle.oim_dims.specs.Unit.{Measures}
-use Rattle.fact_base.specs.Fits.{Fits}
 
 -- ---- the URIs of facts ascend, and include the URI of every name in a fact
 

@@ -1,18 +1,6 @@
 -- The text of numbered facts, split at any fact.
-use Rattle.std.proofs.Common.{◌≡◌, ℕ, suc, ◌+◌, ◌<◌, nat_lt, List, [], ◌∷◌, ◌++◌, map, length, drop, get_or, true, refl, sym, ap, ◌∙◌, append_assoc, add-zero, arith}
-use Rattle.std.specs.Prelude.{flat_map}
-use Rattle.std.proofs.lemmas.Bool.Decides.{nat_tests}
-use Rattle.std.proofs.lemmas.List.{drop_more, length-append, length-map}
-use Rattle.oim_value.specs.declared.value.Value.{Value}
-use Rattle.oim_dims.specs.DimensionSet.{DimensionSet}
-use Rattle.oim_dims.specs.declared.fact.Fact.{Fact}
-use Rattle.fact_base.specs.Entries.{Entry, facts_of_entries, facts_of_entry, facts_with}
-use Rattle.fact_base.specs.Rows.{Row, rows_of}
+use Rattle.oim_write.proofs.Shared.{◌≡◌, ℕ, suc, ◌+◌, ◌<◌, nat_lt, List, [], ◌∷◌, ◌++◌, map, length, drop, get_or, true, refl, sym, ap, ◌∙◌, append_assoc, add-zero, arith, flat_map, nat_tests, drop_more, length-append, length-map, Value, DimensionSet, Fact, Entry, facts_of_entries, facts_of_entry, facts_with, Row, rows_of, ordered_fact, numbered_members, numbered_text, part, parts, padded, name_text}
 use Rattle.fact_base.proofs.RowsOf.{facts_are}
-use Rattle.oim_write.specs.Ordered.{ordered_fact}
-use Rattle.oim_write.specs.code.TextPieces.{numbered_members, numbered_text, part, parts}
-use Rattle.oim_write.specs.Rank.{padded}
-use Rattle.oim_write.specs.Tree.{name_text}
 
 pub later_next : (n : ℕ) → nat_lt 0 (n + 1) ≡ true
 later_next n = grind (arith, nat_tests)

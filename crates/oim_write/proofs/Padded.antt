@@ -1,23 +1,14 @@
 -- A padded number is the text of the number, with zeros before it or without its first digits. Texts of numbers are spelled with it.
-use Rattle.std.proofs.Common.{◌≡◌, ℕ, zero, suc, ◌+◌, ◌-◌, ◌/◌, ◌%◌, ◌^◌, ◌<◌, ◌≤◌, List, [], ◌∷◌, ◌++◌, length, drop, append_assoc, length-append, refl, sym, ap, ◌∙◌, arith, ⊎_elim}
-use Rattle.std.specs.Prelude.{ℤ, unsigned_abs, replicate, Result, Ok, Err, OnOk, is_ok, if◌then◌else◌}
+use Rattle.oim_write.proofs.Shared.{◌≡◌, ℕ, zero, suc, ◌+◌, ◌-◌, ◌/◌, ◌%◌, ◌^◌, ◌<◌, ◌≤◌, List, [], ◌∷◌, ◌++◌, length, drop, append_assoc, length-append, refl, sym, ap, ◌∙◌, arith, ⊎_elim, add-one, ℤ, unsigned_abs, replicate, Result, Ok, Err, OnOk, is_ok, if◌then◌else◌, drop-append-le, drop_all, replicate_more, cases_lt, UNIT_PLACES, integer_digits, plain, sign_text, with_leading_zeros, all_places, plain_whole}
 use Rattle.std.specs.Fmt.{decimal}
 use Rattle.std.proofs.lemmas.Fmt.{decimal_by_steps_wide, length-decimal-le_wide}
-use Rattle.std.proofs.lemmas.List.{drop-append-le, drop_all, replicate_more}
-use Rattle.std.proofs.lemmas.Bool.{cases_lt}
 use Rattle.std.proofs.lemmas.Nat.{mod_below}
-use Rattle.oim_value.specs.declared.limits.TheConstants.{UNIT_PLACES}
-use Rattle.oim_value.specs.Plain.{integer_digits, plain, sign_text, with_leading_zeros}
-use Rattle.oim_value.proofs.Written.{all_places, plain_whole}
 use Rattle.oim_write.specs.Rank.{padded}
-
-add_one : (w : ℕ) → w + 1 ≡ suc w
-add_one w = omega arith
 
 padded_none : (w : ℕ) → padded w 0 ≡ replicate w 48
 unfolding padded
 padded_none zero = refl
-padded_none (suc w) = ap (λ r. r ++ 48 ∷ []) (padded_none w) ∙ replicate_more w 48 ∙ ap (λ k. replicate k 48) (add_one w)
+padded_none (suc w) = ap (λ r. r ++ 48 ∷ []) (padded_none w) ∙ replicate_more w 48 ∙ ap (λ k. replicate k 48) (add-one w)
 
 -- the last w digits of a text, with zeros before it if it is shorter
 abbrev pub fitted : ℕ → List ℕ → List ℕ

@@ -1,9 +1,5 @@
 -- Lemmas for callers that push a text to a sink in parts.
-use Rattle.std.proofs.Common.{◌≡◌, ℕ, ◌+◌, List, [], ◌++◌, Option, Result, Ok, Err, IfErr, length, take, drop, refl, sym, ap, ◌∙◌, append_assoc, append-nil, add-zero, zero-add, arith, length-append, length-take-le, take-append-drop}
-use Rattle.std.specs.Io.KnownBytes.{Appends}
-use Rattle.std.proofs.KnownBytes.{Appends-nil, Appends-trans}
-use Rattle.oim_write.specs.Sink.{AppendsFirst, AppendsFront, saturated, written_of}
-use Rattle.oim_write.specs.SinkBuffer.{Pending, Passes, Breaks, nothing_yet}
+use Rattle.oim_write.proofs.Shared.{◌≡◌, ℕ, ◌+◌, List, [], ◌++◌, Option, Result, Ok, Err, IfErr, length, take, drop, refl, sym, ap, ◌∙◌, append_assoc, append-nil, add-zero, zero-add, arith, length-append, length-take-le, take-append-drop, Appends, Appends-nil, Appends-trans, AppendsFirst, AppendsFront, saturated, written_of, Pending, Passes, Breaks, nothing_yet}
 use Rattle.oim_write.specs.declared.write_fault.WriteFault.{WriteFault}
 
 pub Passes-nil : (a : Option (List ℕ)) (p : Pending) → Passes a a p p []

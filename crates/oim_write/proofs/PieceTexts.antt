@@ -1,28 +1,9 @@
 -- A JSON writer produces the parts of a text.
-use Rattle.std.proofs.Common.{◌≡◌, ℕ, ◌+◌, ◌<◌, List, [], ◌∷◌, ◌++◌, append_assoc, length, get_or, drop, Bool, true, refl, sym, ap, ◌∙◌, false, ◌||◌, codes, Some, subst, arith, length-append}
-use Rattle.std.proofs.lemmas.List.{drop_more, get_or_at}
+use Rattle.oim_write.proofs.Shared.{◌≡◌, ℕ, ◌+◌, ◌<◌, List, [], ◌∷◌, ◌++◌, append_assoc, length, get_or, drop, Bool, true, refl, sym, ap, ◌∙◌, false, ◌||◌, codes, Some, subst, arith, length-append, drop_more, get_or_at, Token, key, Data, Members, no_members, member, string, comma_if, compact_text, items_text, members_text, outline, part, parts, text_parts, facts_text, has_some, head_text, namespace_members, numbered_members, text_items, identifier, members_before, members_by, name_text, prefix, xbrl_member, Contains, level_entry, Level, Unique, IsDimensionSet, fact_cmp, Fact, fact_cmp_total, Body, Fits, IsSet, Sheet, fact_object, level_of, padded, rank, width, uris}
 use Rattle.json.specs.Print.{quoted, print, print_from, escape_byte}
-use Rattle.json.specs.Token.{Token, key}
 use Rattle.json.specs.Tree.{json_tokens}
-use Rattle.serde_json.specs.Data.{Data, Members, no_members, member, string}
-use Rattle.serde_json.specs.Written.{comma_if, compact_text, items_text, members_text, outline}
 use Rattle.serde_json.proofs.Texts.{print-outline}
-use Rattle.oim_write.specs.code.TextPieces.{part, parts, text_parts, facts_text, has_some, head_text, namespace_members, numbered_members}
-use Rattle.oim_write.specs.Tree.{text_items, identifier, members_before, members_by, name_text, prefix, xbrl_member}
-use Rattle.std.specs.Prelude.{Contains}
-use Rattle.oim_value.specs.Level.{level_entry}
-use Rattle.oim_value.specs.declared.level.Level.{Level}
-use Rattle.oim_value.specs.declared.level.Level.TheVariants.{Unique}
-use Rattle.oim_dims.specs.DimensionSet.{IsDimensionSet}
-use Rattle.oim_dims.specs.FactOrder.{fact_cmp}
-use Rattle.oim_dims.specs.declared.fact.Fact.{Fact}
-use Rattle.oim_dims.proofs.Orders.{fact_cmp_total}
-use Rattle.fact_base.specs.Body.{Body}
-use Rattle.fact_base.specs.Fits.{Fits}
-use Rattle.fact_base.specs.Passed.{IsSet, Sheet, fact_object, level_of}
 use Rattle.oim_write.specs.Bytes.{canonical}
-use Rattle.oim_write.specs.Rank.{padded, rank, width}
-use Rattle.oim_write.specs.Uris.{uris}
 use Rattle.oim_write.proofs.Ranks.{rank_at}
 use Rattle.oim_write.proofs.WrittenOrder.{facts_are_written_in_order}
 

@@ -1,31 +1,12 @@
 -- In a strictly ascending list, the rank of a member is its index plus one.
-use Rattle.std.proofs.Common.{◌≡◌, ℕ, zero, suc, ◌-◌, ◌^◌, ◌/◌, ◌<◌, ◌≤◌, false, cond, nat_lt, refl, sym, ap, ◌∙◌, arith, ⊎_elim, ◌+◌, ◌%◌, List, [], ◌∷◌, ◌++◌, length, length-append, get_or, Bool, true}
+use Rattle.oim_write.proofs.Shared.{◌≡◌, ℕ, zero, suc, ◌-◌, ◌^◌, ◌/◌, ◌<◌, ◌≤◌, false, cond, nat_lt, refl, sym, ap, ◌∙◌, arith, ⊎_elim, ◌+◌, ◌%◌, List, [], ◌∷◌, ◌++◌, length, length-append, get_or, Bool, true, add-one, cond-true, cond-false, cases_Bool, lt-ltb, cases_lt, nat_tests, digit_value_digit, digit_value, IsTotalOrder, tied_itself, nat_cmp_total, nat_cmp_is, slice_cmp, Ordering, Less, Equal, Greater, nat_cmp, ordering_then, is_lt, ordering_reverse, count_by, Contains, IsPartitionPoint, IsPartitionedBy, IsStrictlySortedBy, get_or_default, less_is, nat_list_cmp_total, exact_bytes, QName, name_cmp, IsSet, text_cmp, name_text, prefix}
 use Rattle.std.proofs.Math.Nat.{pow-suc, pow-zero}
-use Rattle.std.proofs.lemmas.Bool.{cond-true, cond-false, cases_Bool, lt-ltb, cases_lt}
-use Rattle.std.proofs.lemmas.Bool.Decides.{nat_tests}
 use Rattle.oim_write.specs.Rank.{digits_up_to, width, padded, PaddedWritesNumber, PaddedKeepsOrder, IsFewestDigits, WidthIsFewestDigits, rank, RanksAreWithin}
 use Rattle.std.proofs.lemmas.Int.Digits.{digits_push, digits_value_push}
-use Rattle.std.proofs.lemmas.Str.{digit_value_digit}
-use Rattle.std.specs.Char.{digit_value}
 use Rattle.std.specs.Str.Parse.{AllDigits, digits_value}
-use Rattle.std.specs.Cmp.{IsTotalOrder, tied_itself, nat_cmp_total, nat_cmp_is}
-use Rattle.std.specs.Cmp.Lexicographic.{slice_cmp}
-use Rattle.std.specs.declared.cmp.Ordering.{Ordering}
-use Rattle.std.specs.declared.cmp.Ordering.TheVariants.{Less, Equal, Greater}
-use Rattle.std.specs.Ordering.{nat_cmp, ordering_then, is_lt, ordering_reverse}
-use Rattle.std.specs.Prelude.{count_by, Contains}
-use Rattle.std.specs.List.Sorted.{IsPartitionPoint, IsPartitionedBy, IsStrictlySortedBy}
-use Rattle.std.proofs.lemmas.List.{get_or_default}
 use Rattle.std.proofs.lemmas.List.Sums.{sum_by-cons}
 use Rattle.std.proofs.lemmas.Map.Keys.{Less-from_sorted}
-use Rattle.oim_dims.proofs.Indices.{less_is}
 use mathlib.Core.Bool.{true≢false}
-use Rattle.std.proofs.lemmas.Cmp.{nat_list_cmp_total}
-use Rattle.std.proofs.lemmas.Map.Lookups.{exact_bytes}
-use Rattle.oim_names.specs.QName.{QName, name_cmp}
-use Rattle.fact_base.specs.Passed.{IsSet}
-use Rattle.fact_base.specs.Body.{text_cmp}
-use Rattle.oim_write.specs.Tree.{name_text, prefix}
 
 -- ---- one digit at a time; the bound of `digits_up_to` does not matter if it is at least the number
 
@@ -146,9 +127,6 @@ padded_keeps_order (suc w) m n less fits = ⊎_elim
 
 -- ---- the rank of a member
 
-add_one : (n : ℕ) → suc n ≡ n + 1
-add_one n = omega arith
-
 one_counted : (b : Bool) (n m : ℕ) → b ≡ true → n ≡ m → cond b 1 0 + n ≡ suc m
 one_counted true n m e h = omega arith
 one_counted false n m e h = cc
@@ -182,7 +160,7 @@ pub rank_at : {K : Type 0} {R : K → K → Ordering} (o : IsTotalOrder R) (xs :
 rank_at {R = R} o xs i d rises h =
     let index : count_by (λ y. is_lt (R y (get_or xs i d))) xs ≡ i = count_at (λ y. is_lt (R y (get_or xs i d))) xs i (omega arith)
     ((λ k e low high. ap is_lt (before R xs k i e d rises high h)), (λ k e low high. not_after o xs i k d e rises low high)) in
-    ap suc index ∙ add_one i
+    ap suc index ∙ sym (add-one i)
 
 pub ranks_are_within : {K : Type 0} {R : K → K → Ordering} (o : IsTotalOrder R) → RanksAreWithin R
 ranks_are_within {R = R} o members x rises (i, within, there) =

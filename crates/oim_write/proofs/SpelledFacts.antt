@@ -1,41 +1,11 @@
 -- Each name of a body's facts is spelled with a prefix that is bound to the URI of the name.
-use Rattle.std.proofs.Common.{Bool, inl, inr, ◌≡◌, ◌≢◌, ℕ, zero, suc, ◌+◌, ◌^◌, ◌/◌, ◌%◌, ◌<◌, List, [], ◌∷◌, ◌++◌, length, get_or, map, take, true, false, cond, Option, Some, None, ⊎_elim, refl, sym, ap, ◌∙◌, arith, length-take-le}
-use Rattle.std.specs.Prelude.{Contains, IsUtf8, is_some, IfSome, flat_map}
-use Rattle.std.specs.Char.{is_ascii_alphanumeric}
-use Rattle.std.specs.Cmp.{IsTotalOrder, nat_cmp_total, tied_itself}
-use Rattle.std.specs.Cmp.Lexicographic.{slice_cmp, nat_list_cmp_total}
+use Rattle.oim_write.proofs.Shared.{Bool, inl, inr, ◌≡◌, ◌≢◌, ℕ, zero, suc, ◌+◌, ◌^◌, ◌/◌, ◌%◌, ◌<◌, List, [], ◌∷◌, ◌++◌, length, get_or, map, take, true, false, cond, Option, Some, None, ⊎_elim, refl, sym, ap, ◌∙◌, arith, length-take-le, Contains, IsUtf8, is_some, IfSome, flat_map, is_ascii_alphanumeric, IsTotalOrder, nat_cmp_total, tied_itself, slice_cmp, nat_list_cmp_total, IsStrictlySortedBy, option_map, nat_cmp, bytes_eq, Ordering, Less, Equal, and_from, cases_order, nat_tests, get_or-take, get_or_default, map-append, take_more, IsUtf8-append, IsUtf8-from_ascii, Binding, bound, is_refused_binding, uri_of, bytes_not_eq, other_bytes, same_bytes, text_cmp, IsSet, SpellsDimension, SpellsMeasures, SpellsName, SpellsValue, first_or_later, first_there, later_there, none_there, each_by_there, in_flat_map, some_there, prefix, name_text, Contains-append_left, Contains-append_right, QName, is_name_byte, is_part, Value, AName, Measures, Fact, Member, MemberName, bindings_of, FactsAreSpelled, defined_names, dimension_names, entity_names, fact_names, unit_names, uris, value_names}
 use Rattle.std.specs.List.{find, list_all}
-use Rattle.std.specs.List.Sorted.{IsStrictlySortedBy}
-use Rattle.std.specs.Option.{option_map}
-use Rattle.std.specs.Ordering.{nat_cmp}
-use Rattle.std.specs.Str.{bytes_eq}
-use Rattle.std.specs.declared.cmp.Ordering.{Ordering}
-use Rattle.std.specs.declared.cmp.Ordering.TheVariants.{Less, Equal}
-use Rattle.std.proofs.lemmas.Bool.{and_from, cases_order}
-use Rattle.std.proofs.lemmas.Bool.Decides.{nat_tests}
-use Rattle.std.proofs.lemmas.List.{get_or-take, get_or_default, map-append, take_more}
 use Rattle.std.proofs.lemmas.List.Folds.{list_all-append}
-use Rattle.std.proofs.lemmas.Str.{IsUtf8-append, IsUtf8-from_ascii}
 use Rattle.std.proofs.lemmas.Str.Ascii.{IsAscii-nil, IsAscii-cons}
-use Rattle.oim_names.specs.Bindings.{Binding, bound, is_refused_binding, uri_of}
-use Rattle.oim_names.proofs.Bytes.{bytes_not_eq, other_bytes, same_bytes}
-use Rattle.fact_base.specs.Body.{text_cmp}
-use Rattle.fact_base.specs.Passed.{IsSet, SpellsDimension, SpellsMeasures, SpellsName, SpellsValue}
-use Rattle.fact_base.proofs.Members.{first_or_later, first_there, later_there, none_there, each_by_there, in_flat_map, some_there}
 use Rattle.oim_write.specs.Rank.{numbered, padded, rank, width}
-use Rattle.oim_write.specs.Tree.{prefix, name_text}
 use Rattle.oim_write.proofs.Ranks.{after_front, padded_keeps_order, width_is_fewest_digits, rank_at}
-use Rattle.std.proofs.lemmas.List.Elements.{Contains-append_left, Contains-append_right}
-use Rattle.oim_names.specs.QName.{QName, is_name_byte, is_part}
 use Rattle.oim_names.proofs.Spelling.{filled_number}
-use Rattle.oim_value.specs.declared.value.Value.{Value}
-use Rattle.oim_value.specs.declared.value.Value.TheVariants.{Name as AName}
-use Rattle.oim_dims.specs.Unit.{Measures}
-use Rattle.oim_dims.specs.declared.fact.Fact.{Fact}
-use Rattle.oim_dims.specs.declared.member.Member.{Member}
-use Rattle.oim_dims.specs.declared.member.Member.TheVariants.{Name as MemberName}
-use Rattle.oim_write.specs.Prefixes.{bindings_of, FactsAreSpelled}
-use Rattle.oim_write.specs.Uris.{defined_names, dimension_names, entity_names, fact_names, unit_names, uris, value_names}
 use Rattle.oim_write.proofs.Namespaces.{uri_there, uris_rise}
 
 -- ---- order

@@ -1,18 +1,7 @@
 -- The tokens of an object: the tokens of its members, between the tokens of the braces.
-use Rattle.std.proofs.Common.{◌≡◌, List, [], ◌∷◌, ◌++◌, append_assoc, append-nil, Option, Some, None, Result, Ok, Err, refl, sym, ap, ◌∙◌}
-use Rattle.std.specs.Prelude.{ℕ, OnOk}
-use Rattle.json.specs.Token.{Token, begin_object, end_object, key}
+use Rattle.oim_write.proofs.Shared.{◌≡◌, List, [], ◌∷◌, ◌++◌, append_assoc, append-nil, Option, Some, None, Result, Ok, Err, refl, sym, ap, ◌∙◌, ℕ, OnOk, Token, begin_object, end_object, key, Data, object, Members, no_members, member, members_outline, outline, QName, Value, Number, Member, member_data, decimals_member, defined_members, text_member, Adds, AddsValue, AddsMembers, members_tokens}
 use Rattle.json.specs.Tree as tree
 use Rattle.json.specs.Written.{Writes, Written}
-use Rattle.serde_json.specs.Data.{Data, object, Members, no_members, member}
-use Rattle.serde_json.specs.Written.{members_outline, outline}
-use Rattle.oim_names.specs.QName.{QName}
-use Rattle.oim_value.specs.declared.value.Value.{Value}
-use Rattle.oim_value.specs.declared.value.Value.TheVariants.{Number}
-use Rattle.oim_dims.specs.declared.member.Member.{Member}
-use Rattle.fact_base.specs.Passed.{member_data}
-use Rattle.oim_write.specs.Ordered.{decimals_member, defined_members, text_member}
-use Rattle.oim_write.specs.Tokens.{Adds, AddsValue, AddsMembers, members_tokens}
 
 outlined : (ms : Members) → tree.members_tokens (members_outline ms) ≡ members_tokens ms ++ end_object ∷ []
 outlined no_members = refl

@@ -1,27 +1,8 @@
 -- Adding the URIs of names to a set of URIs.
-use Rattle.std.proofs.Common.{◌≡◌, ℕ, ◌+◌, ◌<◌, Bool, true, false, List, [], ◌∷◌, ◌++◌, length, get_or, take, append-nil, inl, inr, ⊎_elim, refl, sym, ap, subst, ◌∙◌, cond}
-use Rattle.std.specs.Prelude.{Contains, flat_map}
-use Rattle.std.specs.Bool.{OnTrue}
-use Rattle.std.specs.Str.{bytes_eq}
+use Rattle.oim_write.proofs.Shared.{◌≡◌, ℕ, ◌+◌, ◌<◌, Bool, true, false, List, [], ◌∷◌, ◌++◌, length, get_or, take, append-nil, inl, inr, ⊎_elim, refl, sym, ap, subst, ◌∙◌, cond, Contains-append_left, Contains-append_right, Contains, flat_map, OnTrue, bytes_eq, map-append, take_more, QName, same_bytes, text_cmp, IsSet, SameMembers, HoldForUris, first_or_later, first_there, in_one_of_both, none_there, from_map, in_map, set_of_is_set, is_set_of, text_cmp_exact, text_cmp_total, uris_of_names, dimension_names, fact_names, uris, value_names, Gains, row_names, Equal-is, is_eq, dimensions_cmp, Fact, dimensions_cmp_exact}
 use Rattle.std.proofs.lemmas.Grind.{flat_map-append}
-use Rattle.std.proofs.lemmas.List.{map-append, take_more}
-use Rattle.oim_names.specs.QName.{QName}
-use Rattle.oim_names.proofs.Bytes.{same_bytes}
-use Rattle.fact_base.specs.Body.{text_cmp}
-use Rattle.fact_base.specs.Passed.{IsSet, SameMembers}
 use Rattle.fact_base.specs.Rows.{Row, before_rows, rows_of}
 use Rattle.fact_base.specs.Sets.{set_of}
-use Rattle.fact_base.specs.Shown.{HoldForUris}
-use Rattle.fact_base.proofs.Members.{first_or_later, first_there, in_one_of_both, none_there, from_map, in_map}
-use Rattle.fact_base.proofs.Sets.{set_of_is_set, is_set_of}
-use Rattle.fact_base.proofs.TextOrder.{text_cmp_exact, text_cmp_total}
-use Rattle.oim_write.specs.Uris.{uris_of_names, dimension_names, fact_names, uris, value_names}
-use Rattle.oim_write.specs.code.Table.{Gains, row_names}
-use Rattle.std.specs.Cmp.{Equal-is}
-use Rattle.std.specs.Ordering.{is_eq}
-use Rattle.oim_dims.specs.FactOrder.{dimensions_cmp}
-use Rattle.oim_dims.specs.declared.fact.Fact.{Fact}
-use Rattle.oim_dims.proofs.Orders.{dimensions_cmp_exact}
 
 -- ---- the URIs that a set gains
 
@@ -118,12 +99,6 @@ none_in_set = refl
 -- ---- the names in rows are the names in the facts of the rows
 
 module _ {A : Type 0} where
-  on_left : (xs ys : List A) (x : A) → Contains xs x → Contains (xs ++ ys) x
-  on_left xs ys x h = (in_one_of_both xs ys x).1 (inl h)
-
-  on_right : (xs ys : List A) (x : A) → Contains ys x → Contains (xs ++ ys) x
-  on_right xs ys x h = (in_one_of_both xs ys x).1 (inr h)
-
   by_part : {B : Type 0} (xs ys : List A) (x : A) → (Contains xs x → B) → (Contains ys x → B) → Contains (xs ++ ys) x → B
   by_part xs ys x f g h = ⊎_elim f g ((in_one_of_both xs ys x).0 h)
 
@@ -132,26 +107,26 @@ module _ {A : Type 0} where
   said_once d v w rest x = (
     by_part (d ++ (v ++ w)) rest x
         (by_part d (v ++ w) x
-        (λ h. on_left (d ++ v) ((d ++ w) ++ rest) x (on_left d v x h))
+        (λ h. Contains-append_left (d ++ v) ((d ++ w) ++ rest) x (Contains-append_left d v x h))
         (by_part v w x
-        (λ h. on_left (d ++ v) ((d ++ w) ++ rest) x (on_right d v x h))
-        (λ h. on_right (d ++ v) ((d ++ w) ++ rest) x (on_left (d ++ w) rest x (on_right d w x h)))))
-        (λ h. on_right (d ++ v) ((d ++ w) ++ rest) x (on_right (d ++ w) rest x h)),
+        (λ h. Contains-append_left (d ++ v) ((d ++ w) ++ rest) x (Contains-append_right d v x h))
+        (λ h. Contains-append_right (d ++ v) ((d ++ w) ++ rest) x (Contains-append_left (d ++ w) rest x (Contains-append_right d w x h)))))
+        (λ h. Contains-append_right (d ++ v) ((d ++ w) ++ rest) x (Contains-append_right (d ++ w) rest x h)),
     by_part (d ++ v) ((d ++ w) ++ rest) x
         (by_part d v x
-        (λ h. on_left (d ++ (v ++ w)) rest x (on_left d (v ++ w) x h))
-        (λ h. on_left (d ++ (v ++ w)) rest x (on_right d (v ++ w) x (on_left v w x h))))
+        (λ h. Contains-append_left (d ++ (v ++ w)) rest x (Contains-append_left d (v ++ w) x h))
+        (λ h. Contains-append_left (d ++ (v ++ w)) rest x (Contains-append_right d (v ++ w) x (Contains-append_left v w x h))))
         (by_part (d ++ w) rest x
         (by_part d w x
-        (λ h. on_left (d ++ (v ++ w)) rest x (on_left d (v ++ w) x h))
-        (λ h. on_left (d ++ (v ++ w)) rest x (on_right d (v ++ w) x (on_right v w x h))))
-        (λ h. on_right (d ++ (v ++ w)) rest x h)),
+        (λ h. Contains-append_left (d ++ (v ++ w)) rest x (Contains-append_left d (v ++ w) x h))
+        (λ h. Contains-append_left (d ++ (v ++ w)) rest x (Contains-append_right d (v ++ w) x (Contains-append_right v w x h))))
+        (λ h. Contains-append_right (d ++ (v ++ w)) rest x h)),
   )
 
   same_behind : (xs ys zs : List A) → SameMembers ys zs → SameMembers (xs ++ ys) (xs ++ zs)
   same_behind xs ys zs same x = (
-    by_part xs ys x (on_left xs zs x) (λ h. on_right xs zs x ((same x).0 h)),
-    by_part xs zs x (on_left xs ys x) (λ h. on_right xs ys x ((same x).1 h)),
+    by_part xs ys x (Contains-append_left xs zs x) (λ h. Contains-append_right xs zs x ((same x).0 h)),
+    by_part xs zs x (Contains-append_left xs ys x) (λ h. Contains-append_right xs ys x ((same x).1 h)),
   )
 
 alone : (f : Fact) → row_names (f.dimensions, f.value ∷ []) ≡ fact_names f

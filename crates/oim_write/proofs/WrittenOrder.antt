@@ -1,31 +1,9 @@
 -- With the prefixes of a text, the order of `ordered_fact` is the byte order of the keys.
-use Rattle.std.proofs.Common.{◌≡◌, ℕ, List, [], ◌∷◌, true, Option, Some, None, codes, refl, ap, ◌∙◌}
-use Rattle.std.specs.Prelude.{Contains}
-use Rattle.std.specs.declared.cmp.Ordering.TheVariants.{Less, Greater}
-use Rattle.std.specs.Ordering.{is_lt, match_ordering}
-use Rattle.std.proofs.lemmas.Bool.{and_parts}
-use Rattle.serde_json.specs.Data.{Data, string, object, Members, no_members, member, put}
-use Rattle.oim_names.specs.QName.{QName, name_cmp}
-use Rattle.oim_value.specs.declared.value.Value.{Value}
-use Rattle.oim_value.specs.declared.value.Value.TheVariants.{Number}
-use Rattle.oim_dims.specs.DimensionSet.{DimensionSet, is_below, rises}
-use Rattle.oim_dims.specs.Period.{period_text}
-use Rattle.oim_dims.specs.declared.member.Member.{Member}
-use Rattle.oim_dims.proofs.Indices.{less_is}
-use Rattle.fact_base.specs.Passed.{IsBefore, IsSet, dimension_members, member_data, option_spelled, option_unit_text, put_text, value_data, with_decimals, with_defined}
-use Rattle.fact_base.specs.Body.{text_cmp}
-use Rattle.fact_base.proofs.Members.{first_there, later_there}
-use Rattle.oim_write.specs.Ordered.{FactsAreWrittenInOrder, decimals_member, defined_members, ordered_dimensions, text_member}
-use Rattle.oim_write.specs.Tree.{name_text}
-use Rattle.oim_write.specs.Uris.{uris}
+use Rattle.oim_write.proofs.Shared.{◌≡◌, ℕ, List, [], ◌∷◌, true, Option, Some, None, codes, refl, ap, ◌∙◌, Contains, Less, Greater, is_lt, match_ordering, and_parts, Data, string, object, Members, no_members, member, put, QName, name_cmp, Value, Number, DimensionSet, is_below, rises, period_text, Member, less_is, IsBefore, IsSet, dimension_members, member_data, option_spelled, option_unit_text, put_text, value_data, with_decimals, with_defined, text_cmp, first_there, later_there, FactsAreWrittenInOrder, decimals_member, defined_members, ordered_dimensions, text_member, name_text, uris, put_first}
 use Rattle.oim_write.proofs.Ranks.{names_keep_order}
 use Rattle.oim_write.proofs.Namespaces.{defined_there, uri_there, uris_rise}
 
 -- ---- one more member
-
-put_first : (k : List ℕ) (d : Data) (ms : Members) → IsBefore k ms → put k d ms ≡ member k d ms
-put_first k d no_members before = refl
-put_first k d (member l e ms) before = ap (λ o. match_ordering o (member k d (member l e ms)) (member l d ms) (member l e (put k d ms))) before.0
 
 put_past : (k l : List ℕ) (d e : Data) (ms : Members) → text_cmp k l ≡ Greater → put k d (member l e ms) ≡ member l e (put k d ms)
 put_past k l d e ms past = ap (λ o. match_ordering o (member k d (member l e ms)) (member l d ms) (member l e (put k d ms))) past

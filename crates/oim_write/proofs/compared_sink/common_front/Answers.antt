@@ -1,5 +1,4 @@
-use Rattle.std.proofs.Common.{◌≡◌, take, length, sym, ◌∙◌, arith, take_all}
-use Rattle.std.proofs.lemmas.Option.{get_or_from_slice_get}
+use Rattle.oim_write.proofs.Shared.{take, length, sym, ◌∙◌, arith, take_all, get_or_from_slice_get}
 use Rattle.std.proofs.lemmas.Slice.Eq.{bytes_eq-Decides}
 use Rattle.oim_write.proofs.Compared.{beyond}
 use Rattle.oim_write.proofs.compared_sink.common_front.Goals as goal

@@ -1,9 +1,4 @@
-use Rattle.std.proofs.Common.{◌≡◌, ◌≤◌, ℕ, not, List, [], ◌∷◌, ◌++◌, None, Some, Option, take, length, sym, ap, subst, ◌∙◌, arith, append-nil}
-use Rattle.std.specs.Prelude.{◌↔◌, IsTrue, nat_eq}
-use Rattle.std.proofs.lemmas.Bool.{false≢true}
-use Rattle.oim_write.specs.Bytes.{canonical}
-use Rattle.oim_write.specs.code.Compared.{taken}
-use Rattle.oim_write.specs.Sink.{failures_after_fault}
+use Rattle.oim_write.proofs.Shared.{◌≡◌, ◌≤◌, ℕ, not, List, [], ◌++◌, None, take, length, sym, ap, subst, ◌∙◌, append-nil, false≢true, canonical, taken, failures_after_fault}
 use Rattle.oim_write.proofs.Compared.{failed_after, none_if, other_text, told_text, whole_if}
 use Rattle.oim_write.proofs.compared_sink.is_text.Goals as goal
 

@@ -1,9 +1,4 @@
-use Rattle.std.proofs.Common.{[], ◌∷◌, ◌++◌, take, sym, ap, ◌∙◌, arith}
-use Rattle.std.proofs.lemmas.List.{take_more}
-use Rattle.json.specs.Token.{key}
-use Rattle.serde_json.specs.Data.{no_members}
-use Rattle.oim_write.specs.Ordered.{defined_members}
-use Rattle.oim_write.specs.Tokens.{members_tokens}
+use Rattle.oim_write.proofs.Shared.{[], ◌∷◌, ◌++◌, take, sym, ap, ◌∙◌, arith, take_more, key, no_members, defined_members, members_tokens}
 use Rattle.oim_write.proofs.Tokens.{Adds-is, Adds-one, Adds-trans, defined_next}
 use Rattle.oim_write.proofs.fact_text.write_defined.Goals as goal
 

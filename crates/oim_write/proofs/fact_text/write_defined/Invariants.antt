@@ -1,7 +1,4 @@
-use Rattle.std.proofs.Common.{take}
-use Rattle.serde_json.specs.Data.{no_members}
-use Rattle.oim_write.specs.Ordered.{defined_members}
-use Rattle.oim_write.specs.Tokens.{AddsMembers}
+use Rattle.oim_write.proofs.Shared.{take, no_members, defined_members, AddsMembers}
 use Rattle.oim_write.proofs.fact_text.write_defined.Given as goal
 
 -- the taxonomy-defined dimensions so far are written

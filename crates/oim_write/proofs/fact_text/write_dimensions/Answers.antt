@@ -1,7 +1,4 @@
-use Rattle.std.proofs.Common.{[], ◌∷◌, codes, ap}
-use Rattle.json.specs.Token.{Token}
-use Rattle.serde_json.specs.Data.{string}
-use Rattle.oim_write.specs.Ordered.{ordered_dimensions}
+use Rattle.oim_write.proofs.Shared.{[], ◌∷◌, codes, ap, Token, string, ordered_dimensions}
 use Rattle.oim_write.proofs.Tokens.{Adds-is, Adds-one, closed_object, then_member}
 use Rattle.oim_write.proofs.fact_text.write_dimensions.Goals as goal
 

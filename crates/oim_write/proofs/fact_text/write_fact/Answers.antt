@@ -1,8 +1,4 @@
-use Rattle.std.proofs.Common.{[], ◌∷◌, codes, ap}
-use Rattle.json.specs.Token.{Token}
-use Rattle.serde_json.specs.Data.{member, no_members, object, string}
-use Rattle.fact_base.specs.Passed.{value_data}
-use Rattle.oim_write.specs.Ordered.{ordered_dimensions}
+use Rattle.oim_write.proofs.Shared.{[], ◌∷◌, codes, ap, Token, member, no_members, object, string, value_data, ordered_dimensions}
 use Rattle.oim_write.proofs.Tokens.{Adds-is, Adds-none, Adds-one, closed_object, then_decimals, then_member, whole_object}
 use Rattle.oim_write.proofs.fact_text.write_fact.Goals as goal
 

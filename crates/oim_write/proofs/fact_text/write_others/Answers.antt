@@ -1,8 +1,4 @@
-use Rattle.std.proofs.Common.{codes, ap, ◌∙◌}
-use Rattle.std.proofs.lemmas.Result.{on_ok_weaker}
-use Rattle.oim_dims.specs.Period.{period_text}
-use Rattle.serde_json.specs.Data.{no_members}
-use Rattle.fact_base.specs.Passed.{option_spelled, option_unit_text}
+use Rattle.oim_write.proofs.Shared.{codes, ap, ◌∙◌, on_ok_weaker, period_text, no_members, option_spelled, option_unit_text}
 use Rattle.oim_write.proofs.Tokens.{Adds-none, then_defined, then_text}
 use Rattle.oim_write.proofs.fact_text.write_others.Goals as goal
 

@@ -1,5 +1,4 @@
-use Rattle.std.proofs.Common.{◌≡◌, ◌≤◌, length, take}
-use Rattle.oim_value.specs.Number.{without_trailing}
+use Rattle.oim_write.proofs.Shared.{◌≡◌, ◌≤◌, length, take, without_trailing}
 use Rattle.oim_write.proofs.fixed_text.significant.Given as goal
 
 abbrev pub invariant-loop-end : goal.invariant-loop-end

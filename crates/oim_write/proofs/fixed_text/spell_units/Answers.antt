@@ -1,15 +1,8 @@
-use Rattle.std.proofs.Common.{◌≡◌, ◌++◌, ◌∷◌, [], ◌%◌, ◌^◌, ◌<◌, take, ap, arith, ◌∙◌}
-use Rattle.std.specs.Prelude.{string_bytes, unsigned_abs}
-use Rattle.std.proofs.lemmas.Bool.Decides.{nat_tests}
+use Rattle.oim_write.proofs.Shared.{◌≡◌, ◌++◌, ◌∷◌, [], ◌%◌, ◌^◌, ◌<◌, take, ap, arith, ◌∙◌, string_bytes, unsigned_abs, nat_tests, UNIT_PLACES, without_trailing, sign_text, all_places, all_places_ascii, plain_cut, padded}
 use Rattle.std.proofs.lemmas.Int.{to_z-of_z}
 use mir.Val.{to_z, of_z}
 use mir.Syntax.{w128}
-use Rattle.oim_value.specs.declared.limits.TheConstants.{UNIT_PLACES}
-use Rattle.oim_value.specs.Number.{without_trailing}
-use Rattle.oim_value.specs.Plain.{sign_text}
 use Rattle.oim_value.proofs.PlainLaws.{fitting_is_writable}
-use Rattle.oim_value.proofs.Written.{all_places, all_places_ascii, plain_cut}
-use Rattle.oim_write.specs.Rank.{padded}
 use Rattle.oim_write.proofs.Padded.{places_are, whole_is}
 use Rattle.oim_write.proofs.fixed_text.spell_units.Goals as goal
 

@@ -1,6 +1,4 @@
-use Rattle.std.proofs.Common.{◌≡◌, ◌+◌, ◌-◌, ◌++◌, ◌∷◌, [], ℕ, List, length, drop, replicate, string_bytes, append_assoc, ap, ◌∙◌, arith}
-use Rattle.std.proofs.lemmas.List.{replicate_more}
-use Rattle.oim_write.specs.Rank.{padded}
+use Rattle.oim_write.proofs.Shared.{◌≡◌, ◌+◌, ◌-◌, ◌++◌, ◌∷◌, [], ℕ, List, length, drop, replicate, string_bytes, append_assoc, ap, ◌∙◌, arith, replicate_more, padded}
 use Rattle.oim_write.proofs.Padded.{padded_end, padded_is, pushed}
 use Rattle.oim_write.proofs.labels.push_padded.Goals as goal
 

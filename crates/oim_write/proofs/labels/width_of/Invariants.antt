@@ -1,5 +1,4 @@
-use Rattle.std.proofs.Common.{◌≡◌, ◌+◌, ◌-◌, ◌^◌, ◌<◌}
-use Rattle.oim_write.specs.Rank.{width}
+use Rattle.oim_write.proofs.Shared.{◌≡◌, ◌+◌, ◌-◌, ◌^◌, ◌<◌, width}
 use Rattle.oim_write.proofs.labels.width_of.Given as goal
 
 -- `digits` - 1 digits were removed from the number so far; a u128 has at most 39 digits

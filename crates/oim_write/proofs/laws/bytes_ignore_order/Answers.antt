@@ -1,6 +1,5 @@
-use Rattle.std.proofs.Common.{ap}
+use Rattle.oim_write.proofs.Shared.{ap, canonical}
 use Rattle.fact_base.proofs.Bodies.{body_ignores_order}
-use Rattle.oim_write.specs.Bytes.{canonical}
 use Rattle.oim_write.proofs.laws.bytes_ignore_order.Goals as goal
 
 pub returns : goal.returns

@@ -1,5 +1,4 @@
-use Rattle.std.specs.Cmp.Lexicographic.{nat_list_cmp_total}
-use Rattle.oim_dims.proofs.Orders.{fact_cmp_total}
+use Rattle.oim_write.proofs.Shared.{nat_list_cmp_total, fact_cmp_total}
 use Rattle.oim_write.proofs.Ranks.{ranks_are_within}
 use Rattle.oim_write.proofs.laws.ranks_are_within.Goals as goal
 

@@ -1,8 +1,4 @@
-use Rattle.std.proofs.Common.{[], ◌∷◌, ◌++◌, ◌+◌, nat_lt, ap, ◌∙◌}
-use Rattle.json.specs.Token.{key}
-use Rattle.oim_write.specs.Ordered.{ordered_fact}
-use Rattle.oim_write.specs.Rank.{padded}
-use Rattle.oim_write.specs.Tree.{name_text}
+use Rattle.oim_write.proofs.Shared.{[], ◌∷◌, ◌++◌, ◌+◌, nat_lt, ap, ◌∙◌, key, ordered_fact, padded, name_text}
 use Rattle.oim_write.proofs.PieceTexts.{behind, part_is}
 use Rattle.oim_write.proofs.parts.append_fact.Goals as goal
 

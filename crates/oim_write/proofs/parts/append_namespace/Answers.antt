@@ -1,7 +1,4 @@
-use Rattle.std.proofs.Common.{[], ◌∷◌, ◌++◌, ap, ◌∙◌}
-use Rattle.json.specs.Token.{key}
-use Rattle.serde_json.specs.Data.{string}
-use Rattle.oim_write.specs.Tree.{prefix}
+use Rattle.oim_write.proofs.Shared.{[], ◌∷◌, ◌++◌, ap, ◌∙◌, key, string, prefix}
 use Rattle.oim_write.proofs.PieceTexts.{behind, part_is}
 use Rattle.oim_write.proofs.parts.append_namespace.Goals as goal
 

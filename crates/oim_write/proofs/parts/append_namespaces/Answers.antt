@@ -1,8 +1,4 @@
-use Rattle.std.proofs.Common.{◌≡◌, ◌+◌, ◌∷◌, ◌++◌, drop, true, sym, ap, ◌∙◌, arith}
-use Rattle.std.proofs.lemmas.List.{drop_more}
-use Rattle.serde_json.specs.Data.{string}
-use Rattle.oim_write.specs.code.TextPieces.{namespace_members, part, parts}
-use Rattle.oim_write.specs.Tree.{prefix}
+use Rattle.oim_write.proofs.Shared.{◌≡◌, ◌+◌, ◌∷◌, ◌++◌, drop, true, sym, ap, ◌∙◌, arith, drop_more, string, namespace_members, part, parts, prefix}
 use Rattle.oim_write.proofs.PieceTexts.{next_part}
 use Rattle.oim_write.proofs.parts.append_namespaces.Goals as goal
 

@@ -1,5 +1,4 @@
-use Rattle.std.proofs.Common.{◌≡◌, ◌++◌, drop, false}
-use Rattle.oim_write.specs.code.TextPieces.{namespace_members, parts}
+use Rattle.oim_write.proofs.Shared.{◌≡◌, ◌++◌, drop, false, namespace_members, parts}
 use Rattle.oim_write.proofs.parts.append_namespaces.Given as goal
 
 abbrev pub invariant-loop-uri : goal.invariant-loop-uri

@@ -1,6 +1,5 @@
-use Rattle.std.proofs.Common.{[], ◌∷◌, ◌++◌, ap, ◌∙◌}
+use Rattle.oim_write.proofs.Shared.{[], ◌∷◌, ◌++◌, ap, ◌∙◌, string}
 use Rattle.json.specs.Token as token
-use Rattle.serde_json.specs.Data.{string}
 use Rattle.oim_write.proofs.PieceTexts.{behind, item_is}
 use Rattle.oim_write.proofs.parts.append_reference.Goals as goal
 

@@ -1,7 +1,4 @@
-use Rattle.std.proofs.Common.{ne_eqb, arith, [], ◌∷◌, not, length, ◌==◌, refl, ◌≡◌, ℕ, List, ◌++◌, codes, append_assoc, ap, ◌∙◌, false}
-use Rattle.serde_json.specs.Written.{comma_if}
-use Rattle.oim_value.specs.Level.{level_entry}
-use Rattle.oim_write.specs.code.TextPieces.{has_some, namespace_members, parts}
+use Rattle.oim_write.proofs.Shared.{ne_eqb, arith, [], ◌∷◌, not, length, ◌==◌, refl, ◌≡◌, ℕ, List, ◌++◌, codes, append_assoc, ap, ◌∙◌, false, comma_if, level_entry, has_some, namespace_members, parts}
 use Rattle.oim_write.proofs.parts.head.Goals as goal
 
 some_is : (us : List (List ℕ)) → not (length us == 0) ≡ has_some us

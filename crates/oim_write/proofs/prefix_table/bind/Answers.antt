@@ -1,7 +1,5 @@
-use Rattle.std.proofs.Common.{◌≡◌, ◌≢◌, ⊎_elim, Err, true, false, rules, sym, ap, ◌∙◌}
-use Rattle.oim_names.specs.Bindings.{is_refused_binding}
+use Rattle.oim_write.proofs.Shared.{◌≡◌, ◌≢◌, ⊎_elim, Err, true, false, rules, sym, ap, ◌∙◌, is_refused_binding, prefix}
 use Rattle.oim_names.specs.declared.reason.Reason.TheVariants.{OutOfMemory}
-use Rattle.oim_write.specs.Tree.{prefix}
 use Rattle.oim_write.proofs.prefix_table.bind.Goals as goal
 
 pub unreachable-requires : goal.unreachable-requires

@@ -1,10 +1,4 @@
-use Rattle.std.proofs.Common.{◌≢◌, [], All, map, sym, ap, subst, ◌∙◌, arith}
-use Rattle.std.proofs.lemmas.List.{take_all}
-use Rattle.oim_names.specs.Bindings.{bound, is_refused_binding}
-use Rattle.fact_base.specs.Body.{text_cmp}
-use Rattle.fact_base.specs.Passed.{IsNamespace, IsSet}
-use Rattle.oim_write.specs.Prefixes.{bindings_of}
-use Rattle.oim_write.specs.Tree.{prefix}
+use Rattle.oim_write.proofs.Shared.{◌≢◌, [], All, map, sym, ap, subst, ◌∙◌, arith, take_all, bound, is_refused_binding, text_cmp, IsNamespace, IsSet, bindings_of, prefix}
 use Rattle.oim_write.proofs.Namespaces.{uris_are_namespaces}
 use Rattle.oim_write.proofs.SpelledFacts.{bound_more, prefix_allowed}
 use Rattle.oim_write.proofs.prefix_table.prefixes.Goals as goal

@@ -1,5 +1,4 @@
-use Rattle.std.proofs.Common.{◌≡◌, map, take}
-use Rattle.oim_write.specs.Tree.{prefix}
+use Rattle.oim_write.proofs.Shared.{◌≡◌, map, take, prefix}
 use Rattle.oim_write.proofs.prefix_table.prefixes.Given as goal
 
 -- the URIs so far are bound to their prefixes

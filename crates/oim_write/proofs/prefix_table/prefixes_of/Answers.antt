@@ -1,8 +1,4 @@
-use Rattle.std.proofs.Common.{◌≡◌, ℕ, ◌+◌, ◌<◌, [], ◌∷◌, ◌++◌, length, map, get_or, take, string_bytes, sym, ap, ◌∙◌, arith}
-use Rattle.std.proofs.lemmas.List.{map-append, take_more}
-use Rattle.fact_base.proofs.TextOrder.{text_cmp_total}
-use Rattle.oim_write.specs.Rank.{padded}
-use Rattle.oim_write.specs.Tree.{prefix}
+use Rattle.oim_write.proofs.Shared.{◌≡◌, ℕ, ◌+◌, ◌<◌, [], ◌∷◌, ◌++◌, length, map, get_or, take, string_bytes, sym, ap, ◌∙◌, arith, map-append, take_more, text_cmp_total, padded, prefix}
 use Rattle.oim_write.proofs.Ranks.{rank_at}
 use Rattle.oim_write.proofs.prefix_table.prefixes_of.Goals as goal
 

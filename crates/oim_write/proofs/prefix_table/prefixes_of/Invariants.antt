@@ -1,6 +1,4 @@
-use Rattle.std.proofs.Common.{◌≡◌, map, take}
-use Rattle.std.specs.Prelude.{string_bytes}
-use Rattle.oim_write.specs.Tree.{prefix}
+use Rattle.oim_write.proofs.Shared.{◌≡◌, map, take, string_bytes, prefix}
 use Rattle.oim_write.proofs.prefix_table.prefixes_of.Given as goal
 
 abbrev pub invariant-loop-index : goal.invariant-loop-index

@@ -1,7 +1,5 @@
-use Rattle.std.proofs.Common.{◌≡◌, ℕ, ◌-◌, ◌≤◌, List, length, take, drop, sym, subst, ◌∙◌, arith, length-drop, take_all}
+use Rattle.oim_write.proofs.Shared.{◌≡◌, ℕ, ◌-◌, ◌≤◌, List, length, take, drop, sym, subst, ◌∙◌, arith, length-drop, take_all, Appends-trans, Appends}
 use Rattle.std.proofs.Math.Seq.{take-add}
-use Rattle.std.proofs.KnownBytes.{Appends-trans}
-use Rattle.std.specs.Io.KnownBytes.{Appends}
 use Rattle.oim_write.proofs.sink.put_all.Goals as goal
 
 pub loop-taken-preserved : goal.loop-taken-preserved

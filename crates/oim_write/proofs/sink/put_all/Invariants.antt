@@ -1,5 +1,4 @@
-use Rattle.std.proofs.Common.{◌≡◌, ◌-◌, ◌≤◌, length, take}
-use Rattle.std.specs.Io.KnownBytes.{Appends}
+use Rattle.oim_write.proofs.Shared.{◌≡◌, ◌-◌, ◌≤◌, length, take, Appends}
 use Rattle.oim_write.proofs.sink.put_all.Given as goal
 
 -- the bytes so far are appended, and the sink has not failed since the call began

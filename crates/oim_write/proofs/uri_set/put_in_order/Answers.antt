@@ -1,9 +1,6 @@
-use Rattle.std.proofs.Common.{sym}
-use Rattle.std.proofs.lemmas.Cmp.{nat_list_eq_equiv}
+use Rattle.oim_write.proofs.Shared.{sym, nat_list_eq_equiv, sorted_once, text_cmp_exact, text_cmp_total}
 use Rattle.std.proofs.lemmas.List.Filters.{dedup_is}
 use Rattle.std.proofs.lemmas.Map.Text.{is_eq-slice_cmp}
-use Rattle.fact_base.proofs.BuilderLaws.{sorted_once}
-use Rattle.fact_base.proofs.TextOrder.{text_cmp_exact, text_cmp_total}
 use Rattle.oim_write.proofs.uri_set.put_in_order.Goals as goal
 
 pub returns : goal.returns

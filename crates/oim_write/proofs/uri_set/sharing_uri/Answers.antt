@@ -1,5 +1,4 @@
-use Rattle.std.proofs.Common.{◌≡◌, ◌-◌, length, get_or, sym, ap, ◌∙◌, arith}
-use Rattle.oim_names.proofs.Bytes.{same_bytes}
+use Rattle.oim_write.proofs.Shared.{◌≡◌, ◌-◌, length, get_or, sym, ap, ◌∙◌, arith, same_bytes}
 use Rattle.oim_write.proofs.Measures.{share_uri}
 use Rattle.oim_write.proofs.uri_set.sharing_uri.Goals as goal
 

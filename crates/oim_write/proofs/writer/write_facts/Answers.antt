@@ -1,11 +1,4 @@
-use Rattle.std.proofs.Common.{◌++◌, [], length, refl, string_bytes, sym, ap, subst, ◌∙◌, append-nil, append_assoc, arith}
-use Rattle.std.proofs.lemmas.Result.{err_from_is_err_and}
-use Rattle.fact_base.specs.Shown.{rows_left}
-use Rattle.oim_write.specs.code.TextPieces.{numbered_text}
-use Rattle.oim_write.specs.code.Table.{SharePrefix}
-use Rattle.oim_write.specs.Rank.{width}
-use Rattle.oim_write.specs.Sink.{written_of}
-use Rattle.oim_write.specs.SinkBuffer.{Breaks, Passes}
+use Rattle.oim_write.proofs.Shared.{◌++◌, [], length, refl, string_bytes, sym, ap, subst, ◌∙◌, append-nil, append_assoc, arith, err_from_is_err_and, rows_left, numbered_text, SharePrefix, width, written_of, Breaks, Passes}
 use Rattle.oim_write.proofs.NumberedFacts.{length-next_row, next_row, rows_facts, rows_facts_are}
 use Rattle.oim_write.proofs.Passing.{Breaks-more, Breaks-trans, Passes-nil, Passes-trans}
 use Rattle.oim_write.proofs.writer.write_facts.Goals as goal

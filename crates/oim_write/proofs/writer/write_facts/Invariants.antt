@@ -1,8 +1,4 @@
-use Rattle.std.proofs.Common.{◌≡◌, ◌+◌, ◌++◌, ℕ, List, length, string_bytes}
-use Rattle.fact_base.specs.Shown.{rows_left}
-use Rattle.oim_write.specs.code.TextPieces.{facts_text, numbered_text}
-use Rattle.oim_write.specs.code.Table.{SharePrefix}
-use Rattle.oim_write.specs.SinkBuffer.{Passes}
+use Rattle.oim_write.proofs.Shared.{◌≡◌, ◌+◌, ◌++◌, ℕ, List, length, string_bytes, rows_left, facts_text, numbered_text, SharePrefix, Passes}
 use Rattle.oim_write.proofs.NumberedFacts.{rows_facts}
 use Rattle.oim_write.proofs.writer.write_facts.Given as goal
 

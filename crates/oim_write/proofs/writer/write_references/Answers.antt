@@ -1,9 +1,4 @@
-use Rattle.std.proofs.Common.{◌++◌, [], refl, sym, ap, subst, ◌∙◌, append-nil, append_assoc, arith}
-use Rattle.std.proofs.lemmas.List.{drop_all}
-use Rattle.std.proofs.lemmas.Result.{err_from_is_err_and}
-use Rattle.oim_write.specs.code.TextPieces.{text_parts}
-use Rattle.oim_write.specs.Sink.{written_of}
-use Rattle.oim_write.specs.SinkBuffer.{Breaks, Passes}
+use Rattle.oim_write.proofs.Shared.{◌++◌, [], refl, sym, ap, subst, ◌∙◌, append-nil, append_assoc, arith, drop_all, err_from_is_err_and, text_parts, written_of, Breaks, Passes}
 use Rattle.oim_write.proofs.PieceTexts.{behind_nothing, left_texts}
 use Rattle.oim_write.proofs.Passing.{Breaks-more, Breaks-trans, Passes-nil, Passes-trans}
 use Rattle.oim_write.proofs.writer.write_references.Goals as goal

@@ -1,6 +1,4 @@
-use Rattle.std.proofs.Common.{◌≡◌, ◌++◌, ℕ, List, drop, false}
-use Rattle.oim_write.specs.code.TextPieces.{text_parts}
-use Rattle.oim_write.specs.SinkBuffer.{Passes}
+use Rattle.oim_write.proofs.Shared.{◌≡◌, ◌++◌, ℕ, List, drop, false, text_parts, Passes}
 use Rattle.oim_write.proofs.writer.write_references.Given as goal
 
 -- the references so far are written, and the text of the remaining references completes the text of all references

@@ -1,10 +1,4 @@
-use Rattle.std.proofs.Common.{◌+◌, ◌++◌, [], refl, sym, ap, subst, ◌∙◌, append-nil, append_assoc, add-zero, arith}
-use Rattle.std.proofs.lemmas.List.{drop_all}
-use Rattle.std.proofs.lemmas.Result.{err_from_is_err_and}
-use Rattle.fact_base.specs.Entries.{facts_with}
-use Rattle.oim_write.specs.code.TextPieces.{numbered_text}
-use Rattle.oim_write.specs.Sink.{written_of}
-use Rattle.oim_write.specs.SinkBuffer.{Breaks, Passes}
+use Rattle.oim_write.proofs.Shared.{◌+◌, ◌++◌, [], refl, sym, ap, subst, ◌∙◌, append-nil, append_assoc, add-zero, arith, drop_all, err_from_is_err_and, facts_with, numbered_text, written_of, Breaks, Passes}
 use Rattle.oim_write.proofs.NumberedFacts.{left_facts}
 use Rattle.oim_write.proofs.PieceTexts.{behind_nothing}
 use Rattle.oim_write.proofs.Passing.{Breaks-more, Breaks-trans, Passes-nil, Passes-trans}

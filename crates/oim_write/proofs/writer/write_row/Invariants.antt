@@ -1,7 +1,4 @@
-use Rattle.std.proofs.Common.{◌≡◌, ◌+◌, ◌++◌, ℕ, List, drop}
-use Rattle.fact_base.specs.Entries.{facts_with}
-use Rattle.oim_write.specs.code.TextPieces.{numbered_text}
-use Rattle.oim_write.specs.SinkBuffer.{Passes}
+use Rattle.oim_write.proofs.Shared.{◌≡◌, ◌+◌, ◌++◌, ℕ, List, drop, facts_with, numbered_text, Passes}
 use Rattle.oim_write.proofs.writer.write_row.Given as goal
 
 -- the facts so far are written, and the text of the remaining facts completes the text of the row

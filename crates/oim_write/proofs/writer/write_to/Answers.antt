@@ -1,9 +1,4 @@
-use Rattle.std.proofs.Common.{◌≡◌, ℕ, List, append-nil, Option, Result, Ok, Err, refl, subst, ◌∙◌}
-use Rattle.std.specs.Io.KnownBytes.{Appends}
-use Rattle.std.specs.Prelude.{IfErr, OnOk}
-use Rattle.std.proofs.lemmas.Result.{err_from_is_err_and}
-use Rattle.oim_write.specs.Sink.{AppendsFront, written_of}
-use Rattle.oim_write.specs.SinkBuffer.{Breaks, Pending, nothing_yet}
+use Rattle.oim_write.proofs.Shared.{◌≡◌, ℕ, List, append-nil, Option, Result, Ok, Err, refl, subst, ◌∙◌, Appends, IfErr, OnOk, err_from_is_err_and, AppendsFront, written_of, Breaks, Pending, nothing_yet}
 use Rattle.oim_write.proofs.PieceTexts.{canonical_of}
 use Rattle.oim_write.proofs.Passing.{Breaks-more, Breaks-trans, Passes-trans, Appends-passed, AppendsFront-broken, AppendsFront-flushed}
 use Rattle.oim_write.proofs.writer.write_to.Goals as goal

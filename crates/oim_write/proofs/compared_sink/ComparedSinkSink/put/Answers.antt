@@ -1,5 +1,4 @@
-use Rattle.std.proofs.Common.{◌≡◌, ℕ, ◌+◌, ◌-◌, ◌++◌, List, Option, None, Some, take, drop, length, sym, subst, ◌∙◌, arith, length-drop, take_all}
-use Rattle.oim_write.specs.code.Compared.{held}
+use Rattle.oim_write.proofs.Shared.{◌≡◌, ℕ, ◌+◌, ◌-◌, ◌++◌, List, Option, None, Some, take, drop, length, sym, subst, arith, length-drop, take_all, held}
 use Rattle.oim_write.proofs.Compared.{held_last, held_more}
 use Rattle.oim_write.proofs.compared_sink.ComparedSinkSink.put.Goals as goal
 

@@ -1,8 +1,4 @@
-use Rattle.std.proofs.Common.{◌≡◌, ◌++◌, string_bytes, sym, ap, ◌∙◌}
-use Rattle.fact_base.specs.Shown.{rows_left, shown}
-use Rattle.fact_base.proofs.Walks.{first_holds, others_hold}
-use Rattle.oim_names.specs.QName.{QName}
-use Rattle.oim_write.specs.Tree.{prefix}
+use Rattle.oim_write.proofs.Shared.{◌≡◌, ◌++◌, string_bytes, sym, ap, ◌∙◌, rows_left, shown, first_holds, others_hold, QName, prefix}
 use Rattle.oim_write.proofs.concept_texts.ConceptTexts.find_prefix.Goals as goal
 
 pub returns-then-self-gt0-clause-prefix : goal.returns-then-self-gt0-clause-prefix

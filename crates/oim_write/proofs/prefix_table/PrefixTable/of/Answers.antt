@@ -1,9 +1,4 @@
-use Rattle.std.proofs.Common.{[], sym, ap, subst, ◌∙◌, length, arith}
-use Rattle.std.specs.Prelude.{Contains, flat_map}
-use Rattle.fact_base.specs.Body.{text_cmp}
-use Rattle.fact_base.specs.Passed.{IsSet}
-use Rattle.fact_base.specs.Shown.{HoldForUris, rows_left}
-use Rattle.oim_write.specs.code.Table.{Gains, row_names}
+use Rattle.oim_write.proofs.Shared.{[], sym, ap, subst, ◌∙◌, length, arith, Contains, flat_map, text_cmp, IsSet, HoldForUris, rows_left, Gains, row_names}
 use Rattle.oim_write.proofs.UriSets.{uris_gained, gains_both, gains_none}
 use Rattle.oim_write.proofs.prefix_table.PrefixTable.of.Goals as goal
 

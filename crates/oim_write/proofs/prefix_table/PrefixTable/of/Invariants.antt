@@ -1,8 +1,4 @@
-use Rattle.std.proofs.Common.{ℕ, List, [], length}
-use Rattle.std.specs.Prelude.{Contains, flat_map}
-use Rattle.fact_base.specs.Rows.{rows_of}
-use Rattle.fact_base.specs.Shown.{HoldForUris, rows_left}
-use Rattle.oim_write.specs.code.Table.{Gains, row_names}
+use Rattle.oim_write.proofs.Shared.{ℕ, List, [], length, Contains, flat_map, rows_of, HoldForUris, rows_left, Gains, row_names}
 use Rattle.oim_write.proofs.prefix_table.PrefixTable.of.Given as goal
 
 -- adding the URIs of the names in the remaining rows to the set gives the URIs of the names in all rows

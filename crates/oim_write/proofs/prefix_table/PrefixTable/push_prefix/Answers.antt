@@ -1,9 +1,4 @@
-use Rattle.std.proofs.Common.{◌≡◌, ◌++◌, ◌<◌, Some, OnOk, length, get_or, slice_get, option_map, string_bytes, rules, sym, ap, subst, ◌∙◌}
-use Rattle.std.specs.Option.{unwrap_or}
-use Rattle.std.proofs.lemmas.List.{length-map}
-use Rattle.std.proofs.lemmas.Option.{slice_get-get_or, slice_get-map}
-use Rattle.oim_names.proofs.Bytes.{same_bytes}
-use Rattle.oim_write.specs.Tree.{prefix}
+use Rattle.oim_write.proofs.Shared.{◌≡◌, ◌++◌, ◌<◌, Some, OnOk, length, get_or, slice_get, option_map, string_bytes, rules, sym, ap, subst, ◌∙◌, unwrap_or, length-map, slice_get-get_or, slice_get-map, same_bytes, prefix}
 use Rattle.oim_write.proofs.prefix_table.PrefixTable.push_prefix.Goals as goal
 
 pub returns-in-Some : goal.returns-in-Some

@@ -1,5 +1,4 @@
-use Rattle.std.proofs.Common.{take}
-use Rattle.oim_write.specs.code.Table.{Gains}
+use Rattle.oim_write.proofs.Shared.{take, Gains}
 use Rattle.oim_write.proofs.uri_set.UriSet.add_each.Given as goal
 
 abbrev pub invariant-loop-name : goal.invariant-loop-name

@@ -1,9 +1,4 @@
-use Rattle.std.proofs.Common.{◌≡◌, [], ◌∷◌, refl, sym, subst, arith}
-use Rattle.oim_names.specs.QName.{QName}
-use Rattle.oim_dims.specs.declared.member.Member.{Member}
-use Rattle.oim_dims.specs.declared.member.Member.TheVariants.{Name}
-use Rattle.oim_write.specs.Uris.{defined_names}
-use Rattle.oim_write.specs.code.Table.{Gains}
+use Rattle.oim_write.proofs.Shared.{◌≡◌, [], ◌∷◌, refl, sym, subst, arith, QName, Member, Name, defined_names, Gains}
 use Rattle.oim_write.proofs.UriSets.{gains_both, gains_more}
 use Rattle.oim_write.proofs.uri_set.UriSet.add_members.Goals as goal
 use Rattle.oim_write.proofs.uri_set.UriSet.add_members.Goals.{in-Name+in_ok-add-2, in_default}

@@ -1,10 +1,4 @@
-use Rattle.std.proofs.Common.{◌≡◌, ℕ, List, ◌++◌, subst}
-use Rattle.std.specs.Prelude.{flat_map}
-use Rattle.std.proofs.lemmas.Result.{on_ok_weaker}
-use Rattle.oim_names.specs.QName.{QName}
-use Rattle.oim_dims.specs.declared.member.Member.{Member}
-use Rattle.oim_write.specs.Uris.{defined_names}
-use Rattle.oim_write.specs.code.Table.{Gains}
+use Rattle.oim_write.proofs.Shared.{◌≡◌, ℕ, List, ◌++◌, subst, flat_map, on_ok_weaker, QName, Member, defined_names, Gains}
 use Rattle.oim_write.proofs.UriSets.{gains_both}
 use Rattle.oim_write.proofs.uri_set.UriSet.add_others.Goals as goal
 

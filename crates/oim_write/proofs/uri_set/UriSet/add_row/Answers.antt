@@ -1,9 +1,4 @@
-use Rattle.std.proofs.Common.{◌∷◌, [], subst}
-use Rattle.std.specs.Prelude.{Contains}
-use Rattle.oim_names.specs.QName.{QName}
-use Rattle.fact_base.specs.Shown.{rows_left, shown}
-use Rattle.fact_base.proofs.Walks.{first_holds, others_hold}
-use Rattle.oim_write.specs.code.Table.{Gains}
+use Rattle.oim_write.proofs.Shared.{◌∷◌, [], subst, Contains, QName, rows_left, shown, first_holds, others_hold, Gains}
 use Rattle.oim_write.proofs.UriSets.{gains_both, gains_known, gains_last, known_by_run, still_known}
 use Rattle.oim_write.proofs.uri_set.UriSet.add_row.Goals as goal
 

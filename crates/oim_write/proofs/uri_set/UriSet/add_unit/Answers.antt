@@ -1,7 +1,4 @@
-use Rattle.std.proofs.Common.{subst}
-use Rattle.std.proofs.lemmas.Result.{on_ok_weaker}
-use Rattle.oim_write.specs.Uris.{unit_names}
-use Rattle.oim_write.specs.code.Table.{Gains}
+use Rattle.oim_write.proofs.Shared.{subst, on_ok_weaker, unit_names, Gains}
 use Rattle.oim_write.proofs.UriSets.{gains_both}
 use Rattle.oim_write.proofs.uri_set.UriSet.add_unit.Goals as goal
 

@@ -1,9 +1,5 @@
-use Rattle.std.proofs.Common.{◌≡◌, [], ◌∷◌, refl, sym, subst, arith}
-use Rattle.oim_names.specs.QName.{QName}
-use Rattle.oim_value.specs.declared.value.Value.{Value}
+use Rattle.oim_write.proofs.Shared.{◌≡◌, [], ◌∷◌, refl, sym, subst, arith, QName, Value, value_names, Gains}
 use Rattle.oim_value.specs.declared.value.Value.TheVariants.{Name}
-use Rattle.oim_write.specs.Uris.{value_names}
-use Rattle.oim_write.specs.code.Table.{Gains}
 use Rattle.oim_write.proofs.UriSets.{gains_more, gains_none}
 use Rattle.oim_write.proofs.uri_set.UriSet.add_values.Goals as goal
 use Rattle.oim_write.proofs.uri_set.UriSet.add_values.Goals.{in-Name+in_ok-add, in_default}

@@ -1,7 +1,4 @@
-use Rattle.std.proofs.Common.{take}
-use Rattle.std.specs.Prelude.{flat_map}
-use Rattle.oim_write.specs.Uris.{value_names}
-use Rattle.oim_write.specs.code.Table.{Gains}
+use Rattle.oim_write.proofs.Shared.{take, flat_map, value_names, Gains}
 use Rattle.oim_write.proofs.uri_set.UriSet.add_values.Given as goal
 
 abbrev pub invariant-loop-value : goal.invariant-loop-value

@@ -1,10 +1,4 @@
-use Rattle.std.proofs.Common.{◌≡◌, List, ℕ, [], ◌∷◌, ◌++◌, sym, ap, subst, ◌∙◌}
-use Rattle.fact_base.specs.Body.{text_cmp}
-use Rattle.fact_base.specs.Sets.{set_of}
-use Rattle.fact_base.proofs.BuilderLaws.{set_of_set}
-use Rattle.fact_base.proofs.TextOrder.{text_cmp_exact, text_cmp_total}
-use Rattle.oim_names.specs.QName.{QName}
-use Rattle.oim_write.specs.code.Table.{Gains}
+use Rattle.oim_write.proofs.Shared.{◌≡◌, List, ℕ, [], ◌∷◌, ◌++◌, sym, ap, subst, ◌∙◌, text_cmp, set_of, set_of_set, text_cmp_exact, text_cmp_total, QName, Gains}
 use Rattle.oim_write.proofs.UriSets.{gains_one}
 use Rattle.oim_write.proofs.uri_set.UriSet.append.Goals as goal
 

@@ -1,6 +1,4 @@
-use Rattle.std.proofs.Common.{sym, subst}
-use Rattle.fact_base.specs.Body.{text_cmp}
-use Rattle.fact_base.specs.Passed.{IsSet}
+use Rattle.oim_write.proofs.Shared.{sym, subst, text_cmp, IsSet}
 use Rattle.oim_write.proofs.UriSets.{set_rises}
 use Rattle.oim_write.proofs.uri_set.UriSet.into_uris.Goals as goal
 

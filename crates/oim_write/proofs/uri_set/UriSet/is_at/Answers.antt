@@ -1,6 +1,4 @@
-use Rattle.std.proofs.Common.{◌≡◌, ◌<◌, length, get_or, sym, ap, subst, ◌∙◌}
-use Rattle.std.specs.Prelude.{Contains}
-use Rattle.std.specs.Bool.{OnTrue}
+use Rattle.oim_write.proofs.Shared.{◌≡◌, ◌<◌, length, get_or, sym, ap, subst, ◌∙◌, Contains, OnTrue}
 use Rattle.oim_write.proofs.UriSets.{told_there}
 use Rattle.oim_write.proofs.uri_set.UriSet.is_at.Goals as goal
 

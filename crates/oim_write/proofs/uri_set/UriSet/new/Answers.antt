@@ -1,6 +1,4 @@
-use Rattle.std.proofs.Common.{ap, ◌∙◌}
-use Rattle.fact_base.specs.Body.{text_cmp}
-use Rattle.fact_base.specs.Sets.{set_of}
+use Rattle.oim_write.proofs.Shared.{ap, ◌∙◌, text_cmp, set_of}
 use Rattle.oim_write.proofs.UriSets.{none_in_set}
 use Rattle.oim_write.proofs.uri_set.UriSet.new.Goals as goal
 
