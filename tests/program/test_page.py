@@ -23,6 +23,7 @@ sys.path.append(os.path.join(TOP, "tests", "pages"))
 import trial
 
 webdriver = pytest.importorskip("selenium.webdriver")
+pytestmark = pytest.mark.skipif(not (shutil.which("chromium") and shutil.which("chromedriver")), reason="needs Chromium and its driver")
 TOOL = os.path.join(TOP, "tools", "contradictions")
 SHEET, *REPORTS = (os.path.join("examples", f"{name}.json") for name in ("sheet", "issuer", "ledgerline", "statfeed"))
 HOSTILE = [f"tests/gate/unit/norlake/{name}" for name in ("merged.json", "sheet.json", "verdicts.txt")]  # its texts have tags
