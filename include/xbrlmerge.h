@@ -121,6 +121,10 @@ uint32_t xbrlmerge_check(const uint8_t *sheet, size_t sheet_length, const uint8_
    name: at most 20 bytes, and 0 if no refusal has this number. If `out` is shorter than the name, `out` is unchanged. */
 size_t xbrlmerge_refusal_name(uint32_t number, uint8_t *out, size_t out_length);
 
+/* Writes the library's version to the start of `out`, without a NUL, and returns its length. If `out` is shorter, `out` is
+   unchanged. It differs from XBRLMERGE_VERSION if the program was compiled with the header of another version. */
+size_t xbrlmerge_version(uint8_t *out, size_t out_length);
+
 #ifdef __cplusplus
 }
 #endif

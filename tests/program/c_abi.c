@@ -285,13 +285,17 @@ static int edges(struct asked *asked) {
     xbrlmerge_checked checked = {1, 2, 3};
     EXPECT(xbrlmerge_check(asked->sheet, asked->sheet_length, &byte, 0, &checked, &row) == XBRLMERGE_REFUSED && row.number == 1);
     EXPECT(xbrlmerge_check(&byte, 0, &byte, 0, &checked, &row) == XBRLMERGE_SHEET_REFUSED && row.number == 1 && checked.facts == 1);
-    /* names of refusals */
+    /* names of refusals, and the version */
     uint8_t name[24];
     memset(name, MARK, sizeof name);
     EXPECT(xbrlmerge_refusal_name(33, name, sizeof name) == 0 && xbrlmerge_refusal_name(UINT32_MAX, name, sizeof name) == 0);
     EXPECT(xbrlmerge_refusal_name(13, name, 12) == 13 && is_marked(name, 0, sizeof name));
     EXPECT(xbrlmerge_refusal_name(13, &byte, 0) == 13 && byte == MARK);
     EXPECT(xbrlmerge_refusal_name(13, name, 13) == 13 && memcmp(name, "UnboundPrefix", 13) == 0 && is_marked(name, 13, sizeof name));
+    size_t length = strlen(XBRLMERGE_VERSION);
+    memset(name, MARK, sizeof name);
+    EXPECT(xbrlmerge_version(name, length - 1) == length && is_marked(name, 0, sizeof name));
+    EXPECT(xbrlmerge_version(name, length) == length && memcmp(name, XBRLMERGE_VERSION, length) == 0 && is_marked(name, length, sizeof name));
     free_buffers(&to);
     return 0;
 }

@@ -10,3 +10,4 @@ mod reports;
 mod row_call;
 #[cfg(test)]
 mod tests;
+mod version;

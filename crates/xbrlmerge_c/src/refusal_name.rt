@@ -48,14 +48,23 @@ pub extern "C" fn xbrlmerge_refusal_name(number: u32, out: &mut [u8]) -> usize
     ensures fits { result ≤ length out.old → out.new ≡ name_numbered number ++ drop result out.old }
     ensures short { length out.old < result → out.new ≡ out.old }
 {
-    let Some(reason) = reason_numbered(number) else {
-        return 0;
-    };
-    let name = reason.name().as_bytes();
-    if name.len() <= out.len() {
-        out[..name.len()].copy_from_slice(name);
+    match reason_numbered(number) {
+        Some(reason) => put_text(reason.name(), out),
+        None => 0,
     }
-    name.len()
+}
+
+/// Writes a text to the start of `out`, unless `out` is shorter. Returns the text's length.
+pub(crate) fn put_text(text: &str, out: &mut [u8]) -> usize
+    ensures length { result ≡ length text.now }
+    ensures fits { result ≤ length out.old → out.new ≡ text.now ++ drop result out.old }
+    ensures short { length out.old < result → out.new ≡ out.old }
+{
+    let text = text.as_bytes();
+    if text.len() <= out.len() {
+        out[..text.len()].copy_from_slice(text);
+    }
+    text.len()
 }
 
 fn reason_numbered(number: u32) -> Option<Reason>

@@ -24,7 +24,8 @@ class Version(unittest.TestCase):
         (self.program,) = found("crates/command_line/src/words.rt", r'^const VERSION: &str = "(.*)";$')
 
     def test_the_others_have_that_of_the_program(self):
-        for path, pattern in (("tools/commands.py", '^VERSION = "(.*)"'), ("include/xbrlmerge.h", '^#define XBRLMERGE_VERSION "(.*)"')):
+        for path, pattern in (("tools/commands.py", '^VERSION = "(.*)"'), ("include/xbrlmerge.h", '^#define XBRLMERGE_VERSION "(.*)"'),
+                              ("crates/xbrlmerge_c/src/version.rt", '^const VERSION: &str = "(.*)";$')):
             self.assertEqual(found(path, pattern), [self.program], path)
         # PEP 440 spells the ending `-dev` as `.dev0`
         for path, pattern in (("python/pyproject.toml", '^version = "(.*)"$'), ("python/xbrlmerge/__init__.py", '^__version__ = "(.*)"$')):
