@@ -8,14 +8,15 @@
    call allocates its own memory with malloc, and frees this memory before it returns.
 
    Pointers. No pointer may be null, even if the length is 0: pass the address of any variable of its type instead. (The
-   data() of an empty std::vector may be null.) The output (`out`, `needed`, `refusals`, `refused`, `checked`,
+   data() of an empty std::vector may be null.) The output (`out`, `needed`, `refusals`, `refused`, `checked`, `results`,
    `refusal`) must not overlap any other argument. During the call, nothing else may access the output, or write to the
    input. Output need not be initialised. Each pointer must be aligned for its type, as C requires.
 
    Lengths. A length is the number of items at the pointer before it, and a call uses that many, so it must be right.
    `sheet_length`, `reports_length`, `report_length` and `out_length` count bytes. `ends_length` counts ends, one for each
-   report, and `refusals_length` counts records: for an array `ends`, pass `sizeof ends / sizeof ends[0]`, as `sizeof ends`
-   counts bytes. `most` is no length of an array, but the most bytes that a text may have.
+   report, and `refusals_length` and `results_length` count records: for an array `ends`, pass
+   `sizeof ends / sizeof ends[0]`, as `sizeof ends` counts bytes. `most` is no length of an array, but the most bytes that a
+   text may have.
 
    Reports. All reports are concatenated in `reports`, and `ends` contains the position where each report ends, counted from
    the start: reports of 3 and 4 bytes have the ends 3 and 7. Bytes after the last end are ignored. If an end is less than
@@ -46,9 +47,10 @@ enum {
                                     (xbrlmerge_check: the report was refused) */
     XBRLMERGE_TOO_LOOSE = 2,     /* the duplicates of a row exceed `allow`: `needed` is the number of the first such row,
                                     from 1 */
-    XBRLMERGE_TOO_SHORT = 3,     /* `out` has fewer than `needed` bytes, or `refusals` fewer than `refused` records. If
-                                    the duplicates exceed `allow`, `needed` is 0, and only `refusals` is too short */
-    XBRLMERGE_SHEET_REFUSED = 4, /* the sheet is refused: `needed` is the number of its refusal (xbrlmerge_check sets
+    XBRLMERGE_TOO_SHORT = 3,     /* `out` has fewer than `needed` bytes, `refusals` fewer than `refused` records, or
+                                    `results` fewer records than there are reports. If the duplicates exceed `allow`,
+                                    `needed` is 0, and only `refusals` is too short */
+    XBRLMERGE_SHEET_REFUSED = 4, /* the sheet is refused: `needed` is the number of its refusal (the calls that check set
                                     `refusal` instead) */
     XBRLMERGE_NO_MEMORY = 5,     /* out of memory: nothing has changed */
     XBRLMERGE_BAD_ENDS = 6,      /* an end is less than the end before it, or beyond the reports: nothing has changed */
@@ -66,7 +68,7 @@ enum {
 
 /* A refused report, or the refused sheet. Facts are counted from 1 in byte order of their identifiers. */
 typedef struct {
-    uint64_t report; /* the number of the report, from 1; 0 for the sheet (only from xbrlmerge_check) */
+    uint64_t report; /* the number of the report, from 1; 0 for the sheet (only from the calls that check) */
     uint64_t fact;   /* the number of the fact, from 1; 0 for the document */
     uint32_t number; /* the number of the refusal in docs/REFUSALS.md */
 } xbrlmerge_refusal;
@@ -77,6 +79,13 @@ typedef struct {
     uint32_t level;     /* the strictest level that the facts satisfy: XBRLMERGE_ALLOW_NONE to _ALL */
     uint32_t canonical; /* 1 if the report's bytes are the canonical text of its facts and taxonomy references, else 0 */
 } xbrlmerge_checked;
+
+/* The result for one of several reports. */
+typedef struct {
+    xbrlmerge_checked checked; /* set for an accepted report, all zeros for a refused one */
+    xbrlmerge_refusal refusal; /* set for a refused report, all zeros for an accepted one */
+    uint32_t status;           /* XBRLMERGE_DONE for an accepted report, XBRLMERGE_REFUSED for a refused one */
+} xbrlmerge_result;
 
 /* Merges reports, as `merge --allow` does. The canonical text is written to the start of `out`, without a NUL or a line
    end, and the refused reports to the start of `refusals`, in the order of reports. `needed` is set to the number of these
@@ -116,6 +125,13 @@ uint32_t xbrlmerge_sources_json(const uint8_t *sheet, size_t sheet_length, const
    neither `checked` nor `refusal` is set. */
 uint32_t xbrlmerge_check(const uint8_t *sheet, size_t sheet_length, const uint8_t *report, size_t report_length,
                          xbrlmerge_checked *checked, xbrlmerge_refusal *refusal);
+
+/* Checks each report as xbrlmerge_check does, but reads the sheet only once. The results are written to the start of
+   `results`, in the order of the reports; the rest of `results` is unchanged. `refusal` is set only if the sheet is refused.
+   `results` is unchanged if the status is neither XBRLMERGE_DONE nor XBRLMERGE_REFUSED. */
+uint32_t xbrlmerge_check_all(const uint8_t *sheet, size_t sheet_length, const uint8_t *reports, size_t reports_length,
+                             const size_t *ends, size_t ends_length, xbrlmerge_result *results, size_t results_length,
+                             xbrlmerge_refusal *refusal);
 
 /* Writes the name of a refusal, such as "UnboundPrefix", to the start of `out`, without a NUL. Returns the length of the
    name: at most 20 bytes, and 0 if no refusal has this number. If `out` is shorter than the name, `out` is unchanged. */

@@ -23,7 +23,7 @@ from typing import Any, Dict, Iterable, List, Optional, Tuple, Union
 from . import _library
 
 __all__ = ["Checked", "Columns", "Merged", "Refusal", "Row", "Rows", "SheetRefused", "Source", "Sources", "TooLoose", "TooMuch",
-           "check", "merge", "source_columns", "sources", "verdict_columns", "verdicts"]
+           "check", "check_all", "merge", "source_columns", "sources", "verdict_columns", "verdicts"]
 
 __version__ = "0.3.0.dev0"
 
@@ -227,10 +227,17 @@ def check(sheet: Given, report: Given) -> Union[Checked, Refusal]:
     status, checked, record = _library.check(_bytes(sheet), _bytes(report))
     if status == _library.SHEET_REFUSED:
         raise SheetRefused(record[2])
-    if status == _library.REFUSED:
-        return _refusal(record)
-    facts, level, canonical = checked
-    return Checked(facts, LEVELS[level], canonical == 1)
+    return _checked(status, checked, record)
+
+
+def check_all(sheet: Given, reports: Iterable[Given]) -> List[Union[Checked, Refusal]]:
+    """Returns what `check` returns for each report, with the report's number in a Refusal. The sheet is read only once. Raises
+    SheetRefused, MemoryError, OSError and TypeError.
+    """
+    status, results, record = _library.check_all(_bytes(sheet), _each(reports))
+    if status == _library.SHEET_REFUSED:
+        raise SheetRefused(record[2])
+    return [_checked(*it) for it in results]
 
 
 def _bytes(given: Given) -> bytes:
@@ -258,6 +265,13 @@ def _each(reports: Iterable[Given]) -> List[bytes]:
 def _refusal(record: _library.Record) -> Refusal:
     report, fact, number = record
     return Refusal(report, number, _library.refusal_name(number), fact or None)
+
+
+def _checked(status: int, checked: _library.Accepted, record: _library.Record) -> Union[Checked, Refusal]:
+    if status == _library.REFUSED:
+        return _refusal(record)
+    facts, level, canonical = checked
+    return Checked(facts, LEVELS[level], canonical == 1)
 
 
 def _refusals(answer: _library.Answer) -> List[Refusal]:

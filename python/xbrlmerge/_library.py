@@ -11,8 +11,8 @@ DONE, REFUSED, TOO_LOOSE, TOO_SHORT, SHEET_REFUSED, NO_MEMORY, BAD_ENDS, BAD_LEV
 NAME = "libxbrlmerge.so"
 # the name by which the system finds an installed library
 SONAME = "libxbrlmerge.so.0"
-# the records for a refusal and for an accepted report in include/xbrlmerge.h
-REFUSAL, CHECKED = struct.Struct("=QQI4x"), struct.Struct("=QII")
+# the records for a refusal, for an accepted report and for both in include/xbrlmerge.h
+REFUSAL, CHECKED, RESULT = struct.Struct("=QQI4x"), struct.Struct("=QII"), struct.Struct("=QIIQQI4xI4x")
 # the first buffer is this many bytes longer than the reports: a text made from short reports can be longer than the reports
 MORE = 4096
 LONGEST_NAME = 64
@@ -60,9 +60,12 @@ _sources = _call("xbrlmerge_sources", _NUMBER, [*_GIVEN, *_TAKEN])
 _verdicts_json = _call("xbrlmerge_verdicts_json", _NUMBER, [*_GIVEN, _SIZE, *_TAKEN])
 _sources_json = _call("xbrlmerge_sources_json", _NUMBER, [*_GIVEN, _SIZE, *_TAKEN])
 _check = _call("xbrlmerge_check", _NUMBER, [_POINTER, _SIZE, _POINTER, _SIZE, _POINTER, _POINTER])
+_check_all = _call("xbrlmerge_check_all", _NUMBER, [*_GIVEN, _POINTER, _SIZE, _POINTER])
 _refusal_name = _call("xbrlmerge_refusal_name", _SIZE, [_NUMBER, _POINTER, _SIZE])
 
 Record = Tuple[int, int, int]
+# the record for an accepted report: the numbers of its facts, of their level, and whether it is canonical
+Accepted = Tuple[int, int, int]
 
 
 class Answer(NamedTuple):
@@ -86,14 +89,19 @@ def _buffer(size: int) -> Tuple[bytearray, ctypes.c_char]:
     return held, ctypes.c_char.from_buffer(held)
 
 
+def _ends(reports: Sequence[bytes]) -> "array.array[int]":
+    """Returns the position where each report ends, and one more number, because an empty array has no address. It must live until
+    the last call that uses its address has returned."""
+    return array.array("Q", (*itertools.accumulate(map(len, reports)), 0))
+
+
 def _answered(call: Callable[..., int], sheet: bytes, reports: Sequence[bytes], *more: int) -> Answer:
     """Makes a call with buffers that are usually large enough. If they are not, repeats the call with larger ones.
 
     Raises MemoryError, and ValueError if the library rejects the arguments.
     """
     together, count = b"".join(reports), len(reports)
-    # one end more, because an empty array has no address; `ends` lives until the last call has returned
-    ends = array.array("Q", (*itertools.accumulate(map(len, reports)), 0))
+    ends = _ends(reports)
     given = (sheet, len(sheet), together, len(together), ends.buffer_info()[0], count, *more)
     out_length, refusals_length = len(together) + MORE, count
     needed, refused = _SIZE(), _SIZE()
@@ -135,7 +143,7 @@ def sources_json(sheet: bytes, reports: Sequence[bytes], most: int) -> Answer:
     return _answered(_sources_json, sheet, reports, most)
 
 
-def check(sheet: bytes, report: bytes) -> Tuple[int, Tuple[int, int, int], Record]:
+def check(sheet: bytes, report: bytes) -> Tuple[int, Accepted, Record]:
     """Returns the status, the record for an accepted report, and the record for the refusal. A record that the call does not
     set is all zeros. Raises MemoryError."""
     checked, first = _buffer(CHECKED.size)
@@ -144,8 +152,22 @@ def check(sheet: bytes, report: bytes) -> Tuple[int, Tuple[int, int, int], Recor
     status = _check(sheet, len(sheet), report, len(report), *addresses)
     if status == NO_MEMORY:
         raise MemoryError
-    facts, level, canonical = CHECKED.unpack_from(checked)
-    return status, (facts, level, canonical), _record(REFUSAL.unpack_from(record))
+    return status, _record(CHECKED.unpack_from(checked)), _record(REFUSAL.unpack_from(record))
+
+
+def check_all(sheet: bytes, reports: Sequence[bytes]) -> Tuple[int, List[Tuple[int, Accepted, Record]], Record]:
+    """Returns the status, a result for each report as from `check`, and the record for the refusal of the sheet. If the sheet is
+    refused, the results are all zeros. Raises MemoryError."""
+    together, count = b"".join(reports), len(reports)
+    ends = _ends(reports)
+    results, first = _buffer(count * RESULT.size)
+    record, first_of_record = _buffer(REFUSAL.size)
+    given = (sheet, len(sheet), together, len(together), ends.buffer_info()[0], count)
+    status = _check_all(*given, ctypes.addressof(first), count, ctypes.addressof(first_of_record))
+    if status == NO_MEMORY:
+        raise MemoryError
+    found = RESULT.iter_unpack(memoryview(results)[: count * RESULT.size])
+    return status, [(it[6], _record(it[:3]), _record(it[3:6])) for it in found], _record(REFUSAL.unpack_from(record))
 
 
 def refusal_name(number: int) -> str:

@@ -3,13 +3,14 @@
        c_abi merge LEVEL SHEET REPORT ..
        c_abi verdicts|verdicts-json|sources|sources-json SHEET REPORT ..
        c_abi check SHEET REPORT
+       c_abi check-all SHEET REPORT ..
        c_abi edges SHEET
 
    The program prints the result, and the lines about refusals and a too loose row, as xbrlmerge does, and returns the status
    of the call. The line about a refused sheet has the number of the refusal, but not its name. All calls except `check` are
-   also made with buffers that are too short, and the calls for JSON with bounds. With the static library, each request for memory is also refused in turn. The
-   last line on standard error begins with `requests`, and contains the number of refused requests that made the call fail.
-   `edges` instead makes calls with unusual arguments, prints nothing and returns 0. Status 90 means that a condition in this
+   also made with buffers that are too short, and those with a bound also with others. With the static library, each request
+   for memory is also refused in turn. The last line on standard error begins with `requests`, and contains the number of
+   refused requests that made the call fail. `edges` instead makes calls with unusual arguments, prints nothing and returns 0. Status 90 means that a condition in this
    file does not hold; a line on standard error shows the condition. */
 #include <stdio.h>
 #include <stdlib.h>
@@ -205,6 +206,12 @@ static int texts(struct asked *asked) {
     return (int)status;
 }
 
+static void tell_checked(const xbrlmerge_checked *checked) {
+    static const char *const levels[] = {"none", "complete", "consistent", "all"};
+    EXPECT(checked->level <= XBRLMERGE_ALLOW_ALL && checked->canonical <= 1);
+    printf("accepted %llu %s %s\n", (unsigned long long)checked->facts, levels[checked->level], checked->canonical ? "canonical" : "other");
+}
+
 static int check(const struct asked *asked) {
     xbrlmerge_checked checked, usual = {1, 2, 3};
     xbrlmerge_refusal row, usual_row = {4, 5, 6};
@@ -228,9 +235,7 @@ static int check(const struct asked *asked) {
     EXPECT((checked.facts == 1 && checked.level == 2 && checked.canonical == 3) || status == XBRLMERGE_DONE);
     EXPECT((row.report == 4 && row.fact == 5 && row.number == 6) == (status == XBRLMERGE_DONE));
     if (status == XBRLMERGE_DONE) {
-        static const char *const levels[] = {"none", "complete", "consistent", "all"};
-        EXPECT(checked.level <= XBRLMERGE_ALLOW_ALL && checked.canonical <= 1);
-        printf("accepted %llu %s %s\n", (unsigned long long)checked.facts, levels[checked.level], checked.canonical ? "canonical" : "other");
+        tell_checked(&checked);
     } else if (status == XBRLMERGE_REFUSED) {
         EXPECT(row.report == 1);
         tell_refusal(&row);
@@ -240,6 +245,48 @@ static int check(const struct asked *asked) {
     }
     fprintf(stderr, "requests: %ld refused in turn\n", refused);
     return (int)status;
+}
+
+/* whether two results are the same; the bytes between fields may differ */
+static int same_result(const xbrlmerge_result *one, const xbrlmerge_result *other) {
+    return memcmp(&one->checked, &other->checked, sizeof one->checked) == 0 && one->refusal.report == other->refusal.report &&
+           one->refusal.fact == other->refusal.fact && one->refusal.number == other->refusal.number && one->status == other->status;
+}
+
+static int is_first_kept(const xbrlmerge_result *results, size_t count) { return is_marked(results, 0, count * sizeof *results); }
+
+static int check_all(const struct asked *asked) {
+    xbrlmerge_result usual[MOST + 1], results[MOST + 1];
+    xbrlmerge_refusal row = {4, 5, 6};
+    size_t count = asked->count;
+    uint32_t status, wanted;
+    long number = 0, refused = 0;
+    memset(usual, MARK, sizeof usual), memset(results, MARK, sizeof results);
+    status = xbrlmerge_check_all(asked->sheet, asked->sheet_length, asked->reports, asked->reports_length, asked->ends, count, results, count - 1, &row);
+    EXPECT(status == XBRLMERGE_TOO_SHORT && is_first_kept(results, count));
+    wanted = xbrlmerge_check_all(asked->sheet, asked->sheet_length, asked->reports, asked->reports_length, asked->ends, count, usual, count + 1, &row);
+    EXPECT(is_first_kept(usual + count, 1));
+    do {
+        memset(results, MARK, sizeof results);
+        chosen = ++number, made = 0, inside = 1;
+        status = xbrlmerge_check_all(asked->sheet, asked->sheet_length, asked->reports, asked->reports_length, asked->ends, count, results, count, &row);
+        inside = 0;
+        if (status == XBRLMERGE_NO_MEMORY) refused++;
+        EXPECT(status == wanted || (status == XBRLMERGE_NO_MEMORY && made >= chosen && is_first_kept(results, count)));
+        for (size_t index = 0; status == wanted && index < count; index++) EXPECT(same_result(&results[index], &usual[index]));
+    } while (made >= chosen);
+    chosen = 0;
+    EXPECT(row.report == 4 && row.fact == 5 && row.number == 6);
+    for (size_t index = 0; index < count; index++)
+        if (usual[index].status == XBRLMERGE_DONE) {
+            EXPECT(usual[index].refusal.report == 0 && usual[index].refusal.fact == 0 && usual[index].refusal.number == 0);
+            tell_checked(&usual[index].checked);
+        } else {
+            EXPECT(usual[index].status == XBRLMERGE_REFUSED && memcmp(&usual[index].checked, &(xbrlmerge_checked){0}, sizeof(xbrlmerge_checked)) == 0);
+            tell_refusal(&usual[index].refusal);
+        }
+    fprintf(stderr, "requests: %ld refused in turn\n", refused);
+    return (int)wanted;
 }
 
 /* with these ends of reports, each call except `check` must return this status, change nothing and request no memory */
@@ -254,6 +301,11 @@ static void ends_in(struct asked asked, uint32_t wanted, size_t count, size_t fi
         EXPECT(made == 0);
         free_buffers(&to);
     }
+    xbrlmerge_result results[2];
+    xbrlmerge_refusal row = {4, 5, 6};
+    memset(results, MARK, sizeof results);
+    EXPECT(xbrlmerge_check_all(asked.sheet, asked.sheet_length, asked.reports, asked.reports_length, asked.ends, count, results, 2, &row) == wanted);
+    EXPECT(made == 0 && is_first_kept(results, 2) && row.report == 4);
 }
 
 static int edges(struct asked *asked) {
@@ -285,6 +337,11 @@ static int edges(struct asked *asked) {
     xbrlmerge_checked checked = {1, 2, 3};
     EXPECT(xbrlmerge_check(asked->sheet, asked->sheet_length, &byte, 0, &checked, &row) == XBRLMERGE_REFUSED && row.number == 1);
     EXPECT(xbrlmerge_check(&byte, 0, &byte, 0, &checked, &row) == XBRLMERGE_SHEET_REFUSED && row.number == 1 && checked.facts == 1);
+    xbrlmerge_result result;
+    memset(&result, MARK, sizeof result);
+    EXPECT(xbrlmerge_check_all(asked->sheet, asked->sheet_length, &byte, 0, &end, 0, &result, 0, &row) == XBRLMERGE_DONE && is_first_kept(&result, 1));
+    EXPECT(xbrlmerge_check_all(&byte, 0, &byte, 0, &end, 1, &result, 1, &row) == XBRLMERGE_SHEET_REFUSED && is_first_kept(&result, 1));
+    EXPECT(row.report == 0 && row.fact == 0 && row.number == 1);
     /* names of refusals, and the version */
     uint8_t name[24];
     memset(name, MARK, sizeof name);
@@ -314,7 +371,10 @@ int main(int count, char **words) {
         asked.reports_length += length;
         asked.ends[asked.count++] = asked.reports_length;
     }
-    int status = strcmp(asked.command, "check") == 0 ? check(&asked) : strcmp(asked.command, "edges") == 0 ? edges(&asked) : texts(&asked);
+    int status = strcmp(asked.command, "check") == 0       ? check(&asked)
+                 : strcmp(asked.command, "check-all") == 0 ? check_all(&asked)
+                 : strcmp(asked.command, "edges") == 0     ? edges(&asked)
+                                                           : texts(&asked);
     free(asked.sheet);
     free(asked.reports);
     return status;

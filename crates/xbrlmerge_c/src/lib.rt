@@ -4,6 +4,7 @@
 
 mod calls;
 mod check;
+mod check_all;
 mod output;
 mod refusal_name;
 mod reports;
