@@ -44,7 +44,7 @@ extern "C" {
 enum {
     XBRLMERGE_DONE = 0,          /* done, and every report was accepted */
     XBRLMERGE_REFUSED = 1,       /* done, but some reports were refused; the output is made from the others
-                                    (xbrlmerge_check: the report was refused) */
+                                    (xbrlmerge_check: the report was refused; the calls that explain: there is a line) */
     XBRLMERGE_TOO_LOOSE = 2,     /* the duplicates of a row exceed `allow`: `needed` is the number of the first such row,
                                     from 1 */
     XBRLMERGE_TOO_SHORT = 3,     /* `out` has fewer than `needed` bytes, `refusals` fewer than `refused` records, or
@@ -132,6 +132,14 @@ uint32_t xbrlmerge_check(const uint8_t *sheet, size_t sheet_length, const uint8_
 uint32_t xbrlmerge_check_all(const uint8_t *sheet, size_t sheet_length, const uint8_t *reports, size_t reports_length,
                              const size_t *ends, size_t ends_length, xbrlmerge_result *results, size_t results_length,
                              xbrlmerge_refusal *refusal);
+
+/* Two calls that explain what is wrong with a report, as `explain` and `explain --format json` do: `out` gets a line for
+   each fault, with the identifier of its fact, and for each repeated member. The report has no name here, so the lines show
+   `report` as its file. `out` and `needed` are set as by xbrlmerge_merge. */
+uint32_t xbrlmerge_explain(const uint8_t *sheet, size_t sheet_length, const uint8_t *report, size_t report_length,
+                           uint8_t *out, size_t out_length, size_t *needed);
+uint32_t xbrlmerge_explain_json(const uint8_t *sheet, size_t sheet_length, const uint8_t *report, size_t report_length,
+                                uint8_t *out, size_t out_length, size_t *needed);
 
 /* Writes the name of a refusal, such as "UnboundPrefix", to the start of `out`, without a NUL. Returns the length of the
    name: at most 20 bytes, and 0 if no refusal has this number. If `out` is shorter than the name, `out` is unchanged. */

@@ -22,8 +22,8 @@ from typing import Any, Dict, Iterable, List, Optional, Tuple, Union
 
 from . import _library
 
-__all__ = ["Checked", "Columns", "Merged", "Refusal", "Row", "Rows", "SheetRefused", "Source", "Sources", "TooLoose", "TooMuch",
-           "check", "check_all", "merge", "source_columns", "sources", "verdict_columns", "verdicts"]
+__all__ = ["Checked", "Columns", "Fault", "Merged", "Refusal", "Row", "Rows", "SheetRefused", "Source", "Sources", "TooLoose",
+           "TooMuch", "check", "check_all", "explain", "merge", "source_columns", "sources", "verdict_columns", "verdicts"]
 
 __version__ = "0.3.0.dev0"
 
@@ -163,6 +163,22 @@ class Checked:
         return f"accepted {self.facts} {self.level} {'canonical' if self.canonical else 'other'}"
 
 
+@dataclasses.dataclass(frozen=True)
+class Fault:
+    """A fault of a report, or a repeated member, for which only `part` and `sentence` are set. `str` returns the sentence, after the
+    number and the name of the refusal."""
+
+    number: Optional[int]  #: the number of the refusal in docs/REFUSALS.md
+    name: Optional[str]  #: its name
+    fact: Optional[int]  #: the fact's number, from 1 in byte order of identifiers; None for the document
+    identifier: Optional[str]  #: the fact's identifier
+    part: Any  #: the part at fault, as JSON; None if the sentence shows none
+    sentence: str  #: what is wrong
+
+    def __str__(self) -> str:
+        return self.sentence if self.number is None else f"{self.number} {self.name}: {self.sentence}"
+
+
 def merge(sheet: Given, reports: Iterable[Given], allow: str = "all") -> Merged:
     """Merges reports under a sheet. Refused reports are left out, and their refusals are returned.
 
@@ -240,6 +256,16 @@ def check_all(sheet: Given, reports: Iterable[Given]) -> List[Union[Checked, Ref
     return [_checked(*it) for it in results]
 
 
+def explain(sheet: Given, report: Given) -> List[Fault]:
+    """Returns the faults of a report and its repeated members, in the order of the program's lines. The list is empty if there are
+    none. Raises SheetRefused, MemoryError, OSError and TypeError.
+    """
+    status, text, number = _library.explain_json(_bytes(sheet), _bytes(report))
+    if status == _library.SHEET_REFUSED:
+        raise SheetRefused(number)
+    return [_fault(json.loads(line)) for line in _lines(text)]
+
+
 def _bytes(given: Given) -> bytes:
     """Returns bytes whose `len` is their length in memory: a subclass may define another `__len__` or `__bytes__`."""
     if type(given) is bytes:
@@ -272,6 +298,11 @@ def _checked(status: int, checked: _library.Accepted, record: _library.Record) -
         return _refusal(record)
     facts, level, canonical = checked
     return Checked(facts, LEVELS[level], canonical == 1)
+
+
+def _fault(found: Dict[str, Any]) -> Fault:
+    _, _, fact = (found["place"] or "").partition("fact ")
+    return Fault(found["number"], found["name"], int(fact) if fact else None, found["identifier"], found["part"], found["sentence"])
 
 
 def _refusals(answer: _library.Answer) -> List[Refusal]:

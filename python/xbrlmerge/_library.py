@@ -61,6 +61,7 @@ _verdicts_json = _call("xbrlmerge_verdicts_json", _NUMBER, [*_GIVEN, _SIZE, *_TA
 _sources_json = _call("xbrlmerge_sources_json", _NUMBER, [*_GIVEN, _SIZE, *_TAKEN])
 _check = _call("xbrlmerge_check", _NUMBER, [_POINTER, _SIZE, _POINTER, _SIZE, _POINTER, _POINTER])
 _check_all = _call("xbrlmerge_check_all", _NUMBER, [*_GIVEN, _POINTER, _SIZE, _POINTER])
+_explain_json = _call("xbrlmerge_explain_json", _NUMBER, [_POINTER, _SIZE, _POINTER, _SIZE, _POINTER, _SIZE, _SIZE_OUT])
 _refusal_name = _call("xbrlmerge_refusal_name", _SIZE, [_NUMBER, _POINTER, _SIZE])
 
 Record = Tuple[int, int, int]
@@ -168,6 +169,20 @@ def check_all(sheet: bytes, reports: Sequence[bytes]) -> Tuple[int, List[Tuple[i
         raise MemoryError
     found = RESULT.iter_unpack(memoryview(results)[: count * RESULT.size])
     return status, [(it[6], _record(it[:3]), _record(it[3:6])) for it in found], _record(REFUSAL.unpack_from(record))
+
+
+def explain_json(sheet: bytes, report: bytes) -> Tuple[int, bytes, int]:
+    """Returns the status, the lines, and the number that the call wrote to `needed`. Raises MemoryError."""
+    length, needed = MORE, _SIZE()
+    while True:
+        out, first = _buffer(length)
+        status = _explain_json(sheet, len(sheet), report, len(report), ctypes.addressof(first), length, needed)
+        if status != TOO_SHORT:
+            break
+        length = needed.value
+    if status == NO_MEMORY:
+        raise MemoryError
+    return status, bytes(memoryview(out)[: needed.value]) if status <= REFUSED else b"", needed.value
 
 
 def refusal_name(number: int) -> str:

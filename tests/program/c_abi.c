@@ -2,7 +2,7 @@
 
        c_abi merge LEVEL SHEET REPORT ..
        c_abi verdicts|verdicts-json|sources|sources-json SHEET REPORT ..
-       c_abi check SHEET REPORT
+       c_abi explain|explain-json|check SHEET REPORT
        c_abi check-all SHEET REPORT ..
        c_abi edges SHEET
 
@@ -110,7 +110,13 @@ static uint32_t call(const struct asked *asked, struct buffers *to) {
         status = xbrlmerge_sources_json(asked->sheet, asked->sheet_length, asked->reports, asked->reports_length, asked->ends,
                                         asked->count, asked->most, to->out, to->out_length, &to->needed, to->refusals, to->refusals_length,
                                         &to->refused);
+    else if (strcmp(asked->command, "explain") == 0)
+        status = xbrlmerge_explain(asked->sheet, asked->sheet_length, asked->reports, asked->reports_length, to->out, to->out_length, &to->needed);
+    else if (strcmp(asked->command, "explain-json") == 0)
+        status = xbrlmerge_explain_json(asked->sheet, asked->sheet_length, asked->reports, asked->reports_length, to->out, to->out_length, &to->needed);
     inside = 0;
+    /* the calls that explain return no records of refusals */
+    if (strstr(asked->command, "explain") != NULL && status < XBRLMERGE_NO_MEMORY) to->refused = 0;
     return status;
 }
 
@@ -155,7 +161,7 @@ static struct buffers short_buffers(const struct asked *asked) {
 
 /* With a bound of the text's length the call must have the same result, and with a lower bound it must change nothing. */
 static void bounds(struct asked asked, const struct buffers *whole, uint32_t wanted) {
-    if (strstr(asked.command, "-json") == NULL || wanted > XBRLMERGE_REFUSED || whole->needed < 2) return;
+    if (strstr(asked.command, "s-json") == NULL || wanted > XBRLMERGE_REFUSED || whole->needed < 2) return;
     for (asked.most = whole->needed; asked.most > whole->needed - 2; asked.most--) {
         struct buffers to = make_buffers(whole->out_length, whole->refusals_length);
         uint32_t status = call(&asked, &to);
@@ -342,6 +348,7 @@ static int edges(struct asked *asked) {
     EXPECT(xbrlmerge_check_all(asked->sheet, asked->sheet_length, &byte, 0, &end, 0, &result, 0, &row) == XBRLMERGE_DONE && is_first_kept(&result, 1));
     EXPECT(xbrlmerge_check_all(&byte, 0, &byte, 0, &end, 1, &result, 1, &row) == XBRLMERGE_SHEET_REFUSED && is_first_kept(&result, 1));
     EXPECT(row.report == 0 && row.fact == 0 && row.number == 1);
+    EXPECT(xbrlmerge_explain(&byte, 0, &byte, 0, &byte, 0, &needed) == XBRLMERGE_SHEET_REFUSED && needed == 1 && byte == MARK);
     /* names of refusals, and the version */
     uint8_t name[24];
     memset(name, MARK, sizeof name);

@@ -5,5 +5,6 @@ pub mod CallerMemory
 pub mod Calls
 pub mod Answers
 pub mod Checks
+pub mod Explained
 pub mod Names
 pub mod code
