@@ -154,6 +154,13 @@ def long_uri(names, size):
     return sheet(dict.fromkeys(concepts, "text"), namespaces=bound), report(numbered(fact(concept=name) for name in concepts), bound)
 
 
+def names_by_two_prefixes(n):
+    """A sheet with n names of one namespace, whose URI has about 20 n bytes. Two prefixes spell the names, and both spell one."""
+    names = [f"{'uv'[place % 2]}:c{place:07}" for place in range(n)]
+    bound = dict.fromkeys("uv", f"{URI}/{'u' * (20 * n)}")
+    return merging(sheet(dict.fromkeys([*names, "u:c0000001"], "text"), namespaces=bound), report({}))
+
+
 ONE_FACT = report(numbered([fact()]))
 TWO_REPORTS = [report(numbered([numeric(value)])) for value in "12"]
 
@@ -355,6 +362,7 @@ SHAPES = {
     "take_of_names_and_bytes_of_a_uri": Shape(2_000, taken(names_and_bytes_of_a_uri)),
     "names_of_a_long_uri_in_a_sheet": Shape(2_000, lambda n: merging(long_uri(n, 50_000)[0], report({}))),
     "names_and_bytes_of_a_uri_in_a_sheet": Shape(2_000, lambda n: merging(long_uri(n, 20 * n)[0], report({}))),
+    "names_by_two_prefixes_in_a_sheet": Shape(2_000, names_by_two_prefixes),
     "text_of_one_value": Shape(100_000, lambda n: one_report([fact("ab\"\\\u00e9\n" * n)])),
     "identifier_of_an_entity": Shape(500_000, lambda n: one_report([fact(entity="lei:" + "e" * n)])),
     "name_of_a_member": Shape(500_000, lambda n: with_axis([fact(**{"eg:D": "eg:" + "m" * n})])),

@@ -1,5 +1,5 @@
 -- A map of names has the same entries as its groups. Each group has the names of one namespace.
-use Rattle.std.proofs.Common.{◌≡◌, ℕ, List, [], ◌∷◌, ◌++◌, Bool, true, false, cond, Option, Some, None, String, string_bytes, refl, sym, ap, subst, ◌∙◌, ◌≢◌, IfSome, OnOk, OnErr, Result, Ok, Err, option_map, option_and_then, bytes_eq, is_some, Bor, unwrap_or, Less, Equal, Greater, string_cmp}
+use Rattle.std.proofs.Common.{◌≡◌, ℕ, List, [], ◌∷◌, ◌++◌, Bool, true, false, cond, Option, Some, None, String, string_bytes, refl, sym, ap, subst, ◌∙◌, ◌≢◌, IfSome, OnOk, OnErr, Result, Ok, Err, option_map, option_and_then, bytes_eq, is_some, unwrap_or, Less, Equal, Greater, string_cmp}
 use Rattle.std.specs.List.{AllByRecursion}
 use Rattle.std.specs.List.Sorted.{IsStrictlySortedBy}
 use Rattle.std.specs.Map.{keys_of, values_of, lookup, remove_entry, update}
@@ -16,7 +16,6 @@ use Rattle.std.proofs.lemmas.Map.Text.{btree_map_updates_text, is_eq-slice_cmp}
 use Rattle.std.proofs.lemmas.Option.{same_Some}
 use Rattle.std.specs.FinMap as map
 use Rattle.oim_names.specs.QName.{QName, name_cmp, exact_name}
-use Rattle.oim_names.specs.Bindings.{Binding, uri_of}
 use Rattle.oim_names.proofs.Bytes.{same_bytes, bytes_eq-refl, bytes_not_eq, other_bytes}
 use Rattle.oim_report.specs.code.Groups.{AreGroups, IsGroup, grouped_entries, with_group}
 use Rattle.oim_report.proofs.SheetEntries.{name_total, first_of, first_of-none}
@@ -185,10 +184,6 @@ each_after P m n p k x (Ok o) put same is each here q y found =
 apart_bytes : (u v : List ℕ) → bytes_eq u v ≡ false → bytes_eq v u ≡ false
 apart_bytes u v f = bytes_not_eq v u (λ e. other_bytes u v f (sym e))
 
-pub same_prefix : (last : Option (Bor (List ℕ))) (bs : List Binding) (p u v : List ℕ) → IfSome last (λ q. uri_of bs q.now ≡ Some u) → uri_of bs p ≡ Some v → IfSome last (λ q. q.now ≡ p → u ≡ v)
-same_prefix None bs p u v h e = tt
-same_prefix (Some q) bs p u v h e = λ same. same_Some u v (sym h ∙ ap (uri_of bs) same ∙ e)
-
 abbrev pub HasNone : {K : Type 0} → FinMap name_cmp K → List ℕ → Type 0
 HasNone m u = (l : List ℕ) → map.get m (name u l) ≡ None
 
@@ -208,10 +203,6 @@ module _ {K Y : Type 0} where
             ∙ find_here v l g.entries (subst (λ w. AreNamed w g.entries) (same_bytes u v t) h)
         | false ↦ λ f. ap (λ o. first_of o (map.get m (name v l))) (find_elsewhere v l u g.entries h (is_eq-slice_cmp v u ∙ apart_bytes u v f))
       ] refl
-
-  -- the current group is put back into the map
-  pub joined : (g : Group K Y) (m n : FinMap name_cmp K) (u : List ℕ) → IsGroup u g → HasNone m u → ((v l : List ℕ) → map.get n (name v l) ≡ cond (bytes_eq u v) (kind_at g l) (map.get m (name v l))) → n ≡ with_group g m
-  joined g m n u h none set = same_map name_total exact_name n (with_group g m) (λ q. set q.uri q.local_part ∙ sym (get_with g m u q.uri q.local_part h none))
 
   -- the loop turns from the group of one namespace to the group of another
   module _ (g next : Group K Y) (m m1 m2 : FinMap name_cmp K) (last u : List ℕ) (apart : last ≢ u)
@@ -301,7 +292,3 @@ module _ {K Y : Type 0} (g : Group K Y) (m : FinMap name_cmp K) (no_names : g.en
 
   pub none_there : (u : List ℕ) → IsGroup u g × HasNone m u
   none_there u = (subst (AreNamed u) (sym no_names) tt, λ l. ap (λ n. map.get n (name u l)) no_others ∙ get-empty name_cmp (name u l))
-
-pub all_push : {X : Type 0} (P : X → Type 0) (xs : List X) (x : X) → AllByRecursion P xs → P x → AllByRecursion P (xs ++ x ∷ [])
-all_push P [] x all p = (p, tt)
-all_push P (y ∷ ys) x all p = (all.0, all_push P ys x all.1 p)

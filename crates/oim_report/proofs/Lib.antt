@@ -27,8 +27,10 @@ pub mod AcceptedFacts
 pub mod Documents
 pub mod KeyedFacts
 pub mod SheetEntries
+pub mod SheetCounts
 pub mod Grouped
 pub mod Ranks
+pub mod NameLists
 pub mod OneDocument
 pub mod MemberOrder
 pub mod WrittenTexts

@@ -1,9 +1,9 @@
 -- The names of a sheet in ascending order, and their ranks.
-use Rattle.std.proofs.Common.{◌≡◌, ◌≢◌, inl, inr, ℕ, zero, suc, ◌<◌, ◌≤◌, ◌+◌, ◌-◌, List, [], ◌∷◌, ◌++◌, Bool, true, false, cond, Some, None, option_map, unwrap_or, bytes_eq, String, string_bytes, length, get_or, slice_get, refl, sym, ap, subst, ◌∙◌, arith, ◌&&◌, T, Ordering, Less, Equal, Greater, string_cmp, append_assoc, append-nil, is_lt}
+use Rattle.std.proofs.Common.{◌≡◌, ◌≢◌, inl, inr, ℕ, zero, suc, ◌<◌, ◌≤◌, ◌+◌, ◌-◌, List, [], ◌∷◌, ◌++◌, Bool, true, false, cond, Some, None, option_map, unwrap_or, bytes_eq, String, string_bytes, length, get_or, slice_get, refl, sym, ap, subst, ◌∙◌, arith, ◌&&◌, T, Ordering, Less, Equal, Greater, string_cmp, is_lt}
 use Rattle.std.specs.List.{AllByRecursion, AllWithin}
 use Rattle.std.specs.List.Sorted.{IsStrictlySortedBy}
-use Rattle.std.specs.Map.{keys_of, values_of}
-use Rattle.std.specs.BTreeMap.{BTreeMap, IsEmpty, IsOrdered, Updates, get_by_text, values}
+use Rattle.std.specs.Map.{keys_of}
+use Rattle.std.specs.BTreeMap.{BTreeMap, IsEmpty, Updates, get_by_text}
 use Rattle.std.specs.Ordering.{is_eq, nat_cmp, ordering_reverse, ordering_then}
 use Rattle.std.specs.Cmp.{tied_itself, nat_cmp_total}
 use Rattle.std.specs.Cmp.Lexicographic.{slice_cmp}
@@ -12,77 +12,31 @@ use Rattle.std.specs.FinMap.{FinMap, find, is_sorted, entries_sorted, entries-in
 use Rattle.std.specs.FinMap.Entries.{below_all, by_order, put}
 use Rattle.std.proofs.lemmas.Bool.{cases_lt, cases_order, cond_below}
 use Rattle.std.proofs.lemmas.Cmp.{nat_list_cmp_total}
-use Rattle.std.proofs.lemmas.List.{get_or_append_left, get_or-append_right, get_or-map, length-append, length-map, map-append}
+use Rattle.std.proofs.lemmas.List.{get_or_append_left, get_or-append_right, get_or-map, length-append, length-map}
 use Rattle.std.proofs.lemmas.Map.Keys.{sorted_head, sorted_tail, Less-from_sorted}
 use Rattle.std.proofs.lemmas.Map.Text.{btree_map_updates_text}
 use Rattle.std.proofs.lemmas.Option.{same_Some, slice_get-get_or, slice_get-map, slice_get_within, get_or_from_slice_get}
 use Rattle.oim_names.proofs.Bytes.{other_bytes, same_bytes}
 use Rattle.oim_names.specs.QName.{QName, exact_name, name_cmp}
 use Rattle.oim_dims.specs.declared.fact.Fact.{Fact}
-use Rattle.oim_report.specs.code.Groups.{IsGroup, grouped_entries}
+use Rattle.oim_report.specs.code.NameLists.{SharesUri}
 use Rattle.oim_report.specs.code.Ranks.{AreRanks, AreSpans, IsRank, IsSpan, OrderConcepts}
-use Rattle.oim_report.proofs.Grouped.{AreNamed, AreNamedGroups, Group, at_text, name}
+use Rattle.oim_report.proofs.Grouped.{at_text}
 use Rattle.oim_report.proofs.SheetEntries.{name_total}
 
--- ---- the names of all groups, one group after another, ascend
+-- ---- two ascending lists
 
 pub all_append : {X : Type 0} (P : X → Type 0) (xs ys : List X) → AllByRecursion P xs → AllByRecursion P ys → AllByRecursion P (xs ++ ys)
 all_append P [] ys a b = b
 all_append P (x ∷ xs) ys a b = (a.0, all_append P xs ys a.1 b)
 
-abbrev IsBelow : QName → List QName → Type 0
+abbrev pub IsBelow : QName → List QName → Type 0
 IsBelow q = AllByRecursion (λ p. name_cmp q p ≡ Less)
 
-rising_append : (xs ys : List QName) → IsStrictlySortedBy name_cmp xs → IsStrictlySortedBy name_cmp ys → AllByRecursion (λ x. IsBelow x ys) xs → IsStrictlySortedBy name_cmp (xs ++ ys)
+pub rising_append : (xs ys : List QName) → IsStrictlySortedBy name_cmp xs → IsStrictlySortedBy name_cmp ys → AllByRecursion (λ x. IsBelow x ys) xs → IsStrictlySortedBy name_cmp (xs ++ ys)
 unfolding IsStrictlySortedBy
 rising_append [] ys a b c = b
 rising_append (x ∷ xs) ys a b c = (all_append (λ p. name_cmp x p ≡ Less) xs ys a.0 c.0, rising_append xs ys a.1 b c.1)
-
-module _ {K Y : Type 0} where
-  below_local : (u l : List ℕ) (es : List (String Y × (QName × K))) → AreNamed u es → AllByRecursion (λ k. slice_cmp nat_cmp l (string_bytes k) ≡ Less) (keys_of es) → IsBelow (name u l) (keys_of (values_of es))
-  below_local u l [] h below = tt
-  below_local u l (e ∷ es) h below =
-      (ap (name_cmp (name u l)) h.0 ∙ ap (λ r. ordering_then r (slice_cmp nat_cmp l (string_bytes e.0))) (tied_itself nat_list_cmp_total u) ∙ below.0, below_local u l es h.1 below.1)
-
-  group_rises : (u : List ℕ) (es : List (String Y × (QName × K))) → AreNamed u es → IsStrictlySortedBy string_cmp (keys_of es) → IsStrictlySortedBy name_cmp (keys_of (values_of es))
-  unfolding IsStrictlySortedBy
-  group_rises u [] h rise = tt
-  group_rises u (e ∷ es) h rise = (subst (λ q. IsBelow q (keys_of (values_of es))) (sym h.0) (below_local u (string_bytes e.0) es h.1 rise.0), group_rises u es h.1 rise.1)
-
-  below_group : (q : QName) (v : List ℕ) (es : List (String Y × (QName × K))) → AreNamed v es → slice_cmp nat_cmp q.uri v ≡ Less → IsBelow q (keys_of (values_of es))
-  below_group q v [] h less = tt
-  below_group q v (e ∷ es) h less = (ap (name_cmp q) h.0 ∙ ap (λ r. ordering_then r (slice_cmp nat_cmp q.local_part (string_bytes e.0))) less, below_group q v es h.1 less)
-
-  abbrev names_in : List (String Y × Group K Y) → List QName
-  names_in es = keys_of (grouped_entries es)
-
-  names_parts : (e : String Y × Group K Y) (es : List (String Y × Group K Y)) → names_in (e ∷ es) ≡ keys_of (values e.1) ++ names_in es
-  names_parts e es = map-append (λ (n : QName × K). n.0) (values e.1) (grouped_entries es)
-
-  below_groups : (q : QName) (es : List (String Y × Group K Y)) → AllByRecursion (λ k. slice_cmp nat_cmp q.uri (string_bytes k) ≡ Less) (keys_of es) → AreNamedGroups es → IsBelow q (names_in es)
-  below_groups q [] below h = tt
-  below_groups q (e ∷ es) below h =
-      subst (IsBelow q) (sym (names_parts e es))
-      (all_append (λ p. name_cmp q p ≡ Less) (keys_of (values e.1)) (names_in es) (below_group q (string_bytes e.0) e.1.entries h.0 below.0) (below_groups q es below.1 h.1))
-
-  each_below : (k : String Y) (es : List (String Y × (QName × K))) (rest : List (String Y × Group K Y)) → AreNamed (string_bytes k) es → AllByRecursion (λ y. string_cmp k y ≡ Less) (keys_of rest) → AreNamedGroups rest → AllByRecursion (λ q. IsBelow q (names_in rest)) (keys_of (values_of es))
-  each_below k [] rest h below named = tt
-  each_below k (e ∷ es) rest h below named =
-      (subst (λ q. IsBelow q (names_in rest)) (sym h.0) (below_groups (name (string_bytes k) (string_bytes e.0)) rest below named), each_below k es rest h.1 below named)
-
-  abbrev pub AreOrdered : List (String Y × Group K Y) → Type 0
-  AreOrdered es = AllByRecursion (λ e. IsOrdered string_cmp e.1) es
-
-  pub groups_rise : (es : List (String Y × Group K Y)) → IsStrictlySortedBy string_cmp (keys_of es) → AreNamedGroups es → AreOrdered es → IsStrictlySortedBy name_cmp (names_in es)
-  unfolding IsStrictlySortedBy
-  groups_rise [] rise h inner = tt
-  groups_rise (e ∷ es) rise h inner =
-      subst (IsStrictlySortedBy name_cmp) (sym (names_parts e es))
-      (rising_append (keys_of (values e.1)) (names_in es) (group_rises (string_bytes e.0) e.1.entries h.0 inner.0) (groups_rise es rise.1 h.1 inner.1) (each_below e.0 e.1.entries es h.0 rise.0 h.1))
-
-  pub grouped_push : (es : List (String Y × Group K Y)) (e : String Y × Group K Y) → grouped_entries (es ++ e ∷ []) ≡ grouped_entries es ++ values e.1
-  grouped_push [] e = append-nil (values e.1)
-  grouped_push (f ∷ es) e = ap (λ l. values f.1 ++ l) (grouped_push es e) ∙ sym (append_assoc (values f.1) (grouped_entries es) (values e.1))
 
 -- ---- the entries of a map are an ascending list that it is made of
 
@@ -162,30 +116,12 @@ within P (x ∷ xs) h zero d low high = h.0
 within P (x ∷ xs) h (suc k) d low high = within P xs h.1 k d (omega arith) (omega (arith, high))
 within P [] h k d low high = absurd (omega (arith, high))
 
-has_uri : {K Y : Type 0} (u : List ℕ) (es : List (String Y × (QName × K))) → AreNamed u es → AllByRecursion (λ n. n.0.uri ≡ u) (values_of es)
-has_uri u [] h = tt
-has_uri u (e ∷ es) h = (ap (λ q. q.uri) h.0, has_uri u es h.1)
-
-other_uri : {K Y : Type 0} (u v : List ℕ) (es : List (String Y × (QName × K))) → AreNamed u es → u ≢ v → AllByRecursion (λ n. n.0.uri ≢ v) (values_of es)
+other_uri : {K : Type 0} (u v : List ℕ) (es : List (QName × K)) → SharesUri u es → u ≢ v → AllByRecursion (λ n. n.0.uri ≢ v) es
 other_uri u v [] h apart = tt
-other_uri u v (e ∷ es) h apart = (λ same. apart (sym (ap (λ q. q.uri) h.0) ∙ same), other_uri u v es h.1 apart)
+other_uri u v (e ∷ es) h apart = ((λ same. apart (sym h.0 ∙ same)), other_uri u v es h.1 apart)
 
-pub middle_of : {X : Type 0} (P : X → Type 0) (xs ys : List X) (y : X) → AllByRecursion P (xs ++ y ∷ ys) → P y
-middle_of P [] ys y h = h.0
-middle_of P (x ∷ xs) ys y h = middle_of P xs ys y h.1
-
-less_apart : (s t : List ℕ) → slice_cmp nat_cmp s t ≡ Less → s ≢ t
+pub less_apart : (s t : List ℕ) → slice_cmp nat_cmp s t ≡ Less → s ≢ t
 less_apart s t less same = let tied = sym less ∙ ap (λ v. slice_cmp nat_cmp v t) same ∙ tied_itself nat_list_cmp_total t in absurd (Prim.cc)
-
-module _ {K Y : Type 0} where
-  -- no group before has this group's URI
-  pub new_uri : (done rest : List (String Y × Group K Y)) (e : String Y × Group K Y) → IsStrictlySortedBy string_cmp (keys_of (done ++ e ∷ rest)) → AreNamedGroups (done ++ e ∷ rest) → AllByRecursion (λ n. n.0.uri ≢ string_bytes e.0) (grouped_entries done)
-  unfolding IsStrictlySortedBy
-  new_uri [] rest e rise named = tt
-  new_uri (f ∷ done) rest e rise named =
-      let keys : AllByRecursion (λ k. string_cmp f.0 k ≡ Less) (keys_of done ++ e.0 ∷ keys_of rest) = subst (AllByRecursion (λ k. string_cmp f.0 k ≡ Less)) (map-append (λ (g : String Y × Group K Y). g.0) done (e ∷ rest)) rise.0 in
-      let less = middle_of (λ k. string_cmp f.0 k ≡ Less) (keys_of done) (keys_of rest) e.0 keys in
-      all_append (λ n. n.0.uri ≢ string_bytes e.0) (values f.1) (grouped_entries done) (other_uri (string_bytes f.0) (string_bytes e.0) f.1.entries named.0 (less_apart (string_bytes f.0) (string_bytes e.0) less)) (new_uri done rest e rise.1 named.1)
 
 module _ {K : Type 0} (es vs : List (QName × K)) (u : List ℕ) where
   left : (P : QName × K → Type 0) (low high : ℕ) → high ≤ length es → AllWithin P es low high → AllWithin P (es ++ vs) low high
@@ -228,14 +164,14 @@ no_spans es m none empty u = subst (λ r. IsSpan es u (unwrap_or r (0, 0))) (sym
   behind = λ k d low high. let long : length es ≡ 0 = ap length none in absurd (omega (arith, high, long));
 })
 
--- the spans after one more group
-pub next_spans : {K Y : Type 0} (es : List (QName × K)) (m n : BTreeMap (String Y) (ℕ × ℕ)) (e : String Y × Group K Y) → AreSpans es m → AllByRecursion (λ q. q.0.uri ≢ string_bytes e.0) es → IsGroup (string_bytes e.0) e.1 → Updates string_cmp m n e.0 (Some (length es, length (es ++ values e.1))) → AreSpans (es ++ values e.1) n
-next_spans es m n e are others named new u =
-    let key = string_bytes e.0 in
-    let span : ℕ × ℕ = (length es, length (es ++ values e.1)) in
-    elim (bytes_eq key u) as (λ b. bytes_eq key u ≡ b → get_by_text n u ≡ cond b (Some span) (get_by_text m u) → IsSpan (es ++ values e.1) u (unwrap_or (get_by_text n u) (0, 0))) [
-      | true ↦ λ same is. subst (λ r. IsSpan (es ++ values e.1) u (unwrap_or r (0, 0))) (sym is) (subst (λ v. IsSpan (es ++ values e.1) v span) (same_bytes key u same) (span_new es (values e.1) key others (has_uri key e.1.entries named)))
-      | false ↦ λ other is. subst (λ r. IsSpan (es ++ values e.1) u (unwrap_or r (0, 0))) (sym is) (span_kept es (values e.1) u _ (are u) (other_uri key u e.1.entries named (other_bytes key u other)))
+-- the spans after the names of one more namespace
+pub next_spans : {K Y : Type 0} (es vs : List (QName × K)) (m n : BTreeMap (String Y) (ℕ × ℕ)) (k : String Y) → AreSpans es m → AllByRecursion (λ q. q.0.uri ≢ string_bytes k) es → SharesUri (string_bytes k) vs → Updates string_cmp m n k (Some (length es, length (es ++ vs))) → AreSpans (es ++ vs) n
+next_spans es vs m n k are others shared new u =
+    let key = string_bytes k in
+    let span : ℕ × ℕ = (length es, length (es ++ vs)) in
+    elim (bytes_eq key u) as (λ b. bytes_eq key u ≡ b → get_by_text n u ≡ cond b (Some span) (get_by_text m u) → IsSpan (es ++ vs) u (unwrap_or (get_by_text n u) (0, 0))) [
+      | true ↦ λ same is. subst (λ r. IsSpan (es ++ vs) u (unwrap_or r (0, 0))) (sym is) (subst (λ v. IsSpan (es ++ vs) v span) (same_bytes key u same) (span_new es vs key others shared))
+      | false ↦ λ other is. subst (λ r. IsSpan (es ++ vs) u (unwrap_or r (0, 0))) (sym is) (span_kept es vs u _ (are u) (other_uri key u vs shared (other_bytes key u other)))
     ] refl (btree_map_updates_text key m n (Some span) new u)
 
 -- ---- a search by halving

@@ -1,8 +1,7 @@
 -- The conditions that are shown, each with the part that is shown for it (own).
-use Rattle.std.specs.Prelude.{ℕ, List, [], ◌∷◌, map, Bool, true, not, if◌then◌else◌, codes, Option, Some, None, is_none, option_and_then, option_map}
+use Rattle.std.specs.Prelude.{ℕ, List, [], ◌∷◌, map, Bool, true, false, not, if◌then◌else◌, codes, Option, Some, None, is_none, option_and_then, option_map}
 use Rattle.std.specs.Option.{option_map_or}
 use Rattle.std.specs.List.{find, list_any}
-use Rattle.std.specs.FinMap as map
 use Rattle.std.specs.FinMap.{FinMap}
 use Rattle.std.specs.Ordering.{is_eq}
 use Rattle.oim_names.specs.QName.{QName}
@@ -23,7 +22,7 @@ use Rattle.oim_report.specs.Least.{is_shown, least}
 use Rattle.oim_report.specs.Names.{named}
 use Rattle.oim_report.specs.Namespaces.{binds_nothing}
 use Rattle.oim_report.specs.FactMembers.{core_keys, defined_members, fact_keys}
-use Rattle.oim_report.specs.Sheet.{Sheet, concept_kind_named, dimension_kind_named, has_other_kind, kind_in, names_no_kind, same_concept_kind, same_dimension_kind, sheet_bindings, sheet_concepts, sheet_dimensions, sheet_holds, sheet_keys, sheet_names, sheet_namespaces}
+use Rattle.oim_report.specs.Sheet.{Sheet, concept_kind_named, dimension_kind_named, has_other_kind, kind_in, listed, names_no_kind, same_concept_kind, same_dimension_kind, sheet_bindings, sheet_concepts, sheet_dimensions, sheet_holds, sheet_keys, sheet_names, sheet_namespaces}
 
 -- ---- parts
 
@@ -190,18 +189,13 @@ module _ {K : Type 0} (kind_named : List ℕ → Option K) (same : K → K → B
   abbrev pub named_kind : List Binding → List ℕ × Data → Option (QName × K)
   named_kind bs m = option_and_then (λ n. option_map (λ k. (n, k)) (kind_in kind_named same m.1)) (named bs m.0)
 
-  -- adds a name and its kind if the name is new
-  abbrev pub with_kind : FinMap name_cmp K → QName × K → FinMap name_cmp K
-  with_kind kinds e = if map.contains_key kinds e.0 then kinds else map.insert kinds e.0 e.1
+  -- the first entry whose name does not have the entry's kind in the map
+  abbrev pub of_other_kind : List Binding → FinMap name_cmp K → List (List ℕ × Data) → Option (List ℕ × Data)
+  of_other_kind bs kinds ms = find (λ m. option_map_or (has_other_kind kind_named same kinds) (named_kind bs m) false) ms
 
-  -- the first entry that repeats an earlier name with another kind; `kinds` has the kinds of the earlier names
-  abbrev pub other_kind : List Binding → FinMap name_cmp K → List (List ℕ × Data) → Option (List ℕ × Data)
-  other_kind bs kinds [] = None
-  other_kind bs kinds (m ∷ ms) =
-      option_map_or (λ e. if has_other_kind kind_named same (with_kind kinds e) e then Some m else other_kind bs (with_kind kinds e) ms) (named_kind bs m) (other_kind bs kinds ms)
-
+  -- the first entry that repeats a name with another kind than the first entry with this name
   abbrev pub two_kinds : List Binding → Members → Option Shown
-  two_kinds bs ms = option_map (λ m. beside_first bs (entries ms) m.0) (other_kind bs map.empty (entries ms))
+  two_kinds bs ms = option_map (λ m. beside_first bs (entries ms) m.0) (of_other_kind bs (listed kind_named same bs ms) (entries ms))
 
 -- the first part that is present, or nothing
 abbrev pub first_shown : List (Option Shown) → Shown

@@ -12,6 +12,7 @@ pub mod ListedFaults
 pub mod Pieces
 pub mod Ranks
 pub mod MemberTests
+pub mod NameLists
 pub mod Scope
 pub mod SeenMembers
 pub mod SheetCode

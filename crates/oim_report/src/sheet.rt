@@ -5,19 +5,20 @@ pub(crate) mod same_names;
 pub(crate) mod sheet_form;
 pub(crate) mod sheet_part;
 
-ghost use Rattle.std.specs.Prelude.{◌≡◌, ◌⊎◌, ◌↔◌, Some, Ok, Err, IsTrue, IfOk, IfErr, IfSome, option_map};
+ghost use Rattle.std.specs.Prelude.{◌≡◌, ◌⊎◌, ◌↔◌, ◌∷◌, [], Some, Ok, Err, IsTrue, IfOk, IfErr, IfSome, option_map, find};
 ghost use Rattle.std.specs.FinMap as map;
+ghost use Rattle.std.specs.Result.{result_err};
 ghost use Rattle.serde_json.specs.View.{view};
 ghost use Rattle.oim_report.specs.Json.{text as a_text};
 ghost use Rattle.oim_report.specs.Names.{named};
 ghost use Rattle.oim_report.specs.Said.{concept_kind};
-ghost use Rattle.oim_report.specs.Sheet.{dimension_kind, sheet_of, sheet_outcome};
+ghost use Rattle.oim_report.specs.Sheet.{dimension_kind, said_sheet, sheet_bindings, sheet_holds, sheet_of, sheet_outcome};
 
 use crate::concept_kind::ConceptKind;
 use crate::dimension_kind::DimensionKind;
 use crate::document::namespaces::read_namespaces;
 use crate::json_values::json_tree::{object_at, read_json};
-use crate::sheet::name_table::read_table;
+use crate::sheet::name_table::{has_bad_kind, has_each, read_table};
 use crate::sheet::ranked_names::RankedNames;
 use crate::sheet::sheet_form::{check_form, check_names};
 use oim_names::{Aliases, Name, Reason};
@@ -72,13 +73,14 @@ impl Sheet {
         let aliases = read_namespaces(alloc, object_at(tree, "namespaces"))?;
         let listed = object_at(tree, "concepts");
         let defined = object_at(tree, "dimensions");
-        check_names(&aliases, listed, defined)?;
         let concepts = read_table(alloc, &aliases, listed)?;
         let dimensions = read_table(alloc, &aliases, defined)?;
-        Ok(Sheet {
+        let sheet = Sheet {
             concepts,
             dimensions,
-        })
+        };
+        check_entries(&sheet, &aliases, tree)?;
+        Ok(sheet)
     }
 
     /// Returns the kind of a concept's values, or `None` if the sheet does not list the concept.
@@ -114,6 +116,29 @@ impl Sheet {
     {
         self.concepts.same_as(&other.concepts) && self.dimensions.same_as(&other.dimensions)
     }
+}
+
+// Each entry that is refused, or repeats a name, leaves the sheet with fewer names than entries. So
+// most sheets need no further test.
+#[tactic(auto, unfolding(crate::specs::Sheet::sheet_holds))]
+fn check_entries(sheet: &Sheet, aliases: &Aliases, tree: &Value) -> Result<(), Reason>
+    requires bindings { aliases.now ≡ sheet_bindings (view tree.now) }
+    requires listed { sheet.now ≡ said_sheet (view tree.now) }
+    ensures { let entries = Reason.NameForm ∷ Reason.UnboundPrefix ∷ Reason.ReservedNamespace ∷ Reason.SheetKind ∷ [] in
+        result_err result ≡ find (sheet_holds (view tree.now)) entries }
+{
+    let listed = object_at(tree, "concepts");
+    let defined = object_at(tree, "dimensions");
+    if has_each(sheet.concepts(), listed) && has_each(sheet.dimensions(), defined) {
+        return Ok(());
+    }
+    check_names(aliases, listed, defined)?;
+    if has_bad_kind(sheet.concepts(), aliases, listed)
+        || has_bad_kind(sheet.dimensions(), aliases, defined)
+    {
+        return Err(Reason::SheetKind);
+    }
+    Ok(())
 }
 
 pub(crate) fn find_named_concept<'s>(

@@ -1,17 +1,25 @@
-ghost use Rattle.std.specs.Prelude.{◌≡◌, ◌⊎◌, ℕ, List, [], true, false, IfErr, IfOk, IfSome, if◌then◌else◌, OnOk, OnErr, Some, None, bytes_eq, option_map, string_bytes};
+ghost use Rattle.std.specs.Prelude.{◌≡◌, ◌++◌, ℕ, List, [], false, not, IfOk, IfSome, IsTrue, if◌then◌else◌, OnOk, OnErr, Some, None, bytes_eq, option_map, string_bytes};
 ghost use Rattle.std.specs.BTreeMap.{get_by_text};
 ghost use Rattle.std.specs.FinMap as map;
+ghost use Rattle.std.specs.List.{filter};
+ghost use Rattle.std.specs.Option.{option_map_or};
 ghost use Rattle.serde_json.specs.View.{view, members_view};
-ghost use Rattle.oim_report.specs.Json.{members};
+ghost use Rattle.oim_names.specs.Bindings.{Binding};
+ghost use Rattle.oim_report.specs.Json.{entries as entries_of, members};
 ghost use Rattle.oim_report.specs.Names.{names_refusal};
 ghost use Rattle.oim_report.specs.Sheet.{has_bad_kind, key_names, kind_in, listed};
+ghost use Rattle.oim_report.specs.Shown.{entry, kindless, named_kind, of_other_kind, seen};
 ghost use Rattle.oim_report.specs.code.Groups.{IsGroup};
+ghost use Rattle.oim_report.specs.code.NameLists.{AreLists, SharesUri, has_uri, list_at};
+ghost use Rattle.oim_report.specs.code.Ranks.{IsSpan};
 ghost use Rattle.oim_report.specs.code.SheetCode.{Unfinished};
 
 use crate::json_values::json_member::JsonMember;
+use crate::part::Part;
 use crate::sheet::kind::Kind;
 use crate::sheet::ranked_names::RankedNames;
-use oim_names::{Aliases, Name, Reason, split_name};
+use crate::sheet::same_names::name_of;
+use oim_names::{Aliases, Name, split_name};
 use serde_json::{Map, Value};
 use std::alloc::{AllocError, Global};
 use std::collections::BTreeMap;
@@ -71,13 +79,6 @@ impl<K: Kind> NameTable<K> {
     {
         self.groups.insert(uri, group)?;
         Ok(())
-    }
-
-    fn ranked(self, alloc: Global) -> Result<RankedNames<K>, AllocError>
-        ensures { IfOk result (λ names. names ≡ self) }
-    {
-        let NameTable { groups } = self;
-        RankedNames::of_groups(alloc, groups)
     }
 }
 
@@ -166,83 +167,183 @@ impl<K: Kind> NameTableBuilder<K> {
             }
         }
     }
-
-    /// Adds the name with its kind, unless the name is known. Returns the kind that the table then
-    /// has for the name.
-    pub(crate) fn add(&mut self, name: Name, kind: K) -> Result<K, AllocError>
-        ensures ok { OnOk result (self.new.names
-            ≡ (if map.contains_key self.old.names name then self.old.names else map.insert self.old.names name kind)) }
-        ensures kind { IfOk result (λ k. map.get self.new.names name ≡ Some k) }
-    {
-        self.turn_to(name.uri())?;
-        self.put(name, kind)
-    }
-
-    pub(crate) fn into_names(self) -> Result<RankedNames<K>, AllocError>
-        ensures { IfOk result (λ names. names ≡ self.names) }
-    {
-        let NameTableBuilder {
-            alloc,
-            uri,
-            group,
-            mut others,
-        } = self;
-        others.set(uri, group)?;
-        others.ranked(alloc)
-    }
 }
 
+/// Returns the names that the keys spell, each with its kind. Keys that spell no name and values that
+/// name no kind are skipped. Of several keys for one name the first decides.
 pub(crate) fn read_table<K: Kind>(
     alloc: Global,
     aliases: &Aliases,
     object: Option<&Map<String, Value>>,
-) -> Result<RankedNames<K>, Reason>
-    requires { let ms = members (option_map (λ m. members_view m.now.entries) object) in
-        names_refusal aliases.now (key_names ms) ≡ None }
-    ensures listed { let ms = members (option_map (λ m. members_view m.now.entries) object.entry) in
+) -> Result<RankedNames<K>, AllocError>
+    ensures { let ms = members (option_map (λ m. members_view m.now.entries) object.entry) in
         IfOk result (λ l. l ≡ listed K.kind_named K.same_kind aliases.now ms) }
-    ensures kinds { let ms = members (option_map (λ m. members_view m.now.entries) object.entry) in
-        IfOk result (λ _. has_bad_kind K.kind_named K.same_kind aliases.now ms ≡ false) }
-    ensures refused { let ms = members (option_map (λ m. members_view m.now.entries) object.entry) in
-        IfErr result (λ r. (r ≡ Reason.OutOfMemory) ⊎ ((r ≡ Reason.SheetKind)
-        × (has_bad_kind K.kind_named K.same_kind aliases.now ms ≡ true))) }
 {
     let Some(members) = object else {
         return Ok(RankedNames::new(alloc));
     };
-    let mut gathered = NameTableBuilder::new(alloc);
-    let mut last = None;
+    let mut lists = BTreeMap::new(alloc);
+    let mut run = Vec::new(alloc);
+    let mut last = "";
     for (key, value) in members.iter() {
-        let Some(kind) = kind_in::<K>(value) else {
-            return Err(Reason::SheetKind);
+        let Some(entry) = named_kind::<K>(aliases, key.as_str(), value)? else {
+            continue;
         };
-        let name = aliases.expand(key.as_str())?;
         let (prefix, _local) = split_name(key.as_str());
-        turn(&mut gathered, last, prefix, name.uri())?;
-        last = Some(prefix);
-        let known = gathered.put(name, kind)?;
-        if !kind.is(known) {
-            return Err(Reason::SheetKind);
-        }
+        turn(alloc, &mut lists, &mut run, last, prefix)?;
+        last = prefix;
+        run.push(entry)?;
     }
-    Ok(gathered.into_names()?)
+    add_run(alloc, &mut lists, run)?;
+    RankedNames::of_lists(alloc, lists)
 }
 
-// Keys are in byte order, so keys with the same prefix are adjacent, and the group changes at most
-// once per prefix.
+// Keys are in byte order, so keys with the same prefix are adjacent: a run of names with one URI.
 fn turn<K: Kind>(
-    gathered: &mut NameTableBuilder<K>,
-    last: Option<&str>,
+    alloc: Global,
+    lists: &mut BTreeMap<String, Vec<(Name, K)>>,
+    run: &mut Vec<(Name, K)>,
+    last: &str,
     prefix: &str,
-    uri: &str,
 ) -> Result<(), AllocError>
-    requires { IfSome last (λ p. p.now ≡ prefix.now → gathered.old.uri ≡ uri.now) }
-    ensures { OnOk result (gathered.new ≡ record { uri = uri.now; names = gathered.old.names }) }
+    requires lists { AreLists lists.old }
+    requires shared { (u : List ℕ) × SharesUri u run.old.items }
+    ensures lists { OnOk result (AreLists lists.new) }
+    ensures same { OnOk result ((u : List ℕ) → list_at lists.new u ++ filter (has_uri u) run.new.items
+        ≡ list_at lists.old u ++ filter (has_uri u) run.old.items) }
+    ensures run { OnOk result (run.new.items ≡ (if bytes_eq prefix.now last.now then run.old.items else [])) }
 {
-    if last == Some(prefix) {
+    if prefix == last {
         return Ok(());
     }
-    gathered.turn_to(uri)
+    add_run(alloc, lists, replace(run, Vec::new(alloc)))
+}
+
+// Adds the run to the list of its namespace.
+fn add_run<K: Kind>(
+    alloc: Global,
+    lists: &mut BTreeMap<String, Vec<(Name, K)>>,
+    mut run: Vec<(Name, K)>,
+) -> Result<(), AllocError>
+    requires lists { AreLists lists.old }
+    requires shared { (u : List ℕ) × SharesUri u run.items }
+    ensures lists { OnOk result (AreLists lists.new) }
+    ensures added { OnOk result ((u : List ℕ) → list_at lists.new u ≡ list_at lists.old u ++ filter (has_uri u) run.items) }
+{
+    let Some(first) = run.as_slice().first() else {
+        return Ok(());
+    };
+    let uri = String::from_str(alloc, first.0.uri())?;
+    let mut list = lists.remove(uri.as_str()).unwrap_or(Vec::new(alloc));
+    list.append(&mut run)?;
+    lists.insert(uri, list)?;
+    Ok(())
+}
+
+fn named_kind<K: Kind>(
+    aliases: &Aliases,
+    key: &str,
+    value: &Value,
+) -> Result<Option<(Name, K)>, AllocError>
+    ensures { IfOk result (λ e. e ≡ named_kind K.kind_named K.same_kind aliases.now (key.now, view value.now)) }
+{
+    let Some(name) = name_of(aliases, key)? else {
+        return Ok(None);
+    };
+    Ok(kind_in::<K>(value).map(|kind| (name, kind)))
+}
+
+/// Returns false if an entry is refused or repeats a name, because such an entry adds no name.
+pub(crate) fn has_each<K: Kind>(names: &RankedNames<K>, object: Option<&Map<String, Value>>) -> bool
+    ensures { let ms = members (option_map (λ m. members_view m.now.entries) object.entry) in
+        (bs : List Binding) → names.now ≡ listed K.kind_named K.same_kind bs ms → IsTrue result →
+        (names_refusal bs (key_names ms) ≡ None) × (has_bad_kind K.kind_named K.same_kind bs ms ≡ false) }
+{
+    match object {
+        Some(members) => names.len() == members.len(),
+        None => true,
+    }
+}
+
+pub(crate) fn has_bad_kind<K: Kind>(
+    names: &RankedNames<K>,
+    aliases: &Aliases,
+    object: Option<&Map<String, Value>>,
+) -> bool
+    requires { let ms = members (option_map (λ m. members_view m.now.entries) object) in
+        names.now ≡ listed K.kind_named K.same_kind aliases.now ms }
+    ensures { let ms = members (option_map (λ m. members_view m.now.entries) object.entry) in
+        result ≡ has_bad_kind K.kind_named K.same_kind aliases.now ms }
+{
+    first_without_kind::<K>(object).is_some()
+        || first_of_other_kind(names, aliases, object).is_some()
+}
+
+pub(crate) fn first_without_kind<'a, K: Kind>(
+    entries: Option<&'a Map<String, Value>>,
+) -> Option<Part<'a>>
+    ensures { let ms = members (option_map (λ m. members_view m.now.entries) entries.entry) in
+        option_map seen result ≡ option_map entry (kindless K.kind_named K.same_kind ms) }
+{
+    for (key, value) in entries?.iter() {
+        if kind_in::<K>(value).is_none() {
+            return Some(Part::Member(key.as_str(), value));
+        }
+    }
+    None
+}
+
+/// Returns the first key whose value names another kind than `names` has for the key's name.
+pub(crate) fn first_of_other_kind<'a, K: Kind>(
+    names: &RankedNames<K>,
+    aliases: &Aliases,
+    entries: Option<&'a Map<String, Value>>,
+) -> Option<&'a str>
+    ensures { let ms = members (option_map (λ m. members_view m.now.entries) entries.entry) in
+        option_map (λ k. k.now) result ≡ option_map (λ m. m.0) (of_other_kind K.kind_named K.same_kind aliases.now names.now (entries_of ms)) }
+{
+    let Some(members) = entries else {
+        return None;
+    };
+    let mut last = None;
+    for (key, value) in members.iter() {
+        let Ok((uri, local)) = aliases.resolve(key.as_str()) else {
+            continue;
+        };
+        let (prefix, _local) = split_name(key.as_str());
+        let span = span_of(names, last, prefix, uri);
+        last = Some((prefix, span));
+        if is_other_kind(names.find_in(uri, span, local), kind_in::<K>(value)) {
+            return Some(key.as_str());
+        }
+    }
+    None
+}
+
+// Returns the span of the namespace. If the last prefix is the same, the URI is not read.
+fn span_of<K: Kind>(
+    names: &RankedNames<K>,
+    last: Option<(&str, (usize, usize))>,
+    prefix: &str,
+    uri: &str,
+) -> (usize, usize)
+    requires { IfSome last (λ l. l.0.now ≡ prefix.now → IsSpan (map.entries names.now) uri.now l.1) }
+    ensures { IsSpan (map.entries names.now) uri.now result }
+{
+    match last {
+        Some((known, span)) if known == prefix => span,
+        _ => names.span(uri),
+    }
+}
+
+fn is_other_kind<K: Kind>(found: Option<(&Name, K, usize)>, kind: Option<K>) -> bool
+    ensures { result ≡ option_map_or (λ k. not (option_map_or (K.same_kind k) (option_map (λ e. e.1) found.entry) false)) kind false }
+{
+    match (kind, found) {
+        (Some(kind), Some((_name, known, _rank))) => !kind.is(known),
+        (Some(_), None) => true,
+        (None, _) => false,
+    }
 }
 
 pub(crate) fn kind_in<K: Kind>(value: &Value) -> Option<K>

@@ -1,12 +1,9 @@
-ghost use Rattle.std.specs.Prelude.{◌≡◌, ◌++◌, ◌↔◌, IfOk, OnOk, IsTrue};
-ghost use Rattle.std.specs.BTreeMap.{IsOrdered, values};
+ghost use Rattle.std.specs.Prelude.{◌≡◌, ◌↔◌, ℕ, List, IfOk, OnOk, IsTrue};
 ghost use Rattle.std.specs.FinMap as map;
-ghost use Rattle.std.specs.String.{string_cmp};
-ghost use Rattle.oim_report.specs.code.Groups.{AreGroups, grouped_entries};
+ghost use Rattle.oim_report.specs.code.NameLists.{AreLists, IsInOrder, SharesUri, names_in};
 ghost use Rattle.oim_report.specs.code.Ranks.{IsFound, IsSpan};
 
 use crate::sheet::kind::Kind;
-use crate::sheet::name_table::Group;
 use oim_names::Name;
 use std::alloc::{AllocError, Global};
 use std::cmp::Ordering;
@@ -52,21 +49,30 @@ impl<K: Kind> RankedNames<K> {
         }
     }
 
-    pub(crate) fn of_groups(
+    /// Returns the names of the lists, of which each has the names of one namespace in any order. Of
+    /// equal names the first is kept.
+    pub(crate) fn of_lists(
         alloc: Global,
-        groups: BTreeMap<String, Group<K>>,
+        lists: BTreeMap<String, Vec<(Name, K)>>,
     ) -> Result<Self, AllocError>
-        requires { AreGroups groups }
-        ensures { IfOk result (λ names. names ≡ map.from_entries (grouped_entries groups.entries)) }
+        requires { AreLists lists }
+        ensures { IfOk result (λ names. names ≡ map.from_entries (names_in lists.entries)) }
     {
         let mut names = Vec::new(alloc);
         let mut spans = BTreeMap::new(alloc);
-        for (uri, group) in groups {
+        for (uri, mut list) in lists {
+            put_in_order(&mut list)?;
             let first = names.len();
-            push_all(&mut names, group)?;
+            names.append(&mut list)?;
             spans.insert(uri, (first, names.len()))?;
         }
         Ok(RankedNames { names, spans })
+    }
+
+    pub(crate) fn len(&self) -> usize
+        ensures { result ≡ map.len self.now }
+    {
+        self.names.len()
     }
 
     /// Returns the span of a namespace's names, empty if there are none.
@@ -132,12 +138,12 @@ fn is_same<K: Kind>(one: &(Name, K), other: &(Name, K)) -> bool
     one.0 == other.0 && one.1.is(other.1)
 }
 
-fn push_all<K: Kind>(names: &mut Vec<(Name, K)>, group: Group<K>) -> Result<(), AllocError>
-    ensures names { OnOk result (names.new.items ≡ names.old.items ++ values group) }
-    ensures ordered { OnOk result (IsOrdered string_cmp group) }
+// Names of one namespace are compared by their local parts, because a URI may be long. A stable sort
+// needs few comparisons for runs of names that ascend.
+fn put_in_order<K: Kind>(names: &mut Vec<(Name, K)>) -> Result<(), AllocError>
+    ensures { OnOk result ((u : List ℕ) → SharesUri u names.old.items → IsInOrder u names.old.items names.new.items) }
 {
-    for (_local, entry) in group {
-        names.push(entry)?;
-    }
+    names.sort_by(|one, other| one.0.local().cmp(other.0.local()))?;
+    names.dedup_by(|one, other| one.0.local() == other.0.local());
     Ok(())
 }

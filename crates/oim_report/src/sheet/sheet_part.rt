@@ -1,13 +1,12 @@
 ghost use Rattle.std.specs.Prelude.{◌≡◌, ◌≢◌, Some, IfOk, option_map};
 ghost use Rattle.std.specs.List.{find};
 ghost use Rattle.std.specs.Option.{option_map_or};
-ghost use Rattle.std.specs.FinMap as map;
 ghost use Rattle.oim_names.specs.Expansion.{refuses};
 ghost use Rattle.serde_json.specs.View.{view, members_view};
 ghost use Rattle.oim_report.specs.Json.{members};
 ghost use Rattle.oim_report.specs.Least.{least};
 ghost use Rattle.oim_report.specs.Sheet.{sheet_bindings, sheet_holds, sheet_names};
-ghost use Rattle.oim_report.specs.Shown.{entry, kindless, name, named_kind, nothing, seen, sheet_part, sheet_shown, two_kinds};
+ghost use Rattle.oim_report.specs.Shown.{name, nothing, seen, sheet_part, sheet_shown, two_kinds};
 
 use crate::concept_kind::ConceptKind;
 use crate::dimension_kind::DimensionKind;
@@ -16,10 +15,10 @@ use crate::json_values::json_tree::object_at;
 use crate::part::Part;
 use crate::sheet::Sheet;
 use crate::sheet::kind::Kind;
-use crate::sheet::name_table::{NameTableBuilder, kind_in};
-use crate::sheet::same_names::{beside_first, name_of};
+use crate::sheet::name_table::{first_of_other_kind, first_without_kind, read_table};
+use crate::sheet::same_names::beside_first;
 use crate::sheet::sheet_form::{misshapen, refused_key, unknown};
-use oim_names::{Aliases, Name, Reason};
+use oim_names::{Aliases, Reason};
 use serde_json::{Map, Value};
 use std::alloc::{AllocError, Global};
 
@@ -116,18 +115,6 @@ fn kind_at_fault<'a>(
     Ok(part.unwrap_or(Part::Nothing))
 }
 
-fn first_without_kind<'a, K: Kind>(entries: Option<&'a Map<String, Value>>) -> Option<Part<'a>>
-    ensures { let ms = members (option_map (λ m. members_view m.now.entries) entries.entry) in
-        option_map seen result ≡ option_map entry (kindless K.kind_named K.same_kind ms) }
-{
-    for (key, value) in entries?.iter() {
-        if kind_in::<K>(value).is_none() {
-            return Some(Part::Member(key.as_str(), value));
-        }
-    }
-    None
-}
-
 fn two_kinds<'a, K: Kind>(
     alloc: Global,
     aliases: &Aliases,
@@ -136,30 +123,12 @@ fn two_kinds<'a, K: Kind>(
     ensures { let ms = members (option_map (λ m. members_view m.now.entries) entries.entry) in
         IfOk result (λ part. option_map seen part ≡ two_kinds K.kind_named K.same_kind aliases.now ms) }
 {
-    let Some(entries) = entries else {
+    let Some(members) = entries else {
         return Ok(None);
     };
-    let mut gathered = NameTableBuilder::new(alloc);
-    for (key, value) in entries.iter() {
-        if let Some((name, kind)) = named_kind::<K>(aliases, key.as_str(), value)? {
-            let known = gathered.add(name, kind)?;
-            if !kind.is(known) {
-                return Ok(Some(beside_first(aliases, entries, key.as_str())));
-            }
-        }
+    let names = read_table::<K>(alloc, aliases, entries)?;
+    match first_of_other_kind(&names, aliases, entries) {
+        Some(key) => Ok(Some(beside_first(aliases, members, key))),
+        None => Ok(None),
     }
-    Ok(None)
-}
-
-fn named_kind<K: Kind>(
-    aliases: &Aliases,
-    key: &str,
-    value: &Value,
-) -> Result<Option<(Name, K)>, AllocError>
-    ensures { IfOk result (λ e. e ≡ named_kind K.kind_named K.same_kind aliases.now (key.now, view value.now)) }
-{
-    let Some(name) = name_of(aliases, key)? else {
-        return Ok(None);
-    };
-    Ok(kind_in::<K>(value).map(|kind| (name, kind)))
 }

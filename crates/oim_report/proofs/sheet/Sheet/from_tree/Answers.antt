@@ -1,24 +1,21 @@
-use Rattle.std.proofs.Common.{inl, inr, ⊎_elim, Err, rules, sym, ap, ◌∙◌, option_map}
-use Rattle.std.proofs.lemmas.Result.{err_from_is_err_and}
-use Rattle.std.proofs.lemmas.Bool.{or_left, or_right}
-use Rattle.serde_json.specs.View.{members_view, view}
+use Rattle.std.proofs.Common.{rules, ap, ◌∙◌}
+use Rattle.serde_json.specs.View.{view}
 use Rattle.oim_report.specs.Json.{members}
-use Rattle.oim_report.specs.Refusal.{unless}
-use Rattle.oim_report.specs.Sheet.{key_names, said_sheet}
-use Rattle.oim_report.proofs.SheetEntries.{names-parts, kinds_refused, sheet_least}
+use Rattle.oim_report.specs.Namespaces.{bindings_in}
+use Rattle.oim_report.specs.Sheet.{concept_kind_named, dimension_kind_named, listed, same_concept_kind, same_dimension_kind}
+use Rattle.oim_report.proofs.SheetEntries.{sheet_least}
 use Rattle.oim_report.proofs.sheet.Sheet.from_tree.Goals as goal
 
-pub read_table-requires : goal.read_table-requires
-read_table-requires c =
-    let listed = key_names (members (option_map (λ m. members_view m.now.entries) c.object_at-listed.result)) in
-    let defined = key_names (members (option_map (λ m. members_view m.now.entries) c.object_at-defined.result)) in
-    (names-parts c.in_ok-aliases.aliases listed defined (sym c.in_ok-check_names.ensures)).0
+pub check_entries-requires-clause-bindings : goal.check_entries-requires-clause-bindings
+check_entries-requires-clause-bindings c = c.in_ok-aliases.ensures.bound.0 ∙ ap (λ o. bindings_in (members o)) c.object_at.ensures
 
-pub read_table-requires-2 : goal.read_table-requires-2
-read_table-requires-2 c =
-    let listed = key_names (members (option_map (λ m. members_view m.now.entries) c.object_at-listed.result)) in
-    let defined = key_names (members (option_map (λ m. members_view m.now.entries) c.object_at-defined.result)) in
-    (names-parts c.in_ok-aliases.aliases listed defined (sym c.in_ok-check_names.ensures)).1
+pub check_entries-requires-clause-listed : goal.check_entries-requires-clause-listed
+check_entries-requires-clause-listed c =
+    let is = c.in_ok-aliases.ensures.bound.0 ∙ ap (λ o. bindings_in (members o)) c.object_at.ensures in
+    λ i. record {
+      concepts = (c.in_ok-concepts.ensures ∙ (λ j. listed concept_kind_named same_concept_kind (is j) (members (c.object_at-listed.ensures j)))) i;
+      dimensions = (c.in_ok-dimensions.ensures ∙ (λ j. listed dimension_kind_named same_dimension_kind (is j) (members (c.object_at-defined.ensures j)))) i;
+    }
 
 pub returns-in_err-check_form-clause-errors : goal.returns-in_err-check_form-clause-errors
 returns-in_err-check_form-clause-errors c = rw (← sheet_least (view c.args.tree.now)) (search rules)
@@ -26,24 +23,8 @@ returns-in_err-check_form-clause-errors c = rw (← sheet_least (view c.args.tre
 pub returns-in_err-aliases-clause-errors : goal.returns-in_err-aliases-clause-errors
 returns-in_err-aliases-clause-errors c = rw (← sheet_least (view c.args.tree.now)) (search rules)
 
-pub returns-in_err-check_names-clause-errors : goal.returns-in_err-check_names-clause-errors
-returns-in_err-check_names-clause-errors c = rw (← sheet_least (view c.args.tree.now)) (search rules)
-
-pub returns-in_err-concepts-clause-errors : goal.returns-in_err-concepts-clause-errors
-returns-in_err-concepts-clause-errors c =
-    let tree = view c.args.tree.now in
-    let p = err_from_is_err_and c.from_residual-in_err-concepts.result c.from_residual-in_err-concepts.ensures.1 in
-    rw (p.1, p.2) (⊎_elim (λ memory. inl memory)
-    (λ bad. inr (ap (λ o. unless o (said_sheet tree)) (kinds_refused tree c.in_ok-aliases.aliases _ _ _ c.in_ok-check_form.ensures c.object_at.ensures c.in_ok-aliases.ensures.bound c.object_at-listed.ensures c.object_at-defined.ensures c.in_ok-check_names.ensures (or_left _ _ bad.1)) ∙ ap Err (sym bad.0)))
-    c.in_err-concepts.ensures.refused)
-
-pub returns-in_err-dimensions-clause-errors : goal.returns-in_err-dimensions-clause-errors
-returns-in_err-dimensions-clause-errors c =
-    let tree = view c.args.tree.now in
-    let p = err_from_is_err_and c.from_residual-in_err-dimensions.result c.from_residual-in_err-dimensions.ensures.1 in
-    rw (p.1, p.2) (⊎_elim (λ memory. inl memory)
-    (λ bad. inr (ap (λ o. unless o (said_sheet tree)) (kinds_refused tree c.in_ok-aliases.aliases _ _ _ c.in_ok-check_form.ensures c.object_at.ensures c.in_ok-aliases.ensures.bound c.object_at-listed.ensures c.object_at-defined.ensures c.in_ok-check_names.ensures (or_right _ _ bad.1)) ∙ ap Err (sym bad.0)))
-    c.in_err-dimensions.ensures.refused)
+pub returns-in_err-check_entries-clause-errors : goal.returns-in_err-check_entries-clause-errors
+returns-in_err-check_entries-clause-errors c = rw (← sheet_least (view c.args.tree.now)) (search rules)
 
 pub returns-clause-ok : goal.returns-clause-ok
 returns-clause-ok c = rw (← sheet_least (view c.args.tree.now)) (search rules)

@@ -1,12 +1,17 @@
-use Rattle.std.proofs.Common.{◌≡◌, Some, IfSome, option_map}
+use Rattle.std.proofs.Common.{◌≡◌, ◌++◌, [], ℕ, List, filter, option_map}
+use Rattle.std.specs.Option.{unwrap_or}
+use denote.Shadow.{shadow}
+use denote.Text.{Utf8}
 use Rattle.oim_names.specs.Bindings.{uri_of}
 use Rattle.serde_json.specs.View.{members_view}
 use Rattle.oim_report.specs.Json.{members}
-use Rattle.oim_report.proofs.SheetEntries.{Lists}
+use Rattle.oim_report.specs.Sheet.{entries_in}
+use Rattle.oim_report.specs.code.NameLists.{AreLists, SharesUri, has_uri, list_at}
 use Rattle.oim_report.proofs.sheet.name_table.read_table.Given as goal
 
+-- the names that were read and those that are left are those of the object
 abbrev pub invariant-loop-key : goal.invariant-loop-key
-invariant-loop-key g l = record {
-  names : Lists g.K.Kind.kind_named g.K.Kind.same_kind l.aliases (members (option_map (λ m. members_view m.now.entries) l.object)) (members_view l.key-iterator) l.gathered.names;
-  last : IfSome l.last (λ p. uri_of l.aliases p.now ≡ Some l.gathered.uri);
-}
+invariant-loop-key g l =
+    let entries = entries_in g.K.Kind.kind_named g.K.Kind.same_kind l.aliases in
+    shadow (Utf8 l.last) × AreLists l.lists × SharesUri (unwrap_or (uri_of l.aliases l.last) []) l.run.items
+    × ((u : List ℕ) → (list_at l.lists u ++ filter (has_uri u) l.run.items) ++ filter (has_uri u) (entries (members_view l.key-iterator)) ≡ filter (has_uri u) (entries (members (option_map (λ m. members_view m.now.entries) l.object))))

@@ -1,5 +1,5 @@
 use Rattle.oim_report.proofs.Shared.{◌≡◌, option_map, members_view, members, kindless}
-use Rattle.oim_report.proofs.sheet.sheet_part.first_without_kind.Given as goal
+use Rattle.oim_report.proofs.sheet.name_table.first_without_kind.Given as goal
 
 abbrev pub invariant-loop-key : goal.invariant-loop-key
 invariant-loop-key g l =
