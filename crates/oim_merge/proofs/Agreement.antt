@@ -1,41 +1,9 @@
 -- Each replica that exchanges texts has the base, and says the same, as a new merge of the accepted reports that reached it since its
 -- last restart.
-use Rattle.std.proofs.Common.{◌≡◌, ℕ, List, [], ◌++◌, Result, Ok, Err, refl, sym, ap, ◌∙◌, ⊎_elim, zero, suc, ◌-◌, ◌∷◌, map, length, get_or, set, replicate, Option, Some, None, subst}
-use Rattle.std.specs.Prelude.{Contains, flat_map, option_map}
-use Rattle.std.specs.Cmp.{nat_cmp_total}
-use Rattle.std.specs.List.{Any}
-use Rattle.std.proofs.lemmas.List.Concat.{flat_map-append}
-use Rattle.std.proofs.lemmas.List.Folds.{flat_map-map}
-use Rattle.std.proofs.lemmas.Map.Lookups.{exact_unsigned}
-use Rattle.merge_laws.specs.Members.{SameMembers}
-use Rattle.oim_report.specs.Document.{Document}
-use Rattle.oim_report.specs.Outcome.{outcome}
-use Rattle.oim_report.specs.Sheet.{Sheet}
-use Rattle.oim_report.specs.declared.refusal.Refusal.{Refusal}
-use Rattle.fact_base.specs.Body.{Body, body, union}
-use Rattle.fact_base.specs.Contents.{Contents}
-use Rattle.fact_base.specs.Fits.{Fits, IsAccepted}
-use Rattle.fact_base.proofs.Bodies.{accepted_fits, body_ignores_order, body_of_both}
-use Rattle.fact_base.proofs.Members.{each_by_there, first_or_later, in_flat_map, none_there, some_in_other}
-use Rattle.fact_base.proofs.Sets.{set_of_is_set}
-use Rattle.oim_merge.specs.Reports.{accepted, document_in}
-use Rattle.oim_merge.specs.Replicas.{Numbers, base_named, both, documents_named, joined_with, report, Agree, ReplicasStay, WireAgrees, Writer, earlier, present, reached, text_by, text_chosen, wire, with_accepted, with_outcome, EqualSetsWriteTheSame, ReplicasSayAsAfresh}
-use Rattle.std.proofs.lemmas.List.{map-set, length-set, length-replicate}
+use Rattle.oim_merge.proofs.Shared.{◌≡◌, ℕ, List, [], ◌++◌, Result, Ok, Err, refl, sym, ap, ◌∙◌, ⊎_elim, zero, suc, ◌-◌, ◌∷◌, map, length, get_or, set, replicate, Option, Some, None, subst, Contains, flat_map, option_map, nat_cmp_total, Any, flat_map-append, flat_map-map, exact_unsigned, SameMembers, Document, outcome, Sheet, Refusal, Body, body, union, Contents, Fits, IsAccepted, accepted_fits, body_ignores_order, body_of_both, each_by_there, first_or_later, in_flat_map, none_there, some_in_other, set_of_is_set, accepted, document_in, Numbers, base_named, both, documents_named, joined_with, report, Agree, ReplicasStay, WireAgrees, Writer, earlier, present, reached, text_by, text_chosen, wire, with_accepted, with_outcome, EqualSetsWriteTheSame, ReplicasSayAsAfresh, map-set, length-set, length-replicate, base_of, IsReadAsBody, Machine, World, happens, keeps, kept_by, numbered, receives, run, start, world_after, Event, Take, Join, Send, Receive, Restart, unwrap_or, slice_get-map, level_of, values_at, verdict, canonical, all_zipped_more}
 use Rattle.std.proofs.Math.ListN.{get_or-map}
-use Rattle.oim_merge.specs.Bases.{base_of}
-use Rattle.oim_merge.specs.History.{IsReadAsBody}
-use Rattle.oim_merge.specs.Schedule.{Machine, World, happens, keeps, kept_by, numbered, receives, run, start, world_after}
-use Rattle.oim_merge.specs.declared.event.Event.{Event}
-use Rattle.oim_merge.specs.declared.event.Event.TheVariants.{Take, Join, Send, Receive, Restart}
 use Rattle.oim_merge.proofs.Histories.{earlier_texts_give_bodies, texts_give_bodies}
 use Rattle.oim_merge.proofs.Zips.{AtBoth, zip_numbered}
-use Rattle.std.specs.Option.{unwrap_or}
-use Rattle.std.proofs.lemmas.Option.{slice_get-map}
-use Rattle.oim_report.specs.Duplicates.{level_of}
-use Rattle.fact_base.specs.Rows.{values_at}
-use Rattle.fact_base.specs.Verdict.{verdict}
-use Rattle.oim_write.specs.Bytes.{canonical}
-use Rattle.std.proofs.lemmas.Slice.Zip.{all_zipped_more}
 
 -- ---- reports with numbers
 

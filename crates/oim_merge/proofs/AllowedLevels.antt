@@ -1,30 +1,8 @@
 -- A body stays within a level if and only if the level of its facts is that level or a stricter one.
-use Rattle.std.proofs.Common.{◌≡◌, Bool, true, false, not, ◌&&◌, cond, List, [], ◌∷◌, map, refl, sym, ap, ◌∙◌}
-use Rattle.std.specs.Prelude.{All}
-use Rattle.std.specs.List.{AllByRecursion, list_all}
+use Rattle.oim_merge.proofs.Shared.{◌≡◌, Bool, true, false, not, ◌&&◌, cond, List, [], ◌∷◌, map, refl, sym, ap, ◌∙◌, All, AllByRecursion, list_all, is_le, ord_max, Less, not-false, All-head, All-tail, All-weaker, summary_of_all, IsRising, IsSet, entry_key, level_cmp, value_cmp, Level, Unique, Complete, Consistent, AllLevel, Value, DimensionSet, dimensions_cmp, level_of, Entry, facts_of_entries, Row, rows_of, each_meet, verdict_of, facts_are, rows_tell_facts, AllowedIsDeclared, is_above, row_is_above, some_above, AllPass-from_list_all, list_all-from_AllPass}
 use Rattle.std.specs.List.Sorted.{IsStrictlySortedBy}
-use Rattle.std.specs.Ordering.{is_le, ord_max}
-use Rattle.std.specs.declared.cmp.Ordering.TheVariants.{Less}
-use Rattle.std.proofs.lemmas.Bool.{not-false}
-use Rattle.std.proofs.lemmas.List.Elements.{All-head, All-tail, All-weaker}
-use Rattle.merge_laws.specs.Ends.{summary_of_all}
-use Rattle.merge_laws.specs.Sorted.{IsRising, IsSet, entry_key}
-use Rattle.oim_value.specs.Level.{level_cmp}
-use Rattle.oim_value.specs.ValueOrder.{value_cmp}
-use Rattle.oim_value.specs.declared.level.Level.{Level}
-use Rattle.oim_value.specs.declared.level.Level.TheVariants.{Unique, Complete, Consistent, All as AllLevel}
-use Rattle.oim_value.specs.declared.value.Value.{Value}
-use Rattle.oim_dims.specs.DimensionSet.{DimensionSet}
-use Rattle.oim_dims.specs.FactOrder.{dimensions_cmp}
-use Rattle.oim_report.specs.Duplicates.{level_of}
-use Rattle.fact_base.specs.Entries.{Entry, facts_of_entries}
-use Rattle.fact_base.specs.Rows.{Row, rows_of}
-use Rattle.fact_base.specs.Verdict.{each_meet, verdict_of}
 use Rattle.fact_base.specs.declared.verdict.Verdict.TheVariants.{Consistent as IsConsistent, Inconsistent as IsInconsistent}
-use Rattle.fact_base.proofs.Levels.{highest, highest_is, level_of_values}
-use Rattle.fact_base.proofs.RowsOf.{facts_are, rows_tell_facts}
-use Rattle.oim_merge.specs.Above.{AllowedIsDeclared, is_above, row_is_above, some_above}
-use Rattle.std.proofs.lemmas.List.Sums.{AllPass-from_list_all, list_all-from_AllPass}
+use Rattle.fact_base.proofs.Levels.{highest, highest_is, level_of_values, each}
 
 -- ---- rows as entries
 
@@ -45,12 +23,6 @@ sets_too [] sets = tt
 sets_too (r ∷ rs) sets = (All-head (λ (q : Row). IsSet value_cmp q.1) r rs sets, sets_too rs (All-tail (λ (q : Row). IsSet value_cmp q.1) r rs sets))
 
 -- ---- levels
-
-each : (P : Level → Type 0) → P Unique → P Complete → P Consistent → P AllLevel → (l : Level) → P l
-each P a b c d Unique = a
-each P a b c d Complete = b
-each P a b c d Consistent = c
-each P a b c d AllLevel = d
 
 abbrev Splits : Level → Level → Level → Type 0
 Splits x y l = is_le (level_cmp (ord_max level_cmp x y) l) ≡ (is_le (level_cmp x l) && is_le (level_cmp y l))

@@ -1,21 +1,8 @@
 -- The texts of numbers, and the lines of events.
-use Rattle.std.proofs.Common.{◌≡◌, ◌≢◌, ℕ, ◌^◌, ◌<◌, List, length, get_or, sym, ap, subst, ◌∙◌, arith, ◌+◌, ◌∷◌, ◌++◌, take, drop, cond, refl}
-use Rattle.std.specs.Prelude.{Bool, ◌==◌, Result, Ok, Err, MatchOption, Some, None, position}
+use Rattle.oim_merge.proofs.Shared.{◌≡◌, ◌≢◌, ℕ, ◌^◌, ◌<◌, List, length, get_or, sym, ap, subst, ◌∙◌, arith, ◌+◌, ◌∷◌, ◌++◌, take, drop, cond, refl, Bool, ◌==◌, Result, Ok, Err, MatchOption, Some, None, position, result_ok, IsUtf8, AllDigits, ParsesUnsigned, digits_value, IsUtf8-from_ascii, IsNumberText, AreNumbersText, position_or_len, eqb-true, lt-ltb, ne_eqb, drop-drop, drop_at, drop_more, get_or_append_left, get_or_at, length-append, take_at, take-append-drop, position-Some, position_or_len_is, Take, Join, Send, Receive, Restart, LinesSayOneEvent}
 use Rattle.std.specs.Fmt.{decimal}
-use Rattle.std.specs.Result.{result_ok}
-use Rattle.std.specs.Str.{IsUtf8}
-use Rattle.std.specs.Str.Parse.{AllDigits, ParsesUnsigned, digits_value}
 use Rattle.std.proofs.lemmas.Fmt.{IsAscii-decimal, decimal_digit, decimal_is_IsNumeral, decimal-digits_value, first_decimal, parse-decimal, decimal_injective}
-use Rattle.std.proofs.lemmas.Str.{IsUtf8-from_ascii}
 use Rattle.std.proofs.lemmas.Str.Parse.{IsNumeralModel, numerals_by_value, parse_plain, tells_digits, digit_at}
-use Rattle.oim_merge.specs.code.EventTokens.{IsNumberText, AreNumbersText}
-use Rattle.std.specs.List.{position_or_len}
-use Rattle.std.proofs.lemmas.Bool.{eqb-true, lt-ltb, ne_eqb}
-use Rattle.std.proofs.lemmas.List.{drop-drop, drop_at, drop_more, get_or_append_left, get_or_at, length-append, take_at, take-append-drop}
-use Rattle.std.proofs.lemmas.List.Quantifiers.{position-Some}
-use Rattle.std.proofs.lemmas.List.Sums.{position_or_len_is}
-use Rattle.oim_merge.specs.declared.event.Event.TheVariants.{Take, Join, Send, Receive, Restart}
-use Rattle.oim_merge.specs.EventLines.{LinesSayOneEvent}
 
 -- the text is not empty, begins with a character above `0`, and is UTF-8
 pub record LooksLikeNumber (text : List ℕ) : Type 0 where

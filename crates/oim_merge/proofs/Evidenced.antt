@@ -1,43 +1,20 @@
 -- Evidence exists and is unique for each dimension set of a body that fits a sheet.
-use Rattle.std.proofs.Common.{◌≡◌, ◌≢◌, ℕ, ◌<◌, ◌≤◌, Bool, true, false, List, [], ◌∷◌, length, Option, Some, None, ◌++◌, inl, inr, refl, sym, ap, subst, ◌∙◌, arith}
-use Rattle.std.proofs.lemmas.List.Elements.{All-contains}
-use mathlib.Core.Bool.{true≢false}
-use Rattle.std.specs.Prelude.{Contains, codes, slice_get, ℤ, ◌≤ℤ◌, if◌then◌else◌}
-use Rattle.std.specs.Option.{unwrap_or}
+use Rattle.oim_merge.proofs.Shared.{◌≡◌, ◌≢◌, ℕ, ◌<◌, ◌≤◌, Bool, true, false, List, [], ◌∷◌, length, Option, Some, None, ◌++◌, inl, inr, refl, sym, ap, subst, ◌∙◌, arith, All-contains, true≢false, Contains, codes, slice_get, ◌≤ℤ◌, if◌then◌else◌, unwrap_or, get_or_from_slice_get, slice_get_within, Summarised, summary_of_all, value_cmp, Value, Nil, Number, AText, AName, DimensionSet, Fact, Body, facts_with, Fits, FactFits, IsSet, Sheet, Row, rows_of, values_at, IsCommonOf, IsEvidence, IsPairOf, begin_with_numbers, each_meet, verdict, verdict_of, Evidence, Alike, Common, Apart, each_by_there, in_flat_map, some_there, rows_tell_facts, LinesTellVerdicts, WordsShowVerdicts, verdict_shown, row_facts, rows_facts_are}
 use Rattle.std.proofs.lemmas.Int.{ints}
-use Rattle.std.proofs.lemmas.Option.{get_or_from_slice_get, slice_get_within}
-use Rattle.merge_laws.specs.Ends.{Summarised, summary_of_all}
 use Rattle.oim_value.specs.Ends.{intervals_of}
 use Rattle.oim_value.specs.Meets.{Meets}
 use Rattle.oim_value.specs.Plain.{plain}
 use Rattle.oim_value.specs.SeveralMeet.{AreApart, EachTwoValuesMeet, index_of_greatest_low, index_of_least_high}
-use Rattle.oim_value.specs.ValueOrder.{value_cmp}
 use Rattle.oim_value.specs.declared.interval.Interval.{Interval}
-use Rattle.oim_value.specs.declared.value.Value.{Value}
-use Rattle.oim_value.specs.declared.value.Value.TheVariants.{Nil, Number, Text as AText, Name as AName}
-use Rattle.oim_value.proofs.Ends.{ends_exist}
+use Rattle.oim_value.proofs.Ends.{ends_exist, one_number}
 use Rattle.oim_value.proofs.Meeting.{meets_is_reflexive}
 use Rattle.oim_value.proofs.SeveralMeet.{each_two_meet_by_members}
-use Rattle.oim_dims.specs.DimensionSet.{DimensionSet}
-use Rattle.oim_dims.specs.declared.fact.Fact.{Fact}
-use Rattle.fact_base.specs.Body.{Body}
-use Rattle.fact_base.specs.Entries.{facts_with}
 use Rattle.fact_base.specs.code.Entries.{EntryFits}
-use Rattle.fact_base.specs.Fits.{Fits}
 use Rattle.fact_base.specs.code.Judged.{AreSummarised, shared_by}
-use Rattle.fact_base.specs.Passed.{FactFits, IsSet, Sheet}
-use Rattle.fact_base.specs.Rows.{Row, rows_of, values_at}
-use Rattle.fact_base.specs.Verdict.{IsCommonOf, IsEvidence, IsPairOf, begin_with_numbers, each_meet, verdict, verdict_of}
 use Rattle.fact_base.specs.declared.verdict.Verdict.TheVariants.{Complete, Consistent, Inconsistent}
-use Rattle.fact_base.specs.declared.evidence.Evidence.{Evidence}
-use Rattle.fact_base.specs.declared.evidence.Evidence.TheVariants.{Alike, Common, Apart}
 use Rattle.fact_base.proofs.Fitting.{entry_summarised}
-use Rattle.fact_base.proofs.Members.{each_by_there, in_flat_map, some_there}
-use Rattle.fact_base.proofs.RowsOf.{rows_tell_facts}
 use Rattle.fact_base.proofs.Verdicts.{inconsistent_is_apart}
 use Rattle.fact_base.proofs.Summaries.{crossed_are_apart, nil_is_apart, no_number_is_apart, shared_is_common}
-use Rattle.oim_merge.specs.Lines.{LinesTellVerdicts, WordsShowVerdicts, verdict_shown}
-use Rattle.oim_write.proofs.NumberedFacts.{row_facts, rows_facts_are}
 
 -- the values of a dimension set are distinct and sorted, and those that are not nil are of one kind
 summarised : (sheet : Sheet) (b : Body) → Fits sheet b → (r : Row) → Contains (rows_of b.facts) r → AreSummarised r.1 (summary_of_all r.1)
@@ -93,9 +70,6 @@ one_not_apart vs i j one apart =
 none_apart : (vs : List Value) (i j : ℕ) → EachTwoValuesMeet vs → ¬ (AreApart vs i j)
 none_apart vs i j each apart =
     apart.apart ((each_two_meet_by_members vs).0 each apart.first apart.second (stands vs i apart.first apart.first_there) (stands vs j apart.second apart.second_there))
-
-one_number : {x y : ℤ} → x ≤ℤ y → y ≤ℤ x → x ≡ y
-one_number p q = omega (arith, ints, p, q)
 
 low_within : (vs : List Value) (a b : Interval) → IsCommonOf vs a → IsCommonOf vs b → b.low ≤ℤ a.low
 low_within vs a b first second = ((second.within a.low).1 ((first.within a.low).0 (record { above = omega (arith, ints); below = first.points }))).above

@@ -1,39 +1,10 @@
 -- A base depends only on the set of its documents, and its text is read as its body. The facts of a canonical report ascend strictly.
-use Rattle.std.proofs.Common.{◌≡◌, inl, ⊎_elim, [], ◌∷◌, ◌++◌, append-nil, Result, Ok, Err, Some, refl, sym, ap, subst, ◌∙◌, ℕ, ◌+◌, ◌<◌, Bool, true, false, not, List, get_or, length, slice_get, eqb, eq-eqb, ne_eqb, lt_trans, inr, arith, zero-add}
-use Rattle.std.specs.Prelude.{Contains, ◌↔◌, IsTrue, EachIndex}
-use Rattle.oim_value.specs.declared.level.Level.TheVariants.{All as AllLevel}
-use Rattle.oim_dims.proofs.Orders.{fact_cmp_exact, fact_cmp_total}
-use Rattle.oim_dims.specs.FactOrder.{fact_cmp}
-use Rattle.oim_report.specs.Document.{Document}
-use Rattle.oim_report.specs.Duplicates.{level_of}
-use Rattle.oim_report.specs.Outcome.{outcome}
-use Rattle.oim_report.specs.Sheet.{Sheet}
-use Rattle.fact_base.specs.Body.{Body, body, union, text_cmp}
-use Rattle.fact_base.specs.Fits.{Fits, IsAccepted}
+use Rattle.oim_merge.proofs.Shared.{◌≡◌, inl, ⊎_elim, [], ◌∷◌, ◌++◌, append-nil, Result, Ok, Err, Some, refl, sym, ap, subst, ◌∙◌, ℕ, ◌+◌, ◌<◌, Bool, true, false, not, List, get_or, length, slice_get, eqb, eq-eqb, inr, arith, zero-add, Contains, ◌↔◌, IsTrue, EachIndex, AllLevel, fact_cmp_exact, fact_cmp_total, fact_cmp, Document, level_of, outcome, Sheet, Body, body, union, text_cmp, Fits, IsAccepted, accepted_fits, body_ignores_order, body_of_both, first_there, later_there, first_or_later, in_one_of_both, is_set_of, canonical, fresh, took, joined, documents_of, EarlierTextsGiveBodies, HistoriesAreForgotten, HistoriesGiveBodies, MergedTextsMerge, TextsGiveBodies, MergedTextsAreCanonical, document_at, All, IsAllAdjacentAnswer, IsDistinct, range_with_len, option_cmp, is_eq, is_lt, nat_cmp, ordering_reverse, Ordering, Less, Equal, Greater, both_ways, cases_order, false≢true, nat_cmp_total, nat_eq_equiv, ranked, All-cons, All-nil, Contains-permutation, IsPermutation-sym, length_permutation, IsDistinct-IsPermutation, Less-from_sorted, apart_from_distinct, sorted_from_all_adjacent, sorted_from_strictly_increasing, slice_get-get_or, IsSet, Fact, range_once}
 use Rattle.fact_base.specs.Sets.{set_of}
-use Rattle.fact_base.proofs.Bodies.{accepted_fits, body_ignores_order, body_of_both}
-use Rattle.fact_base.proofs.Members.{first_there, later_there, first_or_later, in_one_of_both}
-use Rattle.fact_base.proofs.Sets.{is_set_of}
 use Rattle.fact_base.proofs.TextOrder.{text_cmp_exact, text_cmp_total}
 use Rattle.oim_merge.proofs.ReadsBack.{canonical_reads_back, earlier_reads_back}
-use Rattle.oim_write.specs.Bytes.{canonical}
-use Rattle.oim_merge.specs.History.{fresh, took, joined, documents_of, EarlierTextsGiveBodies, HistoriesAreForgotten, HistoriesGiveBodies, MergedTextsMerge, TextsGiveBodies}
-use Rattle.oim_merge.specs.ReadBack.{MergedTextsAreCanonical, document_at}
-use Rattle.std.specs.List.{All, IsAllAdjacentAnswer, IsDistinct, range_with_len}
 use Rattle.std.specs.List.Sorted.{IsSorted, IsStrictlyIncreasing, IsStrictlySortedBy}
-use Rattle.std.specs.Option.{option_cmp}
-use Rattle.std.specs.Ordering.{is_eq, is_lt, nat_cmp, ordering_reverse}
-use Rattle.std.specs.declared.cmp.Ordering.{Ordering}
-use Rattle.std.specs.declared.cmp.Ordering.TheVariants.{Less, Equal, Greater}
-use Rattle.std.proofs.lemmas.Bool.{both_ways, cases_order, false≢true}
-use Rattle.std.proofs.lemmas.Cmp.{nat_cmp_total, nat_eq_equiv, ranked}
-use Rattle.std.proofs.lemmas.List.Elements.{All-cons, All-nil}
 use Rattle.std.proofs.lemmas.List.FromFn.{get_or-range_with_len, length-range_with_len}
-use Rattle.std.proofs.lemmas.List.Sorted.{Contains-permutation, IsPermutation-sym, length_permutation}
-use Rattle.std.proofs.lemmas.Map.Keys.{IsDistinct-IsPermutation, IsDistinct-from_apart, Less-from_sorted, apart_from_distinct, sorted_from_all_adjacent, sorted_from_strictly_increasing}
-use Rattle.std.proofs.lemmas.Option.{slice_get-get_or}
-use Rattle.merge_laws.specs.Sorted.{IsSet}
-use Rattle.oim_dims.specs.declared.fact.Fact.{Fact}
 use Rattle.oim_report.specs.Report.{IsOrderOf}
 use Rattle.oim_report.proofs.Indices.{indices_within}
 use Rattle.fact_base.proofs.Passed.{set_is_its_members}
@@ -115,19 +86,12 @@ rising_differ : (facts : List Fact) → IsSet fact_cmp facts → Differ facts fa
 rising_differ [] rises (k, within, alike) = absurd (omega (arith, within))
 rising_differ (f ∷ fs) rises (k, within, alike) = alike f ∙ ap (λ o. not (is_eq o)) (Less-from_sorted fact_cmp (f ∷ fs) k (k + 1) f rises (omega arith) within)
 
-range_distinct : (n : ℕ) → IsDistinct eqb (range_with_len 0 n)
-range_distinct n = IsDistinct-from_apart eqb (range_with_len 0 n) (λ i j d before within.
-    let there : j < n = omega (arith, within, length-range_with_len 0 n) in
-    let first = get_or-range_with_len 0 n i d (lt_trans before there) in
-    let second = get_or-range_with_len 0 n j d there in
-    ne_eqb (get_or (range_with_len 0 n) i d) (get_or (range_with_len 0 n) j d) (λ e. omega (arith, e, before, first, second)))
-
 module _ (facts : List Fact) (order : List ℕ) (ordered : IsOrderOf facts order) where
   as_many : length order ≡ length facts
   as_many = length_permutation (range_with_len 0 (length facts)) order ordered.each_once ∙ length-range_with_len 0 (length facts)
 
   distinct : IsDistinct eqb order
-  distinct = IsDistinct-IsPermutation eqb nat_eq_equiv.symm (range_with_len 0 (length facts)) order ordered.each_once (range_distinct (length facts))
+  distinct = IsDistinct-IsPermutation eqb nat_eq_equiv.symm (range_with_len 0 (length facts)) order ordered.each_once (range_once (length facts))
 
   sorted_in_place : EachIndex order (λ k. get_or order k 0 ≡ k) → IsSorted fact_cmp facts
   sorted_in_place indexed k d low within =

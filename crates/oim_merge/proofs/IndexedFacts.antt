@@ -1,31 +1,6 @@
 -- Grouping mentions by the indices of their facts groups the mentions by fact.
-use Rattle.std.proofs.Common.{◌≡◌, ℕ, zero, suc, ◌+◌, ◌<◌, ◌≤◌, List, [], ◌∷◌, ◌++◌, length, get_or, Bool, true, false, not, ◌&&◌, ⊎_elim, refl, sym, ap, ◌∙◌, arith, cond, append_assoc, map, ◌≢◌}
-use Rattle.std.specs.Prelude.{filter, nat_lt, Contains}
-use Rattle.std.specs.List.{AllByRecursion, All, HoldsAt}
-use Rattle.std.specs.List.Sorted.{IsNonDecreasingBy, IsStableByKey, ties, IsPermutation, IsPartitionPoint, IsPartitionedBy}
-use Rattle.std.specs.Cmp.{tied_itself, Equal-is}
-use Rattle.std.specs.Ordering.{is_eq, is_lt, nat_cmp, ordering_reverse}
-use Rattle.std.specs.declared.cmp.Ordering.{Ordering}
-use Rattle.std.specs.declared.cmp.Ordering.TheVariants.{Less}
-use Rattle.std.proofs.lemmas.Bool.{cases_Bool, false≢true, false_from_ne_true}
-use Rattle.std.proofs.lemmas.Bool.Decides.{nat_tests}
-use Rattle.std.proofs.lemmas.Cmp.{nat_cmp_total}
-use Rattle.std.proofs.lemmas.Map.Lookups.{exact_unsigned}
-use Rattle.oim_merge.specs.declared.mentions.IndexedMention.{IndexedMention}
-use Rattle.std.proofs.lemmas.List.Elements.{All-contains}
-use Rattle.std.proofs.lemmas.List.{get_or-append-add, get_or_default, length-append, map-append, get_or-map, length-map}
-use Rattle.std.proofs.lemmas.List.Sorted.{All-permutation}
-use Rattle.fact_base.proofs.Members.{each_by_there, each_in_turn, turn_there}
-use Rattle.merge_laws.specs.Sorted.{IsSet}
-use Rattle.oim_dims.specs.FactOrder.{fact_cmp}
-use Rattle.oim_dims.specs.declared.fact.Fact.{Fact}
-use Rattle.oim_dims.proofs.Orders.{fact_cmp_exact, fact_cmp_total}
-use Rattle.oim_write.proofs.Ranks.{rank_at, count_at, parted}
-use Rattle.oim_merge.specs.Mentions.{AreOf, all_indexed, index, indexed}
-use Rattle.oim_merge.specs.Sources.{by_fact, is_of}
-use Rattle.oim_merge.specs.declared.mentions.Mention.{Mention}
-use Rattle.std.proofs.lemmas.Map.Keys.{Less-from_sorted}
-use Rattle.oim_merge.specs.code.BufferedRows.{lent}
+use Rattle.oim_merge.proofs.Shared.{◌≡◌, ℕ, zero, suc, ◌+◌, ◌<◌, ◌≤◌, List, [], ◌∷◌, ◌++◌, length, get_or, Bool, true, false, not, ◌&&◌, ⊎_elim, refl, sym, ap, ◌∙◌, arith, cond, append_assoc, map, ◌≢◌, filter, nat_lt, Contains, AllByRecursion, All, HoldsAt, IsNonDecreasingBy, IsStableByKey, ties, IsPermutation, IsPartitionPoint, IsPartitionedBy, is_eq, is_lt, nat_cmp, ordering_reverse, Ordering, Less, cases_Bool, false≢true, false_from_ne_true, nat_tests, nat_cmp_total, exact_unsigned, IndexedMention, All-contains, get_or-append-add, get_or_default, length-append, map-append, get_or-map, length-map, All-permutation, each_by_there, each_in_turn, turn_there, IsSet, fact_cmp, Fact, fact_cmp_exact, fact_cmp_total, rank_at, count_at, parted, AreOf, all_indexed, index, indexed, by_fact, is_of, Mention, Less-from_sorted, lent}
+use Rattle.std.specs.Cmp.{tied_itself, Equal-is, both_ways}
 use Rattle.oim_merge.specs.declared.fact_list.LentFact.{LentFact}
 
 -- ---- indices
@@ -120,11 +95,6 @@ same_groups k (suc n) ms sorted same = λ i. same k i ++ same_groups (suc k) n m
 
 -- ---- groups by fact
 
-agree : (a b : Bool) → (a ≡ true → b ≡ true) → (b ≡ true → a ≡ true) → a ≡ b
-agree true b f g = sym (f refl)
-agree false true f g = g refl
-agree false false f g = refl
-
 module _ (facts : List Fact) (rise : IsSet fact_cmp facts) where
   pub index_at : (i : ℕ) (d : Fact) → i < length facts → index facts (get_or facts i d) ≡ i
   index_at i d within = let rank : suc (index facts (get_or facts i d)) ≡ i + 1 = rank_at fact_cmp_total facts i d rise within in omega (arith, rank)
@@ -157,7 +127,7 @@ module _ (facts : List Fact) (rise : IsSet fact_cmp facts) where
         default g = get_or_default facts (length done) g f within
 
     same_test : (m : Mention) → Contains facts m.fact → has_index (length done) (indexed facts m) ≡ is_of f m
-    same_test m at = agree (has_index (length done) (indexed facts m)) (is_of f m)
+    same_test m at = both_ways (has_index (length done) (indexed facts m)) (is_of f m)
         (λ here. let same = is_here m.fact at (index_is (length done) (index facts m.fact) here) in ap (λ g. is_eq (fact_cmp g f)) same ∙ ap is_eq (tied_itself fact_cmp_total f))
         (λ of_fact. let same = fact_cmp_exact m.fact f ((Equal-is (fact_cmp m.fact f)).0 of_fact) in is_index (length done) (index facts m.fact) (sym index_here ∙ ap (index facts) (sym same)))
 

@@ -1,3 +1,4 @@
+pub mod Shared
 pub mod Reports
 pub mod Evidenced
 pub mod RowLists

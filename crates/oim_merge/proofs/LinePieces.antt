@@ -1,25 +1,8 @@
 -- The lines of a bundle, and those of a schedule.
-use Rattle.std.proofs.Common.{◌≡◌, ◌<◌, ◌≤◌, ◌+◌, ℕ, List, [], ◌∷◌, ◌++◌, length, drop, filter, true, false, cond, not, inl, inr, sym, ap, ◌∙◌, arith, length-drop, Option, Ok, subst, refl, ⊎_elim, Some, None}
-use Rattle.std.specs.Prelude.{◌==◌, position}
-use Rattle.std.specs.List.{before_first, after_first, position_or_len, AllZip}
-use Rattle.std.proofs.lemmas.Bool.{cases_lt, ne_eqb, lt-ltb}
-use Rattle.std.proofs.lemmas.List.{take_all, drop_all, append-nil, append_assoc}
-use Rattle.std.proofs.lemmas.List.Elements.{filter-append}
-use Rattle.std.proofs.lemmas.List.Sums.{fails_before_first, position_or_len_is}
+use Rattle.oim_merge.proofs.Shared.{◌≡◌, ◌<◌, ◌≤◌, ◌+◌, ℕ, List, [], ◌∷◌, ◌++◌, length, drop, filter, true, false, cond, not, inl, inr, sym, ap, ◌∙◌, arith, length-drop, Option, Ok, subst, refl, ⊎_elim, Some, None, ◌==◌, position, before_first, after_first, position_or_len, AllZip, cases_lt, ne_eqb, lt-ltb, take_all, drop_all, append-nil, append_assoc, filter-append, fails_before_first, position_or_len_is, is_line_end, is_filled, line_pieces, filled_pieces, report_pieces, AllLevel, Sheet, sheet_outcome, Refusal, Added, added, merged, refused, BundleStops, ConsolidatesBundle, IsSheetOf, Stops, StopsBehindSheet, Writes, AllZip-long, all_zipped_more, Event, IsBadLine, IsEventLine, IsFirstBadLine, lines_of, without_empty_last, position-Some}
 use Rattle.std.proofs.lemmas.List.Splits.{slice_split_first, slice_split_none, length-slice_split}
-use Rattle.oim_merge.specs.Bundle.{is_line_end, is_filled, line_pieces, filled_pieces, report_pieces}
-use Rattle.oim_value.specs.declared.level.Level.TheVariants.{All as AllLevel}
-use Rattle.oim_report.specs.Sheet.{Sheet, sheet_outcome}
-use Rattle.oim_report.specs.declared.refusal.Refusal.{Refusal}
-use Rattle.oim_merge.specs.Added.{Added, added}
-use Rattle.oim_merge.specs.Reports.{merged, refused}
-use Rattle.oim_merge.specs.Run.{BundleStops, ConsolidatesBundle, IsSheetOf, Stops, StopsBehindSheet, Writes}
 use Rattle.oim_merge.specs.declared.fault.Fault.{Fault}
 use Rattle.oim_merge.specs.declared.fault.Fault.TheVariants.{OutOfMemory, Sheet as SheetFault}
-use Rattle.std.proofs.lemmas.Slice.Zip.{AllZip-long, all_zipped_more}
-use Rattle.oim_merge.specs.declared.event.Event.{Event}
-use Rattle.oim_merge.specs.EventLines.{IsBadLine, IsEventLine, IsFirstBadLine, lines_of, without_empty_last}
-use Rattle.std.proofs.lemmas.List.Quantifiers.{position-Some}
 
 -- the list of one piece, or no piece if it is empty
 abbrev pub if_filled : List ℕ → List (List ℕ)

@@ -1,14 +1,5 @@
 -- The text of a base that equals what is read from a sent text.
-use Rattle.std.proofs.Common.{◌≡◌, ℕ, ◌<◌, List, [], ◌∷◌, length, get_or, Result, Ok, Err, sym, ap, ◌∙◌}
-use Rattle.std.specs.List.{All}
-use Rattle.fact_base.specs.Contents.{Contents}
-use Rattle.oim_report.specs.Outcome.{outcome}
-use Rattle.oim_report.specs.Sheet.{Sheet}
-use Rattle.oim_report.specs.declared.refusal.Refusal.{Refusal}
-use Rattle.oim_write.specs.Bytes.{canonical}
-use Rattle.oim_merge.specs.Bases.{base_of}
-use Rattle.oim_merge.specs.code.Held.{IsTextAt, IsWritten}
-use Rattle.oim_merge.specs.code.Readings.{read_as}
+use Rattle.oim_merge.proofs.Shared.{◌≡◌, ℕ, ◌<◌, List, [], ◌∷◌, length, get_or, Result, Ok, Err, sym, ap, ◌∙◌, All, Contents, outcome, Sheet, Refusal, canonical, base_of, IsTextAt, IsWritten, read_as}
 use Rattle.oim_merge.proofs.Histories.{texts_give_bodies}
 
 read_or : Contents → Result Contents Refusal → Contents

@@ -1,60 +1,35 @@
 -- The text of a body that fits a sheet is read as the document with the body's facts and references.
-use Rattle.std.proofs.Common.{◌≡◌, ℕ, List, [], ◌∷◌, ◌++◌, true, false, cond, Option, Some, None, ◌+◌, Ok, Err, refl, sym, ap, subst, ◌≢◌, ◌∙◌, codes, map, arith, get_or}
-use Rattle.std.specs.Prelude.{IfSome, option_map, All, Bool, IsTrue, IsUtf8, ◌<◌, ◌↔◌, ⊤, nat_lt, not}
-use Rattle.std.specs.List.{find, list_all}
-use Rattle.std.specs.Str.{bytes_eq, IsAscii, is_utf8}
+use Rattle.oim_merge.proofs.Shared.{◌≡◌, ℕ, List, [], ◌∷◌, ◌++◌, true, false, cond, Option, Some, None, ◌+◌, Ok, Err, refl, sym, ap, subst, ◌≢◌, ◌∙◌, codes, map, arith, get_or, IfSome, option_map, All, Bool, IsTrue, ◌<◌, ◌↔◌, ⊤, nat_lt, not, find, list_all, bytes_eq, IsAscii, is_utf8, Binding, uri_of, Value, AName, Fact, and_parts, false≢true, nat_tests, is_utf8-from_IsUtf8, IsUtf8-from_ascii, All-head, All-tail, Data, string, array, object, Members, no_members, member, level_cmp, level_entry, Level, Unique, AllLevel, is_lt, level_of, any_member, given, text, values, json, Sheet, Document, Refusal, Body, Fits, each_by_there, features_member, identifier, members_before, members_by, name_text, prefix, text_items, tree_declaring, xbrl_member, CanonicalReadsBack, EarlierReadsBack, IsHeldTo, LeastLevelIsDeclared, document_at, EarlierIsNotCanonical, within_limit}
 use Rattle.oim_names.specs.QName.{QName}
-use Rattle.oim_names.specs.Bindings.{Binding, uri_of}
-use Rattle.oim_value.specs.declared.value.Value.{Value}
-use Rattle.oim_value.specs.declared.value.Value.TheVariants.{Name as AName}
 use Rattle.oim_dims.specs.Unit.{Measures}
-use Rattle.oim_dims.specs.declared.fact.Fact.{Fact}
 use Rattle.oim_dims.specs.declared.member.Member.{Member}
 use Rattle.oim_dims.specs.declared.member.Member.TheVariants.{Name as MemberName}
 use Rattle.oim_report.specs.ReadBack.{SpellsDimension, SpellsFact, SpellsMeasures, SpellsMember, SpellsName, SpellsValue}
-use Rattle.std.proofs.lemmas.Bool.{and_parts, false≢true}
-use Rattle.std.proofs.lemmas.Bool.Decides.{nat_tests}
-use Rattle.std.proofs.lemmas.Str.{is_utf8-from_IsUtf8, IsUtf8-from_ascii}
 use Rattle.std.proofs.lemmas.Str.Ascii.{IsAscii-nil, IsAscii-cons}
-use Rattle.std.proofs.lemmas.List.Elements.{All-head, All-tail}
-use Rattle.serde_json.specs.Data.{Data, string, array, object, Members, no_members, member}
 use Rattle.serde_json.specs.Written.{compact_text}
 use Rattle.oim_names.specs.Expansion.{reserved_uri}
 use Rattle.oim_names.specs.declared.reason.Reason.TheVariants.{DisallowedDuplicates}
-use Rattle.oim_value.specs.Level.{level_cmp, level_entry}
-use Rattle.oim_value.specs.declared.level.Level.{Level}
-use Rattle.oim_value.specs.declared.level.Level.TheVariants.{Unique, Complete, Consistent, All as AllLevel}
-use Rattle.std.specs.Ordering.{is_le, is_lt}
-use Rattle.oim_report.specs.Duplicates.{level_of}
 use Rattle.oim_report.specs.FactFits.{FactFits, IsNamespace}
 use Rattle.oim_report.specs.FactObject.{fact_object}
-use Rattle.oim_report.specs.Json.{any_member, given, other, text, values, json}
 use Rattle.oim_report.specs.Namespaces.{binds_nothing, bindings_in}
 use Rattle.oim_report.specs.Holds.{document_refusal}
 use Rattle.oim_report.specs.Info.{declarations, document_type, level_said, said_level, said_references, said_reference}
 use Rattle.oim_report.specs.References.{IsKeptReference}
 use Rattle.oim_report.specs.Outcome.{all_or_first, at, fact_outcome, facts_said, tree_outcome, unless_above, outcome}
 use Rattle.oim_report.specs.Refusal.{map_ok}
-use Rattle.oim_report.specs.Sheet.{Sheet}
-use Rattle.oim_report.specs.Document.{Document}
 use Rattle.oim_report.specs.declared.place.Place.TheVariants.{Document as AtDocument}
-use Rattle.oim_report.specs.declared.refusal.Refusal.{Refusal}
 use Rattle.oim_report.proofs.DocumentHolds.{document_least}
 use Rattle.oim_report.proofs.ReadFact.{fact_back}
-use Rattle.fact_base.specs.Body.{Body}
-use Rattle.fact_base.specs.Fits.{Fits}
 use Rattle.oim_report.proofs.TextUtf8.{object_text_back}
-use Rattle.fact_base.proofs.Members.{each_by_there}
 use Rattle.oim_report.specs.PlainJson.{IsPlainJson}
-use Rattle.oim_write.specs.Tree.{features_member, identifier, members_before, members_by, name_text, prefix, text_items, tree_declaring, xbrl_member}
 use Rattle.oim_write.specs.Uris.{uris}
 use Rattle.oim_write.specs.Bytes.{canonical, earlier}
 use Rattle.oim_write.specs.Prefixes.{bindings_of}
 use Rattle.oim_write.proofs.Namespaces.{uris_are_namespaces}
 use Rattle.oim_write.proofs.PlainTrees.{trees_are_plain}
 use Rattle.oim_write.proofs.SpelledFacts.{facts_are_spelled, prefix_is_part}
-use Rattle.oim_merge.specs.ReadBack.{CanonicalReadsBack, EarlierReadsBack, IsHeldTo, LeastLevelIsDeclared, document_at, EarlierIsNotCanonical}
 use Rattle.oim_write.proofs.FirstKeys.{behind_type, earlier_letter, present_letter}
+use Rattle.oim_report.proofs.JsonTexts.{given_text}
 
 -- ---- further bindings at the end do not change how earlier prefixes are resolved
 
@@ -143,11 +118,8 @@ abbrev declared_level : Option Level → Level
 declared_level None = AllLevel
 declared_level (Some l) = l
 
-text_given : (t : List ℕ) → IsUtf8 t → given (string t) ≡ text t
-text_given t utf8 = ap (λ b. cond b (text t) other) (is_utf8-from_IsUtf8 t utf8)
-
 ascii_given : (t : List ℕ) → list_all (λ c. nat_lt c 128) t ≡ true → given (string t) ≡ text t
-ascii_given t h = text_given t (IsUtf8-from_ascii t (ascii t h))
+ascii_given t h = given_text t (IsUtf8-from_ascii t (ascii t h))
 
 level_given : (l : Level) → said_level (given (string (level_entry l).text) ∷ []) ≡ Some l
 level_given Unique = ap (λ g. said_level (g ∷ [])) (ascii_given (codes "none") refl)
@@ -221,7 +193,7 @@ binds_all : (declared : Option Level) (us vs : List (List ℕ)) → All IsNamesp
 binds_all declared us [] are = binds_last declared
 binds_all declared us (v ∷ vs) are =
     let first = All-head IsNamespace v vs are in
-    rw (prefix_is_part us v, text_given v first.utf8, not_empty v first.filled, binds_all declared us vs (All-tail IsNamespace v vs are)) refl
+    rw (prefix_is_part us v, given_text v first.utf8, not_empty v first.filled, binds_all declared us vs (All-tail IsNamespace v vs are)) refl
 
 bound_last : (declared : Option Level) → bindings_in (xbrl_member declared) ≡ last_bindings declared
 bound_last None = refl
@@ -229,7 +201,7 @@ bound_last (Some l) = rw reserved_given refl
 
 bound_all : (declared : Option Level) (us vs : List (List ℕ)) → All IsNamespace vs → bindings_in (members_before (prefix us) string vs (xbrl_member declared)) ≡ map (λ u. record { prefix = prefix us u; uri = u }) vs ++ last_bindings declared
 bound_all declared us [] are = bound_last declared
-bound_all declared us (v ∷ vs) are = rw (text_given v (All-head IsNamespace v vs are).utf8, bound_all declared us vs (All-tail IsNamespace v vs are)) refl
+bound_all declared us (v ∷ vs) are = rw (given_text v (All-head IsNamespace v vs are).utf8, bound_all declared us vs (All-tail IsNamespace v vs are)) refl
 
 xbrl_found : (us vs : List (List ℕ)) → uri_of (map (λ u. record { prefix = prefix us u; uri = u }) vs ++ (record { prefix = codes "xbrl"; uri = reserved_uri }) ∷ []) (codes "xbrl") ≡ Some reserved_uri
 xbrl_found us [] = refl
@@ -273,13 +245,6 @@ earlier_reads_back sheet b fits =
 
 -- ---- the strictest level
 
-turned : (x y : Level) → is_le (level_cmp y x) ≡ not (is_lt (level_cmp x y))
-turned Unique Unique = refl
-turned Complete Unique = refl
-turned Consistent Unique = refl
-turned AllLevel Unique = refl
-turned x y = refl
-
 module _ (d : Document) (r : Refusal) where
   refused_where : (t : Bool) → (cond t (Err r) (Ok d) ≡ Err r) ↔ IsTrue t
   refused_where true = (λ h. refl, λ h. refl)
@@ -296,7 +261,7 @@ held declared found b =
     let above : Bool = is_lt (level_cmp declared found) in
     record {
       refused = refused_where d r above;
-      read = subst (λ t. (unless_above found d ≡ Ok d) ↔ IsTrue t) (sym (turned declared found)) (read_where d r above);
+      read = subst (λ t. (unless_above found d ≡ Ok d) ↔ IsTrue t) (sym (within_limit declared found)) (read_where d r above);
     }
 
 pub least_level_is_declared : LeastLevelIsDeclared

@@ -1,20 +1,5 @@
 -- Schedules run one event after another.
-use Rattle.std.proofs.Common.{◌≡◌, ℕ, ◌+◌, ◌<◌, ◌≤◌, Bool, true, false, cond, List, [], ◌∷◌, ◌++◌, length, take, get_or, Option, Some, None, refl, sym, ap, subst, ◌∙◌, length-append, arith, append-nil, map}
-use mathlib.Core.Bool.{true≢false}
-use Rattle.std.specs.Prelude.{filter, flat_map}
-use Rattle.std.proofs.lemmas.List.Concat.{flat_map-append}
-use Rattle.std.proofs.lemmas.Option.{get_or_from_slice_get, slice_get_within, slice_get-get_or}
-use Rattle.oim_merge.specs.Schedule.{IsBadAt, IsFirstBad, Machine, NoneIsBad, World, happens, is_send, names_none, numbered, receives, run, sent_by, start, world_after}
-use Rattle.oim_merge.specs.declared.event.Event.{Event}
-use Rattle.oim_merge.specs.declared.event.Event.TheVariants.{Send, Receive}
-use Rattle.std.proofs.lemmas.List.{take_all, take_more}
-use Rattle.std.specs.List.{All}
-use Rattle.oim_report.specs.Sheet.{Sheet}
-use Rattle.oim_report.specs.declared.refusal.Refusal.{Refusal}
-use Rattle.fact_base.specs.Contents.{Contents}
-use Rattle.fact_base.proofs.Members.{each_by_there, from_map}
-use Rattle.oim_merge.specs.Replay.{IsReplayOf, Replay, refused_by, refused_takes, world_of}
-use Rattle.oim_merge.specs.Replicas.{base_named, reached, wire}
+use Rattle.oim_merge.proofs.Shared.{◌≡◌, ℕ, ◌+◌, ◌<◌, ◌≤◌, Bool, true, false, cond, List, [], ◌∷◌, ◌++◌, length, take, get_or, Option, Some, None, refl, sym, ap, subst, ◌∙◌, length-append, arith, append-nil, map, true≢false, filter, flat_map, flat_map-append, get_or_from_slice_get, slice_get_within, slice_get-get_or, IsBadAt, IsFirstBad, Machine, NoneIsBad, World, happens, is_send, names_none, numbered, receives, run, sent_by, start, world_after, Event, Send, Receive, take_all, take_more, All, Sheet, Refusal, Contents, each_by_there, from_map, IsReplayOf, Replay, refused_by, refused_takes, world_of, base_named, reached, wire}
 use Rattle.oim_merge.proofs.Agreement.{agree, count}
 use borrow.Author.Count.{below_more}
 

@@ -1,15 +1,5 @@
 -- Reports that are added one after another.
-use Rattle.std.proofs.Common.{◌≡◌, ◌+◌, ◌<◌, ℕ, suc, List, [], ◌∷◌, ◌++◌, take, get_or, length, append-nil, append_assoc, Ok, Err, refl, sym, ap, ◌∙◌, arith}
-use Rattle.std.proofs.lemmas.List.{length_push, take_more}
-use Rattle.std.proofs.lemmas.List.Concat.{flat_map-append}
-use Rattle.oim_report.specs.declared.refusal.Refusal.{Refusal}
-use Rattle.oim_report.specs.Document.{Document}
-use Rattle.oim_report.specs.Outcome.{outcome}
-use Rattle.oim_report.specs.Sheet.{Sheet}
-use Rattle.fact_base.specs.Body.{Body, body, union}
-use Rattle.fact_base.proofs.Bodies.{body_of_both}
-use Rattle.oim_merge.specs.Added.{Added, StepsAreList, added, with_report, with_reports}
-use Rattle.oim_merge.specs.Reports.{document_in, accepted, merged, refusal_in, refused_from}
+use Rattle.oim_merge.proofs.Shared.{◌≡◌, ◌+◌, ◌<◌, ℕ, suc, List, [], ◌∷◌, ◌++◌, take, get_or, length, append-nil, append_assoc, Ok, Err, refl, sym, ap, ◌∙◌, arith, length_push, take_more, flat_map-append, Refusal, Document, outcome, Sheet, Body, body, union, body_of_both, Added, StepsAreList, added, with_report, with_reports, document_in, accepted, merged, refusal_in, refused_from}
 
 accepted_more : (sheet : Sheet) (reports : List (List ℕ)) (bytes : List ℕ) → accepted sheet (reports ++ bytes ∷ []) ≡ accepted sheet reports ++ document_in (outcome sheet bytes)
 accepted_more sheet reports bytes =

@@ -1,37 +1,9 @@
 -- The rows of a base have one text in each format, and its lines tell the rows.
-use Rattle.std.proofs.Common.{◌≡◌, ℕ, suc, ◌+◌, ◌<◌, ◌≤◌, List, [], ◌∷◌, ◌++◌, length, get_or, inr, Option, refl, sym, ap, subst, ◌∙◌, append_assoc, append-nil, arith}
-use Rattle.std.proofs.lemmas.List.Elements.{All-contains}
-use Rattle.std.specs.Prelude.{◌≢◌, Contains}
-use Rattle.std.proofs.lemmas.List.{get_or-append-add, get_or-map, get_or_append_left, length-append, length-map}
-use Rattle.std.proofs.lemmas.Grind.{flat_map-append}
-use Rattle.oim_dims.specs.declared.fact.Fact.{Fact}
-use Rattle.oim_dims.specs.FactOrder.{fact_cmp}
-use Rattle.oim_dims.proofs.Orders.{fact_cmp_total}
-use Rattle.oim_value.specs.declared.value.Value.{Value}
-use Rattle.oim_value.specs.declared.value.Value.TheVariants.{Nil}
-use Rattle.fact_base.specs.Body.{Body}
-use Rattle.fact_base.specs.Fits.{Fits}
-use Rattle.fact_base.specs.Passed.{IsSet, Sheet}
-use Rattle.fact_base.specs.Rows.{Row, rows_of}
-use Rattle.fact_base.specs.Verdict.{IsEvidence}
-use Rattle.fact_base.specs.declared.evidence.Evidence.{Evidence}
-use Rattle.fact_base.specs.declared.evidence.Evidence.TheVariants.{Apart}
-use Rattle.fact_base.proofs.Members.{first_there, in_one_of_both, later_there}
-use Rattle.fact_base.proofs.RowsOf.{rows_tell_facts}
-use Rattle.oim_write.specs.Rank.{padded, width}
-use Rattle.oim_write.specs.Tree.{identifier}
-use Rattle.oim_write.proofs.NumberedFacts.{length-next_row, row_facts, rows_facts, rows_facts_are}
-use Rattle.oim_write.proofs.Ranks.{rank_at}
-use Rattle.oim_merge.specs.Lines.{AreRowsFrom, AreRowsOf, HasOneText, IsRow, LinesAreOne, RowText, identifier_at, line_text}
+use Rattle.oim_merge.proofs.Shared.{◌≡◌, ℕ, suc, ◌+◌, ◌<◌, ◌≤◌, List, [], ◌∷◌, ◌++◌, length, get_or, inr, Option, refl, sym, ap, subst, ◌∙◌, append_assoc, append-nil, arith, All-contains, ◌≢◌, Contains, get_or-append-add, get_or-map, get_or_append_left, length-append, length-map, flat_map-append, Fact, fact_cmp, fact_cmp_total, Value, Nil, Body, Fits, IsSet, Sheet, Row, rows_of, IsEvidence, Evidence, Apart, first_there, in_one_of_both, later_there, rows_tell_facts, padded, width, identifier, length-next_row, row_facts, rows_facts, rows_facts_are, rank_at, AreRowsFrom, AreRowsOf, HasOneText, IsRow, LinesAreOne, RowText, identifier_at, line_text, slice_get_within, fault_of, AppendsFront, written_of, WriteFault, OutOfMemory, Device}
 use Rattle.oim_merge.specs.Judged.{DependsOnItsNames}
 use Rattle.oim_merge.specs.Identifiers.{HasIndices, named}
 use Rattle.oim_merge.proofs.Evidenced.{evidence_exists, one_evidence}
-use Rattle.std.proofs.lemmas.Option.{slice_get_within}
 use Rattle.oim_merge.specs.VerdictCalls.{RowsStop}
-use Rattle.oim_merge.specs.Run.{fault_of}
-use Rattle.oim_write.specs.Sink.{AppendsFront, written_of}
-use Rattle.oim_write.specs.declared.write_fault.WriteFault.{WriteFault}
-use Rattle.oim_write.specs.declared.write_fault.WriteFault.TheVariants.{OutOfMemory, Device}
 
 -- ---- lists of rows
 

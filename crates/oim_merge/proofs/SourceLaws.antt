@@ -1,42 +1,10 @@
 -- Each fact object of an accepted report is listed once, each fact of the body is listed, and the order of the reports does not matter.
-use Rattle.std.proofs.Common.{◌≡◌, ℕ, suc, List, [], ◌∷◌, ◌++◌, map, length, Bool, true, false, not, Some, Result, Ok, Err, refl, sym, ap, ◌∙◌, subst, inl, inr, ⊎_elim, zero, ◌<◌, get_or, set, append_assoc, arith, ◌-◌, ◌+◌, Option}
-use Rattle.std.specs.Prelude.{Contains, filter, flat_map, swap}
-use Rattle.std.specs.List.{AllByRecursion, AllZip}
+use Rattle.oim_merge.proofs.Shared.{◌≡◌, ℕ, suc, List, [], ◌∷◌, ◌++◌, map, length, Bool, true, false, not, Some, Result, Ok, Err, refl, sym, ap, ◌∙◌, subst, inl, inr, ⊎_elim, zero, ◌<◌, get_or, set, append_assoc, arith, ◌-◌, ◌+◌, Option, Contains, filter, flat_map, swap, AllByRecursion, AllZip, tied_itself, Equal-is, unwrap_or, is_eq, Less, cases_Bool, flat_map-append, Contains-permutation, IsPermutation-append_right, IsPermutation-filter_both, IsPermutation-refl, IsPermutation-trans, IsPermutation-append_comm, IsPermutation-append_left, IsPermutation-keeps, IsPermutation-map, IsPermutation-sym, IsSet, Data, Binding, fact_cmp, Fact, fact_cmp_exact, fact_cmp_total, Document, IdentifierSays, identifiers, identifiers_in, entries, outcome, Sheet, Refusal, all_facts, first_or_later, first_there, in_one_of_both, later_there, none_there, set_of_is_set, accepted, document_in, merged, Mention, EachFactIsSaid, EachMentionIsTold, EachObjectIsMentioned, IsMentionOf, by_fact, is_of, mentions, mentions_by_fact, mentions_from, mentions_in, mentions_of, Saying, SourcesIgnoreOrder, saying, AreOf, get_or-append-add, length-append, map-append, length-map, SameMembers, body_ignores_order, AllZip-long}
 use Rattle.std.specs.List.Sorted.{IsPermutation, IsStrictlySortedBy}
-use Rattle.std.specs.Cmp.{tied_itself, Equal-is}
-use Rattle.std.specs.Option.{unwrap_or}
-use Rattle.std.specs.Ordering.{is_eq}
-use Rattle.std.specs.declared.cmp.Ordering.TheVariants.{Less}
-use Rattle.std.proofs.lemmas.Bool.{cases_Bool}
-use Rattle.std.proofs.lemmas.Grind.{flat_map-append}
-use Rattle.std.proofs.lemmas.List.Sorted.{Contains-permutation, IsPermutation-append_right, IsPermutation-filter_both, IsPermutation-refl, IsPermutation-trans, IsPermutation-append_comm, IsPermutation-append_left, IsPermutation-keeps, IsPermutation-map, IsPermutation-sym}
-use Rattle.merge_laws.specs.Sorted.{IsSet}
-use Rattle.serde_json.specs.Data.{Data}
-use Rattle.oim_names.specs.Bindings.{Binding}
-use Rattle.oim_dims.specs.FactOrder.{fact_cmp}
-use Rattle.oim_dims.specs.declared.fact.Fact.{Fact}
-use Rattle.oim_dims.proofs.Orders.{fact_cmp_exact, fact_cmp_total}
-use Rattle.oim_report.specs.Document.{Document}
-use Rattle.oim_report.specs.Identifiers.{IdentifierSays, identifiers, identifiers_in}
-use Rattle.oim_report.specs.Json.{entries}
 use Rattle.oim_report.specs.Info.{bindings_of, facts_of}
-use Rattle.oim_report.specs.Outcome.{outcome}
-use Rattle.oim_report.specs.Sheet.{Sheet}
-use Rattle.oim_report.specs.declared.refusal.Refusal.{Refusal}
 use Rattle.oim_report.proofs.KeyedFacts.{each_fact_has_an_identifier}
-use Rattle.fact_base.specs.Body.{all_facts}
-use Rattle.fact_base.proofs.Members.{first_or_later, first_there, in_one_of_both, later_there, none_there}
-use Rattle.fact_base.proofs.Sets.{set_of_is_set}
-use Rattle.oim_merge.specs.Reports.{accepted, document_in, merged}
-use Rattle.oim_merge.specs.declared.mentions.Mention.{Mention}
-use Rattle.oim_merge.specs.Sources.{EachFactIsSaid, EachMentionIsTold, EachObjectIsMentioned, IsMentionOf, by_fact, is_of, mentions, mentions_by_fact, mentions_from, mentions_in, mentions_of, Saying, SourcesIgnoreOrder, saying}
-use Rattle.oim_merge.specs.Mentions.{AreOf}
 use Rattle.oim_merge.proofs.Traces.{mentions_are_of}
 use Rattle.std.proofs.lemmas.List.Edits.{swap_is}
-use Rattle.std.proofs.lemmas.List.{get_or-append-add, length-append, map-append, length-map}
-use Rattle.merge_laws.specs.Members.{SameMembers}
-use Rattle.fact_base.proofs.Bodies.{body_ignores_order}
-use Rattle.std.proofs.lemmas.Slice.Zip.{AllZip-long}
 
 -- ---- each object once
 

@@ -1,32 +1,7 @@
 -- How one event changes a list of bases, cached readings, and sent texts that are stored once.
-use Rattle.std.proofs.Common.{◌≡◌, ◌≢◌, ℕ, zero, suc, ◌-◌, ◌<◌, ◌≤◌, ◌||◌, false, List, [], ◌++◌, length, get_or, set, Some, sym, ap, ◌∙◌, arith, ◌∷◌, length-append, replicate, Bor, Option, None, MatchOption, HoldsAt, option_map, Result, Ok, Err, refl, subst}
-use mathlib.Core.Bool.{true≢false}
-use Rattle.std.proofs.Math.Seq.{set-set, get_or-append_seam}
-use Rattle.std.proofs.lemmas.Bool.{or_parts}
-use Rattle.std.proofs.lemmas.Bool.Decides.{nat_tests}
-use Rattle.std.proofs.lemmas.List.{get_or_default, get_or-set_other, length-set, set_comm, set-get_or, get_or_append_left}
+use Rattle.oim_merge.proofs.Shared.{◌≡◌, ◌≢◌, ℕ, zero, suc, ◌-◌, ◌<◌, ◌≤◌, ◌||◌, false, List, [], ◌++◌, length, get_or, set, Some, sym, ap, ◌∙◌, arith, ◌∷◌, length-append, replicate, Bor, Option, None, MatchOption, HoldsAt, option_map, Result, Ok, Err, refl, subst, true≢false, set-set, get_or-append_seam, or_parts, nat_tests, get_or_default, get_or-set_other, length-set, set_comm, set-get_or, get_or_append_left, Contents, union_itself, outcome, Sheet, base_of, world_of, texts_at, joined_with, wire, with_outcome, happens, is_outside, names_none, numbered, receives, Event, Receive, Send, IfOk, AllZip, result_err, slice_get-map, slice_get-get_or, Document, Refusal, canonical, AreWithin, IsCurrent, IsTextAt, Stay, AreReadings, IsReadingOf, read_as, with_read, all_zipped_more, AllZip-long}
 use Rattle.fact_base.specs.BodyLaws.{IsBody}
-use Rattle.fact_base.specs.Contents.{Contents}
-use Rattle.fact_base.proofs.BuilderLaws.{union_itself}
-use Rattle.oim_report.specs.Outcome.{outcome}
-use Rattle.oim_report.specs.Sheet.{Sheet}
-use Rattle.oim_merge.specs.Bases.{base_of}
-use Rattle.oim_merge.specs.Replay.{world_of, texts_at}
-use Rattle.oim_merge.specs.Replicas.{joined_with, wire, with_outcome}
-use Rattle.oim_merge.specs.Schedule.{happens, is_outside, names_none, numbered, receives}
-use Rattle.oim_merge.specs.declared.event.Event.{Event}
-use Rattle.oim_merge.specs.declared.event.Event.TheVariants.{Receive, Send}
-use Rattle.std.specs.Prelude.{IfOk}
-use Rattle.std.specs.List.{AllZip}
-use Rattle.std.specs.Result.{result_err}
-use Rattle.std.proofs.lemmas.Option.{slice_get-map, slice_get-get_or}
-use Rattle.oim_report.specs.Document.{Document}
-use Rattle.oim_report.specs.declared.refusal.Refusal.{Refusal}
-use Rattle.oim_write.specs.Bytes.{canonical}
-use Rattle.oim_merge.specs.code.Held.{AreWithin, IsCurrent, IsTextAt, Stay}
-use Rattle.oim_merge.specs.code.Readings.{AreReadings, IsReadingOf, read_as, with_read}
 use Rattle.oim_merge.proofs.Zips.{zip_at, zip_both, zip_same, zip_set, zip_weaker}
-use Rattle.std.proofs.lemmas.Slice.Zip.{all_zipped_more, AllZip-long}
 
 -- ---- joins
 

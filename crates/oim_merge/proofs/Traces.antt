@@ -1,43 +1,10 @@
 -- Reports that are added one at a time, with the mentions in them and the texts of the mentions.
-use Rattle.std.proofs.Common.{◌≡◌, ◌⊎◌, ℕ, suc, List, [], ◌∷◌, ◌++◌, Option, Some, Result, Ok, sym, subst, inl, inr, ◌+◌, length, ap, ◌∙◌, append-nil, append_assoc, arith, ◌<◌, take, get_or, drop, Err, refl}
-use Rattle.std.specs.Prelude.{Contains, flat_map}
-use Rattle.std.proofs.lemmas.Grind.{flat_map-append}
-use Rattle.oim_dims.specs.declared.fact.Fact.{Fact}
-use Rattle.oim_dims.proofs.Orders.{fact_cmp_exact, fact_cmp_total}
-use Rattle.oim_report.specs.Document.{Document}
-use Rattle.oim_report.specs.Identifiers.{identifiers}
-use Rattle.oim_report.specs.Outcome.{outcome}
-use Rattle.oim_report.specs.Sheet.{Sheet}
-use Rattle.oim_report.specs.declared.refusal.Refusal.{Refusal}
-use Rattle.fact_base.specs.Body.{all_facts}
-use Rattle.fact_base.proofs.Members.{first_there, in_one_of_both, later_there}
-use Rattle.fact_base.proofs.Sets.{set_of_is_set}
-use Rattle.oim_merge.specs.Reports.{accepted, document_in, merged}
-use Rattle.oim_merge.specs.declared.mentions.Mention.{Mention}
-use Rattle.oim_merge.specs.Sources.{mentions, mentions_from, mentions_in, mentions_of, SourceText, by_fact, mention_text}
-use Rattle.oim_merge.specs.Mentions.{AreOf, all_indexed, index, indexed}
-use Rattle.std.proofs.lemmas.List.{take_more, drop_more, take-append-drop}
-use Rattle.oim_merge.specs.Added.{Added, added, with_report}
-use Rattle.oim_merge.specs.Traced.{Traced, TracedStepsAreList, traced, with_all_traced, with_traced}
+use Rattle.oim_merge.proofs.Shared.{◌≡◌, ◌⊎◌, ℕ, suc, List, [], ◌∷◌, ◌++◌, Option, Some, Result, Ok, sym, subst, inl, inr, ◌+◌, length, ap, ◌∙◌, append-nil, append_assoc, arith, ◌<◌, take, get_or, drop, Err, refl, add-one, Contains, flat_map, flat_map-append, Fact, fact_cmp_exact, fact_cmp_total, Document, identifiers, outcome, Sheet, Refusal, all_facts, first_there, in_one_of_both, later_there, set_of_is_set, accepted, document_in, merged, Mention, mentions, mentions_from, mentions_in, mentions_of, SourceText, by_fact, mention_text, AreOf, all_indexed, index, indexed, take_more, drop_more, take-append-drop, Added, added, with_report, Traced, TracedStepsAreList, traced, with_all_traced, with_traced, flat_map-map, Contents, padded, width, AppendsFront, written_of, failures_after_fault, WriteFault, OutOfMemory, Device, indexed_text, fault_of, failures_after_run, MentionsStop, mention_texts, IndexedMention}
+use Rattle.std.proofs.Permutation.{every_append}
 use Rattle.oim_merge.specs.code.Traces.{AreTraced}
 use Rattle.oim_merge.proofs.Reports.{added_more}
-use Rattle.std.proofs.lemmas.List.Folds.{flat_map-map}
-use Rattle.fact_base.specs.Contents.{Contents}
-use Rattle.oim_write.specs.Rank.{padded, width}
-use Rattle.oim_write.specs.Sink.{AppendsFront, written_of, failures_after_fault}
-use Rattle.oim_write.specs.declared.write_fault.WriteFault.{WriteFault}
-use Rattle.oim_write.specs.declared.write_fault.WriteFault.TheVariants.{OutOfMemory, Device}
-use Rattle.oim_merge.specs.code.BufferedRows.{indexed_text}
-use Rattle.oim_merge.specs.Run.{fault_of, failures_after_run}
-use Rattle.oim_merge.specs.SourceCalls.{MentionsStop, mention_texts}
-use Rattle.oim_merge.specs.declared.mentions.IndexedMention.{IndexedMention}
-use Rattle.std.specs.List.{AllByRecursion}
 
 -- ---- the facts mentioned by accepted reports are exactly the facts of the merged body
-
-both_all : {A : Type 0} (P : A → Type 0) (xs ys : List A) → AllByRecursion P xs → AllByRecursion P ys → AllByRecursion P (xs ++ ys)
-both_all P [] ys h g = g
-both_all P (x ∷ xs) ys h g = (h.0, both_all P xs ys h.1 g)
 
 module _ (facts : List Fact) where
   in_report : (n : ℕ) (is : List (List ℕ)) (fs : List Fact) → ((f : Fact) → Contains fs f → Contains facts f) → AreOf facts (mentions_in n is fs)
@@ -55,7 +22,7 @@ module _ (facts : List Fact) where
       let split : all_facts (accepted sheet (report ∷ reports)) ≡ all_facts these ++ all_facts (accepted sheet reports) = flat_map-append (λ (d : Document). d.facts) these (accepted sheet reports) in
       let in_both : (f : Fact) → (Contains (all_facts these) f ⊎ Contains (all_facts (accepted sheet reports)) f) → Contains facts f
       = λ f at. there f (subst (λ fs. Contains fs f) (sym split) ((in_one_of_both (all_facts these) (all_facts (accepted sheet reports)) f).1 at)) in
-      both_all (λ (m : Mention). Contains facts m.fact) (mentions_of n (identifiers report) (outcome sheet report)) (mentions_from (suc n) sheet reports)
+      every_append (λ (m : Mention). Contains facts m.fact) (mentions_of n (identifiers report) (outcome sheet report)) (mentions_from (suc n) sheet reports)
       (of_report n (identifiers report) (outcome sheet report) (λ f at. in_both f (inl at)))
       (all_of (suc n) sheet reports (λ f at. in_both f (inr at)))
 
@@ -150,12 +117,9 @@ module _ {A : Type 0} (line : A → List ℕ) (xs : List A) (i : ℕ) (x : A) (w
 
 -- ---- texts of mentions
 
-add_one : (n : ℕ) → n + 1 ≡ suc n
-add_one n = omega arith
-
 module _ (written : SourceText) where
   same_text : (facts : List Fact) (m : Mention) → indexed_text written (length facts) (indexed facts m) ≡ mention_text written facts m
-  same_text facts m = ap (λ k. written (102 ∷ padded (width (length facts)) k) m.report m.identifier) (add_one (index facts m.fact))
+  same_text facts m = ap (λ k. written (102 ∷ padded (width (length facts)) k) m.report m.identifier) (add-one (index facts m.fact))
 
   sources_are : (facts : List Fact) (ms : List Mention) (count : ℕ) → count ≡ length facts → flat_map (indexed_text written count) (all_indexed facts ms) ≡ flat_map (mention_text written facts) ms
   sources_are facts ms count is =

@@ -1,8 +1,5 @@
 -- Lists whose elements are related index by index.
-use Rattle.std.proofs.Common.{ℕ, zero, suc, ◌<◌, List, [], ◌∷◌, length, get_or, set, replicate, Option, Some, None, arith}
-use Rattle.std.specs.Prelude.{slice_get}
-use Rattle.std.specs.List.{AllZip}
-use Rattle.oim_merge.specs.Schedule.{numbered}
+use Rattle.oim_merge.proofs.Shared.{ℕ, zero, suc, ◌<◌, List, [], ◌∷◌, length, get_or, set, replicate, Option, Some, None, arith, slice_get, AllZip, numbered}
 
 abbrev pub AtBoth : {A B : Type 0} → (A → B → Type 0) → Option A → Option B → Type 0
 AtBoth R None None = Unit {0}

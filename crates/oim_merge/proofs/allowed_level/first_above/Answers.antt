@@ -1,10 +1,4 @@
-use Rattle.std.proofs.Common.{◌≡◌, ◌∷◌, ◌++◌, false, [], map, sym, ap, subst, ◌∙◌, append_assoc, arith}
-use Rattle.std.proofs.lemmas.List.Elements.{All-push}
-use Rattle.std.specs.List.{All}
-use Rattle.std.proofs.lemmas.List.{length-append, length-map, map_push}
-use Rattle.fact_base.specs.Rows.{Row}
-use Rattle.fact_base.specs.Shown.{rows_left, shown}
-use Rattle.oim_merge.specs.Above.{row_is_above, some_above}
+use Rattle.oim_merge.proofs.Shared.{◌≡◌, ◌∷◌, ◌++◌, false, [], map, sym, ap, subst, ◌∙◌, append_assoc, arith, All-push, All, length-append, length-map, map_push, Row, rows_left, shown, row_is_above, some_above}
 use Rattle.oim_merge.proofs.allowed_level.first_above.Goals as goal
 
 pub returns-then-is_above : goal.returns-then-is_above

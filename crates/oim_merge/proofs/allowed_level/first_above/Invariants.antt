@@ -1,8 +1,4 @@
-use Rattle.std.proofs.Common.{◌≡◌, ◌++◌, false, length, map}
-use Rattle.std.specs.List.{All}
-use Rattle.fact_base.specs.Rows.{rows_of}
-use Rattle.fact_base.specs.Shown.{rows_left, shown}
-use Rattle.oim_merge.specs.Above.{row_is_above}
+use Rattle.oim_merge.proofs.Shared.{◌≡◌, ◌++◌, false, length, map, All, rows_of, rows_left, shown, row_is_above}
 use Rattle.oim_merge.proofs.allowed_level.first_above.Given as goal
 
 -- the rows so far are counted, and none is above the level

@@ -1,5 +1,4 @@
-use Rattle.std.proofs.Common.{◌+◌, drop, take, sym, ap}
-use Rattle.std.proofs.lemmas.List.{take_rest}
+use Rattle.oim_merge.proofs.Shared.{◌+◌, drop, take, sym, ap, take_rest}
 use Rattle.oim_merge.proofs.LinePieces.{at_end, found_end, none_found, whole}
 use Rattle.oim_merge.proofs.bundle.cut_line.Goals as goal
 

@@ -1,9 +1,4 @@
-use Rattle.std.proofs.Common.{◌≡◌, ◌∷◌, ◌<◌, length, true, false, ◌∙◌, ap, sym, subst, arith}
-use Rattle.std.specs.Prelude.{◌==◌}
-use Rattle.std.specs.List.{before_first}
-use Rattle.std.proofs.lemmas.Bool.Decides.{nat_tests}
-use Rattle.oim_merge.specs.Added.{Added}
-use Rattle.oim_merge.specs.Bundle.{is_line_end, filled_pieces}
+use Rattle.oim_merge.proofs.Shared.{◌≡◌, ◌∷◌, ◌<◌, length, true, false, ◌∙◌, ap, sym, subst, arith, ◌==◌, before_first, nat_tests, Added, is_line_end, filled_pieces}
 use Rattle.oim_merge.proofs.LinePieces.{filled_pieces-empty, filled_pieces-filled, fewer_left}
 use Rattle.oim_merge.proofs.Reports.{HasAdded, has_added_more}
 use Rattle.oim_merge.proofs.bundle.merge_lines.Goals as goal

@@ -1,5 +1,4 @@
-use Rattle.std.proofs.Common.{◌≤◌, ◌+◌, length}
-use Rattle.oim_merge.specs.Bundle.{filled_pieces}
+use Rattle.oim_merge.proofs.Shared.{◌≤◌, ◌+◌, length, filled_pieces}
 use Rattle.oim_merge.proofs.Reports.{HasAdded}
 use Rattle.oim_merge.proofs.bundle.merge_lines.Given as goal
 

@@ -1,6 +1,4 @@
-use Rattle.std.proofs.Common.{ap, not, ◌∙◌}
-use Rattle.std.specs.Ordering.{is_eq}
-use Rattle.oim_dims.proofs.Orders.{facts_agree}
+use Rattle.oim_merge.proofs.Shared.{ap, not, ◌∙◌, is_eq, facts_agree}
 use Rattle.oim_dims.specs.contracts.fact.FactOrd.TheImpl.Laws.{matches_eq-law as facts_match}
 use Rattle.oim_merge.proofs.checked.differ.Goals as goal
 

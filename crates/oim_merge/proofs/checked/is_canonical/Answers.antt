@@ -1,10 +1,4 @@
-use Rattle.std.proofs.Common.{◌≡◌, [], ◌∷◌, sym, ap, subst, ◌∙◌}
-use Rattle.std.proofs.lemmas.Bool.{false≢true}
-use Rattle.std.specs.Prelude.{◌↔◌, IfOk, IsTrue}
-use Rattle.fact_base.specs.Body.{Body, body, union}
-use Rattle.fact_base.specs.Contents.{Contents}
-use Rattle.fact_base.proofs.Bodies.{body_of_both}
-use Rattle.oim_write.specs.Bytes.{canonical}
+use Rattle.oim_merge.proofs.Shared.{◌≡◌, [], ◌∷◌, sym, ap, subst, ◌∙◌, false≢true, ◌↔◌, IfOk, IsTrue, Body, body, union, Contents, body_of_both, canonical}
 use Rattle.oim_merge.proofs.Histories.{canonical_rises}
 use Rattle.oim_merge.proofs.checked.is_canonical.Goals as goal
 

@@ -1,10 +1,5 @@
-use Rattle.std.proofs.Common.{◌≡◌, ◌≢◌, [], ◌∷◌, Ok, ⊎_elim, rules, sym, ap, ◌∙◌}
+use Rattle.oim_merge.proofs.Shared.{◌≡◌, ◌≢◌, [], ◌∷◌, Ok, ⊎_elim, rules, sym, ap, ◌∙◌, Refusal, outcome, body, union, Contents, canonical}
 use Rattle.oim_names.specs.declared.reason.Reason.TheVariants.{OutOfMemory}
-use Rattle.oim_report.specs.declared.refusal.Refusal.{Refusal}
-use Rattle.oim_report.specs.Outcome.{outcome}
-use Rattle.fact_base.specs.Body.{body, union}
-use Rattle.fact_base.specs.Contents.{Contents}
-use Rattle.oim_write.specs.Bytes.{canonical}
 use Rattle.oim_merge.proofs.Histories.{taken_back}
 use Rattle.oim_merge.proofs.ReadsBack.{canonical_reads_back}
 use Rattle.oim_merge.proofs.checked.read_back.Goals as goal

@@ -1,9 +1,4 @@
-use Rattle.std.proofs.Common.{◌≡◌, rules, Bool, EachIndex, List, get_or, not, sym, subst, ℕ, ◌∙◌}
-use Rattle.std.specs.Ordering.{is_eq}
-use Rattle.std.proofs.lemmas.Bool.{false≢true}
-use Rattle.std.proofs.lemmas.List.Sorted.{answers_always}
-use Rattle.oim_dims.specs.FactOrder.{fact_cmp}
-use Rattle.oim_dims.specs.declared.fact.Fact.{Fact}
+use Rattle.oim_merge.proofs.Shared.{◌≡◌, rules, Bool, EachIndex, List, get_or, not, sym, subst, ℕ, ◌∙◌, is_eq, false≢true, answers_always, fact_cmp, Fact}
 use Rattle.oim_merge.proofs.Histories.{Differ, indexed_if_rising, rise_in_place}
 use Rattle.oim_merge.proofs.checked.rise.Goals as goal
 

@@ -1,6 +1,4 @@
-use Rattle.std.proofs.Common.{arith, sym, ◌∙◌}
-use Rattle.std.specs.Str.Parse.{ParsesUnsigned}
-use Rattle.std.proofs.lemmas.Bool.Decides.{nat_tests}
+use Rattle.oim_merge.proofs.Shared.{arith, sym, ◌∙◌, ParsesUnsigned, nat_tests}
 use Rattle.oim_merge.proofs.EventTexts.{looks_like_number, parses_number}
 use Rattle.oim_merge.proofs.event.read_number.Goals as goal
 use Rattle.oim_merge.proofs.event.read_number.Goals.{then-is_empty-via-then-is_empty, then-is_empty-via-else-is_empty+then-text-eq43, then-is_empty-via-else-is_empty+else-text-eq43+then-text-eq48}

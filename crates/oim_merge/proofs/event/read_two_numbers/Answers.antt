@@ -1,6 +1,4 @@
-use Rattle.std.proofs.Common.{◌+◌, drop, sym}
-use Rattle.std.proofs.lemmas.List.{take_rest}
-use Rattle.oim_merge.specs.code.EventTokens.{IsNumberText}
+use Rattle.oim_merge.proofs.Shared.{◌+◌, drop, sym, take_rest, IsNumberText}
 use Rattle.oim_merge.proofs.EventTexts.{cut_numbers, joined_numbers, numbers_have_space}
 use Rattle.oim_merge.proofs.event.read_two_numbers.Goals as goal
 

@@ -1,5 +1,4 @@
-use Rattle.std.proofs.Common.{◌<◌, ◌∷◌, [], length, sym, ◌∙◌, arith, length-append}
-use Rattle.std.proofs.lemmas.Bool.Decides.{nat_tests}
+use Rattle.oim_merge.proofs.Shared.{◌<◌, ◌∷◌, [], length, sym, ◌∙◌, arith, length-append, nat_tests}
 use Rattle.oim_merge.proofs.LinePieces.{fewer_left, has_read_bad, has_read_more}
 use Rattle.oim_merge.proofs.events.read_events.Goals as goal
 

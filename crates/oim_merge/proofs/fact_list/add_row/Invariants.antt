@@ -1,6 +1,4 @@
-use Rattle.std.proofs.Common.{◌≡◌, ◌++◌, drop, map}
-use Rattle.fact_base.specs.Entries.{facts_with}
-use Rattle.oim_merge.specs.code.BufferedRows.{lent}
+use Rattle.oim_merge.proofs.Shared.{◌≡◌, ◌++◌, drop, map, facts_with, lent}
 use Rattle.oim_merge.proofs.fact_list.add_row.Given as goal
 
 abbrev pub invariant-loop-value : goal.invariant-loop-value

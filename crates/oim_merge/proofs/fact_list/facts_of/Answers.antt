@@ -1,9 +1,4 @@
-use Rattle.std.proofs.Common.{◌≡◌, ◌∷◌, ◌++◌, List, [], map, sym, ap, ◌∙◌, append-nil, append_assoc}
-use Rattle.std.proofs.lemmas.List.{map_push}
-use Rattle.std.proofs.lemmas.Grind.{flat_map-append}
-use Rattle.fact_base.specs.Rows.{Row}
-use Rattle.fact_base.specs.Shown.{rows_left, shown}
-use Rattle.oim_write.proofs.NumberedFacts.{row_facts, rows_facts, rows_facts_are}
+use Rattle.oim_merge.proofs.Shared.{◌≡◌, ◌∷◌, ◌++◌, List, [], map, sym, ap, ◌∙◌, append-nil, append_assoc, map_push, flat_map-append, Row, rows_left, shown, row_facts, rows_facts, rows_facts_are}
 use Rattle.oim_merge.proofs.fact_list.facts_of.Goals as goal
 
 pub loop-row-preserved : goal.loop-row-preserved

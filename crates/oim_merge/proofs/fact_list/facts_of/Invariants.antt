@@ -1,8 +1,4 @@
-use Rattle.std.proofs.Common.{◌≡◌, ◌++◌, map}
-use Rattle.fact_base.specs.Rows.{rows_of}
-use Rattle.fact_base.specs.Shown.{rows_left, shown}
-use Rattle.oim_write.proofs.NumberedFacts.{rows_facts}
-use Rattle.oim_merge.specs.code.BufferedRows.{lent}
+use Rattle.oim_merge.proofs.Shared.{◌≡◌, ◌++◌, map, rows_of, rows_left, shown, rows_facts, lent}
 use Rattle.oim_merge.proofs.fact_list.facts_of.Given as goal
 
 -- the facts of the rows so far are listed

@@ -1,5 +1,4 @@
-use Rattle.std.proofs.Common.{rules, sym}
-use Rattle.std.proofs.lemmas.List.Sorted.{IsPartitionPoint-from_clause}
+use Rattle.oim_merge.proofs.Shared.{rules, sym, IsPartitionPoint-from_clause}
 use Rattle.oim_merge.proofs.IndexedFacts.{comes_before, lent_parted, found_index_is_own, index_is_point}
 use Rattle.oim_merge.proofs.fact_list.index_of.Goals as goal
 

@@ -1,11 +1,5 @@
-use Rattle.std.proofs.Common.{◌≡◌, sym, ap, ◌∙◌}
-use Rattle.std.specs.Cmp.{Equal-is}
-use Rattle.std.specs.List.{HoldsAt}
-use Rattle.std.proofs.lemmas.Bool.{OnTrue_from}
-use Rattle.oim_value.proofs.ValueOrders.{value_cmp_exact}
-use Rattle.oim_value.specs.ValueOrder.{value_cmp}
+use Rattle.oim_merge.proofs.Shared.{◌≡◌, sym, ap, ◌∙◌, Equal-is, HoldsAt, OnTrue_from, value_cmp_exact, value_cmp, lent}
 use Rattle.oim_report.proofs.Ties.{equal_dimensions, equal_values_tie}
-use Rattle.oim_merge.specs.code.BufferedRows.{lent}
 use Rattle.oim_merge.proofs.fact_list.is_at.Goals as goal
 
 pub returns-then-eq-clause-same : goal.returns-then-eq-clause-same

@@ -1,7 +1,4 @@
-use Rattle.std.proofs.Common.{ap, ◌∙◌}
-use Rattle.std.specs.Ordering.{is_lt, ordering_then}
-use Rattle.oim_dims.proofs.Orders.{dimensions_agree}
-use Rattle.oim_value.proofs.ValueOrders.{values_agree}
+use Rattle.oim_merge.proofs.Shared.{ap, ◌∙◌, is_lt, ordering_then, dimensions_agree, values_agree}
 use Rattle.oim_merge.proofs.fact_list.is_less.Goals as goal
 
 pub returns : goal.returns

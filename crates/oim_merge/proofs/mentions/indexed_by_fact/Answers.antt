@@ -1,10 +1,4 @@
-use Rattle.std.proofs.Common.{◌≡◌, map, rules, ap, subst, ◌∙◌}
-use Rattle.std.specs.List.Sorted.{IsPermutation, IsStableByKey}
-use Rattle.std.specs.Ordering.{nat_cmp}
-use Rattle.std.proofs.lemmas.List.Sorted.{IsNonDecreasingBy-from_sort_by_key, answers_always}
-use Rattle.oim_merge.specs.Mentions.{all_indexed}
-use Rattle.oim_merge.specs.code.BufferedRows.{lent}
-use Rattle.oim_merge.specs.declared.mentions.IndexedMention.{IndexedMention}
+use Rattle.oim_merge.proofs.Shared.{◌≡◌, map, rules, ap, subst, ◌∙◌, IsPermutation, IsStableByKey, nat_cmp, IsNonDecreasingBy-from_sort_by_key, answers_always, all_indexed, lent, IndexedMention}
 use Rattle.oim_merge.proofs.IndexedFacts.{sorted_are}
 use Rattle.oim_merge.proofs.mentions.indexed_by_fact.Goals as goal
 

@@ -1,5 +1,4 @@
-use Rattle.std.proofs.Common.{◌+◌, ◌∷◌, drop, sym, ap, ◌∙◌, arith}
-use Rattle.std.proofs.lemmas.List.{drop_more}
+use Rattle.oim_merge.proofs.Shared.{◌+◌, ◌∷◌, drop, sym, ap, ◌∙◌, arith, drop_more}
 use Rattle.oim_merge.proofs.Traces.{mention_more}
 use Rattle.oim_merge.proofs.mentions.mentions_in.Goals as goal
 

@@ -1,5 +1,4 @@
-use Rattle.std.proofs.Common.{◌≡◌, ◌++◌, drop}
-use Rattle.oim_merge.specs.Sources.{mentions_in}
+use Rattle.oim_merge.proofs.Shared.{◌≡◌, ◌++◌, drop, mentions_in}
 use Rattle.oim_merge.proofs.mentions.mentions_in.Given as goal
 
 -- appending the mentions in the remaining objects gives the mentions in all objects

@@ -1,7 +1,4 @@
-use Rattle.std.proofs.Common.{[], ◌∷◌, sym, ap, ◌∙◌}
-use Rattle.fact_base.specs.Body.{Body, body, union}
-use Rattle.fact_base.specs.Contents.{Contents}
-use Rattle.fact_base.proofs.Bodies.{body_of_both}
+use Rattle.oim_merge.proofs.Shared.{[], ◌∷◌, sym, ap, ◌∙◌, Body, body, union, Contents, body_of_both}
 use Rattle.oim_merge.proofs.readings.base_of.Goals as goal
 
 pub returns : goal.returns

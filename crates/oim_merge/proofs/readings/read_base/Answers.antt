@@ -1,7 +1,4 @@
-use Rattle.std.proofs.Common.{◌≡◌, Ok, sym, ap, ◌∙◌}
-use Rattle.std.proofs.lemmas.Result.{MatchResult-at_ok}
-use Rattle.oim_report.specs.Outcome.{outcome}
-use Rattle.oim_merge.specs.code.Readings.{read_as}
+use Rattle.oim_merge.proofs.Shared.{◌≡◌, Ok, sym, ap, ◌∙◌, MatchResult-at_ok, outcome, read_as}
 use Rattle.oim_merge.proofs.readings.read_base.Goals as goal
 
 pub returns-in-Ok : goal.returns-in-Ok

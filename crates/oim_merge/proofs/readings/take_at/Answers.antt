@@ -1,9 +1,4 @@
-use Rattle.std.proofs.Common.{◌≡◌, [], Some, get_or, sym, ap, subst, ◌∙◌, rules}
-use Rattle.std.specs.Prelude.{IfOk}
-use Rattle.std.specs.Result.{result_err}
-use Rattle.std.proofs.lemmas.Result.{IfOk-weaker, on_ok_weaker}
-use Rattle.oim_report.specs.Outcome.{outcome}
-use Rattle.oim_merge.specs.code.Readings.{IsReadingOf, read_as, with_read}
+use Rattle.oim_merge.proofs.Shared.{◌≡◌, [], Some, get_or, sym, ap, subst, ◌∙◌, rules, IfOk, result_err, IfOk-weaker, on_ok_weaker, outcome, IsReadingOf, read_as, with_read}
 use Rattle.oim_merge.proofs.StoredTexts.{kept_is, kept_there, read_default, refusal_is, sheet_is, with_read_is}
 use Rattle.oim_merge.proofs.Zips.{zip_set}
 use Rattle.oim_merge.proofs.readings.take_at.Goals as goal

@@ -1,7 +1,6 @@
-use Rattle.std.proofs.Common.{sym, ◌∙◌, arith}
+use Rattle.oim_merge.proofs.Shared.{sym, ◌∙◌, arith, map-id}
 use Rattle.std.proofs.lemmas.Iterator.Adapters.{YieldsList-from_vec}
 use Rattle.std.proofs.lemmas.Iterator.Consumers.{YieldsList-end}
-use Rattle.std.proofs.lemmas.List.{map-id}
 use Rattle.oim_merge.proofs.replayed.bases_of.Goals as goal
 
 pub returns : goal.returns

@@ -1,12 +1,6 @@
-use Rattle.std.proofs.Common.{◌≡◌, ◌+◌, true, false, List, length, sym, ap, subst, refl}
-use Rattle.fact_base.specs.Contents.{Contents}
-use Rattle.oim_merge.specs.code.Held.{sent_texts}
-use Rattle.oim_merge.specs.Replay.{IsReplayOf, Replay, world_of}
-use Rattle.oim_merge.specs.Schedule.{IsFirstBad}
-use Rattle.oim_merge.specs.declared.event.Event.TheVariants.{Take}
+use Rattle.oim_merge.proofs.Shared.{◌≡◌, ◌+◌, true, false, List, length, sym, ap, subst, refl, Contents, sent_texts, IsReplayOf, Replay, world_of, IsFirstBad, Take, true_from_ne_false}
 use Rattle.oim_merge.proofs.Replays.{run_ends, run_further, run_whole, sheets_are}
 use Rattle.oim_merge.proofs.replayed.replay.Goals as goal
-use Rattle.std.proofs.lemmas.Bool.{true_from_ne_false}
 
 pub returns-then-not-has_named-clause-err : goal.returns-then-not-has_named-clause-err
 returns-then-not-has_named-clause-err c =

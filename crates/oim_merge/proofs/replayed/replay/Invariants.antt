@@ -1,5 +1,4 @@
-use Rattle.std.proofs.Common.{◌≡◌}
-use Rattle.oim_merge.specs.code.Held.{KeepReadings, sent_texts}
+use Rattle.oim_merge.proofs.Shared.{◌≡◌, KeepReadings, sent_texts}
 use Rattle.oim_merge.proofs.Replays.{HasRun}
 use Rattle.oim_merge.proofs.replayed.replay.Given as goal
 

@@ -1,8 +1,4 @@
-use Rattle.std.proofs.Common.{◌≡◌, [], get_or, set, sym, ap, subst, ◌∙◌}
-use Rattle.std.proofs.lemmas.List.{get_or-set_other}
-use Rattle.fact_base.specs.Contents.{Contents}
-use Rattle.oim_merge.specs.Bases.{base_of}
-use Rattle.oim_merge.specs.Replicas.{joined_with}
+use Rattle.oim_merge.proofs.Shared.{[], sym, ap, ◌∙◌, get_or-set_other, Contents, base_of, joined_with}
 use Rattle.oim_merge.proofs.StoredTexts.{joins_itself, joins_other, read_default}
 use Rattle.oim_merge.proofs.replicas.join_at.Goals as goal
 

@@ -1,7 +1,4 @@
-use Rattle.std.proofs.Common.{◌≡◌, ℕ, ◌+◌, List, Option, ◌++◌, take, drop, sym, ap, subst, ◌∙◌, rules, length-take-le}
-use Rattle.std.proofs.Math.Seq.{take-add}
-use Rattle.std.specs.Io.KnownBytes.{Consumes}
-use Rattle.std.proofs.lemmas.List.{with_items_is, places}
+use Rattle.oim_merge.proofs.Shared.{◌≡◌, ℕ, ◌+◌, List, Option, ◌++◌, take, drop, sym, ap, subst, ◌∙◌, rules, length-take-le, take-add, Consumes, with_items_is, places}
 use Rattle.std.proofs.KnownBytes.{Consumes-kept, Consumes-trans}
 use Rattle.oim_merge.proofs.source_reader.read_all.Goals as goal
 

@@ -1,5 +1,4 @@
-use Rattle.std.proofs.Common.{◌≡◌, ◌-◌, ◌≤◌, take, vec_len}
-use Rattle.std.specs.Io.KnownBytes.{Consumes}
+use Rattle.oim_merge.proofs.Shared.{◌≡◌, ◌-◌, ◌≤◌, take, vec_len, Consumes}
 use Rattle.oim_merge.proofs.source_reader.read_all.Given as goal
 
 -- the filled bytes are the bytes that the source gave, and the source has not failed since the call began

@@ -1,10 +1,4 @@
-use Rattle.std.proofs.Common.{◌+◌, ◌++◌, drop, refl, subst, ◌∙◌, arith, take_all}
-use Rattle.std.specs.Prelude.{flat_map}
-use Rattle.std.proofs.lemmas.Result.{err_from_is_err_and}
-use Rattle.oim_write.specs.Sink.{written_of}
-use Rattle.oim_write.specs.SinkBuffer.{Breaks, Passes}
-use Rattle.oim_write.proofs.Passing.{Breaks-more, Breaks-trans, Passes-nil, Passes-trans}
-use Rattle.oim_merge.specs.code.BufferedRows.{indexed_text}
+use Rattle.oim_merge.proofs.Shared.{◌+◌, ◌++◌, drop, refl, subst, ◌∙◌, arith, take_all, flat_map, err_from_is_err_and, written_of, Breaks, Passes, Breaks-more, Breaks-trans, Passes-nil, Passes-trans, indexed_text}
 use Rattle.oim_merge.proofs.Traces.{lines_left, lines_more}
 use Rattle.oim_merge.proofs.traced_merge.push_mentions.Goals as goal
 

@@ -1,7 +1,4 @@
-use Rattle.std.proofs.Common.{◌≡◌, take}
-use Rattle.std.specs.Prelude.{flat_map}
-use Rattle.oim_write.specs.SinkBuffer.{Passes}
-use Rattle.oim_merge.specs.code.BufferedRows.{indexed_text}
+use Rattle.oim_merge.proofs.Shared.{◌≡◌, take, flat_map, Passes, indexed_text}
 use Rattle.oim_merge.proofs.traced_merge.push_mentions.Given as goal
 
 -- the texts of the mentions so far were pushed

@@ -1,8 +1,4 @@
-use Rattle.std.proofs.Common.{[], subst}
-use Rattle.std.specs.Prelude.{IfErr, IfOk}
-use Rattle.oim_merge.specs.SourceCalls.{AppendsMentions, MentionsStop}
-use Rattle.oim_merge.specs.Sources.{source_line}
-use Rattle.oim_merge.specs.Traced.{Traced}
+use Rattle.oim_merge.proofs.Shared.{[], subst, IfErr, IfOk, AppendsMentions, MentionsStop, source_line, Traced}
 use Rattle.oim_merge.proofs.traced_merge.source_lines.Goals as goal
 
 pub returns-clause-ok : goal.returns-clause-ok

@@ -1,11 +1,4 @@
-use Rattle.std.proofs.Common.{◌≡◌, ◌+◌, ◌∷◌, ◌++◌, suc, List, [], map, length, refl, sym, ap, subst, ◌∙◌, append_assoc, append-nil, arith}
-use Rattle.std.proofs.lemmas.List.{length-append, length-map, map_push}
-use Rattle.std.proofs.lemmas.Result.{err_from_is_err_and}
-use Rattle.fact_base.specs.Rows.{Row, rows_of}
-use Rattle.fact_base.specs.Shown.{rows_left, shown}
-use Rattle.oim_write.proofs.NumberedFacts.{rows_facts}
-use Rattle.oim_write.proofs.Passing.{Breaks-more, Breaks-trans, Passes-nil, Passes-trans}
-use Rattle.oim_merge.specs.Lines.{AreRowsFrom, IsRow}
+use Rattle.oim_merge.proofs.Shared.{◌≡◌, ◌+◌, ◌∷◌, ◌++◌, suc, List, [], map, length, refl, sym, ap, subst, ◌∙◌, append_assoc, append-nil, arith, length-append, length-map, map_push, err_from_is_err_and, Row, rows_of, rows_left, shown, rows_facts, Breaks-more, Breaks-trans, Passes-nil, Passes-trans, AreRowsFrom, IsRow}
 use Rattle.oim_merge.proofs.RowLists.{count_with_row, left_exist, one_row, indices_within, row_filled, row_is, row_within, rows_both}
 use Rattle.oim_merge.proofs.verdict_rows.push_rows.Goals as goal
 

@@ -1,8 +1,4 @@
-use Rattle.std.proofs.Common.{◌≡◌, ◌++◌, length, map}
-use Rattle.fact_base.specs.Rows.{rows_of}
-use Rattle.fact_base.specs.Shown.{rows_left, shown}
-use Rattle.oim_write.proofs.NumberedFacts.{rows_facts}
-use Rattle.oim_merge.specs.code.BufferedRows.{PassesRows}
+use Rattle.oim_merge.proofs.Shared.{◌≡◌, ◌++◌, length, map, rows_of, rows_left, shown, rows_facts, PassesRows}
 use Rattle.oim_merge.proofs.verdict_rows.push_rows.Given as goal
 
 -- the rows so far were pushed, and their facts are counted

@@ -1,7 +1,4 @@
-use Rattle.std.proofs.Common.{◌++◌, append-nil, refl, subst, ◌∙◌, ap}
-use Rattle.std.specs.Io.KnownBytes.{Appends}
-use Rattle.std.proofs.lemmas.Result.{err_from_is_err_and}
-use Rattle.oim_write.proofs.Passing.{Breaks-more, Breaks-trans, Passes-trans, Appends-passed, AppendsFront-broken}
+use Rattle.oim_merge.proofs.Shared.{◌++◌, append-nil, refl, subst, ◌∙◌, ap, Appends, err_from_is_err_and, Breaks-more, Breaks-trans, Passes-trans, Appends-passed, AppendsFront-broken}
 use Rattle.oim_merge.proofs.RowLists.{all_exist, list_stops}
 use Rattle.oim_merge.proofs.verdict_rows.write_verdicts.Goals as goal
 

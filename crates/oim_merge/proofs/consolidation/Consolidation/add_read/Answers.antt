@@ -1,8 +1,4 @@
-use Rattle.std.proofs.Common.{◌≡◌, ◌+◌, [], ◌∷◌, Ok, Err, refl, ap, ◌∙◌}
-use Rattle.oim_report.specs.Outcome.{outcome}
-use Rattle.fact_base.specs.Body.{body, union}
-use Rattle.fact_base.proofs.BuilderLaws.{with_nothing}
-use Rattle.oim_merge.specs.Added.{Added, with_report}
+use Rattle.oim_merge.proofs.Shared.{◌≡◌, ◌+◌, [], ◌∷◌, Ok, Err, refl, ap, ◌∙◌, outcome, body, union, with_nothing, Added, with_report}
 use Rattle.oim_merge.proofs.Reports.{accepted_step, refused_step}
 use Rattle.oim_merge.proofs.consolidation.Consolidation.add_read.Goals as goal
 use Rattle.oim_merge.proofs.consolidation.Consolidation.add_read.Goals.{in-Ok+in_ok-add-in-Ok, in-Err+in_ok-push-in-Err}

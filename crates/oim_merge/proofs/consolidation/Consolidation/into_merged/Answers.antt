@@ -1,6 +1,4 @@
-use Rattle.std.proofs.Common.{ap, ◌∙◌}
-use Rattle.fact_base.specs.Contents.{Contents}
-use Rattle.oim_merge.specs.Added.{Added}
+use Rattle.oim_merge.proofs.Shared.{ap, ◌∙◌, Contents, Added}
 use Rattle.oim_merge.proofs.consolidation.Consolidation.into_merged.Goals as goal
 
 pub returns-clause-base : goal.returns-clause-base

@@ -1,5 +1,4 @@
-use Rattle.std.proofs.Common.{◌+◌, ap, ◌∙◌}
-use Rattle.oim_merge.specs.Added.{Added}
+use Rattle.oim_merge.proofs.Shared.{◌+◌, ap, ◌∙◌, Added}
 use Rattle.oim_merge.proofs.Reports.{list_step}
 use Rattle.oim_merge.proofs.consolidation.Consolidation.of.Goals as goal
 

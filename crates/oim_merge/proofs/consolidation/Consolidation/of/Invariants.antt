@@ -1,5 +1,4 @@
-use Rattle.std.proofs.Common.{◌≡◌, take}
-use Rattle.oim_merge.specs.Added.{added}
+use Rattle.oim_merge.proofs.Shared.{◌≡◌, take, added}
 use Rattle.oim_merge.proofs.consolidation.Consolidation.of.Given as goal
 
 abbrev pub invariant-loop-report : goal.invariant-loop-report

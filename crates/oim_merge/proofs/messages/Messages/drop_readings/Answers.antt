@@ -1,5 +1,4 @@
-use Rattle.std.proofs.Common.{◌≡◌, None, replicate, sym, ap, subst, length, ◌∙◌}
-use Rattle.oim_merge.specs.code.Readings.{AreReadings}
+use Rattle.oim_merge.proofs.Shared.{◌≡◌, None, replicate, sym, ap, subst, length, ◌∙◌, AreReadings}
 use Rattle.oim_merge.proofs.StoredTexts.{none_is_kept}
 use Rattle.oim_merge.proofs.messages.Messages.drop_readings.Goals as goal
 

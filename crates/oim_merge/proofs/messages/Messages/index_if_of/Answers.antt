@@ -1,5 +1,4 @@
-use Rattle.std.proofs.Common.{◌≡◌, ◌<◌, Some, Ok, length, get_or, sym, ap, subst, ◌∙◌}
-use Rattle.oim_merge.specs.code.Readings.{AreReadings}
+use Rattle.oim_merge.proofs.Shared.{◌≡◌, ◌<◌, Some, Ok, length, get_or, sym, ap, subst, ◌∙◌, AreReadings}
 use Rattle.oim_merge.proofs.ReadBases.{is_its_text}
 use Rattle.oim_merge.proofs.StoredTexts.{kept_is}
 use Rattle.oim_merge.proofs.messages.Messages.index_if_of.Goals as goal

@@ -1,12 +1,4 @@
-use Rattle.std.proofs.Common.{◌≡◌, [], ◌∷◌, ◌++◌, length, sym, ap, subst, ◌∙◌}
-use Rattle.std.specs.List.{All}
-use Rattle.std.proofs.lemmas.List.Elements.{All-push}
-use Rattle.fact_base.specs.Contents.{Contents}
-use Rattle.fact_base.specs.Fits.{Fits}
-use Rattle.oim_write.specs.Bytes.{canonical}
-use Rattle.oim_merge.specs.code.Held.{AreWithin, IsTextAt, IsWritten, Stay}
-use Rattle.oim_merge.specs.Replay.{texts_at}
-use Rattle.oim_merge.specs.code.Readings.{AreReadings}
+use Rattle.oim_merge.proofs.Shared.{◌≡◌, [], ◌∷◌, ◌++◌, length, sym, ap, subst, ◌∙◌, All, All-push, Contents, Fits, canonical, AreWithin, IsTextAt, IsWritten, Stay, texts_at, AreReadings}
 use Rattle.oim_merge.proofs.StoredTexts.{among_more, kept_new, stands_last, stay_with_more, within_longer}
 use Rattle.oim_merge.proofs.messages.Messages.intern.Goals as goal
 

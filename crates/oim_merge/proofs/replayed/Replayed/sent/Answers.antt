@@ -1,7 +1,4 @@
-use Rattle.std.proofs.Common.{◌≡◌, suc, Some, None, subst, arith}
-use Rattle.std.specs.Prelude.{MatchOption}
-use Rattle.oim_merge.specs.Replay.{Replay}
-use Rattle.oim_merge.specs.Schedule.{numbered}
+use Rattle.oim_merge.proofs.Shared.{◌≡◌, suc, Some, None, subst, arith, MatchOption, Replay, numbered}
 use Rattle.oim_merge.proofs.StoredTexts.{text_of_number}
 use Rattle.oim_merge.proofs.replayed.Replayed.sent.Goals as goal
 

@@ -1,8 +1,4 @@
-use Rattle.std.proofs.Common.{[], sym, subst, replicate}
-use Rattle.std.specs.List.{AllZip}
-use Rattle.oim_merge.specs.Bases.{base_of}
-use Rattle.oim_merge.specs.code.Held.{IsCurrent}
-use Rattle.oim_merge.specs.code.Readings.{AreReadings}
+use Rattle.oim_merge.proofs.Shared.{[], sym, subst, replicate, AllZip, base_of, IsCurrent, AreReadings}
 use Rattle.oim_merge.proofs.StoredTexts.{none_is_current, none_is_kept}
 use Rattle.oim_merge.proofs.replicas.Replicas.new.Goals as goal
 

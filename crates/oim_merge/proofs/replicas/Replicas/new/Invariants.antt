@@ -1,5 +1,4 @@
-use Rattle.std.proofs.Common.{◌≡◌, [], None, replicate}
-use Rattle.oim_merge.specs.Bases.{base_of}
+use Rattle.oim_merge.proofs.Shared.{◌≡◌, [], None, replicate, base_of}
 use Rattle.oim_merge.proofs.replicas.Replicas.new.Given as goal
 
 abbrev pub invariant-loop-made : goal.invariant-loop-made

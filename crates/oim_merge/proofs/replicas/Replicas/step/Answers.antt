@@ -1,14 +1,5 @@
-use Rattle.std.proofs.Common.{◌≡◌, ◌-◌, [], length, set, refl, sym, ap, subst, ◌∙◌, arith}
-use Rattle.std.specs.List.{AllZip}
-use Rattle.fact_base.specs.Contents.{Contents}
-use Rattle.oim_merge.specs.code.Held.{AreHeld, IsCurrent, sent_texts, world_in}
-use Rattle.oim_merge.specs.Replicas.{wire}
-use Rattle.oim_merge.specs.Schedule.{happens}
-use Rattle.oim_merge.specs.declared.event.Event.TheVariants.{Receive}
+use Rattle.oim_merge.proofs.Shared.{◌≡◌, ◌-◌, [], length, set, refl, sym, ap, subst, ◌∙◌, arith, AllZip, Contents, AreHeld, IsCurrent, sent_texts, world_in, wire, happens, Receive, AllZip-long, get_or-set_same, with_items_is, AreReadings}
 use Rattle.oim_merge.proofs.StoredTexts.{current_after_change, current_after_receive, current_after_send, current_at, kept_long, names_good, receiver_within, receives_text, sender_within, sends_text, set_itself}
-use Rattle.std.proofs.lemmas.Slice.Zip.{AllZip-long}
-use Rattle.std.proofs.lemmas.List.{get_or-set_same, with_items_is}
-use Rattle.oim_merge.specs.code.Readings.{AreReadings}
 use Rattle.oim_merge.proofs.replicas.Replicas.step.Goals as goal
 
 pub returns-in_ok-push-in-Take-clause-kept : goal.returns-in_ok-push-in-Take-clause-kept

@@ -1,10 +1,4 @@
-use Rattle.std.proofs.Common.{◌≡◌, ◌+◌, ◌++◌, if◌then◌else◌, sym, ap, subst, ◌∙◌, arith}
-use Rattle.oim_report.specs.Identifiers.{identifiers}
-use Rattle.oim_report.specs.Outcome.{outcome}
-use Rattle.fact_base.proofs.BuilderLaws.{always_ok}
-use Rattle.oim_merge.specs.Added.{Added, with_report}
-use Rattle.oim_merge.specs.Sources.{mentions_of}
-use Rattle.oim_merge.specs.Traced.{with_traced}
+use Rattle.oim_merge.proofs.Shared.{◌≡◌, ◌+◌, ◌++◌, if◌then◌else◌, sym, ap, subst, ◌∙◌, arith, identifiers, outcome, always_ok, Added, with_report, mentions_of, with_traced}
 use Rattle.oim_merge.specs.code.Outcomes.{IsOutcome}
 use Rattle.oim_merge.proofs.Traces.{are_traced_more}
 use Rattle.oim_merge.proofs.traced_merge.TracedMerge.add.Goals as goal

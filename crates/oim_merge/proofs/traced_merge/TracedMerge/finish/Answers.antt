@@ -1,12 +1,4 @@
-use Rattle.std.proofs.Common.{◌++◌, append-nil, rules, subst, sym, ap, ◌∙◌, ◌≡◌, ℕ, List}
-use Rattle.std.specs.Io.KnownBytes.{Appends}
-use Rattle.oim_report.specs.declared.refusal.Refusal.{Refusal}
-use Rattle.oim_write.specs.Sink.{failures_after_fault}
-use Rattle.std.proofs.lemmas.Result.{err_from_is_err_and}
-use Rattle.fact_base.specs.Contents.{Contents}
-use Rattle.oim_write.proofs.Passing.{Breaks-more, Breaks-trans, Passes-trans, Appends-passed, AppendsFront-broken}
-use Rattle.oim_merge.specs.Mentions.{AreOf}
-use Rattle.oim_merge.specs.Traced.{Traced}
+use Rattle.oim_merge.proofs.Shared.{◌++◌, append-nil, rules, subst, sym, ap, ◌∙◌, ◌≡◌, ℕ, List, Appends, Refusal, failures_after_fault, err_from_is_err_and, Contents, Breaks-more, Breaks-trans, Passes-trans, Appends-passed, AppendsFront-broken, AreOf, Traced}
 use Rattle.oim_merge.proofs.Traces.{same_failures, stops_at, texts_are, traced_are_of}
 use Rattle.oim_merge.proofs.traced_merge.TracedMerge.finish.Goals as goal
 

@@ -1,5 +1,4 @@
-use Rattle.std.proofs.Common.{◌+◌, ap, ◌∙◌}
-use Rattle.oim_merge.specs.Traced.{Traced}
+use Rattle.oim_merge.proofs.Shared.{◌+◌, ap, ◌∙◌, Traced}
 use Rattle.oim_merge.proofs.Traces.{traced_step}
 use Rattle.oim_merge.proofs.traced_merge.TracedMerge.of.Goals as goal
 

@@ -1,5 +1,4 @@
-use Rattle.std.proofs.Common.{◌≡◌, take}
-use Rattle.oim_merge.specs.Traced.{traced}
+use Rattle.oim_merge.proofs.Shared.{◌≡◌, take, traced}
 use Rattle.oim_merge.proofs.traced_merge.TracedMerge.of.Given as goal
 
 abbrev pub invariant-loop-report : goal.invariant-loop-report
