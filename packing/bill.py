@@ -7,7 +7,7 @@ import re
 from dataclasses import dataclass
 from typing import Any, Iterable, Mapping, Sequence
 
-from packing.source import Source
+from packing.files import Source
 
 SOURCE, KIT = "source", "kit"
 # the crates of the kit that every program contains

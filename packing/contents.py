@@ -3,9 +3,8 @@ libraries for C, from the archive of the crate and the kit's allocator."""
 import os
 from dataclasses import replace
 
-from packing.completions import completions
 from packing.files import PLAIN, RUNS, File, put, read, read_below, run_tool
-from packing.manual import PROGRAM, TOOLS, command_of, commands_of, pages
+from packing.manual import PROGRAM, TOOLS, command_of, commands_of, completions, pages
 
 # the version of the library's calls, which changes if a program that was linked before can no longer use the library
 INTERFACE = "0"

@@ -9,8 +9,7 @@ from typing import Iterable, Mapping, Sequence
 
 from packing import contents
 from packing.bill import notices
-from packing.files import PLAIN, RUNS, File, folders_of, put, run_tool
-from packing.source import Source, git, newest_libc
+from packing.files import PLAIN, RUNS, File, Source, folders_of, git, newest_libc, put, run_tool
 
 MACHINE, LIBRARIES, MODULES = "amd64", "usr/lib/x86_64-linux-gnu", "usr/lib/python3/dist-packages"
 SHARED_PACKAGE = f"libxbrlmerge{contents.INTERFACE}"

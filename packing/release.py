@@ -11,9 +11,8 @@ from pathlib import Path
 from typing import Iterable
 
 from packing import bill, contents, debian
-from packing.files import RUNS, File, folders_of, run_tool
+from packing.files import RUNS, File, Source, folders_of, newest_libc, run_tool
 from packing.manual import PROGRAM
-from packing.source import Source, newest_libc
 
 SUMS = "SHA256SUMS"
 ABOUT = """\

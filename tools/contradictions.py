@@ -112,7 +112,7 @@ from contradicting.outcome import Outcome  # noqa: E402
 from contradicting.sources import maps_named, reports_named  # noqa: E402
 from contradicting.since import Earlier  # noqa: E402
 from contradicting.unshared import FOLDER as MAPS  # noqa: E402
-from contradicting.workbook import library  # noqa: E402
+from contradicting.tables import library  # noqa: E402
 from normalising.rules import add_losses, loses  # noqa: E402
 from process import Progress, Status, print_lines, printable, run  # noqa: E402
 from program import add_program, program_at  # noqa: E402

@@ -3,11 +3,10 @@ xbrlmerge:sets as a text. The types are in members that the program ignores: in 
 import os
 from typing import Any, Dict, Mapping, Optional
 
-from file_kinds import kind_of_sheet, looks_like
 from names import PART, XBRL, Name, Uris, expanded, uris_of
 from normalising.json_text import read_json
 from process import NotDone, shortened
-from text_files import STANDARD, shown_path
+from text_files import STANDARD, kind_of_sheet, looks_like, shown_path
 
 SETS = "xbrlmerge:sets"  # a member that the program ignores
 TABLES = {"concepts": ("numeric", "text", "name"), "dimensions": ("explicit", "typed")}

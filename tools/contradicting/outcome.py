@@ -19,10 +19,9 @@ from contradicting.sources import Report, maps_named, reports_named, written
 from contradicting.rows import Reader, RowObserver
 from contradicting.since import FORMAT, Since
 from contradicting.snapshot import InputFile, Snapshot
-from contradicting.tables import cell, lines_of, table
+from contradicting.tables import Table, cell, lines_in, lines_of, table, write_workbook
 from contradicting.unshared import UnsharedFinder, map_path
 from contradicting.warnings import Warnings
-from contradicting.workbook import Table, lines_in, write_workbook
 from process import Status
 from text_files import PIECE
 from whole_files import Piece

@@ -6,7 +6,7 @@ from decimal import Decimal
 from typing import Iterator, NamedTuple, Sequence
 
 from contradicting.findings import counted
-from contradicting.hints import Hint, exact_scale
+from contradicting.facts import Hint, exact_scale
 from contradicting.refusals import Refusals
 from contradicting.rows import Agreement, Row, agreement_of, opponents
 from contradicting.shown import escaped

@@ -4,7 +4,7 @@ import json
 import re
 from typing import Any, Callable, Container, Mapping, NamedTuple, Optional
 
-from file_kinds import looks_like
+from text_files import looks_like
 from names import NAME, SPACE
 from normalising import documents, moments, prefixes
 from normalising.json_text import Number, read_json

@@ -7,8 +7,7 @@ import re
 from decimal import Decimal
 from typing import Any, Iterable, Iterator, Mapping, NamedTuple, Optional, Protocol, Sequence
 
-from contradicting.facts import Dimensions, Fact, Group, Interval, Value, groups_of, odd_facts, weights_of
-from contradicting.hints import Hint, hints_of, restatements
+from contradicting.facts import Dimensions, Fact, Group, Hint, Interval, Value, groups_of, hints_of, odd_facts, restatements, weights_of
 from contradicting.sources import Holders, names_of
 from contradicting.texts import CORE, Text, Tree, using
 from normalising.prefixes import is_spelled

@@ -6,8 +6,7 @@ import os
 from decimal import Decimal
 from typing import Iterable, Iterator, NamedTuple, Optional, Union
 
-from contradicting.facts import Fact, Value, day, plain
-from contradicting.hints import Hint
+from contradicting.facts import Fact, Hint, Value, day, plain
 from contradicting.labels import Labels
 from contradicting.rows import Agreement, Row, agreement_of
 from contradicting.sources import Holder

@@ -5,7 +5,7 @@ import re
 import urllib.parse
 from typing import Container, Optional
 
-from file_kinds import CONVERT, CSV, is_csv, looks_like
+from text_files import CONVERT, CSV, is_csv, looks_like
 from names import XBRL
 from normalising.changes import Part
 from normalising.json_text import Tree, is_text, path_to, pointer_of

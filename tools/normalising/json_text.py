@@ -6,9 +6,8 @@ import re
 import sys
 from typing import Any, Callable, NamedTuple, Optional
 
-from file_kinds import kind_of_bytes, looks_like
 from process import NotDone, shortened
-from text_files import PIECE, NotUtf8, read_text, shown_path
+from text_files import PIECE, NotUtf8, kind_of_bytes, looks_like, read_text, shown_path
 from whole_files import OutputLimit
 
 Tree = Any  # None, bool, str, Number, or a dict or list of such trees

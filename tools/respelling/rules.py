@@ -5,7 +5,7 @@ import re
 from typing import Any, Iterable, Mapping, NamedTuple, Sequence
 
 import recheck
-from file_kinds import kind_of_bytes, looks_like
+from text_files import kind_of_bytes, looks_like
 from names import PART, SPACE, XBRL, Spelled
 from process import NotDone, shortened
 from sheets import Sheet

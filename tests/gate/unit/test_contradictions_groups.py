@@ -8,8 +8,8 @@ from decimal import Decimal
 from test_contradictions import KINDS, TOOL, ToolTest, data_of, fact
 from support import content
 
-from contradicting import all_rows, hints
-from contradicting.facts import Fact, groups_of, odd_facts
+from contradicting import all_rows
+from contradicting.facts import Fact, groups_of, hints_of, odd_facts
 
 
 def number(value, decimals=None):
@@ -28,7 +28,7 @@ def hinted(first, second, **weights):
     """Returns the hint for two facts, as the name of the fact and the phrase, or None."""
     facts = {"a": first, "b": second}
     of = {"a": 1, "b": 1, **weights}
-    (*found,) = hints.hints_of(facts, groups_of(facts, of), of)
+    (*found,) = hints_of(facts, groups_of(facts, of), of)
     return (found[0].group[0], found[0].phrase) if found else None
 
 
@@ -76,14 +76,14 @@ class GroupsAndHints(unittest.TestCase):
 
     def test_a_hint_is_given_once_for_both_other_groups(self):
         facts = {"a": number(None), "b": number(0, 0), "c": number(5, 0)}
-        found = hints.hints_of(facts, (("a",), ("b",), ("c",)), dict.fromkeys("abc", 1))
+        found = hints_of(facts, (("a",), ("b",), ("c",)), dict.fromkeys("abc", 1))
         self.assertEqual([hint.phrase for hint in found], ["nil"])
 
     def test_every_fact_of_a_group_must_meet(self):
         facts = {"a": number(1000, 0), "b": number("1.0", 1), "c": number("1.2", 1), "d": number(1000, 0)}
-        self.assertEqual([*hints.hints_of(facts, (("a", "d"), ("b", "c")), dict.fromkeys("abcd", 1))], [])
+        self.assertEqual([*hints_of(facts, (("a", "d"), ("b", "c")), dict.fromkeys("abcd", 1))], [])
         facts["c"] = number("1.04", 1)
-        found = hints.hints_of(facts, (("a", "d"), ("b", "c")), {**dict.fromkeys("abcd", 1), "a": 3})
+        found = hints_of(facts, (("a", "d"), ("b", "c")), {**dict.fromkeys("abcd", 1), "a": 3})
         self.assertEqual([hint.phrase for hint in found], ["1,000 times smaller"])
 
 

@@ -14,9 +14,8 @@ from unittest import mock
 
 from in_process import TOP, RoomTest
 from packing import bill, contents, debian, installation, manual, release
-from packing.files import RUNS, File, folders_of, read_below
+from packing.files import RUNS, Crate, File, Source, folders_of, newest_libc, read_below, wrong_source
 from packing.release import tarball
-from packing.source import Crate, Source, newest_libc, wrong_source
 from support import bytes_of, content, script
 
 sys.path.append(os.path.join(TOP, "python"))
