@@ -247,12 +247,10 @@ class Packages(ToolTest):
         concept = (SCHEMA % (INCLUDE.format(location) + TYPED.format(name, "this:t"))).replace("http://made", f"http://{name}")
         return {f"{name}.xsd": concept, path: WITHOUT_NAMESPACE % TYPE.format("t", f"xbrli:{base}ItemType")}
 
-    def test_methods_that_unpack_without_a_limit(self):
+    def test_methods_that_unpack_without_a_limit_and_document_types_in_any_encoding(self):
         for method in (zipfile.ZIP_BZIP2, zipfile.ZIP_LZMA):
             package = self.pack({"a.xsd": SCHEMA % ""}, method=method)
             self.check_refused("a.xsd: it is compressed by a method other than deflate", package)
-
-    def test_a_document_type_in_any_encoding(self):
         for encoding in ("utf-8", "utf-16", "latin-1", "cp1252"):
             text = f'<?xml version="1.0" encoding="{encoding}"?><!DOCTYPE a [<!ENTITY e "x">]>' + SCHEMA % "&e;"
             self.check_refused("it has a document type", self.pack({"a.xsd": text.encode(encoding)}))

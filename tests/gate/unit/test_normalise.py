@@ -1,12 +1,10 @@
-"""Tests of tools/normalise: the reports of tests/program/normalise, drawn reports and bad inputs."""
+"""Tests of tools/normalise: the reports of tests/program/normalise and bad inputs. tests/program/test_normalised.py draws more."""
 import json
 import os
-import random
 import subprocess
 import sys
 from unittest import mock
 
-import drawn_reports
 import in_process
 import normalise
 import process
@@ -106,23 +104,6 @@ SHEET = {
     "dimensions": {"eg:Reg": "explicit", "eg:Sku": "typed"},
     "xbrlmerge:sets": ["eg:S"],
 }
-
-
-class Drawn(ToolTest):
-    """Tests on drawn reports, which must also pass the checks of `normalised`. tests/program/test_normalised.py has more of them."""
-
-    def test_untidy_reports_with_drawn_options(self):
-        sheet = self.write("sheet.json", json.dumps(drawn_reports.SHEET))
-        for seed in range(100):
-            chance = random.Random(seed)
-            with self.subTest(seed=seed):
-                report = self.write("report.json", drawn_reports.untidy(chance))
-                lossy = [word for word in drawn_reports.OPTIONS if chance.random() < 0.3]
-                refused = ["f1", "f3"] if seed % 4 == 0 else []
-                options = [*lossy, *(self.refusing(dict.fromkeys(refused, "26 NumberForm")) if refused else [])]
-                _, _, out, changes = self.normalised(report, "--sheet", sheet, *options)
-                self.assertTrue(options or not any(change["loss"] for change in changes))
-                self.assertFalse(self.tree_of(out)["facts"].keys() & {*refused})
 
 
 # values of numbers and periods that stay, apart from report_shapes.txt: for some options, with a line on standard error or without

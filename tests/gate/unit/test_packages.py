@@ -212,7 +212,7 @@ class Archives(Packages):
         for tool in contents.TOOLS:
             self.assertIn(f"\n{contents.command_of(tool)} = xbrlmerge_tools:{tool}\n", points)
 
-    def test_a_wheel_depends_on_no_name_above_it_and_has_nothing_that_was_made(self):
+        # a wheel depends on no name above it, and has nothing that was made
         top = self.path_of("a [b]*? 'c\" $(d)\n-e%f")
         for folder in ("python", "tools"):
             shutil.copytree(os.path.join(TOP, folder), os.path.join(top, folder))

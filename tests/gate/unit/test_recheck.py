@@ -158,18 +158,16 @@ class Changes(Examples):
                 self.assertTrue(all(line.startswith((f"{name}: ", "report ")) for line in lines), lines)
                 self.assertTrue(any(line.startswith(f"{name}: line ") for line in lines), lines)
 
-    def test_each_change_of_the_inputs_is_found(self):
+    def test_each_change_of_the_inputs_or_their_order_is_found(self):
         for kind, (name, old, new, text) in INPUTS.items():
             with self.subTest(kind):
                 status, lines = self.changed(name, old, new)
                 self.assertEqual(status, 1)
                 self.assertTrue(lines[0].startswith(f"{text}: "), lines)
-
-    def test_a_report_that_was_left_out_repeated_or_moved_is_found(self):
         for reports in (REPORTS[:2], REPORTS[1:], (*REPORTS, "issuer"), REPORTS[::-1]):
             self.assertEqual(self.run_on(*self.words(reports))[0], 1)
 
-    def test_the_first_place_is_shown(self):
+    def test_the_first_place_is_shown_if_the_sheet_is_read(self):
         self.files["verdicts"] = self.files["verdicts"].replace("apart f018 f019", "apart f018 f020")
         self.files["merged"] = self.files["merged"].replace('"value":"41260"', '"value":"41270"')
         status, printed = self.run_on(*self.words())
@@ -179,8 +177,7 @@ class Changes(Examples):
         self.assertIn("verdicts: line 12, character 40: '12 f018 f019 inconsistent apart f018 f020' should be"
                       " '12 f018 f019 inconsistent apart f018 f019'\n", printed)
         self.assertTrue(printed.endswith(": differ\n"))
-
-    def test_a_refused_sheet_has_no_texts(self):
+        # a refused sheet has no texts
         self.files.update(sheet="{", merged="", verdicts="", sources="", refusals="sheet: 1 NotJson\n")
         self.assertEqual(self.run_on(*self.words())[0], 0)
         self.files["merged"] = "{}"
@@ -190,7 +187,7 @@ class Changes(Examples):
 class Others(Examples):
     """Tests of references, of a row as on paper, and of hostile input."""
 
-    def test_urls_are_judged_by_the_url_standard(self):
+    def test_urls_are_judged_by_the_url_standard_and_a_reference_more_is_found(self):
         for base, references in REFERENCES.items():
             for reference, kept in references.items():
                 with self.subTest(base=base, reference=reference):
@@ -199,8 +196,6 @@ class Others(Examples):
                     self.assertEqual(recheck.read_urls(info), ([] if kept in (None, UNJUDGED) else [kept], [7] * (kept is None), unjudged))
         for base, found in BASES.items():
             self.assertEqual(recheck.read_urls({"baseURL": base})[1:], ([6], []) if found is None else ([], [(6, base)] * (found == UNJUDGED)), base)
-
-    def test_a_reference_more_is_found(self):
         _, lines = self.changed("merged", f'"{KEPT}"', f'"{KEPT}","{REFERENCE}"')
         self.assertEqual(lines[0], f"merged: its reference {REFERENCE} is in no report")
 

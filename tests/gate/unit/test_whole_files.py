@@ -108,8 +108,7 @@ class WholeFiles(RoomTest):
                                    (OSError, self.scratch, ["new"]), (OSError, os.path.join(self.scratch, ".", "first"), ["newer"])):
             self.assertRaises(fault, write_files, [(self.first, ["new"]), (path, texts)])
         self.assertEqual(self.texts(), {"first": "old"})
-
-    def test_files_of_other_runs_stay(self):
+        # files of other runs stay
         others = [self.first + f".{os.getpid()}.new", self.path_of(".new-other")]
         for other in others:
             self.put(other)
@@ -167,8 +166,7 @@ class WholeFiles(RoomTest):
                 self.assertEqual(tool.communicate(), (b"", b""))
             self.assertEqual(tool.returncode, -number)
             self.assertEqual(self.texts(), {"first": "old"})
-
-    def test_a_signal_while_a_folder_is_removed(self):
+        # and so does one while a folder is removed
         removed = shutil.rmtree
 
         def stopped_at_first(path, **options):
