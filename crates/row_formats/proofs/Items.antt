@@ -1,19 +1,9 @@
 -- The JSON arrays of facts: their items, and the tokens that write them.
-use Rattle.std.proofs.Common.{◌≡◌, ℕ, suc, ◌+◌, List, [], ◌∷◌, ◌++◌, length, append_assoc, append-nil, false, Result, Ok, Err, codes, refl, sym, ap, ◌∙◌, arith}
-use Rattle.std.specs.Prelude.{OnOk}
-use Rattle.std.proofs.lemmas.Result.{on_ok_weaker}
-use Rattle.json.specs.Token.{begin_array, begin_object, end_array, end_object, key}
+use Rattle.row_formats.proofs.Shared.{◌≡◌, ℕ, suc, ◌+◌, List, [], ◌∷◌, ◌++◌, length, append_assoc, append-nil, false, Result, Ok, Err, codes, refl, sym, ap, ◌∙◌, arith, OnOk, on_ok_weaker, begin_array, begin_object, end_array, end_object, key, Data, array, object, Items, no_items, item, no_members, member, compact_text, items_outline, outline, Value, Adds, AddsMembers, AddsValue, Adds-is, Adds-none, Adds-one, Adds-trans, closed_object, then_member, evidence_member, fact_data, fact_items, item_tokens}
 use Rattle.json.specs.Tree as tree
 use Rattle.json.specs.Print.{print}
 use Rattle.json.specs.Written.{Writes, Written}
-use Rattle.serde_json.specs.Data.{Data, array, object, Items, no_items, item, no_members, member}
-use Rattle.serde_json.specs.Written.{compact_text, items_outline, outline}
-use Rattle.oim_value.specs.declared.value.Value.{Value}
-use Rattle.oim_write.specs.Tokens.{Adds, AddsMembers, AddsValue}
 use Rattle.oim_write.proofs.PieceTexts.{behind, item_is}
-use Rattle.oim_write.proofs.Tokens.{Adds-is, Adds-none, Adds-one, Adds-trans, closed_object, then_member}
-use Rattle.row_formats.specs.JsonRows.{evidence_member, fact_data, fact_items}
-use Rattle.row_formats.specs.code.Items.{item_tokens}
 
 outlined : (ds : Items) → tree.items_tokens (items_outline ds) ≡ item_tokens ds ++ end_array ∷ []
 outlined no_items = refl

@@ -1,12 +1,7 @@
 -- A text of JSON or CSV is at least as long as the strings or fields in it.
-use Rattle.std.proofs.Common.{◌≡◌, ℕ, ◌+◌, ◌≤◌, ◌&&◌, if◌then◌else◌, Bool, true, false, List, [], ◌∷◌, ◌++◌, length, refl, ap, arith, length-append}
+use Rattle.row_formats.proofs.Shared.{◌≡◌, ℕ, ◌+◌, ◌≤◌, ◌&&◌, if◌then◌else◌, Bool, true, false, List, [], ◌∷◌, ◌++◌, length, refl, ap, arith, length-append, Data, null, boolean, number, string, array, object, Items, no_items, item, Members, no_members, member, comma_if, compact_text, items_text, members_text, WriterBuilder, begins_formula, cell, guarded_inside, is_separator, marked, field_bytes, items_strings, members_strings, strings}
 use Rattle.json.specs.Print.{escape, escape_byte, quoted}
-use Rattle.serde_json.specs.Data.{Data, null, boolean, number, string, array, object, Items, no_items, item, Members, no_members, member}
-use Rattle.serde_json.specs.Written.{comma_if, compact_text, items_text, members_text}
 use Rattle.csv.specs.Writing.{end_text, escaped, field_text, fields_text, is_blank, row_body, row_text}
-use Rattle.csv.specs.declared.writer.WriterBuilder.{WriterBuilder}
-use Rattle.row_formats.specs.CsvCells.{begins_formula, cell, guarded_inside, is_separator, marked}
-use Rattle.row_formats.specs.code.RowLength.{field_bytes, items_strings, members_strings, strings}
 
 escaped_one : (b : ℕ) → 1 ≤ length (escape_byte b)
 escaped_one b = unfold escape_byte in grind arith

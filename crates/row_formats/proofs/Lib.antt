@@ -1,3 +1,4 @@
+pub mod Shared
 pub mod Items
 pub mod Lengths
 pub mod MarkedCells

@@ -1,6 +1,5 @@
 -- In a guarded text, a formula begins only after a `'`.
-use Rattle.std.proofs.Common.{◌≡◌, ℕ, Bool, true, false, ◌&&◌, if◌then◌else◌, List, [], ◌∷◌, refl, sym, ap, ◌∙◌}
-use Rattle.row_formats.specs.CsvCells.{AreMarked, FormulasAreMarked, IsMarked, begins_formula, guarded_inside, is_separator, is_sign, is_skipped, marked}
+use Rattle.row_formats.proofs.Shared.{◌≡◌, ℕ, Bool, true, false, ◌&&◌, if◌then◌else◌, List, [], ◌∷◌, refl, sym, ap, ◌∙◌, AreMarked, FormulasAreMarked, IsMarked, begins_formula, guarded_inside, is_separator, is_sign, is_skipped, marked}
 
 begins_marked : (test : Bool) (t : List ℕ) → begins_formula (marked test t) ≡ begins_formula t
 begins_marked true t = refl

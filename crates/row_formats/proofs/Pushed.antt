@@ -1,9 +1,5 @@
 -- Fields of a CSV record that are pushed one after another, and one more record.
-use Rattle.std.proofs.Common.{◌≡◌, ℕ, suc, ◌+◌, Bool, List, [], ◌∷◌, ◌++◌, length, append_assoc, append-nil, sym, ap, ◌∙◌, arith}
-use Rattle.oim_value.specs.declared.value.Value.{Value}
-use Rattle.oim_dims.specs.DimensionSet.{DimensionSet}
-use Rattle.fact_base.specs.declared.evidence.Evidence.{Evidence}
-use Rattle.row_formats.specs.CsvRows.{csv_facts, evidence_fields, fact_fields, record_text}
+use Rattle.row_formats.proofs.Shared.{◌≡◌, ℕ, suc, ◌+◌, Bool, List, [], ◌∷◌, ◌++◌, length, append_assoc, append-nil, sym, ap, ◌∙◌, arith, Value, DimensionSet, Evidence, csv_facts, evidence_fields, fact_fields, record_text}
 
 pub pushed : (xs us vs : List (List ℕ)) {ys zs : List (List ℕ)} → ys ≡ xs ++ us → zs ≡ ys ++ vs → zs ≡ xs ++ (us ++ vs)
 pushed xs us vs first second = second ∙ ap (λ t. t ++ vs) first ∙ append_assoc xs us vs

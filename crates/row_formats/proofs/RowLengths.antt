@@ -1,33 +1,15 @@
 -- A row has at least the bytes of the URIs in it.
-use Rattle.std.proofs.Common.{◌≡◌, ℕ, suc, ◌+◌, ◌<◌, ◌≤◌, ◌==◌, ◌⊎◌, inl, inr, if◌then◌else◌, Bool, true, false, List, [], ◌∷◌, ◌++◌, length, map, codes, Option, Some, None, refl, sym, ap, subst, arith, length-append}
+use Rattle.row_formats.proofs.Shared.{◌≡◌, ℕ, suc, ◌+◌, ◌<◌, ◌≤◌, ◌==◌, ◌⊎◌, inl, inr, if◌then◌else◌, Bool, true, false, List, [], ◌∷◌, ◌++◌, length, map, codes, Option, Some, None, refl, sym, ap, subst, arith, length-append, Members, object, no_members, compact_text, Value, DimensionSet, period_text, Sheet, member_data, option_spelled, option_unit_text, value_data, Row, rows_of, Evidence, defined_members, ordered_dimensions, text_member, AreRowsFrom, identifier_at, cell, csv_facts, defined_text, dimension_fields, evidence_fields, fact_fields, or_empty, record_text, rfc_4180, value_fields, fact_data, fact_items, json_row, row_data, AreBeyond, header, row_text, braced, dimensions_bytes, entity_bytes, facts_bytes, field_bytes, items_strings, member_bytes, members_bytes, members_strings, names_bytes, row_bytes, strings, unit_bytes, value_bytes, RowFormat, Json, Csv, SpreadsheetCsv}
 use Rattle.std.proofs.Math.Dec.{eqb-suc-zero}
 use Rattle.std.specs.List.{join_with_byte}
-use Rattle.serde_json.specs.Data.{Members, object, no_members}
-use Rattle.serde_json.specs.Written.{compact_text}
 use Rattle.oim_names.specs.QName.{QName}
-use Rattle.oim_value.specs.declared.value.Value.{Value}
 use Rattle.oim_value.specs.declared.value.Value.TheVariants.{Nil, Number, Text as AText, Name as AName}
-use Rattle.oim_dims.specs.DimensionSet.{DimensionSet}
-use Rattle.oim_dims.specs.Period.{period_text}
 use Rattle.oim_dims.specs.Unit.{Measures, product_text, side_text, unit_text}
 use Rattle.oim_dims.specs.declared.fact.Fact.{Fact}
 use Rattle.oim_dims.specs.declared.member.Member.{Member}
 use Rattle.oim_dims.specs.declared.member.Member.TheVariants.{Nil as NoMember, Text as MemberText, Name as MemberName}
 use Rattle.fact_base.specs.Body.{Body}
 use Rattle.fact_base.specs.Fits.{Fits}
-use Rattle.fact_base.specs.Passed.{Sheet, member_data, option_spelled, option_unit_text, value_data}
-use Rattle.fact_base.specs.Rows.{Row, rows_of}
-use Rattle.fact_base.specs.declared.evidence.Evidence.{Evidence}
-use Rattle.oim_write.specs.Ordered.{defined_members, ordered_dimensions, text_member}
-use Rattle.oim_merge.specs.Lines.{AreRowsFrom, identifier_at}
-use Rattle.row_formats.specs.CsvCells.{cell}
-use Rattle.row_formats.specs.CsvRows.{csv_facts, defined_text, dimension_fields, evidence_fields, fact_fields, or_empty, record_text, rfc_4180, value_fields}
-use Rattle.row_formats.specs.JsonRows.{fact_data, fact_items, json_row, row_data}
-use Rattle.row_formats.specs.Rows.{AreBeyond, header, row_text}
-use Rattle.row_formats.specs.Spelled.{braced}
-use Rattle.row_formats.specs.code.RowLength.{dimensions_bytes, entity_bytes, facts_bytes, field_bytes, items_strings, member_bytes, members_bytes, members_strings, names_bytes, row_bytes, strings, unit_bytes, value_bytes}
-use Rattle.row_formats.specs.declared.row_format.RowFormat.{RowFormat}
-use Rattle.row_formats.specs.declared.row_format.RowFormat.TheVariants.{Json, Csv, SpreadsheetCsv}
 use Rattle.row_formats.proofs.Lengths.{cell_longer, record_longer, strings_within}
 use Rattle.row_formats.proofs.RowTexts.{rows_are_one}
 

@@ -1,25 +1,10 @@
 -- The rows of a base have one text as JSON and as CSV, and tell its verdicts.
-use Rattle.std.proofs.Common.{◌≡◌, ℕ, suc, Bool, true, false, List, [], ◌∷◌, ◌++◌, append_assoc, codes, length, refl, ap, subst, ◌∙◌, sym}
+use Rattle.row_formats.proofs.Shared.{◌≡◌, ℕ, suc, Bool, true, false, List, [], ◌∷◌, ◌++◌, append_assoc, codes, length, refl, ap, subst, ◌∙◌, sym, decimal, array, object, string, Items, Members, member, compact_text, members_text, Value, DimensionSet, Row, Evidence, ordered_dimensions, identifier_at, line_text, verdict_shown, verdict_word, csv_facts, evidence_fields, fact_fields, record_text, evidence_members, fact_items, row_object, HasField, LineShows, RecordsShow, RowsAreOne, RowsTellVerdicts, Shows, header, row_text, braced, RowFormat, Json, Csv, SpreadsheetCsv}
 use Rattle.std.proofs.lemmas.List.Elements.{All-cons, All-nil}
-use Rattle.std.specs.Fmt.{decimal}
-use Rattle.serde_json.specs.Data.{array, object, string, Items, Members, member}
-use Rattle.serde_json.specs.Written.{compact_text, members_text}
 use Rattle.json.specs.Print.{escape_byte}
-use Rattle.oim_value.specs.declared.value.Value.{Value}
-use Rattle.oim_dims.specs.DimensionSet.{DimensionSet}
-use Rattle.fact_base.specs.Rows.{Row}
-use Rattle.fact_base.specs.declared.evidence.Evidence.{Evidence}
 use Rattle.fact_base.specs.declared.evidence.Evidence.TheVariants.{Alike, Common, Apart}
-use Rattle.oim_write.specs.Ordered.{ordered_dimensions}
-use Rattle.oim_merge.specs.Lines.{identifier_at, line_text, verdict_shown, verdict_word}
 use Rattle.oim_merge.proofs.Evidenced.{lines_tell_verdicts}
 use Rattle.oim_merge.proofs.RowLists.{rows_are_one as one_list}
-use Rattle.row_formats.specs.CsvRows.{csv_facts, evidence_fields, fact_fields, record_text}
-use Rattle.row_formats.specs.JsonRows.{evidence_members, fact_items, row_object}
-use Rattle.row_formats.specs.Rows.{HasField, LineShows, RecordsShow, RowsAreOne, RowsTellVerdicts, Shows, header, row_text}
-use Rattle.row_formats.specs.Spelled.{braced}
-use Rattle.row_formats.specs.declared.row_format.RowFormat.{RowFormat}
-use Rattle.row_formats.specs.declared.row_format.RowFormat.TheVariants.{Json, Csv, SpreadsheetCsv}
 
 pub rows_are_one : RowsAreOne
 rows_are_one format sheet b fits =

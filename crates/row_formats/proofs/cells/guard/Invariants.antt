@@ -1,6 +1,4 @@
-use Rattle.std.proofs.Common.{◌≡◌, ◌≤◌, length, drop}
-use Rattle.std.specs.Prelude.{reverse}
-use Rattle.row_formats.specs.CsvCells.{begins_formula, guarded_inside}
+use Rattle.row_formats.proofs.Shared.{◌≡◌, ◌≤◌, length, drop, reverse, begins_formula, guarded_inside}
 use Rattle.row_formats.proofs.cells.guard.Given as goal
 
 -- the bytes so far, in reverse, are the guarded rest of the text

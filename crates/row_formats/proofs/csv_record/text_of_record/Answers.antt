@@ -1,10 +1,7 @@
-use Rattle.std.proofs.Common.{◌≡◌, ◌≢◌, sym, ap, subst, ◌∙◌}
-use Rattle.csv.specs.Records.{fields_of}
+use Rattle.row_formats.proofs.Shared.{◌≡◌, ◌≢◌, sym, ap, subst, ◌∙◌, fields_of, WriterBuilder, record_text, rfc_4180}
 use Rattle.csv.specs.Writing.{with_terminator}
 use Rattle.csv.specs.declared.parser.Terminator.TheVariants as term
 use Rattle.csv.specs.declared.writer.QuoteStyle.TheVariants as style
-use Rattle.csv.specs.declared.writer.WriterBuilder.{WriterBuilder}
-use Rattle.row_formats.specs.CsvRows.{record_text, rfc_4180}
 use Rattle.row_formats.proofs.csv_record.text_of_record.Goals as goal
 
 pub returns-in-Ok-into_inner : goal.returns-in-Ok-into_inner

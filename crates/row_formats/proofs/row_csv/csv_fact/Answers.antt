@@ -1,10 +1,4 @@
-use Rattle.std.proofs.Common.{◌≡◌, [], ◌∷◌, ◌++◌, ap, subst, ◌∙◌}
-use Rattle.std.specs.Prelude.{IfOk}
-use Rattle.std.specs.Fmt.{decimal}
-use Rattle.csv.specs.Records.{fields_of}
-use Rattle.oim_merge.specs.Lines.{verdict_shown, verdict_word}
-use Rattle.oim_merge.specs.Judged.{names_of}
-use Rattle.row_formats.specs.CsvRows.{dimension_fields, evidence_fields, fact_fields, record_text, value_fields}
+use Rattle.row_formats.proofs.Shared.{◌≡◌, [], ◌∷◌, ◌++◌, ap, subst, ◌∙◌, IfOk, decimal, fields_of, verdict_shown, verdict_word, names_of, dimension_fields, evidence_fields, fact_fields, record_text, value_fields}
 use Rattle.row_formats.proofs.Pushed.{pushed_three}
 use Rattle.row_formats.proofs.row_csv.csv_fact.Goals as goal
 

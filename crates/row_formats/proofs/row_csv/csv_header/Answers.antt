@@ -1,7 +1,4 @@
-use Rattle.std.proofs.Common.{◌≡◌, [], ◌∷◌, ◌++◌, codes, ap, ◌∙◌}
-use Rattle.std.proofs.lemmas.Result.{IfOk-weaker}
-use Rattle.csv.specs.Records.{fields_of}
-use Rattle.row_formats.specs.CsvRows.{columns, record_text}
+use Rattle.row_formats.proofs.Shared.{◌≡◌, [], ◌∷◌, ◌++◌, codes, ap, ◌∙◌, IfOk-weaker, fields_of, columns, record_text}
 use Rattle.row_formats.proofs.Pushed.{pushed_four}
 use Rattle.row_formats.proofs.row_csv.csv_header.Goals as goal
 

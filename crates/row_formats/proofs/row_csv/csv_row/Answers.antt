@@ -1,7 +1,4 @@
-use Rattle.std.proofs.Common.{[], ◌∷◌, ◌++◌, take, sym, ap, ◌∙◌, arith}
-use Rattle.std.proofs.lemmas.List.{length-take-le, take_more}
-use Rattle.oim_merge.specs.Judged.{names_of}
-use Rattle.row_formats.specs.CsvRows.{csv_facts, evidence_fields, fact_fields, record_text}
+use Rattle.row_formats.proofs.Shared.{[], ◌∷◌, ◌++◌, take, sym, ap, ◌∙◌, arith, length-take-le, take_more, names_of, csv_facts, evidence_fields, fact_fields, record_text}
 use Rattle.row_formats.proofs.Pushed.{next_record}
 use Rattle.row_formats.proofs.row_csv.csv_row.Goals as goal
 

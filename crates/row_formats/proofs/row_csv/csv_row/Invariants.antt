@@ -1,6 +1,4 @@
-use Rattle.std.proofs.Common.{◌≡◌, take}
-use Rattle.oim_merge.specs.Judged.{names_of}
-use Rattle.row_formats.specs.CsvRows.{csv_facts}
+use Rattle.row_formats.proofs.Shared.{◌≡◌, take, names_of, csv_facts}
 use Rattle.row_formats.proofs.row_csv.csv_row.Given as goal
 
 -- the facts so far are written

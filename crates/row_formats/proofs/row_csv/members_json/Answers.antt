@@ -1,8 +1,4 @@
-use Rattle.std.proofs.Common.{◌∙◌}
-use Rattle.serde_json.specs.Data.{no_members, object}
-use Rattle.oim_write.specs.Ordered.{defined_members}
-use Rattle.oim_write.proofs.Tokens.{Adds-one, whole_object}
-use Rattle.row_formats.specs.Spelled.{braced}
+use Rattle.row_formats.proofs.Shared.{◌∙◌, no_members, object, defined_members, Adds-one, whole_object, braced}
 use Rattle.row_formats.proofs.Items.{whole_text}
 use Rattle.row_formats.proofs.row_csv.members_json.Goals as goal
 

@@ -1,11 +1,4 @@
-use Rattle.std.proofs.Common.{◌++◌, ◌∷◌, [], ap, ◌∙◌}
-use Rattle.std.proofs.lemmas.Result.{on_ok_weaker}
-use Rattle.csv.specs.Records.{fields_of}
-use Rattle.oim_dims.specs.Period.{period_text}
-use Rattle.fact_base.specs.Passed.{option_spelled, option_unit_text}
-use Rattle.row_formats.specs.CsvCells.{cell}
-use Rattle.row_formats.specs.CsvRows.{defined_text, or_empty, value_fields}
-use Rattle.row_formats.specs.Spelled.{braced}
+use Rattle.row_formats.proofs.Shared.{◌++◌, ◌∷◌, [], ap, ◌∙◌, on_ok_weaker, fields_of, period_text, option_spelled, option_unit_text, cell, defined_text, or_empty, value_fields, braced}
 use Rattle.row_formats.proofs.Pushed.{pushed_seven}
 use Rattle.row_formats.proofs.row_csv.push_fact.Goals as goal
 

@@ -1,6 +1,4 @@
-use Rattle.std.proofs.Common.{[], ◌∷◌}
-use Rattle.std.proofs.lemmas.Result.{on_ok_weaker}
-use Rattle.csv.specs.Records.{fields_of}
+use Rattle.row_formats.proofs.Shared.{[], ◌∷◌, on_ok_weaker, fields_of}
 use Rattle.row_formats.proofs.Pushed.{pushed}
 use Rattle.row_formats.proofs.row_csv.push_four.Goals as goal
 

@@ -1,7 +1,4 @@
-use Rattle.std.proofs.Common.{[], ◌∷◌, ◌++◌, ap, ◌∙◌}
-use Rattle.fact_base.specs.Shown.{shown}
-use Rattle.oim_merge.specs.Judged.{names_of}
-use Rattle.row_formats.specs.JsonRows.{row_data}
+use Rattle.row_formats.proofs.Shared.{[], ◌∷◌, ◌++◌, ap, ◌∙◌, shown, names_of, row_data}
 use Rattle.row_formats.proofs.Items.{whole_text}
 use Rattle.row_formats.proofs.row_json.json_row.Goals as goal
 

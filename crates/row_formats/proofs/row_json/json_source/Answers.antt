@@ -1,6 +1,4 @@
-use Rattle.std.proofs.Common.{[], ◌∷◌, ◌++◌, ap, ◌∙◌}
-use Rattle.std.specs.Option.{option_copied}
-use Rattle.row_formats.specs.SourceRows.{source_data}
+use Rattle.row_formats.proofs.Shared.{[], ◌∷◌, ◌++◌, ap, ◌∙◌, option_copied, source_data}
 use Rattle.row_formats.proofs.Items.{whole_text}
 use Rattle.row_formats.proofs.row_json.json_source.Goals as goal
 

@@ -1,7 +1,4 @@
-use Rattle.std.proofs.Common.{codes}
-use Rattle.oim_write.proofs.Tokens.{Adds-one}
-use Rattle.oim_merge.specs.Judged.{names_of}
-use Rattle.row_formats.specs.JsonRows.{apart_data, common_data}
+use Rattle.row_formats.proofs.Shared.{codes, Adds-one, names_of, apart_data, common_data}
 use Rattle.row_formats.proofs.Items.{closed_evidence}
 use Rattle.row_formats.proofs.row_json.write_evidence.Goals as goal
 

@@ -1,9 +1,4 @@
-use Rattle.std.proofs.Common.{codes}
-use Rattle.serde_json.specs.Data.{member, no_members, string}
-use Rattle.fact_base.specs.Passed.{value_data}
-use Rattle.oim_write.specs.Ordered.{decimals_member}
-use Rattle.oim_write.proofs.Tokens.{Adds-one, closed_object, then_member}
-use Rattle.row_formats.specs.Spelled.{braced}
+use Rattle.row_formats.proofs.Shared.{codes, member, no_members, string, value_data, decimals_member, Adds-one, closed_object, then_member, braced}
 use Rattle.row_formats.proofs.row_json.write_fact.Goals as goal
 
 pub returns : goal.returns

@@ -1,10 +1,4 @@
-use Rattle.std.proofs.Common.{[], ◌∷◌, ◌++◌, take, sym, subst, ap, ◌∙◌, arith}
-use Rattle.std.proofs.lemmas.List.{length-take-le, take_all, take_more}
-use Rattle.oim_write.specs.Tokens.{AddsValue}
-use Rattle.oim_write.proofs.Tokens.{Adds-is, Adds-one, Adds-trans}
-use Rattle.oim_merge.specs.Identifiers.{named}
-use Rattle.row_formats.specs.JsonRows.{fact_data, fact_items}
-use Rattle.row_formats.specs.code.Items.{item_tokens}
+use Rattle.row_formats.proofs.Shared.{[], ◌∷◌, ◌++◌, take, sym, subst, ap, ◌∙◌, arith, length-take-le, take_all, take_more, AddsValue, Adds-is, Adds-one, Adds-trans, named, fact_data, fact_items, item_tokens}
 use Rattle.row_formats.proofs.Items.{closed_array, next_fact}
 use Rattle.row_formats.proofs.row_json.write_facts.Goals as goal
 

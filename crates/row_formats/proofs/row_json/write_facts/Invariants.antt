@@ -1,8 +1,4 @@
-use Rattle.std.proofs.Common.{take}
-use Rattle.oim_write.specs.Tokens.{Adds}
-use Rattle.oim_merge.specs.Identifiers.{named}
-use Rattle.row_formats.specs.JsonRows.{fact_items}
-use Rattle.row_formats.specs.code.Items.{item_tokens}
+use Rattle.row_formats.proofs.Shared.{take, Adds, named, fact_items, item_tokens}
 use Rattle.row_formats.proofs.row_json.write_facts.Given as goal
 
 -- the facts so far are written

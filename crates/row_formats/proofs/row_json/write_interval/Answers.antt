@@ -1,8 +1,5 @@
-use Rattle.std.proofs.Common.{◌≡◌, [], ◌∷◌, codes, ap, ◌∙◌, rules}
-use Rattle.json.specs.Token.{Token}
-use Rattle.serde_json.specs.Data.{member, no_members, string}
+use Rattle.row_formats.proofs.Shared.{◌≡◌, [], ◌∷◌, codes, ap, ◌∙◌, rules, Token, member, no_members, string, Adds-is, Adds-none, Adds-one, closed_object, then_member}
 use Rattle.oim_value.specs.Plain.{plain}
-use Rattle.oim_write.proofs.Tokens.{Adds-is, Adds-none, Adds-one, closed_object, then_member}
 use Rattle.row_formats.proofs.row_json.write_interval.Goals as goal
 
 pub returns : goal.returns

@@ -1,8 +1,4 @@
-use Rattle.std.proofs.Common.{[], ◌∷◌, ap, ◌∙◌}
-use Rattle.json.specs.Token.{Token}
-use Rattle.serde_json.specs.Data.{item, no_items, string}
-use Rattle.oim_write.proofs.Tokens.{Adds-is, Adds-one, Adds-trans}
-use Rattle.oim_merge.specs.Identifiers.{named}
+use Rattle.row_formats.proofs.Shared.{[], ◌∷◌, ap, ◌∙◌, Token, item, no_items, string, Adds-is, Adds-one, Adds-trans, named}
 use Rattle.row_formats.proofs.Items.{closed_array}
 use Rattle.row_formats.proofs.row_json.write_pair.Goals as goal
 

@@ -1,12 +1,4 @@
-use Rattle.std.proofs.Common.{[], ◌∷◌, codes, ap}
-use Rattle.json.specs.Token.{Token}
-use Rattle.serde_json.specs.Data.{array, member, number, object, string, unsigned}
-use Rattle.oim_write.specs.Ordered.{ordered_dimensions}
-use Rattle.oim_write.proofs.Tokens.{Adds-is, Adds-one, closed_object, then_member}
-use Rattle.oim_merge.specs.Lines.{verdict_shown, verdict_word}
-use Rattle.oim_merge.specs.Judged.{names_of}
-use Rattle.row_formats.specs.JsonRows.{evidence_members, fact_items}
-use Rattle.row_formats.specs.Spelled.{braced}
+use Rattle.row_formats.proofs.Shared.{[], ◌∷◌, codes, ap, Token, array, member, number, object, string, unsigned, ordered_dimensions, Adds-is, Adds-one, closed_object, then_member, verdict_shown, verdict_word, names_of, evidence_members, fact_items, braced}
 use Rattle.row_formats.proofs.row_json.write_row.Goals as goal
 
 pub returns : goal.returns

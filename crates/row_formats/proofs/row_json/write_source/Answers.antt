@@ -1,9 +1,4 @@
-use Rattle.std.proofs.Common.{[], ◌∷◌, codes, ap}
-use Rattle.std.specs.Option.{option_copied}
-use Rattle.json.specs.Token.{Token}
-use Rattle.serde_json.specs.Data.{member, no_members, number, string, unsigned}
-use Rattle.oim_write.proofs.Tokens.{Adds-is, Adds-none, Adds-one, closed_object, then_member}
-use Rattle.row_formats.specs.SourceRows.{file_data}
+use Rattle.row_formats.proofs.Shared.{[], ◌∷◌, codes, ap, option_copied, Token, member, no_members, number, string, unsigned, Adds-is, Adds-none, Adds-one, closed_object, then_member, file_data}
 use Rattle.row_formats.proofs.row_json.write_source.Goals as goal
 
 pub returns : goal.returns

@@ -1,5 +1,4 @@
-use Rattle.std.proofs.Common.{◌+◌, ◌≤◌, drop}
-use Rattle.row_formats.specs.code.RowLength.{facts_bytes}
+use Rattle.row_formats.proofs.Shared.{◌+◌, ◌≤◌, drop, facts_bytes}
 use Rattle.row_formats.proofs.row_length.facts_bytes.Given as goal
 
 abbrev pub invariant-loop-value : goal.invariant-loop-value

@@ -1,5 +1,4 @@
-use Rattle.std.proofs.Common.{◌++◌, map, sym, ap, ◌∙◌, arith}
-use Rattle.fact_base.specs.Shown.{rows_left, shown}
+use Rattle.row_formats.proofs.Shared.{◌++◌, map, sym, ap, ◌∙◌, arith, rows_left, shown}
 use Rattle.row_formats.proofs.RowLengths.{beyond}
 use Rattle.row_formats.proofs.row_length.has_long_row.Goals as goal
 

@@ -1,6 +1,4 @@
-use Rattle.std.proofs.Common.{◌≡◌, ◌++◌, map}
-use Rattle.fact_base.specs.Rows.{rows_of}
-use Rattle.fact_base.specs.Shown.{rows_left, shown}
+use Rattle.row_formats.proofs.Shared.{◌≡◌, ◌++◌, map, rows_of, rows_left, shown}
 use Rattle.row_formats.proofs.row_length.has_long_row.Given as goal
 
 -- the rows so far, then the rows that are left

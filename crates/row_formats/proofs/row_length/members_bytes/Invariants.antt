@@ -1,5 +1,4 @@
-use Rattle.std.proofs.Common.{◌+◌, ◌≤◌, drop}
-use Rattle.row_formats.specs.code.RowLength.{members_bytes}
+use Rattle.row_formats.proofs.Shared.{◌+◌, ◌≤◌, drop, members_bytes}
 use Rattle.row_formats.proofs.row_length.members_bytes.Given as goal
 
 abbrev pub invariant-loop-axis : goal.invariant-loop-axis

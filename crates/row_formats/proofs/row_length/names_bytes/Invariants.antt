@@ -1,5 +1,4 @@
-use Rattle.std.proofs.Common.{◌+◌, ◌≤◌, drop}
-use Rattle.row_formats.specs.code.RowLength.{names_bytes}
+use Rattle.row_formats.proofs.Shared.{◌+◌, ◌≤◌, drop, names_bytes}
 use Rattle.row_formats.proofs.row_length.names_bytes.Given as goal
 
 abbrev pub invariant-loop-name : goal.invariant-loop-name

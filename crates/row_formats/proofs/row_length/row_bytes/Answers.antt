@@ -1,6 +1,4 @@
-use Rattle.std.proofs.Common.{arith}
-use Rattle.fact_base.specs.Shown.{shown}
-use Rattle.row_formats.specs.code.RowLength.{dimensions_bytes}
+use Rattle.row_formats.proofs.Shared.{arith, shown, dimensions_bytes}
 use Rattle.row_formats.proofs.RowLengths.{csv_bytes, facts_more}
 use Rattle.row_formats.proofs.row_length.row_bytes.Goals as goal
 
