@@ -4,4 +4,5 @@ pub mod CsvCells
 pub mod CsvRows
 pub mod Rows
 pub mod SourceRows
+pub mod CheckedRows
 pub mod code

@@ -2,6 +2,7 @@
 #![tactic(auto)]
 
 mod cells;
+mod checked_rows;
 mod csv_record;
 pub mod laws;
 mod row_csv;
@@ -10,6 +11,7 @@ mod row_json;
 mod row_length;
 mod source_rows;
 
+pub use checked_rows::CheckedRows;
 pub use row_format::RowFormat;
 pub use row_length::has_long_row;
 pub use source_rows::SourceRows;

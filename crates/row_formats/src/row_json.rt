@@ -212,7 +212,7 @@ fn write_source(
     json.end_object()
 }
 
-fn write_file(json: &mut Writer, file: Option<&str>) -> Result<(), AllocError>
+pub(crate) fn write_file(json: &mut Writer, file: Option<&str>) -> Result<(), AllocError>
     ensures { OnOk result (AddsValue json.old json.new (file_data (option_copied file.entry))) }
 {
     match file {

@@ -20,12 +20,10 @@ pub struct SourceRows<'n> {
     pub files: &'n [&'n str],
 }
 
-impl<'n> SourceRows<'n> {
-    fn file_of(&self, report: u64) -> Option<&'n str>
-        ensures { option_copied result ≡ file_of (map (λ f. f.now) self.now.files.now) report }
-    {
-        self.files.get(report.saturating_sub(1) as usize).copied()
-    }
+pub(crate) fn file_of<'n>(files: &[&'n str], report: u64) -> Option<&'n str>
+    ensures { option_copied result ≡ file_of (map (λ f. f.now) files.now) report }
+{
+    files.get(report.saturating_sub(1) as usize).copied()
 }
 
 impl SourceFormat for SourceRows<'_> {
@@ -50,7 +48,7 @@ impl SourceFormat for SourceRows<'_> {
         fact: &str,
         mention: &IndexedMention,
     ) -> Result<Vec<u8>, AllocError> {
-        let file = self.file_of(mention.report);
+        let file = file_of(self.files, mention.report);
         let spreadsheet = match self.format {
             RowFormat::Json => return json_source(alloc, file, fact, mention),
             RowFormat::Csv => false,
