@@ -1,8 +1,8 @@
-"""Compares the formats of `verdicts` and `sources` with those that tools/recheck computes. The program runs on the examples, on
-texts with quotes, line ends and formulas, and on drawn reports. Each `--format` must be that of tools/recheck, byte for byte.
-`--spreadsheet` must begin with a byte order mark, and may only add a ' to cells. It must guard a text as tools/contradictions
-does: exactly so if the text is ASCII, otherwise at least so. SQLite joins the sources of the examples to their verdicts: each
-pair must have the concept and the value that the report's file has. Last, the output repeats a long URI."""
+"""Compares the formats of `verdicts` and `sources` with those that tools/recheck computes, and those of `check` with its lines.
+The program runs on the examples, on texts with quotes, line ends and formulas, and on drawn reports. Each `--format` must be that
+of tools/recheck, byte for byte. `--spreadsheet` must begin with a byte order mark, and may only add a ' to cells. It must guard a
+text as tools/contradictions does: exactly so if the text is ASCII, otherwise at least so. SQLite joins the sources of the examples
+to their verdicts: each pair must have the concept and the value that the report's file has. Last, the output repeats a long URI."""
 import csv
 import decimal
 import io
@@ -73,6 +73,16 @@ def test_drawn_reports(chance):
 
 def test_examples():
     expect_formats(f"{TOP}/examples/sheet.json", EXAMPLES)
+
+
+def test_checks():
+    """The rows of `check` have what its lines have."""
+    lines, rows, cells = (printed("check", f"{TOP}/examples/sheet.json", EXAMPLES, "--format", form) for form in ("lines", "json", "csv"))
+    rows = [json.loads(line) for line in lines_of(rows)]
+    words = [{True: "canonical", False: "other"}[it["canonical"]] for it in rows]
+    assert lines_of(lines) == [f"report {it['report']}: accepted {it['facts']} {it['level']} {word}" for it, word in zip(rows, words)]
+    assert [it["file"] for it in rows] == EXAMPLES[:3]  # the fourth is refused
+    assert list(csv.reader(io.StringIO(cells, newline=""))) == [list(rows[0]), *([str(cell).lower() if isinstance(cell, bool) else str(cell) for cell in it.values()] for it in rows)]
 
 
 def odd_report(prefix):

@@ -8,14 +8,14 @@ use Rattle.clap.specs.Simple.{Shape}
 use Rattle.clap.specs.Walk.{Held, Text, Walk, arg_by_id, arg_by_index, idle, is_pending, nothing_held, option, option_word, walk_from, walked}
 use Rattle.command_line.specs.Arguments.{Tables}
 use Rattle.command_line.specs.Words.{Work, asked_with, check}
-use Rattle.command_line.specs.WordLaws.{AllowWords, AreReports, IsUsage, CheckWords, ExplainWords, IsName, MergeWords, OptionsWords, ReplayWords, SourcesWords, VerdictsWords, plainly, with_all_options}
+use Rattle.command_line.specs.WordLaws.{AllowWords, AreReports, CheckAloneWords, CheckRowsWords, CheckSeveralWords, CheckWords, IsUsage, ExplainWords, IsName, MergeWords, OptionsWords, ReplayWords, SourcesWords, VerdictsWords, plainly, with_all_options}
 use Rattle.oim_value.specs.declared.level.Level.TheVariants.{All, Complete, Consistent, Unique}
 use Rattle.oim_explain.specs.declared.lines.Format.TheVariants as explained
 use Rattle.row_formats.specs.declared.row_format.RowFormat.TheVariants as rows
 use Rattle.command_line.specs.declared.print_format.PrintFormat.TheVariants as printed
 use Rattle.command_line.proofs.Parsed.{program_on_literals}
 use Rattle.command_line.proofs.KnownNames.{Places, for_tables, tables}
-use Rattle.command_line.proofs.Reached.{Reaches, above, asked_after, at, command_named, ends_at, ends_with, ends_with_reports, joined, not_hyphen, positional_reached, reports_built, value_reached}
+use Rattle.command_line.proofs.Reached.{Reaches, above, asked_after, at, command_named, ends_with, ends_with_reports, joined, not_hyphen, reports_built, value_reached}
 
 abbrev shape : Places → ℕ → Shape
 shape x k = unwrap_or (slice_get (above (tables x)).subs k) (above (tables x)).top
@@ -74,6 +74,10 @@ reads_verdicts x = record { named = λ words. command_named (tables x) (codes "v
 reads_sources : (x : Places) → Reads (tables x) (codes "sources") (shape x 2)
 unfolding program_on_literals
 reads_sources x = record { named = λ words. command_named (tables x) (codes "sources") (shape x 2) words refl refl refl; sheet = λ sheet plain. sheet_reached (shape x 2) sheet plain refl refl refl; index = refl; id = refl }
+
+reads_check : (x : Places) → Reads (tables x) (codes "check") (shape x 3)
+unfolding program_on_literals
+reads_check x = record { named = λ words. command_named (tables x) (codes "check") (shape x 3) words refl refl refl; sheet = λ sheet plain. sheet_reached (shape x 3) sheet plain refl refl refl; index = refl; id = refl }
 
 reads_explain : (x : Places) → Reads (tables x) (codes "explain") (shape x 4)
 unfolding program_on_literals
@@ -140,11 +144,28 @@ options_words sheet list output (r ∷ rs) plain listed written reports =
     refl refl reports
     ∙ ap (λ b. Some (with_all_options sheet list (if b then None else Some output) (r ∷ rs))) (not_hyphen output written))
 
-pub check_words : CheckWords
+check_alone_words : CheckAloneWords
 unfolding program_on_literals
-check_words sheet report plain named =
-    for_tables (λ t. asked_with t (codes "check" ∷ codes "--sheet" ∷ sheet ∷ report ∷ []) ≡ Some (plainly sheet (check report) (report ∷ [])))
-    (λ x. let s = shape x 3 in
-    command_named (tables x) (codes "check") s (codes "--sheet" ∷ sheet ∷ report ∷ []) refl refl refl
-    ∙ ends_at s (codes "--sheet" ∷ sheet ∷ report ∷ []) _ (joined s _ _ _ (codes "--sheet" ∷ sheet ∷ []) (report ∷ [])
-    (sheet_reached s sheet plain refl refl refl) (positional_reached s idle (sheet_given (sheet ∷ [])) report named refl refl refl)) refl)
+check_alone_words sheet report plain named =
+    for_tables (λ t. asked_with t (codes "check" ∷ codes "--sheet" ∷ sheet ∷ report ∷ []) ≡ Some (plainly sheet (check None) (report ∷ [])))
+    (λ x. asks (reads_check x) sheet report [] [] _ plain (record { walk = refl; fault = refl }) refl refl named ∙ refl)
+
+check_several_words : CheckSeveralWords
+unfolding program_on_literals
+check_several_words sheet one other more plain named =
+    for_tables (λ t. asked_with t (codes "check" ∷ codes "--sheet" ∷ sheet ∷ one ∷ other ∷ more) ≡ Some (plainly sheet (check (Some printed.Lines)) (one ∷ other ∷ more)))
+    (λ x. asks (reads_check x) sheet one (other ∷ more) [] _ plain (record { walk = refl; fault = refl }) refl refl named ∙ refl)
+
+-- by cases on the reports behind the first
+behind_first : (P : List Text → Type 0) → P [] → ((r : Text) (rs : List Text) → P (r ∷ rs)) → (rs : List Text) → P rs
+behind_first P none some [] = none
+behind_first P none some (r ∷ rs) = some r rs
+
+check_rows_words : CheckRowsWords
+unfolding program_on_literals
+check_rows_words rows.Json = asks_for _ (codes "--format" ∷ codes "json" ∷ []) _ _ reads_check (λ x sheet. (_, record { walk = refl; fault = refl }, refl, refl, λ r. behind_first _ refl (λ s rs. refl)))
+check_rows_words rows.Csv = asks_for _ (codes "--format" ∷ codes "csv" ∷ []) _ _ reads_check (λ x sheet. (_, record { walk = refl; fault = refl }, refl, refl, λ r. behind_first _ refl (λ s rs. refl)))
+check_rows_words rows.SpreadsheetCsv = asks_for _ (codes "--format" ∷ codes "csv" ∷ codes "--spreadsheet" ∷ []) _ _ reads_check (λ x sheet. (_, record { walk = refl; fault = refl }, refl, refl, λ r. behind_first _ refl (λ s rs. refl)))
+
+pub check_words : CheckWords
+check_words = (check_alone_words, check_several_words, check_rows_words)

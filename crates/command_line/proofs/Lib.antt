@@ -1,4 +1,5 @@
 pub mod Readings
+pub mod Checks
 pub mod Ends
 pub mod Faults
 pub mod Why

@@ -11,14 +11,15 @@ use Rattle.clap.specs.declared.error.kind.ErrorKind.{ErrorKind}
 use Rattle.clap.specs.declared.error.kind.ErrorKind.TheVariants as kind
 use Rattle.oim_value.specs.declared.level.Level.{Level}
 use Rattle.oim_report.specs.Duplicates.{level_of}
-use Rattle.oim_report.specs.Outcome.{outcome}
 use Rattle.oim_report.specs.Sheet.{Sheet, sheet_outcome}
+use Rattle.oim_report.specs.declared.refusal.Refusal.{Refusal}
 use Rattle.fact_base.specs.Body.{Body}
 use Rattle.fact_base.specs.Contents.{Contents}
 use Rattle.fact_base.specs.Rows.{Row, rows_of}
 use Rattle.oim_merge.specs.Above.{IsFirstAbove, StaysWithin, row_is_above}
 use Rattle.oim_merge.specs.Bundle.{sheet_piece}
 use Rattle.oim_merge.specs.Checked.{IsCanonicalOf}
+use Rattle.oim_merge.specs.declared.checked.Checked.{Checked}
 use Rattle.oim_merge.specs.EventLines.{IsEventLine, lines_of}
 use Rattle.oim_merge.specs.Lines.{AreRowsFrom, RowText, identifier_at}
 use Rattle.oim_merge.specs.Replay.{refused_takes}
@@ -28,14 +29,16 @@ use Rattle.oim_merge.specs.Schedule.{World as Wired, world_after}
 use Rattle.oim_merge.proofs.EventTexts.{lines_say_one_event}
 use Rattle.oim_merge.proofs.Evidenced.{one_evidence}
 use Rattle.command_line.specs.Arguments.{program_app}
+use Rattle.command_line.specs.Checks.{Checks, IsResult, result_written, results_header, results_text}
 use Rattle.command_line.specs.RunLaws.{AskedIsMeant, IsSaid, MeanOnly, RunsAreOne, holds}
-use Rattle.command_line.specs.Outputs.{Checks, IsLoose, IsMerge, NumberedRefusals, Replays, accepted_line, replica_lines, verdict_written, verdicts_header}
+use Rattle.command_line.specs.Outputs.{IsLoose, IsMerge, NumberedRefusals, Replays, replica_lines, verdict_written, verdicts_header}
 use Rattle.command_line.specs.Page.{EndsWith, Gives, InputEnd, IsFrom, IsInput, IsInputError, IsLooseIn, IsNotFrom, IsWordsError, Loose, NamesEnd, Says, WordsEnd, World, input_of}
 use Rattle.command_line.specs.Printed.{status_of}
 use Rattle.command_line.specs.ReportNames.{IsNameError, report_names}
 use Rattle.command_line.specs.Why.{WithRead, WithSheet}
 use Rattle.command_line.specs.WordLaws.{Ask}
 use Rattle.command_line.specs.Words.{Asked, Mean, Task, Work, asked, bundle, check, explain, help, merge, replay, sources, under, verdicts}
+use Rattle.command_line.specs.declared.print_format.PrintFormat.{PrintFormat}
 use Rattle.command_line.specs.declared.error.Error.{Error}
 use Rattle.command_line.specs.declared.error.Error.TheVariants as error
 use Rattle.command_line.specs.declared.error.Success.{Success}
@@ -97,21 +100,22 @@ within_or_above level b row within first =
 merge_same : (level : Level) (b : Body) (refusals : NumberedRefusals) (text other : List ℕ) (rs qs : NumberedRefusals) → IsMerge level b refusals text rs → IsMerge level b refusals other qs → (text ≡ other) × (rs ≡ qs)
 merge_same level b refusals text other rs qs one two = (one.text_is ∙ sym two.text_is, one.refusals_are ∙ sym two.refusals_are)
 
-checks_same : (s : Sheet) (bytes text other : List ℕ) (rs qs : NumberedRefusals) → Checks s bytes text rs → Checks s bytes other qs → (text ≡ other) × (rs ≡ qs)
-checks_same s bytes text other rs qs (inl a) (inl b) =
-    let both : Ok a.is.document ≡ Ok b.is.document = sym a.is.read ∙ b.is.read in
-    let same : a.is.document ≡ b.is.document = cc in
-    let canonical = bools_same (IsCanonicalOf b.is.document bytes) a.checked.canonical b.checked.canonical (subst (λ d. IsTrue a.checked.canonical ↔ IsCanonicalOf d bytes) same a.is.canonical_is) b.is.canonical_is in
-    let facts = a.is.facts ∙ ap (λ d. length d.facts) same ∙ sym b.is.facts in
-    let level = a.is.level ∙ ap (λ d. level_of d.facts) same ∙ sym b.is.level in
-    let checked : a.checked ≡ b.checked = λ i. record { facts = facts i; level = level i; canonical = canonical i } in
-    (a.text_is ∙ ap accepted_line checked ∙ sym b.text_is, a.refusals_are ∙ sym b.refusals_are)
-checks_same s bytes text other rs qs (inl a) (inr b) = let none : Ok a.is.document ≡ Err b.refusal = sym a.is.read ∙ b.is in cc
-checks_same s bytes text other rs qs (inr a) (inl b) = let none : Err a.refusal ≡ Ok b.is.document = sym a.is ∙ b.is.read in cc
-checks_same s bytes text other rs qs (inr a) (inr b) =
-    let both : Err a.refusal ≡ Err b.refusal = sym a.is ∙ b.is in
-    let same : a.refusal ≡ b.refusal = cc in
-    (a.text_is ∙ sym b.text_is, a.refusals_are ∙ ap (λ r. (1, r) ∷ []) same ∙ sym b.refusals_are)
+one_result : (s : Sheet) (bytes : List ℕ) (x y : Result Checked Refusal) → IsResult s bytes x → IsResult s bytes y → x ≡ y
+one_result s bytes (Ok a) (Ok b) one two =
+    let both : Ok one.document ≡ Ok two.document = sym one.read ∙ two.read in
+    let same : one.document ≡ two.document = cc in
+    let canonical = bools_same (IsCanonicalOf two.document bytes) a.canonical b.canonical (subst (λ d. IsTrue a.canonical ↔ IsCanonicalOf d bytes) same one.canonical_is) two.canonical_is in
+    let facts = one.facts ∙ ap (λ d. length d.facts) same ∙ sym two.facts in
+    let level = one.level ∙ ap (λ d. level_of d.facts) same ∙ sym two.level in
+    λ i. Ok (record { facts = facts i; level = level i; canonical = canonical i })
+one_result s bytes (Ok a) (Err e) one two = let none : Ok one.document ≡ Err e = sym one.read ∙ two in cc
+one_result s bytes (Err e) (Ok b) one two = let none : Err e ≡ Ok two.document = sym one ∙ two.read in cc
+one_result s bytes (Err e) (Err d) one two = let both : Err e ≡ Err d = sym one ∙ two in let same : e ≡ d = cc in ap (λ r. Err r) same
+
+checks_same : (format : Option PrintFormat) (names : List Text) (s : Sheet) (reports : List (List ℕ)) (text other : List ℕ) (rs qs : NumberedRefusals) → Checks format names s reports text rs → Checks format names s reports other qs → (text ≡ other) × (rs ≡ qs)
+checks_same format names s reports text other rs qs a b =
+    let results = zips_same (IsResult s) (one_result s) reports a.results b.results a.are b.are in
+    (a.text_is ∙ ap (λ results. results_header format ++ results_text (result_written format names) 1 results) results ∙ sym b.text_is, a.refusals_are ∙ sym b.refusals_are)
 
 replays_same : (s : Sheet) (n : ℕ) (lines : List ℕ) (reports : List (List ℕ)) (text other : List ℕ) (rs qs : NumberedRefusals) → Replays s n lines reports text rs → Replays s n lines reports other qs → (text ≡ other) × (rs ≡ qs)
 replays_same s n lines reports text other rs qs a b =
@@ -152,8 +156,7 @@ module _ (disk : Text → List ℕ) where
       (a.text_is ∙ ap (λ r. verdicts_header format ++ r) rows ∙ sym b.text_is, a.refusals_are ∙ sym b.refusals_are)
   says_same names s (sources format) text other rs qs one two =
       let both = one_list names _ _ one two in (both.1.text_is ∙ sym both.2.text_is, both.1.refusals_are ∙ sym both.2.refusals_are)
-  says_same names s (check report) text other rs qs (xs, gave, one) (ys, given, two) =
-      checks_same s xs text other rs qs one (subst (λ bytes. Checks s bytes other qs) (one_content report ys xs given gave) two)
+  says_same names s (check format) text other rs qs one two = let both = one_list names _ _ one two in checks_same format names s both.0 text other rs qs both.1 both.2
   says_same names s (replay n events) text other rs qs (xs, gave, one) (ys, given, two) =
       let both = one_list names _ (λ reports. Replays s n xs reports other qs) one (subst (λ lines. WithRead H names (λ reports. Replays s n lines reports other qs)) (one_content events ys xs given gave) two) in
       replays_same s n xs both.0 text other rs qs both.1 both.2

@@ -7,12 +7,12 @@ use Rattle.clap.specs.declared.error.Error.{Error}
 use Rattle.clap.specs.declared.error.kind.ErrorKind.{ErrorKind}
 use Rattle.clap.specs.declared.error.kind.ErrorKind.TheVariants as kind
 use Rattle.clap.proofs.OnLiterals.{clap_on_literals}
-use Rattle.command_line.specs.Arguments.{AreTables, Tables, check_app, explain_app, merge_app, program_app, replay_app, rows_app, top_app, with_output_of, with_reports_of}
+use Rattle.command_line.specs.Arguments.{AreTables, Tables, explain_app, merge_app, program_app, replay_app, rows_app, top_app, with_output_of, with_reports_of}
 use Rattle.command_line.specs.Words.{AreRefused, AskFor, AskForNothing, Asked, CallForHelp, HasFault, asked, asked_with}
 
 -- what a proof unfolds to compute at words
 unfoldable pub program_on_literals : ⊤
-unfolding clap_on_literals program_app top_app merge_app rows_app check_app explain_app replay_app with_reports_of with_output_of
+unfolding clap_on_literals program_app top_app merge_app rows_app explain_app replay_app with_reports_of with_output_of
 program_on_literals = tt
 
 -- the matches are a function of the words, and so are the kinds of errors

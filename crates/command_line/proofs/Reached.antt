@@ -92,7 +92,7 @@ value_reached s id h after word plain met =
     }
 
 -- the word goes to a positional, and what was pending has no fault
-pub positional_reached : (s : Shape) (waiting : Waiting) (h : Held) (word : Text) → IsName word
+positional_reached : (s : Shape) (waiting : Waiting) (h : Held) (word : Text) → IsName word
     → plain_word s.rules waiting word h ≡ (h, value) → subcommand_met [] waiting word ≡ None
     → step_fault s 1 h value ≡ []
     → Reaches s (at waiting 1 h) (word ∷ []) (to_positional s.rules (arg_by_index s.rules 1) word (at waiting 1 h) h)
@@ -163,7 +163,7 @@ ends s w k f =
 abbrev pub asked_after : Shape → List Text → Option Asked
 asked_after s words = if is_empty (level_fault s [] nothing_held words false []) then asked_by s.name (rows_after s.rules [] words) else None
 
-pub ends_at : (s : Shape) (words : List Text) (w : Walk) → Reaches s (walk_from nothing_held) words w → settle_fault s.rules s.args_override_self w.held ≡ []
+ends_at : (s : Shape) (words : List Text) (w : Walk) → Reaches s (walk_from nothing_held) words w → settle_fault s.rules s.args_override_self w.held ≡ []
     → asked_after s words ≡ ends s w [] []
 ends_at s words w there settles =
     ap₂ (λ (x : Walk) k. ends s x k (settle_fault s.rules s.args_override_self x.held)) there.walk there.fault ∙ ap (ends s w []) settles

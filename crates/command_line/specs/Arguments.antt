@@ -65,9 +65,6 @@ with_short letter r = record r { short = Some letter }
 abbrev pub beside : Bool → Rule → Rule
 beside is_strict r = if is_strict then record r { is_free = false } else r
 
-abbrev pub report_rule : Rule
-report_rule = as_required (new_rule (codes "REPORT"))
-
 abbrev pub reports_rule : Rule
 reports_rule = record (new_rule (codes "REPORT")) {
   range = Some (record { start_inclusive = 0; end_inclusive = usize_max });
@@ -97,9 +94,6 @@ rows_app is_strict command formats =
     with_reports_of is_strict (with_rule (with_rule command (one_of_names formats (codes "lines") (option_rule (codes "format"))))
     (beside is_strict (flag_rule (codes "spreadsheet"))))
 
-unfoldable pub check_app : App
-check_app = with_rule (with_output_of (command_app (codes "check"))) report_rule
-
 unfoldable pub explain_app : Bool → Names → App
 explain_app is_strict formats =
     with_reports_of is_strict (with_rule (command_app (codes "explain")) (one_of_names formats (codes "text") (option_rule (codes "format"))))
@@ -118,5 +112,5 @@ unfoldable pub program_app : Bool → Tables → App
 program_app is_strict t =
     with_subcommand (with_subcommand (with_subcommand (with_subcommand (with_subcommand (with_subcommand top_app
     (merge_app is_strict t.levels).top) (rows_app is_strict (command_app (codes "verdicts")) t.formats).top)
-    (rows_app is_strict (command_app (codes "sources")) t.formats).top) check_app.top) (explain_app is_strict t.explained).top)
-    (replay_app is_strict).top
+    (rows_app is_strict (command_app (codes "sources")) t.formats).top) (rows_app is_strict (command_app (codes "check")) t.formats).top)
+    (explain_app is_strict t.explained).top) (replay_app is_strict).top

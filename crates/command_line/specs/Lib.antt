@@ -1,5 +1,6 @@
 pub mod Faults
 pub mod Outputs
+pub mod Checks
 pub mod Explained
 pub mod Refused
 pub mod Arguments

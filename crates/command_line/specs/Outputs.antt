@@ -1,11 +1,8 @@
 -- The text that each command prints, and its refusals, from the bytes of the files that it names (own).
-use Rattle.std.specs.Prelude.{◌≡◌, ◌⊎◌, ℕ, List, [], ◌∷◌, ◌++◌, codes, flat_map, Err, if◌then◌else◌}
-use Rattle.std.specs.Fmt.{decimal}
+use Rattle.std.specs.Prelude.{◌≡◌, ℕ, List, [], ◌∷◌, ◌++◌, flat_map}
 use Rattle.clap.specs.Words.{Text}
-use Rattle.oim_value.specs.Level.{level_entry}
 use Rattle.oim_value.specs.declared.level.Level.{Level}
 use Rattle.oim_value.specs.declared.level.Level.TheVariants.{All}
-use Rattle.oim_report.specs.Outcome.{outcome}
 use Rattle.oim_report.specs.Sheet.{Sheet}
 use Rattle.oim_report.specs.declared.refusal.Refusal.{Refusal}
 use Rattle.fact_base.specs.Body.{Body}
@@ -13,7 +10,6 @@ use Rattle.fact_base.specs.Contents.{Contents}
 use Rattle.oim_write.specs.Bytes.{canonical}
 use Rattle.oim_merge.specs.Above.{IsFirstAbove, StaysWithin}
 use Rattle.oim_merge.specs.Bundle.{report_pieces}
-use Rattle.oim_merge.specs.Checked.{IsChecked}
 use Rattle.oim_merge.specs.EventLines.{SaysEvents}
 use Rattle.oim_merge.specs.Lines.{AreRowsOf, RowText, line_text}
 use Rattle.oim_merge.specs.Replay.{IsReplayOf, Replay}
@@ -22,7 +18,6 @@ use Rattle.oim_merge.specs.Run.{IsSheetOf}
 use Rattle.oim_merge.specs.SourceCalls.{mention_texts}
 use Rattle.oim_merge.specs.Sources.{SourceText, source_line}
 use Rattle.oim_merge.specs.Traced.{Traced}
-use Rattle.oim_merge.specs.declared.checked.Checked.{Checked}
 use Rattle.oim_merge.specs.declared.event.Event.{Event}
 use Rattle.row_formats.specs.Rows.{header, row_text}
 use Rattle.row_formats.specs.SourceRows.{source_header, source_text}
@@ -76,29 +71,6 @@ source_written (Rows format) names = source_text format names
 pub record AreSources (format : PrintFormat) (names : List Text) (t : Traced) (text : List ℕ) (returned : NumberedRefusals) : Type 0 where
   pub text_is : text ≡ sources_header format ++ mention_texts (source_written format names) t
   pub refusals_are : returned ≡ t.added.refusals
-
--- ---- `check`
-
--- the line of an accepted report
-abbrev pub accepted_line : Checked → List ℕ
-accepted_line checked =
-    codes "accepted " ++ (decimal checked.facts ++ 32 ∷ ((level_entry checked.level).text
-    ++ 32 ∷ ((if checked.canonical then codes "canonical" else codes "other") ++ 10 ∷ [])))
-
-pub record Accepts (sheet : Sheet) (bytes : List ℕ) (text : List ℕ) (returned : NumberedRefusals) : Type 0 where
-  pub checked : Checked
-  pub is : IsChecked sheet bytes checked
-  pub text_is : text ≡ accepted_line checked
-  pub refusals_are : returned ≡ []
-
-pub record Refuses (sheet : Sheet) (bytes : List ℕ) (text : List ℕ) (returned : NumberedRefusals) : Type 0 where
-  pub refusal : Refusal
-  pub is : outcome sheet bytes ≡ Err refusal
-  pub text_is : text ≡ []
-  pub refusals_are : returned ≡ (1, refusal) ∷ []
-
-abbrev pub Checks : Sheet → List ℕ → List ℕ → NumberedRefusals → Type 0
-Checks sheet bytes text returned = Accepts sheet bytes text returned ⊎ Refuses sheet bytes text returned
 
 -- ---- `replay`
 

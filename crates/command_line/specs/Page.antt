@@ -10,9 +10,10 @@ use Rattle.oim_report.specs.Sheet.{Sheet, sheet_outcome}
 use Rattle.oim_merge.specs.Bundle.{sheet_piece}
 use Rattle.oim_merge.specs.Reports.{merged, refused}
 use Rattle.oim_merge.specs.Traced.{traced}
+use Rattle.command_line.specs.Checks.{Checks}
 use Rattle.command_line.specs.Explained.{ExplainGives}
 use Rattle.command_line.specs.Faults.{IsOutputFault, IsUsageError}
-use Rattle.command_line.specs.Outputs.{AreSources, AreVerdicts, Checks, IsLoose, IsMerge, MergesBundle, NumberedRefusals, Replays}
+use Rattle.command_line.specs.Outputs.{AreSources, AreVerdicts, IsLoose, IsMerge, MergesBundle, NumberedRefusals, Replays}
 use Rattle.command_line.specs.Printed.{lines_of, status_of}
 use Rattle.command_line.specs.ReportNames.{AreReportNames, IsNameError}
 use Rattle.command_line.specs.Why.{IsBadUnder, IsCutInput, IsLost, IsLostUnder, IsRefusedIn, IsUnread, Why, WithRead, WithSheet}
@@ -34,7 +35,7 @@ module _ (gives : Text → List ℕ → Type 0) (names : List Text) (sheet : She
   Says (merge level) text rs = WithRead gives names (λ reports. IsMerge level (merged sheet reports) (refused sheet reports) text rs)
   Says (verdicts format) text rs = WithRead gives names (λ reports. AreVerdicts format (merged sheet reports) (refused sheet reports) text rs)
   Says (sources format) text rs = WithRead gives names (λ reports. AreSources format names (traced sheet reports) text rs)
-  Says (check report) text rs = (bytes : List ℕ) × gives report bytes × Checks sheet bytes text rs
+  Says (check format) text rs = WithRead gives names (λ reports. Checks format names sheet reports text rs)
   Says (replay replicas events) text rs = (lines : List ℕ) × gives events lines × WithRead gives names (λ reports. Replays sheet replicas lines reports text rs)
   Says (explain format) text rs = ⊥
 

@@ -8,7 +8,7 @@ use Rattle.oim_merge.specs.EventLines.{IsFirstBadLine, SaysEvents}
 use Rattle.oim_merge.specs.Schedule.{IsFirstBad}
 use Rattle.oim_merge.specs.declared.event.Event.{Event}
 use Rattle.command_line.specs.Faults.{IsOutputFault}
-use Rattle.command_line.specs.Words.{Work, check, replay}
+use Rattle.command_line.specs.Words.{Work, replay}
 use Rattle.command_line.specs.declared.error.Error.{Error}
 use Rattle.command_line.specs.declared.error.Error.TheVariants as error
 
@@ -90,9 +90,8 @@ module _ (gives : Text → List ℕ → Type 0) (fails : Text → Type 0) (names
     pub read : AllZip gives before reports
     pub lost : fails file
 
-  -- the report, the schedule, or a report after it was not read
+  -- the schedule, or a report after it, was not read
   abbrev pub IsLostUnder : Work → Text → Type 0
-  IsLostUnder (check report) file = IsLost fails report file
   IsLostUnder (replay replicas schedule) file = IsLost fails schedule file ⊎ WithEvents gives schedule (λ events. IsFirstLost file)
   IsLostUnder work file = IsFirstLost file
 

@@ -1,11 +1,12 @@
 -- Words and the commands that they ask for (own).
-use Rattle.std.specs.Prelude.{◌≡◌, ◌≢◌, ◌<◌, ◌^◌, ◌++◌, List, [], ◌∷◌, Option, Some, codes, length, ⊤, true}
+use Rattle.std.specs.Prelude.{◌≡◌, ◌≢◌, ◌<◌, ◌^◌, ◌++◌, List, [], ◌∷◌, Option, Some, None, codes, length, ⊤, true}
 use Rattle.clap.specs.Words.{Text}
 use Rattle.oim_value.specs.Level.{level_entry}
 use Rattle.oim_value.specs.declared.level.Level.{Level}
 use Rattle.oim_value.specs.declared.level.Level.TheVariants.{All}
 use Rattle.oim_explain.specs.declared.lines.Format.{Format}
 use Rattle.oim_explain.specs.declared.lines.Format.TheVariants as explained
+use Rattle.row_formats.specs.declared.row_format.RowFormat.{RowFormat}
 use Rattle.row_formats.specs.declared.row_format.RowFormat.TheVariants as rows
 use Rattle.command_line.specs.declared.print_format.PrintFormat.{PrintFormat}
 use Rattle.command_line.specs.declared.print_format.PrintFormat.TheVariants as printed
@@ -69,9 +70,20 @@ abbrev pub ReplayWords : Type 0
 ReplayWords = (events : Text) → IsName events
     → IsUsage (codes "replay") (codes "--replicas" ∷ codes "2" ∷ codes "--events" ∷ events ∷ []) (replay 2 events)
 
+abbrev pub CheckAloneWords : Type 0
+CheckAloneWords = (sheet report : Text) → IsName sheet → AreReports (report ∷ [])
+    → Ask (codes "check" ∷ codes "--sheet" ∷ sheet ∷ report ∷ []) (plainly sheet (check None) (report ∷ []))
+
+abbrev pub CheckSeveralWords : Type 0
+CheckSeveralWords = (sheet one other : Text) (more : List Text) → IsName sheet → AreReports (one ∷ other ∷ more)
+    → Ask (codes "check" ∷ codes "--sheet" ∷ sheet ∷ one ∷ other ∷ more) (plainly sheet (check (Some printed.Lines)) (one ∷ other ∷ more))
+
+-- in a format, also for one report
+abbrev pub CheckRowsWords : Type 0
+CheckRowsWords = (format : RowFormat) → IsUsage (codes "check") (format_words (printed.Rows format)) (check (Some (printed.Rows format)))
+
 abbrev pub CheckWords : Type 0
-CheckWords = (sheet report : Text) → IsName sheet → IsName report
-    → Ask (codes "check" ∷ codes "--sheet" ∷ sheet ∷ report ∷ []) (plainly sheet (check report) (report ∷ []))
+CheckWords = CheckAloneWords × CheckSeveralWords × CheckRowsWords
 
 abbrev pub with_all_options : Text → Text → Option Text → List Text → Asked
 with_all_options sheet list output reports =

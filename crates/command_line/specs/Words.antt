@@ -1,5 +1,5 @@
 -- What the words on the command line ask for (own).
-use Rattle.std.specs.Prelude.{◌≡◌, ◌≢◌, ◌&&◌, ◌||◌, not, ℕ, List, [], map, Bool, true, false, Option, Some, None, codes, if◌then◌else◌, ◌⊎◌}
+use Rattle.std.specs.Prelude.{◌≡◌, ◌≢◌, ◌&&◌, ◌||◌, not, ℕ, List, [], ◌∷◌, map, Bool, true, false, Option, Some, None, codes, if◌then◌else◌, ◌⊎◌}
 use Rattle.std.specs.Prelude.{find, option_map, option_and_then, unwrap_or}
 use Rattle.std.specs.Option.{option_map_or}
 use Rattle.std.specs.Borrow.{Bor}
@@ -30,7 +30,7 @@ pub data Work : Type 0 where
   merge : Level → Work
   verdicts : PrintFormat → Work
   sources : PrintFormat → Work
-  check : Text → Work
+  check : Option PrintFormat → Work
   explain : Format → Work
   -- on this many replicas, by the schedule in this file
   replay : ℕ → Text → Work
@@ -60,7 +60,7 @@ abbrev pub work_of : Subcommand → Work
 work_of (subcommand.Merge level) = merge level
 work_of (subcommand.Verdicts format) = verdicts format
 work_of (subcommand.Sources format) = sources format
-work_of (subcommand.Check report) = check report.now
+work_of (subcommand.Check format) = check format
 work_of (subcommand.Replay replicas events) = replay replicas events.now
 
 abbrev pub task_of : Request → Task
@@ -128,12 +128,20 @@ abbrev pub replay_asked : List Row → Option Work
 replay_asked rows =
     option_and_then (λ n. option_map (replay n) (first_of (codes "events") rows)) (number_at (codes "replicas") rows)
 
+-- there is one report, and neither a file of names nor a format
+abbrev pub is_alone : List Row → List Text → Bool
+is_alone rows (report ∷ []) = not (is_from_words (source_of (codes "format") rows) || is_from_words (source_of (codes "reports-from") rows))
+is_alone rows _ = false
+
+abbrev pub check_asked : List Row → Option Work
+check_asked rows = if is_alone rows (unwrap_or (all_of (codes "REPORT") rows) []) then Some (check None) else option_map (λ format. check (Some format)) (format_asked rows)
+
 abbrev pub subcommand_asked : Text → List Row → Option Work
 subcommand_asked name rows =
     if bytes_eq name (codes "merge") then option_map merge (option_and_then level_with (first_of (codes "allow") rows))
     else (if bytes_eq name (codes "verdicts") then option_map verdicts (format_asked rows)
     else (if bytes_eq name (codes "sources") then option_map sources (format_asked rows)
-    else (if bytes_eq name (codes "check") then option_map check (first_of (codes "REPORT") rows)
+    else (if bytes_eq name (codes "check") then check_asked rows
     else (if bytes_eq name (codes "replay") then replay_asked rows else None))))
 
 abbrev pub work_asked : Text → List Row → Option Work
@@ -191,16 +199,7 @@ AreRefused words = ((k : ErrorKind) × (k ≢ kind.DisplayHelp) × (k ≢ kind.D
 
 -- the task without options
 abbrev pub alone : Task → Asked
-alone task = record {
-  task = task;
-  names = [];
-  list = None;
-  is_null = false;
-  output = None;
-  most = None;
-  is_quiet = false;
-  is_verbose = false;
-}
+alone task = record { task = task; names = []; list = None; is_null = false; output = None; most = None; is_quiet = false; is_verbose = false }
 
 -- clap's matches of the words give this command
 abbrev pub AskFor : List Text → Asked → Type 0

@@ -1,6 +1,6 @@
 ghost use Rattle.std.specs.Prelude.{◌≡◌, IfOk, false};
 ghost use Rattle.clap.specs.Words.{App, Rule, rule_of, with_rule};
-ghost use Rattle.command_line.specs.Arguments.{IsApp, beside, command_app, flag_rule, one_of_names, option_rule, parsed_by, report_rule, reports_rule, with_output_of, with_reports_of};
+ghost use Rattle.command_line.specs.Arguments.{IsApp, beside, command_app, flag_rule, one_of_names, option_rule, parsed_by, reports_rule, with_output_of, with_reports_of};
 
 use clap::builder::ValueParser;
 use clap::{Arg, ArgAction, Command};
@@ -99,7 +99,7 @@ fn requiring<'w>(flag: Arg<'w>, option: &'w str, is_strict: bool) -> Result<Arg<
 }
 
 /// Adds the arguments for the output file, for the bound of the output and for second lines.
-pub(crate) fn with_output<'w>(alloc: Global, command: Building<'w>) -> Building<'w>
+fn with_output<'w>(alloc: Global, command: Building<'w>) -> Building<'w>
     ensures { (a : App) → IfOk command.entry (IsApp a) → IfOk result (IsApp (with_output_of a)) }
 {
     let output_help = "Write the complete output to FILE, or nothing; - is standard output";
@@ -137,14 +137,4 @@ fn reports<'w>(alloc: Global) -> Arg<'w>
     Arg::new(alloc, "REPORT")
         .num_args(0..)
         .help("The report files, counted from 1 in this order")
-}
-
-/// Returns the argument for one report.
-pub(crate) fn report<'w>(alloc: Global) -> Arg<'w>
-    ensures rule { rule_of result ≡ report_rule }
-    ensures local { result.global ≡ false }
-{
-    Arg::new(alloc, "REPORT")
-        .required(true)
-        .help("The report file")
 }

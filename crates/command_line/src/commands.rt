@@ -83,7 +83,7 @@ fn execute_under<'n, F: Folder, E: Write, S: Sink>(
         Subcommand::Merge(allow) => run_merge(allow, sheet, inputs, out),
         Subcommand::Verdicts(format) => run_verdicts(format, sheet, inputs, out),
         Subcommand::Sources(format) => run_sources(format, sheet, inputs, out),
-        Subcommand::Check(report) => check::run(report, sheet, inputs, out),
+        Subcommand::Check(format) => check::run(format, sheet, inputs, out),
         Subcommand::Replay(replicas, events) => replay::run(replicas, events, sheet, inputs, out),
     }
 }
@@ -150,7 +150,15 @@ fn put_text<'n, S: Sink>(out: &mut S, text: &str) -> Result<(), Error<'n>>
     ensures put { Puts text.now (S.told out.old) (S.told out.new) result }
     ensures failures { OnOk result (S.failures out.new ≡ S.failures out.old) }
 {
-    match put_all(out, text.as_bytes()) {
+    put_bytes(out, text.as_bytes())
+}
+
+fn put_bytes<'n, S: Sink>(out: &mut S, bytes: &[u8]) -> Result<(), Error<'n>>
+    requires { S.failures out.old < 2 ^ 64 - 1 }
+    ensures put { Puts bytes.now (S.told out.old) (S.told out.new) result }
+    ensures failures { OnOk result (S.failures out.new ≡ S.failures out.old) }
+{
+    match put_all(out, bytes) {
         Ok(()) => Ok(()),
         Err(taken) => Err(Error::Device(taken as u64)),
     }

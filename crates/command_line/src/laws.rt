@@ -28,7 +28,8 @@ pub fn sources_words()
     ensures { SourcesWords }
 {}
 
-/// `check --sheet SHEET REPORT` asks for a check of this report.
+/// `check --sheet SHEET REPORT` asks for a check of this report alone; several reports, or `--format`
+/// with one or more, for a check of these reports in their order, as lines or in this format.
 #[tactic(auto, using(crate::proofs::Asking::check_words))]
 pub fn check_words()
     ensures { CheckWords }

@@ -1,9 +1,9 @@
 //! Requests from what clap found among the words.
-ghost use Rattle.std.specs.Prelude.{◌≡◌, [], IfOk, Some, codes, map, option_and_then, option_map, unwrap_or};
+ghost use Rattle.std.specs.Prelude.{◌≡◌, ◌||◌, [], IfOk, Some, codes, map, option_and_then, option_map, unwrap_or};
 ghost use Rattle.clap.specs.Walk.{all_of, first_of};
 ghost use Rattle.clap.specs.Words.{found_of, rows_of};
 ghost use Rattle.oim_value.specs.Level.{level_with};
-ghost use Rattle.command_line.specs.Words.{asked_by, asked_of, explained_asked, format_asked, format_named, is_from_words, is_set, lacks, number_at, output_named, source_of, subcommand_asked, task_asked, task_of, work_of};
+ghost use Rattle.command_line.specs.Words.{asked_by, asked_of, check_asked, explained_asked, format_asked, format_named, is_alone, is_from_words, is_set, lacks, number_at, output_named, source_of, subcommand_asked, task_asked, task_of, work_of};
 
 use crate::print_format::PrintFormat;
 use crate::request::{Args, Request, Subcommand};
@@ -59,13 +59,38 @@ fn subcommand_in<'w>(name: &str, matches: &ArgMatches<'w>) -> Option<Subcommand<
         "merge" => Some(Subcommand::Merge(level_in(matches)?)),
         "verdicts" => Some(Subcommand::Verdicts(format_in(matches)?)),
         "sources" => Some(Subcommand::Sources(format_in(matches)?)),
-        "check" => Some(Subcommand::Check(text_in(matches, "REPORT")?)),
+        "check" => check_in(matches),
         "replay" => {
             let replicas = count_in(matches, "replicas")?;
             Some(Subcommand::Replay(replicas, text_in(matches, "events")?))
         }
         _ => None,
     }
+}
+
+fn check_in<'w>(matches: &ArgMatches<'w>) -> Option<Subcommand<'w>>
+    ensures { option_map work_of result ≡ check_asked (rows_of (found_of matches.now)) }
+{
+    if is_alone(matches) {
+        return Some(Subcommand::Check(None));
+    }
+    Some(Subcommand::Check(Some(format_in(matches)?)))
+}
+
+/// True if there is one report, and neither a file of names nor a format.
+fn is_alone(matches: &ArgMatches<'_>) -> bool
+    ensures { result ≡ is_alone (rows_of (found_of matches.now)) (unwrap_or (all_of (codes "REPORT") (rows_of (found_of matches.now))) []) }
+{
+    match matches.get_strs("REPORT") {
+        Some(reports) => reports.len() == 1 && !is_batch(matches),
+        None => false,
+    }
+}
+
+fn is_batch(matches: &ArgMatches<'_>) -> bool
+    ensures { result ≡ (is_from_words (source_of (codes "format") (rows_of (found_of matches.now))) || is_from_words (source_of (codes "reports-from") (rows_of (found_of matches.now)))) }
+{
+    is_from_words(matches, "format") || is_from_words(matches, "reports-from")
 }
 
 fn level_in(matches: &ArgMatches<'_>) -> Option<Level>

@@ -164,8 +164,8 @@ pub(crate) enum Subcommand<'w> {
     Merge(Level),
     Verdicts(PrintFormat),
     Sources(PrintFormat),
-    /// Check the report in this file.
-    Check(&'w str),
+    /// Check the reports. The format is None for a report alone.
+    Check(Option<PrintFormat>),
     /// Run the schedule in this file on this many replicas.
     Replay(usize, &'w str),
 }

@@ -1,13 +1,12 @@
 //! The arguments of each command.
 ghost use Rattle.std.specs.Prelude.{◌≡◌, IfOk};
 ghost use Rattle.clap.specs.Words.{App};
-ghost use Rattle.command_line.specs.Arguments.{IsApp, check_app, explain_app, explained_names, format_names, level_names, merge_app, replay_app, rows_app, texts_of};
+ghost use Rattle.command_line.specs.Arguments.{IsApp, explain_app, explained_names, format_names, level_names, merge_app, replay_app, rows_app, texts_of};
 
 use crate::arguments::{
-    Building, choice, command, flag, option, parsed, report, with, with_flag_of, with_output,
-    with_reports,
+    Building, choice, command, flag, option, parsed, with, with_flag_of, with_reports,
 };
-use crate::commands::{check, explain, merge, replay};
+use crate::commands::{explain, merge, replay};
 use clap::builder::ValueParser;
 use std::alloc::Global;
 
@@ -55,13 +54,6 @@ pub(crate) fn rows_command<'w>(
         is_strict,
     );
     with_reports(alloc, command, is_strict)
-}
-
-pub(crate) fn check_command<'w>(alloc: Global) -> Building<'w>
-    ensures { IfOk result (IsApp check_app) }
-{
-    let command = with_output(alloc, command(alloc, "check", check::ABOUT, check::MORE));
-    with(command, report(alloc))
 }
 
 pub(crate) fn explain_command<'w>(

@@ -6,13 +6,12 @@ ghost use Rattle.command_line.specs.Page.{IsWordsError};
 ghost use Rattle.command_line.specs.Words.{AskFor, AskForNothing, CallForHelp, HasFault, Mean, alone, asked, asked_of, task_of};
 
 use crate::arguments::{Building, command};
-use crate::commands::rows;
+use crate::commands::{check, rows};
 use crate::error::Error;
 use crate::matches::args_in;
 use crate::request::{Args, Request};
 use crate::subcommands::{
-    check_command, explain_command, explained, formats, levels, merge_command, replay_command,
-    rows_command,
+    explain_command, explained, formats, levels, merge_command, replay_command, rows_command,
 };
 use clap::error::ErrorKind;
 use clap::{ArgMatches, Command};
@@ -148,10 +147,11 @@ fn program<'w>(alloc: Global, is_strict: bool) -> Building<'w>
     let (levels, formats, explained) = (levels(), formats(), explained());
     let verdicts = command(alloc, "verdicts", rows::VERDICTS_ABOUT, rows::VERDICTS_MORE);
     let sources = command(alloc, "sources", rows::SOURCES_ABOUT, rows::SOURCES_MORE);
+    let check = command(alloc, "check", check::ABOUT, check::MORE);
     let program = with_command(top(alloc), merge_command(alloc, levels, is_strict));
     let program = with_command(program, rows_command(alloc, verdicts, formats, is_strict));
     let program = with_command(program, rows_command(alloc, sources, formats, is_strict));
-    let program = with_command(program, check_command(alloc));
+    let program = with_command(program, rows_command(alloc, check, formats, is_strict));
     let program = with_command(program, explain_command(alloc, explained, is_strict));
     with_command(program, replay_command(alloc, is_strict))
 }

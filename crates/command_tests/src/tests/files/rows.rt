@@ -136,7 +136,7 @@ pub(super) const VERBOSE: [Row; 3] = [
     ),
 ];
 
-pub(super) const CHECKED: [Row; 6] = [
+pub(super) const CHECKED: [Row; 13] = [
     (
         "check --sheet sheet canonical",
         0,
@@ -172,6 +172,56 @@ pub(super) const CHECKED: [Row; 6] = [
         0,
         &["accepted 4 complete other\n"],
         "",
+    ),
+    // several reports, a list or a format: lines with the numbers of the reports
+    ("check --sheet sheet", 0, &[], ""),
+    (
+        "check canonical unbound 100 empty three --sheet sheet",
+        1,
+        &[
+            "report 1: accepted 0 none canonical\nreport 3: accepted 1 none other\n",
+            "report 5: accepted 3 all other\n",
+        ],
+        "report 2: 13 UnboundPrefix at fact 1\nreport 4: 1 NotJson at document\n",
+    ),
+    (
+        "check --sheet sheet twice --reports-from names",
+        0,
+        &[
+            "report 1: accepted 2 complete other\nreport 2: accepted 1 none other\n",
+            "report 3: accepted 1 none other\n",
+        ],
+        "",
+    ),
+    (
+        "check --sheet sheet --format lines twice",
+        0,
+        &["report 1: accepted 2 complete other\n"],
+        "",
+    ),
+    (
+        "check --sheet sheet unbound canonical --format json",
+        1,
+        &[
+            r#"{"report":2,"file":"canonical","facts":0,"level":"none","canonical":true}"#,
+            "\n",
+        ],
+        "report 1: 13 UnboundPrefix at fact 1\n",
+    ),
+    (
+        "check --sheet sheet --format csv thousands canonical",
+        0,
+        &[
+            "report,file,facts,level,canonical\r\n1,thousands,2,consistent,false\r\n",
+            "2,canonical,0,none,true\r\n",
+        ],
+        "",
+    ),
+    (
+        "check --sheet sheet 100 unbound none zeros --format csv",
+        3,
+        &[],
+        NOT_READ,
     ),
 ];
 
@@ -330,7 +380,7 @@ pub(super) const UNHEARD: [Row; 4] = [
 ];
 
 /// Standard output fills up, and the line reports how many bytes it took.
-pub(super) const FULL: [Full; 4] = [
+pub(super) const FULL: [Full; 5] = [
     ("merge --sheet sheet 100", 0, "device: 0 bytes written\n"),
     (
         "merge --sheet sheet 100",
@@ -346,6 +396,11 @@ pub(super) const FULL: [Full; 4] = [
         "check --sheet sheet twice",
         25,
         "device: 25 bytes written\n",
+    ),
+    (
+        "check --sheet sheet unbound twice 100",
+        40,
+        "device: 40 bytes written\n",
     ),
 ];
 
