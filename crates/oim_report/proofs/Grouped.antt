@@ -1,23 +1,8 @@
 -- A map of names has the same entries as its groups. Each group has the names of one namespace.
-use Rattle.std.proofs.Common.{◌≡◌, ℕ, List, [], ◌∷◌, ◌++◌, Bool, true, false, cond, Option, Some, None, String, string_bytes, refl, sym, ap, subst, ◌∙◌, ◌≢◌, IfSome, OnOk, OnErr, Result, Ok, Err, option_map, option_and_then, bytes_eq, is_some, unwrap_or, Less, Equal, Greater, string_cmp}
-use Rattle.std.specs.List.{AllByRecursion}
-use Rattle.std.specs.List.Sorted.{IsStrictlySortedBy}
-use Rattle.std.specs.Map.{keys_of, values_of, lookup, remove_entry, update}
+use Rattle.oim_report.proofs.Shared.{◌≡◌, ℕ, List, [], ◌∷◌, ◌++◌, Bool, true, false, cond, Option, Some, None, String, string_bytes, refl, sym, ap, subst, ◌∙◌, ◌≢◌, IfSome, OnOk, OnErr, Result, Ok, Err, option_map, option_and_then, bytes_eq, is_some, unwrap_or, Less, Equal, Greater, string_cmp, AllByRecursion, IsStrictlySortedBy, keys_of, values_of, lookup, remove_entry, update, is_eq, match_ordering, nat_cmp, ordering_then, eq_by_cmp, Equal-is, tied_itself, eq_by_cmp_equiv, slice_cmp, false≢true, nat_list_cmp_total, sorted_head, sorted_tail, exact_bytes, btree_map_updates_text, is_eq-slice_cmp, same_Some, QName, name_cmp, exact_name, same_bytes, bytes_eq-refl, bytes_not_eq, other_bytes, AreGroups, IsGroup, grouped_entries, with_group}
 use Rattle.std.specs.BTreeMap.{BTreeMap, IsOrdered, Updates, UpdatesBy, IsUnchanged, get_by_text, insert_entry, is_at, values}
-use Rattle.std.specs.Ordering.{is_eq, match_ordering, nat_cmp, ordering_then, eq_by_cmp}
-use Rattle.std.specs.Cmp.{Equal-is, tied_itself, eq_by_cmp_equiv}
-use Rattle.std.specs.Cmp.Lexicographic.{slice_cmp}
 use Rattle.std.specs.FinMap.{FinMap, find, get-from_entries, entries, get-empty, get-entries, get-insert, same_map}
-use Rattle.std.proofs.lemmas.Bool.{false≢true}
-use Rattle.std.proofs.lemmas.Cmp.{nat_list_cmp_total}
-use Rattle.std.proofs.lemmas.Map.Keys.{sorted_head, sorted_tail}
-use Rattle.std.proofs.lemmas.Map.Lookups.{exact_bytes}
-use Rattle.std.proofs.lemmas.Map.Text.{btree_map_updates_text, is_eq-slice_cmp}
-use Rattle.std.proofs.lemmas.Option.{same_Some}
 use Rattle.std.specs.FinMap as map
-use Rattle.oim_names.specs.QName.{QName, name_cmp, exact_name}
-use Rattle.oim_names.proofs.Bytes.{same_bytes, bytes_eq-refl, bytes_not_eq, other_bytes}
-use Rattle.oim_report.specs.code.Groups.{AreGroups, IsGroup, grouped_entries, with_group}
 use Rattle.oim_report.proofs.SheetEntries.{name_total, first_of, first_of-none}
 
 abbrev pub name : List ℕ → List ℕ → QName

@@ -1,34 +1,11 @@
 -- The names of an object, read into one list per namespace, make the same map as the entries of the object.
-use Rattle.std.proofs.Common.{◌≡◌, ℕ, List, [], ◌∷◌, ◌++◌, Bool, true, false, cond, not, ◌&&◌, Some, None, Option, String, Vec, bytes_eq, string_bytes, filter, length, refl, sym, ap, subst, ◌∙◌, IsPermutation, Ordering, Less, Equal, Greater, string_cmp, append_assoc, append-nil, option_and_then, option_map, option_to_list, arith}
-use Rattle.std.specs.BTreeMap.{BTreeMap, IsEmpty, IsOrdered, Updates, UpdatesBy, get_by_text, insert_entry}
-use Rattle.std.specs.Cmp.{IsTotalOrder, on_total, tied_itself}
-use Rattle.std.specs.Cmp.Lexicographic.{slice_cmp}
+use Rattle.oim_report.proofs.Shared.{◌≡◌, ℕ, List, [], ◌∷◌, ◌++◌, Bool, true, false, cond, not, ◌&&◌, Some, None, Option, String, Vec, bytes_eq, string_bytes, filter, length, refl, sym, ap, subst, ◌∙◌, IsPermutation, Ordering, Less, Equal, Greater, string_cmp, append_assoc, append-nil, option_and_then, option_map, option_to_list, arith, BTreeMap, IsEmpty, IsOrdered, Updates, UpdatesBy, get_by_text, insert_entry, IsTotalOrder, on_total, tied_itself, slice_cmp, AllByRecursion, dedup, dedup_from, keys_of, remove_entry, option_map_or, is_eq, is_lt, match_ordering, nat_cmp, ordering_reverse, ordering_then, nat_list_cmp_total, map-append, All-from_recursion, filter-append, recursion_from_All, IsStrictlySortedBy-dedup, All-permutation, length_permutation, sorted_head, sorted_tail, exact_bytes, same_Some, btree_map_updates_text, is_eq-slice_cmp, Binding, QName, exact_name, name_cmp, bytes_eq-refl, bytes_not_eq, other_bytes, same_bytes, Data, Members, member, named, named_kind, AreSpans}
 use Rattle.std.specs.FinMap as map
 use Rattle.std.specs.FinMap.{find, get-from_entries, same_map}
-use Rattle.std.specs.List.{AllByRecursion, dedup, dedup_from}
 use Rattle.std.specs.List.Sorted.{IsSorted, IsStableBy, IsStrictlySortedBy, ties}
-use Rattle.std.specs.Map.{keys_of, remove_entry}
-use Rattle.std.specs.Option.{option_map_or}
-use Rattle.std.specs.Ordering.{is_eq, is_lt, match_ordering, nat_cmp, ordering_reverse, ordering_then}
-use Rattle.std.proofs.lemmas.Cmp.{nat_list_cmp_total}
-use Rattle.std.proofs.lemmas.List.{map-append}
-use Rattle.std.proofs.lemmas.List.Elements.{All-from_recursion, filter-append, recursion_from_All}
 use Rattle.std.proofs.lemmas.List.Filters.{All-dedup}
-use Rattle.std.proofs.lemmas.List.Kept.{IsStrictlySortedBy-dedup}
-use Rattle.std.proofs.lemmas.List.Sorted.{All-permutation, length_permutation}
-use Rattle.std.proofs.lemmas.Map.Keys.{sorted_head, sorted_tail}
-use Rattle.std.proofs.lemmas.Map.Lookups.{exact_bytes}
-use Rattle.std.proofs.lemmas.Option.{same_Some}
-use Rattle.std.proofs.lemmas.Map.Text.{btree_map_updates_text, is_eq-slice_cmp}
-use Rattle.oim_names.specs.Bindings.{Binding}
-use Rattle.oim_names.specs.QName.{QName, exact_name, name_cmp}
-use Rattle.oim_names.proofs.Bytes.{bytes_eq-refl, bytes_not_eq, other_bytes, same_bytes}
-use Rattle.serde_json.specs.Data.{Data, Members, member}
-use Rattle.oim_report.specs.Names.{named}
 use Rattle.oim_report.specs.Sheet.{entries_in, entry, kind_in}
-use Rattle.oim_report.specs.Shown.{named_kind}
 use Rattle.oim_report.specs.code.NameLists.{AreLists, IsInOrder, SharesUri, has_uri, list_at, names_in}
-use Rattle.oim_report.specs.code.Ranks.{AreSpans}
 use Rattle.oim_report.proofs.Grouped.{at_text, find_append, name, tied_bytes}
 use Rattle.oim_report.proofs.Ranks.{IsBelow, Rises, all_append, less_apart, next_spans, no_spans, none_rise, rising_append}
 use Rattle.oim_report.proofs.SheetEntries.{first_of, name_total}

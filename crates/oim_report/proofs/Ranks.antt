@@ -1,26 +1,9 @@
 -- The names of a sheet in ascending order, and their ranks.
-use Rattle.std.proofs.Common.{◌≡◌, ◌≢◌, inl, inr, ℕ, zero, suc, ◌<◌, ◌≤◌, ◌+◌, ◌-◌, List, [], ◌∷◌, ◌++◌, Bool, true, false, cond, Some, None, option_map, unwrap_or, bytes_eq, String, string_bytes, length, get_or, slice_get, refl, sym, ap, subst, ◌∙◌, arith, ◌&&◌, T, Ordering, Less, Equal, Greater, string_cmp, is_lt}
-use Rattle.std.specs.List.{AllByRecursion, AllWithin}
+use Rattle.oim_report.proofs.Shared.{◌≡◌, ◌≢◌, inl, inr, ℕ, zero, suc, ◌<◌, ◌≤◌, ◌+◌, ◌-◌, List, [], ◌∷◌, ◌++◌, Bool, true, false, cond, Some, None, option_map, unwrap_or, bytes_eq, String, string_bytes, length, get_or, slice_get, refl, sym, ap, subst, ◌∙◌, arith, ◌&&◌, T, Ordering, Less, Equal, Greater, string_cmp, is_lt, AllByRecursion, AllWithin, keys_of, BTreeMap, IsEmpty, Updates, get_by_text, is_eq, nat_cmp, ordering_reverse, ordering_then, tied_itself, nat_cmp_total, slice_cmp, cases_lt, cases_order, cond_below, nat_list_cmp_total, get_or_append_left, get_or-append_right, get_or-map, length-append, length-map, sorted_head, sorted_tail, Less-from_sorted, btree_map_updates_text, same_Some, slice_get-get_or, slice_get-map, slice_get_within, get_or_from_slice_get, other_bytes, same_bytes, QName, exact_name, name_cmp, Fact, SharesUri, AreRanks, AreSpans, IsRank, IsSpan, OrderConcepts}
 use Rattle.std.specs.List.Sorted.{IsStrictlySortedBy}
-use Rattle.std.specs.Map.{keys_of}
-use Rattle.std.specs.BTreeMap.{BTreeMap, IsEmpty, Updates, get_by_text}
-use Rattle.std.specs.Ordering.{is_eq, nat_cmp, ordering_reverse, ordering_then}
-use Rattle.std.specs.Cmp.{tied_itself, nat_cmp_total}
-use Rattle.std.specs.Cmp.Lexicographic.{slice_cmp}
 use Rattle.std.specs.FinMap as map
 use Rattle.std.specs.FinMap.{FinMap, find, is_sorted, entries_sorted, entries-insert, len-entries, len-empty}
 use Rattle.std.specs.FinMap.Entries.{below_all, by_order, put}
-use Rattle.std.proofs.lemmas.Bool.{cases_lt, cases_order, cond_below}
-use Rattle.std.proofs.lemmas.Cmp.{nat_list_cmp_total}
-use Rattle.std.proofs.lemmas.List.{get_or_append_left, get_or-append_right, get_or-map, length-append, length-map}
-use Rattle.std.proofs.lemmas.Map.Keys.{sorted_head, sorted_tail, Less-from_sorted}
-use Rattle.std.proofs.lemmas.Map.Text.{btree_map_updates_text}
-use Rattle.std.proofs.lemmas.Option.{same_Some, slice_get-get_or, slice_get-map, slice_get_within, get_or_from_slice_get}
-use Rattle.oim_names.proofs.Bytes.{other_bytes, same_bytes}
-use Rattle.oim_names.specs.QName.{QName, exact_name, name_cmp}
-use Rattle.oim_dims.specs.declared.fact.Fact.{Fact}
-use Rattle.oim_report.specs.code.NameLists.{SharesUri}
-use Rattle.oim_report.specs.code.Ranks.{AreRanks, AreSpans, IsRank, IsSpan, OrderConcepts}
 use Rattle.oim_report.proofs.Grouped.{at_text}
 use Rattle.oim_report.proofs.SheetEntries.{name_total}
 

@@ -1,18 +1,6 @@
 -- A period or a number is refused for a reason exactly if the condition of `Holds` for this reason applies.
-use Rattle.std.proofs.Common.{◌≡◌, ℕ, ℤ, List, Bool, true, false, not, ◌||◌, ◌&&◌, Ok, Err, refl}
-use Rattle.std.specs.Prelude.{Option, Some, None, is_none, int_lt, if◌then◌else◌, option_and_then}
-use Rattle.std.specs.Option.{option_eq}
-use Rattle.std.specs.Ordering.{int_eq}
-use Rattle.std.specs.Result.{result_err}
+use Rattle.oim_report.proofs.Shared.{◌≡◌, ℕ, ℤ, List, Bool, true, false, not, ◌||◌, ◌&&◌, Ok, Err, refl, Option, Some, None, is_none, int_lt, if◌then◌else◌, option_and_then, option_eq, int_eq, result_err, Reason, PeriodForm, PeriodOrder, NumberForm, NumberDigits, is_number, is_short, number_refusal, moment_of, end_part, from_to, period_of, start_part, Period, Instant, Duration, is_some_and, lacks_moment, runs_backward}
 use Rattle.oim_names.specs.contracts.reason.ReasonPartialEq.TheImpl.{eq-value as same_reason}
-use Rattle.oim_names.specs.declared.reason.Reason.{Reason}
-use Rattle.oim_names.specs.declared.reason.Reason.TheVariants.{PeriodForm, PeriodOrder, NumberForm, NumberDigits}
-use Rattle.oim_value.specs.Number.{is_number, is_short, number_refusal}
-use Rattle.oim_dims.specs.DateTime.{moment_of}
-use Rattle.oim_dims.specs.Period.{end_part, from_to, period_of, start_part}
-use Rattle.oim_dims.specs.declared.period.Period.{Period}
-use Rattle.oim_dims.specs.declared.period.Period.TheVariants.{Instant, Duration}
-use Rattle.oim_report.specs.Holds.{is_some_and, lacks_moment, runs_backward}
 
 abbrev pub answers : Option Reason → Reason → Bool
 answers o r = option_eq same_reason.it o (Some r)

@@ -1,39 +1,42 @@
 -- The names that several proofs of this crate cite, passed on from one place. Declares nothing.
-pub use Rattle.std.proofs.Common.{◌≡◌, List, Option, Some, None, Ok, refl, ap, ◌∙◌, option_and_then, option_map, ℕ, ◌+◌, [], ◌∷◌, map as each_of, Result, Err, sym, subst, arith, All, filter, find, true, not, ◌&&◌, bytes_eq, codes, ◌-◌, ◌<◌, ◌≤◌, ◌++◌, length, get_or, take, drop, Bool, false, ◌==◌, cond, length-append, IsUtf8, eqb-true, take_all, inl, inr, map, slice_get, Bor, MatchOption, HoldsAt, unwrap_or, Ordering, Less, Equal, Greater, suc, ◌||◌, ◌≢◌, ◌⊎◌, ◌↔◌, if◌then◌else◌, is_none, is_some, nat_lt, IfOk, IfErr, IsTrue, is_lt, append_assoc, append-nil, Global, String, string_bytes, string_cmp, filter_map, rules, ℤ, nat_cmp, int_lt, int_eq, option_to_list, flat_map, drop-cons, IsPermutation, IsSorted, is_gt, fold, zero, true≢false, encode_utf8, replicate, nat_eq, ⊎_elim, slice_index, Contains, insert, OnOk, add-one, Any, is_eq, IfSome, AllPairs, Decides, is_le, ne_eqb, get_or-take, length-take-le, take-append-drop, pos, negsuc, unsigned_abs, leb-true, IsSome, ltb-true, OnErr, string_eq, slice_range, IsCharBoundary, ◌≤ℤ◌, int_le, zip, IsAscii, ◌*◌, option_copied, ◌/◌, Vec, vec_len, vec_capacity}
+pub use Rattle.std.proofs.Common.{◌≡◌, List, Option, Some, None, Ok, refl, ap, ◌∙◌, option_and_then, option_map, ℕ, ◌+◌, [], ◌∷◌, map as each_of, Result, Err, sym, subst, arith, All, filter, find, true, not, ◌&&◌, bytes_eq, codes, ◌-◌, ◌<◌, ◌≤◌, ◌++◌, length, get_or, take, drop, Bool, false, ◌==◌, cond, length-append, IsUtf8, eqb-true, take_all, inl, inr, map, slice_get, Bor, MatchOption, HoldsAt, unwrap_or, Ordering, Less, Equal, Greater, suc, ◌||◌, ◌≢◌, ◌⊎◌, ◌↔◌, if◌then◌else◌, is_none, is_some, nat_lt, IfOk, IfErr, IsTrue, is_lt, append_assoc, append-nil, Global, String, string_bytes, string_cmp, filter_map, rules, ℤ, nat_cmp, int_lt, int_eq, option_to_list, flat_map, IfSome, OnOk, OnErr, is_eq, drop-cons, IsPermutation, IsSorted, is_gt, fold, zero, true≢false, encode_utf8, replicate, nat_eq, ⊎_elim, slice_index, Contains, insert, add-one, Any, Vec, BTreeMap, AllPairs, Decides, is_le, ne_eqb, get_or-take, length-take-le, take-append-drop, pos, negsuc, unsigned_abs, leb-true, T, IsSome, ltb-true, string_eq, slice_range, IsCharBoundary, ◌≤ℤ◌, int_le, zip, IsAscii, ◌*◌, option_copied, ◌/◌, vec_len, vec_capacity}
 pub use Rattle.std.proofs.Math.Bool.{or-false, or-true, and-false, and-true}
 pub use Rattle.std.proofs.Math.Seq.{take-append_seam, get_or-append_seam, drop-append_seam}
-pub use Rattle.std.proofs.lemmas.Bool.{and_parts, cases_lt, or_parts, or_from, false≢true, and_left, and_right, not-true, or_cases, cases_Bool, cond-true, and_from, not-false, cond-false, cond_both, or_right, false_from_ne_true}
+pub use Rattle.std.proofs.lemmas.Bool.{and_parts, cases_lt, or_parts, or_from, false≢true, and_left, and_right, not-true, or_cases, cases_Bool, cond-true, and_from, not-false, cases_order, cond_below, cond-false, cond_both, or_right, false_from_ne_true}
 pub use Rattle.std.proofs.lemmas.Bool.Decides.{nat_tests, Decides-by_and}
-pub use Rattle.std.proofs.lemmas.Cmp.{nat_eq_equiv, nat_list_cmp_total}
-pub use Rattle.std.proofs.lemmas.List.{drop_all, map-append, take_more, drop_more, length-map, append_cancel_right, drop-append-le, take-append-le, get_or_default}
-pub use Rattle.std.proofs.lemmas.List.Elements.{All-cons, All-head, All-tail, All-from_get_or, All-contains, filter_passes, All-nil, All-contains_itself, All-take, filter_map-append, All-weaker}
+pub use Rattle.std.proofs.lemmas.Cmp.{nat_list_cmp_total, nat_eq_equiv, then_total}
+pub use Rattle.std.proofs.lemmas.Fn.{always_returns_same, dedup_same}
+pub use Rattle.std.proofs.lemmas.List.{drop_all, map-append, take_more, drop_more, length-map, append_cancel_right, drop-append-le, take-append-le, get_or_default, get_or_append_left, get_or-append_right, get_or-map}
+pub use Rattle.std.proofs.lemmas.List.Elements.{All-cons, All-head, All-tail, All-from_get_or, All-contains, filter_passes, All-nil, All-contains_itself, All-from_recursion, filter-append, recursion_from_All, All-take, filter_map-append, All-weaker}
 pub use Rattle.std.proofs.lemmas.List.Folds.{list_all-append, list_any-append, find-append}
 pub use Rattle.std.proofs.lemmas.List.FromFn.{fill_by_all, length-range_with_len, get_or-range_with_len}
-pub use Rattle.std.proofs.lemmas.List.Kept.{IsStrictlyIncreasing-filter, AllPairs-cons}
+pub use Rattle.std.proofs.lemmas.List.Kept.{IsStrictlyIncreasing-filter, IsStrictlySortedBy-dedup, AllPairs-cons}
 pub use Rattle.std.proofs.lemmas.List.Sorted.{All-permutation, IsPermutation-map, length_permutation, ranks_by, Contains-permutation, IsPermutation-sym, IsPermutation-refl, IsPermutation-cons, IsPermutation-insert, IsPermutation-trans}
 pub use Rattle.std.proofs.lemmas.List.Sums.{passes_at_first, prefix_len-le-length}
-pub use Rattle.std.proofs.lemmas.Map.Keys.{IsDistinct-from_apart, apart_from_distinct, IsDistinct-IsPermutation}
+pub use Rattle.std.proofs.lemmas.Map.Keys.{sorted_head, sorted_tail, IsDistinct-from_apart, apart_from_distinct, IsDistinct-IsPermutation, Less-from_sorted}
 pub use Rattle.std.proofs.lemmas.Map.Lookups.{exact_bytes}
-pub use Rattle.std.proofs.lemmas.Map.Text.{is_eq-slice_cmp, hash_map_updates_text}
-pub use Rattle.std.proofs.lemmas.Option.{slice_get-get_or, slice_get-map, slice_get_past, get_or_from_slice_get, slice_get_within, cond_some, same_Some, slice_get_read}
-pub use Rattle.std.proofs.lemmas.Result.{on_ok_weaker, IfOk-weaker, IfOk-equal, err_from_is_err_and, IfErr-weaker}
+pub use Rattle.std.proofs.lemmas.Map.Text.{btree_map_updates_text, is_eq-slice_cmp, hash_map_updates_text}
+pub use Rattle.std.proofs.lemmas.Option.{slice_get-get_or, slice_get-map, slice_get_past, get_or_from_slice_get, slice_get_within, same_Some, cond_some, slice_get_read}
+pub use Rattle.std.proofs.lemmas.Result.{on_ok_weaker, IfOk-weaker, err_from_is_err_and, IfOk-equal, IfErr-weaker}
 pub use Rattle.std.proofs.lemmas.Slice.Eq.{bytes_eq-Decides}
 pub use Rattle.std.proofs.lemmas.Str.{IsUtf8-take, IsUtf8-drop, IsUtf8-between, IsUtf8-nil, IsCharBoundary-before_ascii, IsCharBoundary-after_ascii, IsUtf8-from_is_utf8, is_utf8-from_IsUtf8, IsUtf8-append, IsUtf8-encode, IsCharBoundary-at_seam, IsUtf8-from_ascii}
-pub use Rattle.std.specs.BTreeMap.{insert_entry, get_by_text}
+pub use Rattle.std.specs.BTreeMap.{insert_entry, IsEmpty, IsOrdered, Updates, UpdatesBy, get_by_text}
 pub use Rattle.std.specs.Char.{is_digit, is_ascii_digit, is_ascii_alphanumeric}
-pub use Rattle.std.specs.Cmp.{tied_itself, IsStrictWeakOrder, Equal-is, both_ways, tied_back, IsTotalOrder, alike_right}
+pub use Rattle.std.specs.Cmp.{tied_itself, Equal-is, eq_by_cmp_equiv, IsStrictWeakOrder, IsTotalOrder, on_total, both_ways, tied_back, nat_cmp_total, alike_right}
 pub use Rattle.std.specs.Cmp.Lexicographic.{slice_cmp, options_total, bytes_decides}
-pub use Rattle.std.specs.FinMap.{FinMap, get-empty, get-insert}
+pub use Rattle.std.specs.FinMap.{FinMap, get-insert, len-empty, len-insert, get-empty}
 pub use Rattle.std.specs.Int.{int_max, int_min, is_in_range}
-pub use Rattle.std.specs.List.{AllZip, list_any, after_first, before_first, join_with_byte, position_or_len, AllByRecursion, cons_option, range_with_len, list_all, prefix_len, starts_with, IsDistinct, slice_split, onto_first}
-pub use Rattle.std.specs.List.Sorted.{IsStrictlyIncreasing}
-pub use Rattle.std.specs.Map.{keys_of, lookup, update}
+pub use Rattle.std.specs.List.{AllZip, list_any, after_first, before_first, join_with_byte, position_or_len, AllByRecursion, cons_option, range_with_len, list_all, prefix_len, starts_with, dedup, dedup_from, IsDistinct, AllWithin, slice_split, onto_first}
+pub use Rattle.std.specs.List.Sorted.{IsStrictlySortedBy, IsStrictlyIncreasing}
+pub use Rattle.std.specs.Map.{keys_of, values_of, lookup, remove_entry, update}
 pub use Rattle.std.specs.Option.{option_cmp, option_map_or, option_flatten, option_eq, option_or}
-pub use Rattle.std.specs.Ordering.{ordering_then, match_ordering, ordering_reverse, eq_by_cmp, ord_max, partial_lt}
+pub use Rattle.std.specs.Ordering.{ordering_then, match_ordering, eq_by_cmp, ordering_reverse, ord_max, partial_lt}
 pub use Rattle.std.specs.Prelude.{⊤}
 pub use Rattle.std.specs.Result.{result_ok, result_err}
 pub use Rattle.std.specs.Str.{str_to_ascii_lowercase, is_utf8}
 pub use Rattle.std.specs.Str.Pattern.{GetsRange}
+pub use denote.Shadow.{shadow}
+pub use denote.Text.{Utf8}
 pub use Rattle.json.proofs.Printed.Trees.{value-json_tokens, ArePrintable-json_tokens}
 pub use Rattle.json.proofs.Printed.Utf8.{IsUtf8-are_ascii, IsUtf8-quoted, IsUtf8-boolean}
 pub use Rattle.json.proofs.Unique.Spelling.{value-json_tokens_back}
@@ -44,6 +47,7 @@ pub use Rattle.json.specs.Lex.{tokens}
 pub use Rattle.json.specs.Token.{Token}
 pub use Rattle.json.specs.Tree.{json_tokens, items_tokens, members_tokens, depth, members_depth, items_depth}
 pub use Rattle.json.specs.Word.{is_operator, is_space, word}
+pub use Rattle.oim_dims.proofs.FirstFound.{some_found}
 pub use Rattle.oim_dims.proofs.Indices.{less_is, members_grow, names_are_there, old_or_new, old_is_kept, new_is_there}
 pub use Rattle.oim_dims.proofs.OneUnit.{one_unit, none_sorted, not_refused}
 pub use Rattle.oim_dims.proofs.Orders.{dimensions_cmp_total, fact_cmp_total, fact_cmp_exact, dimensions_agree, dimensions_cmp_exact, facts_agree}
@@ -60,11 +64,11 @@ pub use Rattle.oim_dims.specs.declared.member.Member.{Member}
 pub use Rattle.oim_dims.specs.declared.member.Member.TheVariants.{Nil as NoMember, Text as MemberText, Name as MemberName}
 pub use Rattle.oim_dims.specs.declared.period.Period.{Period}
 pub use Rattle.oim_dims.specs.declared.period.Period.TheVariants.{Forever, Instant, Duration}
-pub use Rattle.oim_names.proofs.Bytes.{other_bytes, bytes_not_eq, bytes_eq-refl}
+pub use Rattle.oim_names.proofs.Bytes.{other_bytes, same_bytes, bytes_eq-refl, bytes_not_eq}
 pub use Rattle.oim_names.proofs.Refusals.{kept_named, named_kept, names_one}
 pub use Rattle.oim_names.proofs.Spelling.{filled_number, prefix_part-spelled, local_part-spelled, filled}
 pub use Rattle.oim_names.specs.Bindings.{Binding, is_refused_binding, uri_of, bound}
-pub use Rattle.oim_names.specs.Expansion.{Expands, ExpandsAs, Spelled, a_name, an_entity, refusal_as, reserved_uri, ExpandsEntity, name_refusal, refuses, entity_refusal}
+pub use Rattle.oim_names.specs.Expansion.{Expands, ExpandsAs, Spelled, a_name, an_entity, refusal_as, reserved_uri, ExpandsEntity, is_reserved, is_unbound, refuses, name_refusal, entity_refusal}
 pub use Rattle.oim_names.specs.QName.{is_colon, name_cmp, is_part, QName, is_name, is_entity, local_part, prefix_part, exact_name, is_name_byte}
 pub use Rattle.oim_names.specs.contracts.name.NameOrd.TheImpl.Laws.{total-law as name_total}
 pub use Rattle.oim_names.specs.declared.reason.Reason.{Reason}
@@ -113,20 +117,21 @@ pub use Rattle.oim_report.specs.References.{base_url, is_reference_refused, is_t
 pub use Rattle.oim_report.specs.Refusal.{map_ok, unless}
 pub use Rattle.oim_report.specs.Report.{AcceptedFactsFit, AcceptedReferencesAreKept, OutcomesAreSaid, IsOrderOf, index_cmp, Reading}
 pub use Rattle.oim_report.specs.Said.{concept_kind, fact_of, fact_with, said_concept, said_dimensions, said_entity, said_fact, said_language, said_members, said_period, said_unit, said_value, said_decimals, value_with, all_named, dimension_names, in_order, members_with, said_member, side_of, unit_with, unit_of, text_said, with_name}
-pub use Rattle.oim_report.specs.Sheet.{Sheet, dimension_kind, same_concept_kind, same_dimension_kind, key_names, concept_kind_named, dimension_kind_named, sheet_bindings, sheet_concepts, sheet_dimensions}
-pub use Rattle.oim_report.specs.Shown.{document_shown, fact_shown, when, unknown_in, spell_same, kindless, first_item, repeated}
+pub use Rattle.oim_report.specs.Sheet.{Sheet, dimension_kind, same_concept_kind, same_dimension_kind, key_names, entries_in, kind_in, has_other_kind, has_two_kinds, names_no_kind, concept_kind_named, dimension_kind_named, sheet_bindings, sheet_concepts, sheet_dimensions}
+pub use Rattle.oim_report.specs.Shown.{document_shown, fact_shown, when, named_kind, of_other_kind, unknown_in, kindless, spell_same, first_item, repeated}
 pub use Rattle.oim_report.specs.code.Beside.{interval_at, both_common, both_meet, level_beside}
 pub use Rattle.oim_report.specs.code.DimensionRuns.{HaveDimensionsOf, dimensions_at}
 pub use Rattle.oim_report.specs.code.FactsSoFar.{AreMore, AreSoFar, IsOneMore, IsSaid}
 pub use Rattle.oim_report.specs.code.Findings.{is_text}
 pub use Rattle.oim_report.specs.code.FoundFacts.{append, AreFound, AreRelated, is_above, rise_after}
-pub use Rattle.oim_report.specs.code.Groups.{with_group, IsGroup, grouped_entries}
+pub use Rattle.oim_report.specs.code.Groups.{AreGroups, IsGroup, grouped_entries, with_group}
 pub use Rattle.oim_report.specs.code.JsonMember.{seen}
 pub use Rattle.oim_report.specs.code.Judged.{AreJudged, IsJudged}
 pub use Rattle.oim_report.specs.code.ListedFaults.{document_fault, document_faults, fact_fault, fact_faults, facts_faults}
 pub use Rattle.oim_report.specs.code.MemberTests.{defined_name, misdeclared, first_defined, names_at, names_in, names_with, is_misdeclared}
+pub use Rattle.oim_report.specs.code.NameLists.{SharesUri, has_uri, list_at, AreLists}
 pub use Rattle.oim_report.specs.code.Pieces.{Adds, IsLike, IsOutline, AreSpaces, facts_key, AfterSpaces, BeforeSpaces, IsEnd, IsTail, IsSplit, IsBeside, with_before, with_behind, IsUpTo, with_rest}
-pub use Rattle.oim_report.specs.code.Ranks.{IsRank, AreRanks, IsSpan, OrderConcepts, IsFound}
+pub use Rattle.oim_report.specs.code.Ranks.{IsRank, AreRanks, AreSpans, IsSpan, OrderConcepts, IsFound}
 pub use Rattle.oim_report.specs.code.Scope.{Scope}
 pub use Rattle.oim_report.specs.code.SeenMembers.{seen_defined, seen_dimensions, seen_parts}
 pub use Rattle.oim_report.specs.code.TapeValues.{Ascends, one, IsSoFar, AreData, IsRead, IsReadWhere, IsReadAs, IsLeaf}

@@ -1,22 +1,7 @@
 -- An object in which no entry is refused, and no name is repeated, has as many entries as names.
-use Rattle.std.proofs.Common.{◌≡◌, ◌≤◌, ◌+◌, ℕ, suc, List, [], ◌∷◌, ◌++◌, Bool, true, false, cond, not, ◌||◌, Option, Some, None, is_some, length, refl, sym, ap, ◌∙◌, option_map, option_and_then, string_bytes, arith}
+use Rattle.oim_report.proofs.Shared.{◌≡◌, ◌≤◌, ◌+◌, ℕ, suc, List, [], ◌∷◌, ◌++◌, Bool, true, false, cond, not, ◌||◌, Option, Some, None, is_some, length, refl, sym, ap, ◌∙◌, option_map, option_and_then, string_bytes, arith, FinMap, get-insert, len-empty, len-insert, AllByRecursion, list_any, option_map_or, eq_by_cmp, some_found, Binding, a_name, QName, is_name, name_cmp, named_kept, Data, Members, no_members, member, view, members_view, Entry, any_member, entries, named, names_refusal, named_kind, of_other_kind}
 use Rattle.std.specs.FinMap as map
-use Rattle.std.specs.FinMap.{FinMap, get-insert, len-empty, len-insert}
-use Rattle.std.specs.List.{AllByRecursion, list_any}
-use Rattle.std.specs.Option.{option_map_or}
-use Rattle.std.specs.Ordering.{eq_by_cmp}
-use Rattle.oim_dims.proofs.FirstFound.{some_found}
-use Rattle.oim_names.specs.Bindings.{Binding}
-use Rattle.oim_names.specs.Expansion.{a_name}
-use Rattle.oim_names.specs.QName.{QName, is_name, name_cmp}
-use Rattle.oim_names.proofs.Refusals.{named_kept}
-use Rattle.serde_json.specs.Data.{Data, Members, no_members, member}
-use Rattle.serde_json.specs.View.{view, members_view}
-use Rattle.serde_json.proofs.Views.{Entry}
-use Rattle.oim_report.specs.Json.{any_member, entries}
-use Rattle.oim_report.specs.Names.{named, names_refusal}
 use Rattle.oim_report.specs.Sheet.{entries_in, entry, has_bad_kind, has_other_kind, key_names, kind_in, listed, names_no_kind}
-use Rattle.oim_report.specs.Shown.{named_kind, of_other_kind}
 use Rattle.oim_report.proofs.Naming.{stands}
 use Rattle.oim_report.proofs.SheetEntries.{get-put, name_more, name_total, tied}
 

@@ -1,24 +1,7 @@
 -- The names of a sheet: when they are refused, and the map that they make.
-use Rattle.std.proofs.Common.{◌≡◌, List, [], ◌∷◌, ◌++◌, Bool, true, false, not, ◌||◌, ◌&&◌, refl, sym, ◌∙◌, inl, inr, ℕ, Err, ap, cond, Option, Some, None, if◌then◌else◌, is_some}
-use Rattle.std.proofs.lemmas.Bool.{or_parts}
-use Rattle.std.proofs.lemmas.List.Folds.{list_any-append}
-use Rattle.std.specs.List.{find}
-use Rattle.std.specs.Ordering.{is_eq, eq_by_cmp}
-use Rattle.std.specs.Cmp.{IsTotalOrder, tied_itself, Equal-is}
-use Rattle.std.specs.FinMap.{FinMap, get-insert}
-use Rattle.std.proofs.lemmas.Cmp.{nat_list_cmp_total, then_total, on_total}
+use Rattle.oim_report.proofs.Shared.{◌≡◌, List, [], ◌∷◌, ◌++◌, Bool, true, false, not, ◌||◌, ◌&&◌, refl, sym, ◌∙◌, inl, inr, ℕ, Err, ap, cond, Option, Some, None, if◌then◌else◌, is_some, or_parts, list_any-append, find, is_eq, eq_by_cmp, IsTotalOrder, tied_itself, Equal-is, FinMap, get-insert, nat_list_cmp_total, then_total, on_total, Data, Binding, is_reserved, is_unbound, refusal_as, Spelled, refuses, Reason, NameForm, UnboundPrefix, ReservedNamespace, MemberForm, UnknownMember, Namespace, SheetKind, QName, name_cmp, exact_name, names_refusal, refuses_some, named, any_in, json, binds_nothing, unless}
 use Rattle.std.specs.FinMap as map
-use Rattle.serde_json.specs.Data.{Data}
-use Rattle.oim_names.specs.Bindings.{Binding}
-use Rattle.oim_names.specs.Expansion.{is_reserved, is_unbound, refusal_as, Spelled, refuses}
-use Rattle.oim_names.specs.declared.reason.Reason.{Reason}
-use Rattle.oim_names.specs.declared.reason.Reason.TheVariants.{NameForm, UnboundPrefix, ReservedNamespace, MemberForm, UnknownMember, Namespace, SheetKind}
-use Rattle.oim_names.specs.QName.{QName, name_cmp, exact_name}
-use Rattle.oim_report.specs.Names.{names_refusal, refuses_some, named}
-use Rattle.oim_report.specs.Json.{any_in, json}
 use Rattle.oim_report.specs.Least.{least}
-use Rattle.oim_report.specs.Namespaces.{binds_nothing}
-use Rattle.oim_report.specs.Refusal.{unless}
 use Rattle.oim_report.specs.Sheet.{RefusesSheet, Sheet, SheetRefusedWhereHeld, concept_kind_named, dimension_kind_named, has_bad_kind, said_sheet, same_concept_kind, same_dimension_kind, sheet_bindings, sheet_concepts, sheet_dimensions, sheet_holds, sheet_names, sheet_namespaces, sheet_of, sheet_outcome}
 use Rattle.oim_report.proofs.EachRefusal.{first_holding, first_refusal, or_refusal}
 use Rattle.oim_report.proofs.LeastOf.{least_is}

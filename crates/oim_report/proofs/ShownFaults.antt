@@ -1,8 +1,7 @@
 -- The test for repeated names, while a list of names is read.
-use Rattle.oim_report.proofs.Shared.{◌≡◌, ◌≢◌, ◌⊎◌, inl, inr, Result, Ok, Err, ℕ, List, [], ◌∷◌, Bool, true, false, cond, ◌||◌, refl, sym, ap, ◌∙◌, map, not, ◌&&◌, ◌++◌, Option, Some, None, if◌then◌else◌, is_some, IfErr, codes, option_and_then, option_map, IfOk, filter_map, filter, find, flat_map, is_eq, option_to_list, unwrap_or, IsUtf8, FinMap, get-empty, get-insert, list_any, cons_option, result_ok, option_map_or, option_or, find-append, is_utf8-from_IsUtf8, QName, is_name, name_cmp, Binding, name_refusal, Spelled, refuses, Expands, a_name, an_entity, Reason, OutOfMemory, Feature, MemberForm, UnknownMember, Namespace, named_kept, denominator_pieces, is_unit_text, numerator_pieces, Data, Items, no_items, item, Members, no_members, member, comes_again, named, refuses_some, DimensionKind, Explicit, defined_name, misdeclared, first_defined, names_at, names_in, names_with, defined_members, is_defined, bindings_of, features_of, info, is_allowed_duplicates, namespaces_of, any_in, any_member, entries, members, has_colon, binds_nothing, Name, Part, Nothing}
+use Rattle.oim_report.proofs.Shared.{◌≡◌, ◌≢◌, ◌⊎◌, inl, inr, Result, Ok, Err, ℕ, List, [], ◌∷◌, Bool, true, false, cond, ◌||◌, refl, sym, ap, ◌∙◌, map, not, ◌&&◌, ◌++◌, Option, Some, None, if◌then◌else◌, is_some, IfErr, codes, option_and_then, option_map, IfOk, filter_map, filter, find, flat_map, is_eq, option_to_list, unwrap_or, IsUtf8, FinMap, get-empty, get-insert, list_any, cons_option, result_ok, option_map_or, option_or, find-append, is_utf8-from_IsUtf8, QName, is_name, name_cmp, Binding, name_refusal, Spelled, refuses, Expands, a_name, an_entity, Reason, OutOfMemory, Feature, MemberForm, UnknownMember, Namespace, named_kept, denominator_pieces, is_unit_text, numerator_pieces, Data, Items, no_items, item, Members, no_members, member, comes_again, named, refuses_some, DimensionKind, Explicit, defined_name, misdeclared, first_defined, names_at, names_in, names_with, defined_members, is_defined, bindings_of, features_of, info, is_allowed_duplicates, namespaces_of, any_in, any_member, entries, members, has_colon, binds_nothing, Name, Part, Nothing, some_found}
 use Rattle.std.specs.FinMap as map
 use Rattle.oim_dims.proofs.Rising.{same_back}
-use Rattle.oim_dims.proofs.FirstFound.{some_found}
 use Rattle.oim_report.specs.Shown.{repeated, Shown, document_part, document_shown, entry, first_item, name, nothing, value, value_or_nothing, when, beside_first, first_shown, seen}
 use Rattle.oim_report.specs.Holds.{any_item, declares_no_level, document_holds, concept, explicit_text, is_misfit, is_some_and, names, pieces, text_at, value_text}
 use Rattle.oim_report.specs.Sheet.{Sheet, same_concept_kind, key_names, sheet_concepts, sheet_dimensions, sheet_holds, sheet_names, sheet_namespaces}

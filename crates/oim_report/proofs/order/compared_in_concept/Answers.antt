@@ -1,4 +1,4 @@
-use Rattle.oim_report.proofs.Shared.{◌≡◌, sym, ap, ◌∙◌, nat_cmp, tied_itself, slice_cmp, option_cmp, ordering_then, QName, name_cmp, derived_value, facts_agree, DimensionSet, unit_cmp, Member, Ordering, Equal}
+use Rattle.oim_report.proofs.Shared.{◌≡◌, sym, ap, ◌∙◌, nat_cmp, Ordering, Equal, tied_itself, slice_cmp, option_cmp, ordering_then, QName, name_cmp, derived_value, facts_agree, DimensionSet, unit_cmp, Member}
 use Rattle.oim_dims.specs.contracts.member.MemberOrd.TheImpl.{cmp-value as derived_member}
 use Rattle.oim_dims.specs.contracts.period.PeriodOrd.TheImpl.{cmp-value as derived_period}
 use Rattle.oim_report.proofs.DimensionRuns.{by_entity, by_language, by_members, by_period, by_unit, by_values, answers}

@@ -1,5 +1,4 @@
-use Rattle.oim_report.proofs.Shared.{ap, rules, is_lt, IsPermutation-trans, index_cmp}
-use Rattle.std.proofs.lemmas.Fn.{always_returns_same}
+use Rattle.oim_report.proofs.Shared.{ap, rules, is_lt, IsPermutation-trans, index_cmp, always_returns_same}
 use Rattle.oim_report.proofs.Indices.{index_cmp_ranks}
 use Rattle.oim_report.proofs.order.order_of.Goals as goal
 

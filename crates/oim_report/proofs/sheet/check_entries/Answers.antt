@@ -1,12 +1,4 @@
-use Rattle.std.proofs.Common.{◌++◌, Err, sym, ap, ◌∙◌, if◌then◌else◌}
-use Rattle.std.specs.Prelude.{Some, None}
-use Rattle.std.specs.Result.{result_err}
-use Rattle.std.proofs.lemmas.Result.{err_from_is_err_and}
-use Rattle.serde_json.specs.View.{view}
-use Rattle.oim_names.specs.declared.reason.Reason.TheVariants.{SheetKind}
-use Rattle.oim_report.specs.Json.{members}
-use Rattle.oim_report.specs.Names.{names_refusal}
-use Rattle.oim_report.specs.Sheet.{key_names}
+use Rattle.oim_report.proofs.Shared.{◌++◌, Err, sym, ap, ◌∙◌, if◌then◌else◌, Some, None, result_err, err_from_is_err_and, view, SheetKind, members, names_refusal, key_names}
 use Rattle.oim_report.proofs.EachRefusal.{or_refusal}
 use Rattle.oim_report.proofs.SheetEntries.{bad_kinds, entries_refusal}
 use Rattle.oim_report.proofs.sheet.check_entries.Goals as goal

@@ -1,9 +1,5 @@
-use Rattle.std.proofs.Common.{rules, false, string_bytes, sym, ap, ◌∙◌}
+use Rattle.oim_report.proofs.Shared.{rules, false, string_bytes, sym, ap, ◌∙◌, view, members_view, defined_members, is_some_and, defined_name, names_with}
 use Rattle.std.specs.FinMap as map
-use Rattle.serde_json.specs.View.{view, members_view}
-use Rattle.oim_report.specs.FactMembers.{defined_members}
-use Rattle.oim_report.specs.Holds.{is_some_and}
-use Rattle.oim_report.specs.code.MemberTests.{defined_name, names_with}
 use Rattle.oim_report.proofs.ShownFaults.{after_key, in_none, repeated_in}
 use Rattle.oim_report.proofs.fact.dimension_part.two_keys.Goals as goal
 

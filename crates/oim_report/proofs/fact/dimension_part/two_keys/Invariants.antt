@@ -1,7 +1,4 @@
-use Rattle.std.proofs.Common.{◌≡◌, []}
-use Rattle.serde_json.specs.View.{members_view}
-use Rattle.oim_report.specs.Shown.{repeated}
-use Rattle.oim_report.specs.FactMembers.{defined_members}
+use Rattle.oim_report.proofs.Shared.{◌≡◌, [], members_view, repeated, defined_members}
 use Rattle.oim_report.proofs.ShownFaults.{repeated_in}
 use Rattle.oim_report.proofs.fact.dimension_part.two_keys.Given as goal
 

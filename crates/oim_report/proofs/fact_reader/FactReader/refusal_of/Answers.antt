@@ -1,5 +1,4 @@
-use Rattle.std.proofs.Common.{sym, ◌∙◌}
-use Rattle.serde_json.specs.View.{view}
+use Rattle.oim_report.proofs.Shared.{sym, ◌∙◌, view}
 use Rattle.oim_report.proofs.FaultLaws.{refused_least, some_least}
 use Rattle.oim_report.proofs.fact_reader.FactReader.refusal_of.Goals as goal
 

@@ -1,6 +1,4 @@
-use Rattle.oim_report.proofs.Shared.{◌≡◌, Members, AreSoFar, IsUpTo}
-use denote.Text.{Utf8}
-use denote.Shadow.{shadow}
+use Rattle.oim_report.proofs.Shared.{◌≡◌, Members, AreSoFar, IsUpTo, Utf8, shadow}
 use Rattle.oim_report.proofs.pieces.facts_in_pieces.read_facts_in_pieces.Given as goal
 
 -- the rest of the text is UTF-8, the facts before the rest were read, and the reader is unchanged

@@ -1,7 +1,4 @@
-use Rattle.std.proofs.Common.{rules, ap, ◌∙◌}
-use Rattle.serde_json.specs.View.{view}
-use Rattle.oim_report.specs.Json.{members}
-use Rattle.oim_report.specs.Namespaces.{bindings_in}
+use Rattle.oim_report.proofs.Shared.{rules, ap, ◌∙◌, view, members, bindings_in}
 use Rattle.oim_report.specs.Sheet.{concept_kind_named, dimension_kind_named, listed, same_concept_kind, same_dimension_kind}
 use Rattle.oim_report.proofs.SheetEntries.{sheet_least}
 use Rattle.oim_report.proofs.sheet.Sheet.from_tree.Goals as goal

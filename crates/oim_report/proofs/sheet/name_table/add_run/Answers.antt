@@ -1,13 +1,4 @@
-use Rattle.std.proofs.Common.{◌≡◌, ◌++◌, ℕ, List, [], ◌∷◌, Vec, slice_get, option_copied, string_bytes, refl, sym, ap, subst, ◌∙◌}
-use Rattle.std.specs.Prelude.{Option, Some, None}
-use Rattle.std.specs.BTreeMap.{UpdatesBy, get_by_text}
-use Rattle.std.specs.Cmp.Lexicographic.{slice_cmp}
-use Rattle.std.specs.Option.{option_map_or, unwrap_or}
-use Rattle.std.specs.Ordering.{nat_cmp}
-use Rattle.std.specs.String.{string_cmp}
-use Rattle.std.proofs.lemmas.Option.{same_Some}
-use Rattle.oim_names.specs.QName.{QName}
-use Rattle.oim_report.specs.code.NameLists.{SharesUri}
+use Rattle.oim_report.proofs.Shared.{◌≡◌, ◌++◌, ℕ, List, [], ◌∷◌, Vec, slice_get, option_copied, string_bytes, refl, sym, ap, subst, ◌∙◌, Option, Some, None, UpdatesBy, get_by_text, slice_cmp, option_map_or, unwrap_or, nat_cmp, string_cmp, same_Some, QName, SharesUri}
 use Rattle.oim_report.proofs.NameLists.{are_added, run_is_added}
 use Rattle.oim_report.proofs.sheet.name_table.add_run.Goals as goal
 

@@ -1,15 +1,5 @@
-use Rattle.std.proofs.Common.{◌≡◌, true, false, not, option_map, string_bytes, sym, ap, subst, ◌∙◌}
-use Rattle.std.specs.Prelude.{Some, None}
+use Rattle.oim_report.proofs.Shared.{◌≡◌, true, false, not, option_map, string_bytes, sym, ap, subst, ◌∙◌, Some, None, option_map_or, same_Some, uri_of, QName, is_name, prefix_part, view, members_view, entries, named, of_other_kind, IsSpan}
 use Rattle.std.specs.FinMap as map
-use Rattle.std.specs.Option.{option_map_or}
-use Rattle.std.proofs.lemmas.Option.{same_Some}
-use Rattle.oim_names.specs.Bindings.{uri_of}
-use Rattle.oim_names.specs.QName.{QName, is_name, prefix_part}
-use Rattle.serde_json.specs.View.{view, members_view}
-use Rattle.oim_report.specs.Json.{entries}
-use Rattle.oim_report.specs.Names.{named}
-use Rattle.oim_report.specs.Shown.{of_other_kind}
-use Rattle.oim_report.specs.code.Ranks.{IsSpan}
 use Rattle.oim_report.proofs.Naming.{expanded}
 use Rattle.oim_report.proofs.ShownFaults.{refused_none}
 use Rattle.oim_report.proofs.SheetCounts.{differs, differs_as, first_differs, no_name}

@@ -1,10 +1,5 @@
-use Rattle.std.proofs.Common.{◌≡◌, ℕ, List, Some, IfSome, option_map}
+use Rattle.oim_report.proofs.Shared.{◌≡◌, ℕ, List, Some, IfSome, option_map, uri_of, members_view, entries, members, of_other_kind, IsSpan}
 use Rattle.std.specs.FinMap as map
-use Rattle.oim_names.specs.Bindings.{uri_of}
-use Rattle.serde_json.specs.View.{members_view}
-use Rattle.oim_report.specs.Json.{entries, members}
-use Rattle.oim_report.specs.Shown.{of_other_kind}
-use Rattle.oim_report.specs.code.Ranks.{IsSpan}
 use Rattle.oim_report.proofs.sheet.name_table.first_of_other_kind.Given as goal
 
 abbrev pub invariant-loop-key : goal.invariant-loop-key

@@ -1,12 +1,5 @@
-use Rattle.std.proofs.Common.{◌≡◌, ◌||◌, ℕ, List, Bool, false, is_some, refl, sym, ap, ◌∙◌, option_map}
-use Rattle.std.specs.Prelude.{Option, None, Some}
-use Rattle.std.specs.List.{list_any}
-use Rattle.serde_json.specs.Data.{Members}
-use Rattle.serde_json.specs.View.{members_view}
-use Rattle.oim_report.specs.Json.{any_in, entries, members}
+use Rattle.oim_report.proofs.Shared.{◌≡◌, ◌||◌, ℕ, List, Bool, false, is_some, refl, sym, ap, ◌∙◌, option_map, Option, None, Some, list_any, Members, members_view, any_in, entries, members, entries_in, has_other_kind, has_two_kinds, names_no_kind, Part}
 use Rattle.oim_report.specs.Shown.{entry, kindless, of_other_kind, seen}
-use Rattle.oim_report.specs.Sheet.{entries_in, has_other_kind, has_two_kinds, names_no_kind}
-use Rattle.oim_report.specs.declared.part.Part.{Part}
 use Rattle.oim_report.proofs.SheetCounts.{some_differs}
 use Rattle.oim_report.proofs.ShownFaults.{any_found_in}
 use Rattle.oim_report.proofs.sheet.name_table.has_bad_kind.Goals as goal

@@ -1,11 +1,5 @@
-use Rattle.std.proofs.Common.{◌≡◌, false, option_map, sym, ap, subst, ◌∙◌}
-use Rattle.std.specs.Prelude.{None}
+use Rattle.oim_report.proofs.Shared.{◌≡◌, false, option_map, sym, ap, subst, ◌∙◌, None, eqb-true, Members, members_view, members, names_refusal}
 use Rattle.std.specs.FinMap as map
-use Rattle.std.proofs.lemmas.Bool.{eqb-true}
-use Rattle.serde_json.specs.Data.{Members}
-use Rattle.serde_json.specs.View.{members_view}
-use Rattle.oim_report.specs.Json.{members}
-use Rattle.oim_report.specs.Names.{names_refusal}
 use Rattle.oim_report.specs.Sheet.{has_bad_kind, key_names, listed}
 use Rattle.oim_report.proofs.SheetCounts.{all_good}
 use Rattle.oim_report.proofs.sheet.name_table.has_each.Goals as goal

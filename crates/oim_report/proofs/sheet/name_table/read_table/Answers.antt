@@ -1,18 +1,6 @@
-use Rattle.std.proofs.Common.{rules, ◌≡◌, ◌++◌, ◌∷◌, [], ℕ, List, Some, None, filter, string_bytes, bytes_eq, option_map, sym, ap, subst, ◌∙◌, append-nil}
+use Rattle.oim_report.proofs.Shared.{rules, ◌≡◌, ◌++◌, ◌∷◌, [], ℕ, List, Some, None, filter, string_bytes, bytes_eq, option_map, sym, ap, subst, ◌∙◌, append-nil, FinMap, unwrap_or, IfOk-weaker, uri_of, QName, is_name, name_cmp, prefix_part, same_bytes, view, members_view, members, named, entries_in, kind_in, named_kind, SharesUri, has_uri, list_at}
 use Rattle.std.specs.FinMap as map
-use Rattle.std.specs.FinMap.{FinMap}
-use Rattle.std.specs.Option.{unwrap_or}
-use Rattle.std.proofs.lemmas.Result.{IfOk-weaker}
-use Rattle.oim_names.specs.Bindings.{uri_of}
-use Rattle.oim_names.specs.QName.{QName, is_name, name_cmp, prefix_part}
-use Rattle.oim_names.proofs.Bytes.{same_bytes}
-use Rattle.serde_json.specs.View.{view, members_view}
-use Rattle.oim_report.specs.Json.{members}
-use Rattle.oim_report.specs.Names.{named}
-use Rattle.oim_report.specs.Sheet.{entries_in, kind_in}
-use Rattle.oim_report.specs.Shown.{named_kind}
 use Rattle.oim_report.proofs.Naming.{stands}
-use Rattle.oim_report.specs.code.NameLists.{SharesUri, has_uri, list_at}
 use Rattle.oim_report.proofs.NameLists.{entry_name, lists_make, moved, next_entries, no_lists, none_at, shared_more}
 use Rattle.oim_report.proofs.sheet.name_table.read_table.Goals as goal
 

@@ -1,12 +1,4 @@
-use Rattle.std.proofs.Common.{◌≡◌, ◌++◌, [], ℕ, List, filter, option_map}
-use Rattle.std.specs.Option.{unwrap_or}
-use denote.Shadow.{shadow}
-use denote.Text.{Utf8}
-use Rattle.oim_names.specs.Bindings.{uri_of}
-use Rattle.serde_json.specs.View.{members_view}
-use Rattle.oim_report.specs.Json.{members}
-use Rattle.oim_report.specs.Sheet.{entries_in}
-use Rattle.oim_report.specs.code.NameLists.{AreLists, SharesUri, has_uri, list_at}
+use Rattle.oim_report.proofs.Shared.{◌≡◌, ◌++◌, [], ℕ, List, filter, option_map, unwrap_or, shadow, Utf8, uri_of, members_view, members, entries_in, AreLists, SharesUri, has_uri, list_at}
 use Rattle.oim_report.proofs.sheet.name_table.read_table.Given as goal
 
 -- the names that were read and those that are left are those of the object

@@ -1,8 +1,4 @@
-use Rattle.std.proofs.Common.{rules, ap}
-use Rattle.std.specs.Ordering.{is_lt}
-use Rattle.std.proofs.lemmas.Cmp.{nat_list_cmp_total}
-use Rattle.std.proofs.lemmas.Fn.{always_returns_same, dedup_same}
-use Rattle.std.proofs.lemmas.List.Sorted.{ranks_by}
+use Rattle.oim_report.proofs.Shared.{rules, ap, is_lt, nat_list_cmp_total, always_returns_same, dedup_same, ranks_by}
 use Rattle.oim_report.proofs.NameLists.{in_order, is_before, same_local}
 use Rattle.oim_report.proofs.sheet.ranked_names.put_in_order.Goals as goal
 

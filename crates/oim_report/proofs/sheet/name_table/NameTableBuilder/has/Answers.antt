@@ -1,5 +1,4 @@
-use Rattle.std.proofs.Common.{sym, ap, ◌∙◌, is_some}
-use Rattle.std.specs.BTreeMap.{get_by_text}
+use Rattle.oim_report.proofs.Shared.{sym, ap, ◌∙◌, is_some, get_by_text}
 use Rattle.std.specs.FinMap as map
 use Rattle.oim_report.proofs.Grouped.{get_current, is_some_kind}
 use Rattle.oim_report.proofs.sheet.name_table.NameTableBuilder.has.Goals as goal

@@ -1,6 +1,5 @@
-use Rattle.std.proofs.Common.{string_bytes, sym, ap, ◌∙◌, option_map, option_copied}
+use Rattle.oim_report.proofs.Shared.{string_bytes, sym, ap, ◌∙◌, option_map, option_copied, with_group}
 use Rattle.std.specs.FinMap as map
-use Rattle.oim_report.specs.code.Groups.{with_group}
 use Rattle.oim_report.proofs.Grouped.{get_current, kind_at, made_name, named_after, put_in}
 use Rattle.oim_report.proofs.SheetEntries.{get-put, listed_stays, new_is_put}
 use Rattle.oim_report.proofs.sheet.name_table.NameTableBuilder.put.Goals as goal

@@ -1,7 +1,5 @@
-use Rattle.std.proofs.Common.{◌≢◌, cond, string_bytes, sym, ap, ◌∙◌, bytes_eq}
+use Rattle.oim_report.proofs.Shared.{◌≢◌, cond, string_bytes, sym, ap, ◌∙◌, bytes_eq, other_bytes, with_group}
 use Rattle.std.specs.FinMap as map
-use Rattle.oim_names.proofs.Bytes.{other_bytes}
-use Rattle.oim_report.specs.code.Groups.{with_group}
 use Rattle.oim_report.proofs.Grouped.{kind_at, on_ok, turned, name}
 use Rattle.oim_report.proofs.sheet.name_table.NameTableBuilder.turn_to.Goals as goal
 

@@ -1,8 +1,5 @@
-use Rattle.std.proofs.Common.{◌≡◌, ◌++◌, String, Global, Vec, Some, length, string_bytes, sym, ap, subst, ◌∙◌, arith}
-use Rattle.std.specs.BTreeMap.{Updates}
+use Rattle.oim_report.proofs.Shared.{◌≡◌, ◌++◌, String, Global, Vec, Some, length, string_bytes, sym, ap, subst, ◌∙◌, arith, Updates, string_cmp, QName, name_cmp}
 use Rattle.std.specs.FinMap as map
-use Rattle.std.specs.String.{string_cmp}
-use Rattle.oim_names.specs.QName.{QName, name_cmp}
 use Rattle.oim_report.specs.code.NameLists.{names_in}
 use Rattle.oim_report.proofs.NameLists.{AreSoFar, all_found, begun, so_far}
 use Rattle.oim_report.proofs.sheet.ranked_names.RankedNames.of_lists.Goals as goal
