@@ -2,12 +2,15 @@ use crate::calls::{
     xbrlmerge_merge, xbrlmerge_sources, xbrlmerge_sources_json, xbrlmerge_verdicts,
     xbrlmerge_verdicts_json,
 };
-use crate::check::{CheckedReport, xbrlmerge_check};
+use crate::check::{CheckedReport, ReportResult, xbrlmerge_check};
+use crate::check_all::xbrlmerge_check_all;
+use crate::explain::{xbrlmerge_explain, xbrlmerge_explain_json};
 use crate::output::{
     BAD_ENDS, BAD_LEVEL, DONE, NO_MEMORY, REFUSED, RefusedReport, SHEET_REFUSED, TOO_LOOSE,
     TOO_MUCH, TOO_SHORT,
 };
 use crate::refusal_name::xbrlmerge_refusal_name;
+use crate::version::xbrlmerge_version;
 use std::test::Fail;
 
 // The tests make each call, and cause each status except `NO_MEMORY`, which `tests/program/c_abi` causes.
@@ -52,6 +55,47 @@ const UNBOUND: RefusedReport = RefusedReport {
     fact: 1,
     number: 13,
 };
+
+const NO_FACTS: CheckedReport = CheckedReport {
+    facts: 0,
+    level: 0,
+    canonical: 0,
+};
+
+const NO_REFUSAL: RefusedReport = RefusedReport {
+    report: 0,
+    fact: 0,
+    number: 0,
+};
+
+/// The result for a report with one fact.
+const ONE_FACT: ReportResult = ReportResult {
+    checked: CheckedReport {
+        facts: 1,
+        level: 0,
+        canonical: 0,
+    },
+    refusal: NO_REFUSAL,
+    status: DONE,
+};
+
+const SECOND_REFUSED: ReportResult = ReportResult {
+    checked: NO_FACTS,
+    refusal: UNBOUND,
+    status: REFUSED,
+};
+
+/// The content of each result before a call.
+const UNSET: ReportResult = ReportResult {
+    checked: NO_FACTS,
+    refusal: BEFORE,
+    status: 7,
+};
+
+const LINE: &[u8] = b"report: fact \"a\": 13 UnboundPrefix: the prefix of \"q:A\" is not bound\n";
+
+const OBJECT: &[u8] =
+    b"{\"report\":1,\"file\":\"report\",\"place\":\"fact 1\",\"number\":13,\"name\":\"UnboundPrefix\",\"identifier\":\"a\",\"part\":\"q:A\",\"sentence\":\"the prefix of \\\"q:A\\\" is not bound\"}\n";
 
 #[derive(Clone, Copy)]
 enum Call {
@@ -269,6 +313,59 @@ fn a_report_is_checked(rt: HostRuntime) -> Result<(), Fail> {
     let (status, found, refusal) = checked(&rt, b"{");
     assert!(rt; status == REFUSED && found.facts == 7);
     assert!(rt; refusal.report == 1 && refusal.fact == 0 && refusal.number == 1);
+    Ok(())
+}
+
+/// Checks the reports with a buffer for `count` results, at most 4.
+fn checked_all(rt: &HostRuntime, sheet: &str, count: usize) -> (u32, [ReportResult; 4]) {
+    let mut results = [UNSET; 4];
+    let (sheet, reports, mut refusal) = (sheet.as_bytes(), REPORTS.as_bytes(), BEFORE);
+    let status = match results.get_mut(..count) {
+        Some(room) => {
+            xbrlmerge_check_all(
+                rt.alloc(),
+                sheet,
+                reports,
+                ENDS.as_slice(),
+                room,
+                &mut refusal,
+            )
+        }
+        None => NO_MEMORY,
+    };
+    (status, results)
+}
+
+#[test]
+fn several_reports_are_checked(rt: HostRuntime) -> Result<(), Fail> {
+    let (status, results) = checked_all(&rt, SHEET, 4);
+    assert!(rt; status == REFUSED && results == [ONE_FACT, SECOND_REFUSED, ONE_FACT, UNSET]);
+    let (status, results) = checked_all(&rt, SHEET, 2);
+    assert!(rt; status == TOO_SHORT && results == [UNSET; 4]);
+    let (status, results) = checked_all(&rt, BAD_SHEET, 3);
+    assert!(rt; status == SHEET_REFUSED && results == [UNSET; 4]);
+    Ok(())
+}
+
+#[test]
+fn a_report_is_explained(rt: HostRuntime) -> Result<(), Fail> {
+    let (alloc, sheet, mut out, mut needed) = (rt.alloc(), SHEET.as_bytes(), [7; 400], 7);
+    let report = REPORTS.as_bytes().get(185..354).unwrap_or_default();
+    let status = xbrlmerge_explain(alloc, sheet, report, out.as_mut_slice(), &mut needed);
+    assert!(rt; status == REFUSED && out.get(..needed) == Some(LINE));
+    let status = xbrlmerge_explain_json(alloc, sheet, report, out.as_mut_slice(), &mut needed);
+    assert!(rt; status == REFUSED && out.get(..needed) == Some(OBJECT));
+    let accepted = HUNDRED.as_bytes();
+    let status = xbrlmerge_explain(alloc, sheet, accepted, out.as_mut_slice(), &mut needed);
+    assert!(rt; status == DONE && needed == 0);
+    Ok(())
+}
+
+#[test]
+fn the_version_is_written(rt: HostRuntime) -> Result<(), Fail> {
+    let mut out = [7; 20];
+    let length = xbrlmerge_version(out.as_mut_slice());
+    assert!(rt; length < 20 && out.get(length) == Some(&7) && out[1] == b'.');
     Ok(())
 }
 
