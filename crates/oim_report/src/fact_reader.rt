@@ -50,6 +50,8 @@ pub(crate) struct FactReader<'s> {
     sheet: &'s Sheet,
     aliases: Aliases,
     caches: TextCaches<'s>,
+    // Whether no fact is read after a refused one. It only saves time, so no contract mentions it.
+    stops_at_refused: bool,
 }
 
 // By hand, so that a drop is one call, which is faster to prove than a derived one.
@@ -60,6 +62,7 @@ impl Drop for FactReader<'_> {
             sheet: _,
             aliases: _,
             caches: _,
+            stops_at_refused: _,
         } = self;
     }
 }
@@ -87,7 +90,19 @@ impl<'s> FactReader<'s> {
             sheet,
             aliases: Aliases::new(alloc),
             caches: TextCaches::new(alloc),
+            stops_at_refused: false,
         }
+    }
+
+    /// Lets `FactsSoFar` end at the first refused fact, for callers that do not ask which it is.
+    pub(crate) fn stop_at_refused(&mut self)
+        ensures { self.new ≡ self.old }
+    {
+        self.stops_at_refused = true;
+    }
+
+    pub(crate) fn stops_at_refused(&self) -> bool {
+        self.stops_at_refused
     }
 
     pub(crate) fn alloc(&self) -> Global {

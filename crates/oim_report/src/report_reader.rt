@@ -51,7 +51,7 @@ pub fn is_accepted_in_pieces(alloc: Global, sheet: &Sheet, bytes: &[u8]) -> Resu
     ensures { IfOk result
         (λ accepted. IsTrue accepted → (d : ADocument) × (outcome sheet.now bytes.now ≡ Ok d)) }
 {
-    match ReportReader::new(alloc, sheet).read_in_pieces(bytes) {
+    match ReportReader::stopping(alloc, sheet).read_in_pieces(bytes) {
         Ok(Ok(_read)) => Ok(true),
         Ok(Err(_)) | Err(Unread::NeedsTree) => Ok(false),
         Err(Unread::OutOfMemory) => Err(AllocError),
@@ -100,6 +100,19 @@ impl<'s> ReportReader<'s> {
         ReportReader {
             alloc,
             facts: FactReader::new(alloc, sheet),
+            buffers: PieceBuffers::new(alloc),
+        }
+    }
+
+    // Returns a reader that reads no fact after a refused one.
+    fn stopping(alloc: Global, sheet: &'s Sheet) -> ReportReader<'s>
+        ensures { result ≡ sheet.now }
+    {
+        let mut facts = FactReader::new(alloc, sheet);
+        facts.stop_at_refused();
+        ReportReader {
+            alloc,
+            facts,
             buffers: PieceBuffers::new(alloc),
         }
     }

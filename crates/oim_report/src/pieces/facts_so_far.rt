@@ -39,7 +39,7 @@ pub(crate) enum FactsSoFar {
 
 impl FactsSoFar {
     /// Adds the fact at this place of a tape. The result is `NeedsTree` if its value cannot be read
-    /// there.
+    /// there, or if it is refused and the reader stops there.
     pub(crate) fn add(
         &mut self,
         reader: &mut FactReader<'_>,
@@ -103,6 +103,9 @@ fn add_fact(
             Ok(None)
         }
         Err(reason) => {
+            if reader.stops_at_refused() {
+                return Err(Unread::NeedsTree);
+            }
             let mut judgements = Judgements::of_accepted(alloc, found)?;
             judgements.put(alloc, key, Judgement::Refused(reason))?;
             Ok(Some(judgements))
