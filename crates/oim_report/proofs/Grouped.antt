@@ -1,5 +1,5 @@
 -- A map of names has the same entries as its groups. Each group has the names of one namespace.
-use Rattle.oim_report.proofs.Shared.{◌≡◌, ℕ, List, [], ◌∷◌, ◌++◌, Bool, true, false, cond, Option, Some, None, String, string_bytes, refl, sym, ap, subst, ◌∙◌, ◌≢◌, IfSome, OnOk, OnErr, Result, Ok, Err, option_map, option_and_then, bytes_eq, is_some, unwrap_or, Less, Equal, Greater, string_cmp, AllByRecursion, IsStrictlySortedBy, keys_of, values_of, lookup, remove_entry, update, is_eq, match_ordering, nat_cmp, ordering_then, eq_by_cmp, Equal-is, tied_itself, eq_by_cmp_equiv, slice_cmp, false≢true, nat_list_cmp_total, sorted_head, sorted_tail, exact_bytes, btree_map_updates_text, is_eq-slice_cmp, same_Some, QName, name_cmp, exact_name, same_bytes, bytes_eq-refl, bytes_not_eq, other_bytes, AreGroups, IsGroup, grouped_entries, with_group}
+use Rattle.oim_report.proofs.Shared.{◌≡◌, ℕ, List, [], ◌∷◌, ◌++◌, Bool, true, false, cond, Option, Some, None, String, string_bytes, refl, sym, ap, subst, ◌∙◌, ◌≢◌, IfSome, OnOk, OnErr, Result, Ok, Err, option_map, option_and_then, bytes_eq, is_some, unwrap_or, Less, Equal, Greater, string_cmp, AllByRecursion, IsStrictlySortedBy, keys_of, values_of, lookup, remove_entry, update, is_eq, match_ordering, nat_cmp, ordering_then, eq_by_cmp, Equal-is, tied_itself, eq_by_cmp_equiv, slice_cmp, false≢true, nat_list_cmp_total, sorted_head, sorted_tail, exact_bytes, btree_map_updates_text, is_eq-slice_cmp, same_Some, QName, name_cmp, exact_name, same_bytes, bytes_eq-refl, bytes_not_eq, other_bytes, AreGroups, IsGroup, grouped_entries}
 use Rattle.std.specs.BTreeMap.{BTreeMap, IsOrdered, Updates, UpdatesBy, IsUnchanged, get_by_text, insert_entry, is_at, values}
 use Rattle.std.specs.FinMap.{FinMap, find, get-from_entries, entries, get-empty, get-entries, get-insert, same_map}
 use Rattle.std.specs.FinMap as map
@@ -164,52 +164,14 @@ each_after P m n p k x (Ok o) put same is each here q y found =
       | false ↦ λ _ e. each q y e
     ] refl (sym (btree_map_updates_text (string_bytes k) m n (Some x) put q) ∙ found)
 
--- ---- the names of a sheet, while the group of the current namespace is outside the map
+-- ---- a name is added to its group
 
 apart_bytes : (u v : List ℕ) → bytes_eq u v ≡ false → bytes_eq v u ≡ false
 apart_bytes u v f = bytes_not_eq v u (λ e. other_bytes u v f (sym e))
 
-abbrev pub HasNone : {K : Type 0} → FinMap name_cmp K → List ℕ → Type 0
-HasNone m u = (l : List ℕ) → map.get m (name u l) ≡ None
-
 module _ {K Y : Type 0} where
   abbrev pub kind_at : Group K Y → List ℕ → Option K
   kind_at g l = option_map (λ e. e.1) (get_by_text g l)
-
-  pub get_with : (g : Group K Y) (m : FinMap name_cmp K) (u v l : List ℕ) → IsGroup u g → HasNone m u → map.get (with_group g m) (name v l) ≡ cond (bytes_eq u v) (kind_at g l) (map.get m (name v l))
-  get_with g m u v l h none =
-      get-from_entries name_total (values g ++ entries m) (name v l)
-      ∙ find_append (name v l) (values g) (entries m)
-      ∙ ap (first_of (find name_cmp (name v l) (values g))) (sym (get-entries m (name v l)))
-      ∙ elim (bytes_eq u v) as (λ b. bytes_eq u v ≡ b → first_of (find name_cmp (name v l) (values g)) (map.get m (name v l)) ≡ cond b (kind_at g l) (map.get m (name v l))) [
-        | true ↦ λ t.
-            ap (first_of (find name_cmp (name v l) (values g))) (ap (λ w. map.get m (name w l)) (sym (same_bytes u v t)) ∙ none l)
-            ∙ first_of-none (find name_cmp (name v l) (values g))
-            ∙ find_here v l g.entries (subst (λ w. AreNamed w g.entries) (same_bytes u v t) h)
-        | false ↦ λ f. ap (λ o. first_of o (map.get m (name v l))) (find_elsewhere v l u g.entries h (is_eq-slice_cmp v u ∙ apart_bytes u v f))
-      ] refl
-
-  -- the loop turns from the group of one namespace to the group of another
-  module _ (g next : Group K Y) (m m1 m2 : FinMap name_cmp K) (last u : List ℕ) (apart : last ≢ u)
-      (taken : (v l : List ℕ) → map.get m1 (name v l) ≡ cond (bytes_eq u v) None (map.get m (name v l)))
-      (set : (v l : List ℕ) → map.get m2 (name v l) ≡ cond (bytes_eq last v) (kind_at g l) (map.get m1 (name v l))) where
-    pub none_left : HasNone m2 u
-    none_left l = set u l ∙ ap (λ b. cond b (kind_at g l) (map.get m1 (name u l))) (bytes_not_eq last u apart) ∙ taken u l ∙ ap (λ b. cond b None (map.get m (name u l))) (bytes_eq-refl u)
-
-    pub turned : IsGroup last g → HasNone m last → IsGroup u next → ((l : List ℕ) → kind_at next l ≡ map.get m (name u l)) → with_group next m2 ≡ with_group g m
-    turned h none is kinds = same_map name_total exact_name (with_group next m2) (with_group g m) (λ q.
-        let v = q.uri in
-        let l = q.local_part in
-        let old = map.get m (name v l) in
-        get_with next m2 u v l is none_left
-        ∙ ap (cond (bytes_eq u v) (kind_at next l)) (set v l ∙ ap (cond (bytes_eq last v) (kind_at g l)) (taken v l))
-        ∙ elim (bytes_eq u v) as (λ b. bytes_eq u v ≡ b → cond b (kind_at next l) (cond (bytes_eq last v) (kind_at g l) (cond b None old)) ≡ cond (bytes_eq last v) (kind_at g l) old) [
-          | true ↦ λ t.
-              kinds l ∙ ap (λ w. map.get m (name w l)) (same_bytes u v t)
-              ∙ sym (ap (λ b. cond b (kind_at g l) old) (bytes_not_eq last v (λ e. apart (e ∙ sym (same_bytes u v t)))))
-          | false ↦ λ _. refl
-        ] refl
-        ∙ sym (get_with g m last v l h none))
 
   still_named : (u : List ℕ) (k : String Y) (e : QName × K) (es : List (String Y × (QName × K))) → e.0 ≡ name u (string_bytes k) → AreNamed u es → AreNamed u (insert_entry string_cmp es k e)
   still_named u k e [] is h = (is, tt)
@@ -223,57 +185,38 @@ module _ {K Y : Type 0} where
   pub named_after : (u : List ℕ) (k : String Y) (e : QName × K) (g n : Group K Y) → e.0 ≡ name u (string_bytes k) → IsGroup u g → n.entries ≡ insert_entry string_cmp g.entries k e → IsGroup u n
   named_after u k e g n is h es = subst (AreNamed u) (sym es) (still_named u k e g.entries is h)
 
-  module _ (g : Group K Y) (m : FinMap name_cmp K) (u l : List ℕ) (h : IsGroup u g) (none : HasNone m u) where
-    pub get_apart : map.get (with_group g m) (name u l) ≡ kind_at g l
-    get_apart = get_with g m u u l h none ∙ ap (λ b. cond b (kind_at g l) (map.get m (name u l))) (bytes_eq-refl u)
-
-    added : (n : Group K Y) (e : QName × K) → IsGroup u n → ((t : List ℕ) → get_by_text n t ≡ update bytes_eq (get_by_text g) l (Some e) t) → with_group n m ≡ map.insert (with_group g m) (name u l) e.1
-    added n e is updates = same_map name_total exact_name (with_group n m) (map.insert (with_group g m) (name u l) e.1) (λ q.
+  -- the group of the namespace k is taken from the map m, and a group is set in its place
+  module _ (g : Group K Y) (m m1 m2 : FinMap name_cmp K) (k : List ℕ) (kinds : (l : List ℕ) → kind_at g l ≡ map.get m (name k l)) (taken : (v l : List ℕ) → map.get m1 (name v l) ≡ cond (bytes_eq k v) None (map.get m (name v l))) where
+    pub put_back : ((v l : List ℕ) → map.get m2 (name v l) ≡ cond (bytes_eq k v) (kind_at g l) (map.get m1 (name v l))) → m2 ≡ m
+    put_back set = same_map name_total exact_name m2 m (λ q.
         let v = q.uri in
-        let j = q.local_part in
-        let old = map.get m (name v j) in
-        get_with n m u v j is none
-        ∙ ap (λ o. cond (bytes_eq u v) (option_map (λ f. f.1) o) old) (updates j)
-        ∙ elim (bytes_eq u v) as (λ b. bytes_eq u v ≡ b → cond b (option_map (λ f. f.1) (cond (bytes_eq l j) (Some e) (get_by_text g j))) old ≡ cond (eq_by_cmp name_cmp (name v j) (name u l)) (Some e.1) (cond b (kind_at g j) old)) [
+        let l = q.local_part in
+        set v l
+        ∙ ap (cond (bytes_eq k v) (kind_at g l)) (taken v l)
+        ∙ elim (bytes_eq k v) as (λ b. bytes_eq k v ≡ b → cond b (kind_at g l) (cond b None (map.get m (name v l))) ≡ map.get m (name v l)) [
+          | true ↦ λ t. kinds l ∙ ap (λ w. map.get m (name w l)) (same_bytes k v t)
+          | false ↦ λ _. refl
+        ] refl)
+
+    pub put_with : (h : Group K Y) (j : List ℕ) (e : QName × K) → ((l : List ℕ) → get_by_text h l ≡ update bytes_eq (get_by_text g) j (Some e) l) → ((v l : List ℕ) → map.get m2 (name v l) ≡ cond (bytes_eq k v) (kind_at h l) (map.get m1 (name v l))) → m2 ≡ map.insert m (name k j) e.1
+    put_with h j e updates set = same_map name_total exact_name m2 (map.insert m (name k j) e.1) (λ q.
+        let v = q.uri in
+        let l = q.local_part in
+        let old = map.get m (name v l) in
+        set v l
+        ∙ (λ i. cond (bytes_eq k v) (option_map (λ f. f.1) (updates l i)) (taken v l i))
+        ∙ elim (bytes_eq k v) as (λ b. bytes_eq k v ≡ b → cond b (option_map (λ f. f.1) (cond (bytes_eq j l) (Some e) (get_by_text g l))) (cond b None old) ≡ cond (eq_by_cmp name_cmp (name v l) (name k j)) (Some e.1) old) [
           | true ↦ λ t.
-              let same : eq_by_cmp name_cmp (name v j) (name u l) ≡ bytes_eq l j = ap (λ w. eq_by_cmp name_cmp (name w j) (name u l)) (sym (same_bytes u v t)) ∙ same_uri u j l ∙ (eq_by_cmp_equiv nat_list_cmp_total).symm j l ∙ is_eq-slice_cmp l j in
-              elim (bytes_eq l j) as (λ b. option_map (λ f. f.1) (cond b (Some e) (get_by_text g j)) ≡ cond b (Some e.1) (kind_at g j)) [
+              let same : eq_by_cmp name_cmp (name v l) (name k j) ≡ bytes_eq j l = ap (λ w. eq_by_cmp name_cmp (name w l) (name k j)) (sym (same_bytes k v t)) ∙ same_uri k l j ∙ (eq_by_cmp_equiv nat_list_cmp_total).symm l j ∙ is_eq-slice_cmp j l in
+              elim (bytes_eq j l) as (λ b. option_map (λ f. f.1) (cond b (Some e) (get_by_text g l)) ≡ cond b (Some e.1) (kind_at g l)) [
                 | true ↦ refl
                 | false ↦ refl
               ]
-              ∙ sym (ap (λ b. cond b (Some e.1) (kind_at g j)) same)
-          | false ↦ λ f. sym (ap (λ b. cond b (Some e.1) old) (other_uri v j u l (is_eq-slice_cmp v u ∙ apart_bytes u v f)))
+              ∙ (λ i. cond (sym same i) (Some e.1) ((kinds l ∙ ap (λ w. map.get m (name w l)) (same_bytes k v t)) i))
+          | false ↦ λ f. sym (ap (λ b. cond b (Some e.1) old) (other_uri v l k j (is_eq-slice_cmp v k ∙ apart_bytes k v f)))
         ] refl
-        ∙ sym (get-insert name_total (with_group g m) (name u l) e.1 (name v j) ∙ ap (cond (eq_by_cmp name_cmp (name v j) (name u l)) (Some e.1)) (get_with g m u v j h none)))
-
-  -- a name is added to the current group
-  pub put_in : (g n : Group K Y) (m : FinMap name_cmp K) (u : List ℕ) (k : String Y) (e : QName × K) → IsGroup u g → HasNone m u → e.0 ≡ name u (string_bytes k) → n.entries ≡ insert_entry string_cmp g.entries k e → Updates string_cmp g n k (Some e)
-      → with_group n m ≡ map.insert (with_group g m) e.0 e.1
-  put_in g n m u k e h none is es updates =
-      added g m u (string_bytes k) h none n e (named_after u k e g n is h es) (btree_map_updates_text (string_bytes k) g n (Some e) updates)
-      ∙ ap (λ q. map.insert (with_group g m) q e.1) (sym is)
-
-  pub get_current : (g : Group K Y) (m : FinMap name_cmp K) (u : List ℕ) (q : QName) → IsGroup u g → HasNone m u → q.uri ≡ u → map.get (with_group g m) q ≡ kind_at g q.local_part
-  get_current g m u q h none same = ap (λ v. map.get (with_group g m) (name v q.local_part)) same ∙ get_apart g m u q.local_part h none
+        ∙ sym (get-insert name_total m (name k j) e.1 (name v l)))
 
 pub is_some_kind : {K : Type 0} (o : Option (QName × K)) → is_some (option_map (λ e. e.1) o) ≡ is_some o
 is_some_kind None = refl
 is_some_kind (Some e) = refl
-
-pub on_ok : {A E : Type 0} {P Q : Type 0} (r : Result A E) → OnOk r P → (P → Q) → OnOk r Q
-on_ok (Ok a) p f = f p
-on_ok (Err e) p f = tt
-
-pub made_name : (q : QName) (u l : List ℕ) → q.uri ≡ u → l ≡ q.local_part → q ≡ name u l
-made_name q u l same is = λ i. record { uri = same i; local_part = sym is i }
-
-module _ {K Y : Type 0} (g : Group K Y) (m : FinMap name_cmp K) (no_names : g.entries ≡ []) (no_others : m ≡ map.empty) where
-  pub empty_with : with_group g m ≡ map.empty
-  empty_with = same_map name_total exact_name (with_group g m) map.empty (λ q.
-      get-from_entries name_total (values g ++ entries m) q
-      ∙ ap (λ es. find name_cmp q (values_of es ++ entries m)) no_names
-      ∙ sym (get-entries m q)
-      ∙ ap (λ n. map.get n q) no_others)
-
-  pub none_there : (u : List ℕ) → IsGroup u g × HasNone m u
-  none_there u = (subst (AreNamed u) (sym no_names) tt, λ l. ap (λ n. map.get n (name u l)) no_others ∙ get-empty name_cmp (name u l))

@@ -124,7 +124,7 @@ pub use Rattle.oim_report.specs.code.DimensionRuns.{HaveDimensionsOf, dimensions
 pub use Rattle.oim_report.specs.code.FactsSoFar.{AreMore, AreSoFar, IsOneMore, IsSaid}
 pub use Rattle.oim_report.specs.code.Findings.{is_text}
 pub use Rattle.oim_report.specs.code.FoundFacts.{append, AreFound, AreRelated, is_above, rise_after}
-pub use Rattle.oim_report.specs.code.Groups.{AreGroups, IsGroup, grouped_entries, with_group}
+pub use Rattle.oim_report.specs.code.Groups.{AreGroups, IsGroup, grouped_entries}
 pub use Rattle.oim_report.specs.code.JsonMember.{seen}
 pub use Rattle.oim_report.specs.code.Judged.{AreJudged, IsJudged}
 pub use Rattle.oim_report.specs.code.ListedFaults.{document_fault, document_faults, fact_fault, fact_faults, facts_faults}

@@ -17,9 +17,6 @@ module _ {K Y : Type 0} where
   grouped_entries [] = []
   grouped_entries (e ∷ es) = values e.1 ++ grouped_entries es
 
-  abbrev pub with_group : BTreeMap (String Y) (QName × K) → FinMap name_cmp K → FinMap name_cmp K
-  with_group g m = map.from_entries (values g ++ map.entries m)
-
   -- each URI has at most one group, and the names in a group have the group's URI
   pub record AreGroups (m : BTreeMap (String Y) (BTreeMap (String Y) (QName × K))) : Type 0 where
     pub ordered : IsOrdered string_cmp m

@@ -1,4 +1,4 @@
--- Injective encodings of a sheet, and of its names while the sheet is read (own).
+-- Injective encodings of a sheet and of its names (own).
 use Rattle.std.specs.Prelude.{◌≡◌, ℕ, zero, suc, List, refl}
 use Rattle.std.specs.Coded.{Coded, code_by, coded×, coded_ℕ, coded_list}
 use Rattle.std.specs.FinMap as map
@@ -46,11 +46,3 @@ sheet_code =
     code_by (FinMap name_cmp ConceptKind × FinMap name_cmp DimensionKind)
     (coded× (name_table_code (code_by ℕ coded_ℕ concept_number concept_of_number concept_back)) (name_table_code (code_by ℕ coded_ℕ dimension_number dimension_of_number dimension_back)))
     (λ s. (s.concepts, s.dimensions)) (λ m. record { concepts = m.0; dimensions = m.1 }) (λ _. refl)
-
--- the names of a sheet while it is read, and the URI of the current namespace
-pub record Unfinished (K : Type 0) : Type 0 where
-  pub uri : List ℕ
-  pub names : FinMap name_cmp K
-
-abbrev pub unfinished_code : {K : Type 0} → Coded K → Coded (Unfinished K)
-unfinished_code {K} kinds = code_by (List ℕ × FinMap name_cmp K) (coded× (coded_list coded_ℕ) (name_table_code kinds)) (λ g. (g.uri, g.names)) (λ p. record { uri = p.0; names = p.1 }) (λ _. refl)

@@ -15,7 +15,7 @@ use crate::fact::fact_part::FactInScope;
 use crate::json_values::fact_values::text;
 use crate::json_values::json_tree::{has_colon, object_at};
 use crate::part::Part;
-use crate::sheet::name_table::NameTableBuilder;
+use crate::sheet::name_table::NameTable;
 use crate::sheet::same_names::{beside_first, name_of};
 use crate::sheet::{Sheet, find_dimension};
 use oim_names::{Aliases, Name, Reason};
@@ -101,9 +101,9 @@ fn two_keys<'a>(
         IfOk result (λ part. option_map seen part ≡ option_map (λ m. beside_first aliases.now (entries ms) m.0)
         (repeated aliases.now [] (defined_members ms))) }
 {
-    let mut before: NameTableBuilder<DimensionKind> = NameTableBuilder::new(alloc);
+    let mut before: NameTable<DimensionKind> = NameTable::new(alloc);
     for (key, _value) in dimensions.iter() {
-        if repeats_name(aliases, &mut before, key.as_str())? {
+        if repeats_name(alloc, aliases, &mut before, key.as_str())? {
             return Ok(Some(beside_first(aliases, dimensions, key.as_str())));
         }
     }
@@ -112,23 +112,21 @@ fn two_keys<'a>(
 
 // Returns whether the key spells a name in `before`. If it spells another name, adds this name.
 fn repeats_name(
+    alloc: Global,
     aliases: &Aliases,
-    before: &mut NameTableBuilder<DimensionKind>,
+    before: &mut NameTable<DimensionKind>,
     key: &str,
 ) -> Result<bool, AllocError>
     ensures again { let name = defined_name aliases.now key.now in
-        IfOk result (λ again. again ≡ is_some_and (map.contains_key before.old.names) name) }
+        IfOk result (λ again. again ≡ is_some_and (map.contains_key before.old) name) }
     ensures names { let name = defined_name aliases.now key.now in
-        OnOk result (before.new.names ≡ names_with before.old.names name) }
+        OnOk result (before.new ≡ names_with before.old name) }
 {
     let Some(name) = dimension_name(aliases, key)? else {
         return Ok(false);
     };
-    before.turn_to(name.uri())?;
-    let is_known = before.has(&name);
     // only the names in `before` are looked up, so any kind will do
-    before.put(name, DimensionKind::Explicit)?;
-    Ok(is_known)
+    before.add(alloc, name, DimensionKind::Explicit)
 }
 
 fn dimension_name(aliases: &Aliases, key: &str) -> Result<Option<Name>, AllocError>

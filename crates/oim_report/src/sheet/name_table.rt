@@ -12,7 +12,6 @@ ghost use Rattle.oim_report.specs.Shown.{entry, kindless, named_kind, of_other_k
 ghost use Rattle.oim_report.specs.code.Groups.{IsGroup};
 ghost use Rattle.oim_report.specs.code.NameLists.{AreLists, SharesUri, has_uri, list_at};
 ghost use Rattle.oim_report.specs.code.Ranks.{IsSpan};
-ghost use Rattle.oim_report.specs.code.SheetCode.{Unfinished};
 
 use crate::json_values::json_member::JsonMember;
 use crate::part::Part;
@@ -60,7 +59,7 @@ impl<K: Kind> NameTable<K> {
         }
     }
 
-    pub(crate) fn take(&mut self, alloc: Global, uri: &str) -> Group<K>
+    fn take(&mut self, alloc: Global, uri: &str) -> Group<K>
         ensures names { IsGroup uri.now result }
         ensures kinds { (l : List ℕ) → option_map (λ e. e.1) (get_by_text result l)
             ≡ map.get self.old (record { uri = uri.now; local_part = l }) }
@@ -70,7 +69,7 @@ impl<K: Kind> NameTable<K> {
         self.groups.remove(uri).unwrap_or(BTreeMap::new(alloc))
     }
 
-    pub(crate) fn set(&mut self, uri: String, group: Group<K>) -> Result<(), AllocError>
+    fn set(&mut self, uri: String, group: Group<K>) -> Result<(), AllocError>
         requires { IsGroup (string_bytes uri) group }
         ensures ok { OnOk result ((u l : List ℕ) → map.get self.new (record { uri = u; local_part = l })
             ≡ (if bytes_eq (string_bytes uri) u then option_map (λ e. e.1) (get_by_text group l)
@@ -80,92 +79,23 @@ impl<K: Kind> NameTable<K> {
         self.groups.insert(uri, group)?;
         Ok(())
     }
-}
 
-/// Collects names and their kinds while the keys of an object are read. The group of the current
-/// namespace is kept apart from the other groups, so names are added to this group without
-/// comparing URIs.
-pub(crate) struct NameTableBuilder<K: Kind> {
-    alloc: Global,
-    uri: String,
-    group: Group<K>,
-    others: NameTable<K>,
-}
-
-// By hand, so that a drop is one call, which is faster to prove than a derived one.
-impl<K: Kind> Drop for NameTableBuilder<K> {
-    fn drop(self) {
-        let NameTableBuilder {
-            alloc: _,
-            uri: _,
-            group: _,
-            others: _,
-        } = self;
-    }
-}
-
-impl<K: Kind> Model for NameTableBuilder<K> {
-    ghost use Rattle.std.specs.Prelude.{◌≡◌, ℕ, List, None, string_bytes};
-    ghost use Rattle.std.specs.FinMap as map;
-    ghost use Rattle.oim_report.specs.code.Groups.{IsGroup, with_group};
-    ghost use Rattle.oim_report.specs.code.SheetCode.{Unfinished, unfinished_code};
-
-    ghost Value = { Unfinished K };
-
-    ghost coded = { unfinished_code K.code };
-
-    ghost view = { λ g. record { uri = string_bytes g.uri; names = with_group g.group g.others } };
-
-    ghost invariant = { λ g. IsGroup (string_bytes g.uri) g.group
-        × ((l : List ℕ) → map.get g.others (record { uri = string_bytes g.uri; local_part = l }) ≡ None) };
-}
-
-impl<K: Kind> NameTableBuilder<K> {
-    pub(crate) fn new(alloc: Global) -> Self
-        ensures { result ≡ record { uri = []; names = map.empty } }
+    /// Adds the name with its kind, unless the name is known. Returns whether it was known.
+    pub(crate) fn add(&mut self, alloc: Global, name: Name, kind: K) -> Result<bool, AllocError>
+        ensures known { IfOk result (λ known. known ≡ map.contains_key self.old name) }
+        ensures names { OnOk result (self.new
+            ≡ (if map.contains_key self.old name then self.old else map.insert self.old name kind)) }
     {
-        NameTableBuilder {
-            alloc,
-            uri: String::new(alloc),
-            group: BTreeMap::new(alloc),
-            others: NameTable::new(alloc),
+        let uri = String::from_str(alloc, name.uri())?;
+        let mut group = self.take(alloc, name.uri());
+        if group.contains_key(name.local()) {
+            self.set(uri, group)?;
+            return Ok(true);
         }
-    }
-
-    pub(crate) fn turn_to(&mut self, uri: &str) -> Result<(), AllocError>
-        ensures { OnOk result (self.new ≡ record { uri = uri.now; names = self.old.names }) }
-    {
-        if self.uri.as_str() == uri {
-            return Ok(());
-        }
-        let next = String::from_str(self.alloc, uri)?;
-        let names = self.others.take(self.alloc, uri);
-        let last = replace(&mut self.uri, next);
-        let group = replace(&mut self.group, names);
-        self.others.set(last, group)
-    }
-
-    pub(crate) fn has(&self, name: &Name) -> bool
-        requires { name.now.uri ≡ self.now.uri }
-        ensures { result ≡ map.contains_key self.now.names name.now }
-    {
-        self.group.contains_key(name.local())
-    }
-
-    pub(crate) fn put(&mut self, name: Name, kind: K) -> Result<K, AllocError>
-        requires { name.uri ≡ self.old.uri }
-        ensures ok { OnOk result (self.new
-            ≡ record self.old { names = if map.contains_key self.old.names name then self.old.names else map.insert self.old.names name kind }) }
-        ensures kind { IfOk result (λ k. map.get self.new.names name ≡ Some k) }
-    {
-        match self.group.get(name.local()) {
-            Some((_name, known)) => Ok(*known),
-            None => {
-                let local = String::from_str(self.alloc, name.local())?;
-                self.group.insert(local, (name, kind))?;
-                Ok(kind)
-            }
-        }
+        let local = String::from_str(alloc, name.local())?;
+        group.insert(local, (name, kind))?;
+        self.set(uri, group)?;
+        Ok(false)
     }
 }
 
