@@ -2,7 +2,6 @@
 use Rattle.std.proofs.Common.{◌≡◌, ◌+◌, ◌<◌, ℕ, suc, List, [], ◌∷◌, ◌++◌, Option, Result, Ok, Err, Bor, take, get_or, length, append-nil, append_assoc, refl, sym, ap, ◌∙◌, arith}
 use Rattle.std.proofs.lemmas.List.{length-map, length-take}
 use Rattle.std.proofs.lemmas.Slice.Zip.{AllZip-long, all_zipped_more}
-use Rattle.clap.specs.Words.{Text}
 use Rattle.oim_report.specs.Outcome.{outcome}
 use Rattle.oim_report.specs.Sheet.{Sheet}
 use Rattle.oim_report.specs.declared.refusal.Refusal.{Refusal}
@@ -11,12 +10,9 @@ use Rattle.oim_merge.specs.Reports.{refusal_in, refused}
 use Rattle.oim_merge.specs.declared.checked.Checked.{Checked}
 use Rattle.oim_merge.proofs.Reports.{added_more}
 use Rattle.command_line.specs.Checks.{AddsResult, Checks, IsResult, result_text, result_written, results_header, results_text}
-use Rattle.command_line.specs.Endings.{Puts}
 use Rattle.command_line.specs.Outputs.{NumberedRefusals}
-use Rattle.command_line.specs.Why.{WhyUnder, WithRead}
-use Rattle.command_line.specs.Words.{Work, name_texts}
-use Rattle.command_line.specs.declared.error.Error.{Error}
-use Rattle.command_line.specs.declared.error.Error.TheVariants as error
+use Rattle.command_line.specs.Why.{WithRead}
+use Rattle.command_line.specs.Words.{name_texts}
 use Rattle.command_line.specs.declared.print_format.PrintFormat.{PrintFormat}
 use Rattle.command_line.proofs.Readings.{no_name, read_more}
 
@@ -68,10 +64,3 @@ module _ (gives : List ℕ → List ℕ → Type 0) (names : List (Bor (List ℕ
               ∙ ap (λ k. refused sheet reports ++ refusal_in k (outcome sheet bytes)) of_report ∙ ap (λ (a : Added). a.refusals) (added_more sheet reports bytes);
         },
       )
-
--- ---- the output
-
-pub put_under : (gives : Text → List ℕ → Type 0) (fails : Text → Type 0) (names : List Text) (work : Work) (text : List ℕ) (old new : Option (List ℕ)) (e : Error) → Puts text old new (Err e) → WhyUnder gives fails names work e
-put_under gives fails names work text old new (error.Device written) part = tt
-put_under gives fails names work text old new error.OutOfMemory part = tt
-put_under gives fails names work text old new _ part = absurd part

@@ -13,4 +13,5 @@ mod Reached
 pub mod Asking
 pub mod ListedNames
 pub mod Steps
+mod OneExplained
 pub mod OneRun

@@ -1,5 +1,5 @@
 -- Two runs for one request over the same files end alike.
-use Rattle.std.proofs.Common.{◌≡◌, ◌<◌, ◌+◌, ◌∙◌, ℕ, suc, Bool, true, false, codes, List, [], ◌∷◌, ◌++◌, length, get_or, Option, Some, None, Result, Ok, Err, refl, sym, ap, subst, inl, inr, arith, cond, ne_eqb, true≢false}
+use Rattle.std.proofs.Common.{◌≡◌, ◌⊎◌, ◌<◌, ◌+◌, ◌∙◌, ℕ, suc, Bool, true, false, codes, List, [], ◌∷◌, ◌++◌, length, get_or, Option, Some, None, Result, Ok, Err, refl, sym, ap, subst, inl, inr, arith, cond, ne_eqb, true≢false}
 use Rattle.std.specs.Prelude.{◌≢◌, ◌↔◌, IsErrAnd, IsTrue, if◌then◌else◌, ⊤}
 use Rattle.std.specs.List.{All, AllZip}
 use Rattle.std.specs.Option.{MatchOption, unwrap_or}
@@ -11,6 +11,7 @@ use Rattle.clap.specs.declared.error.kind.ErrorKind.{ErrorKind}
 use Rattle.clap.specs.declared.error.kind.ErrorKind.TheVariants as kind
 use Rattle.oim_value.specs.declared.level.Level.{Level}
 use Rattle.oim_report.specs.Duplicates.{level_of}
+use Rattle.oim_report.specs.Outcome.{outcome}
 use Rattle.oim_report.specs.Sheet.{Sheet, sheet_outcome}
 use Rattle.oim_report.specs.declared.refusal.Refusal.{Refusal}
 use Rattle.fact_base.specs.Body.{Body}
@@ -28,11 +29,13 @@ use Rattle.oim_merge.specs.Reports.{merged, refused}
 use Rattle.oim_merge.specs.Schedule.{World as Wired, world_after}
 use Rattle.oim_merge.proofs.EventTexts.{lines_say_one_event}
 use Rattle.oim_merge.proofs.Evidenced.{one_evidence}
+use Rattle.oim_explain.specs.Explained.{RepeatsKeys}
+use Rattle.oim_explain.specs.declared.lines.Format.{Format}
 use Rattle.command_line.specs.Arguments.{program_app}
-use Rattle.command_line.specs.Checks.{Checks, IsResult, result_written, results_header, results_text}
-use Rattle.command_line.specs.RunLaws.{AskedIsMeant, IsSaid, MeanOnly, RunsAreOne, holds}
+use Rattle.command_line.specs.RunLaws.{Agree, AskedIsMeant, IsSaid, ListAlike, MeanOnly, RunsAreOne, holds}
 use Rattle.command_line.specs.Outputs.{IsLoose, IsMerge, NumberedRefusals, Replays, replica_lines, verdict_written, verdicts_header}
-use Rattle.command_line.specs.Page.{EndsWith, Gives, InputEnd, IsFrom, IsInput, IsInputError, IsLooseIn, IsNotFrom, IsWordsError, Loose, NamesEnd, Says, WordsEnd, World, input_of}
+use Rattle.command_line.specs.Page.{Because, EndsWith, Gives, InputEnd, IsExplain, IsFrom, IsInput, IsInputError, IsNotFrom, IsWordsError, Loose, NamesEnd, Says, WordsEnd, World, input_of}
+use Rattle.command_line.specs.Checks.{Checks, IsResult, result_written, results_header, results_text}
 use Rattle.command_line.specs.Printed.{status_of}
 use Rattle.command_line.specs.ReportNames.{IsNameError, report_names}
 use Rattle.command_line.specs.Why.{WithRead, WithSheet}
@@ -43,6 +46,7 @@ use Rattle.command_line.specs.declared.error.Error.{Error}
 use Rattle.command_line.specs.declared.error.Error.TheVariants as error
 use Rattle.command_line.specs.declared.error.Success.{Success}
 use Rattle.command_line.specs.declared.error.Success.TheVariants.{Faults, Refusals}
+use Rattle.command_line.proofs.OneExplained.{explains_alike}
 
 zips_same : {A B : Type 0} (R : A → B → Type 0) → ((x : A) (y z : B) → R x y → R x z → y ≡ z) → (xs : List A) (ys zs : List B) → AllZip R xs ys → AllZip R xs zs → ys ≡ zs
 zips_same R one [] [] [] are these = refl
@@ -124,6 +128,12 @@ replays_same s n lines reports text other rs qs a b =
       a.printed.1 ∙ a.is.refusals ∙ ap (refused_takes s reports) events ∙ sym b.is.refusals ∙ sym b.printed.1,
     )
 
+-- neither help nor `explain`
+abbrev IsTold : Task → Type 0
+IsTold help = ⊥
+IsTold (under sheet (explain format)) = ⊥
+IsTold task = ⊤
+
 -- a read of a file may fail
 abbrev E : Text → Type 0
 E name = ⊤
@@ -140,10 +150,10 @@ module _ (disk : Text → List ℕ) where
   one_list names P Q (xs, are, p) (ys, those, q) = (xs, p, subst Q (zips_same H one_content names ys xs those are) q)
 
   one_sheet : (name : Text) (P Q : Sheet → Type 0) → WithSheet H name P → WithSheet H name Q → (s : Sheet) × P s × Q s
-  one_sheet name P Q w v =
-      let both : Ok w.sheet ≡ Ok v.sheet = sym w.read ∙ ap sheet_outcome (one_content name w.bytes v.bytes w.gave v.gave) ∙ v.read in
-      let same : v.sheet ≡ w.sheet = cc in
-      (w.sheet, w.has, subst Q same v.has)
+  one_sheet name P Q (xs, gave, s, read, p) (ys, given, t, so, q) =
+      let both : Ok s ≡ Ok t = sym read ∙ ap sheet_outcome (one_content name xs ys gave given) ∙ so in
+      let same : t ≡ s = cc in
+      (s, p, subst Q same q)
 
   says_same : (names : List Text) (s : Sheet) (work : Work) (text other : List ℕ) (rs qs : NumberedRefusals) → Says H names s work text rs → Says H names s work other qs → (text ≡ other) × (rs ≡ qs)
   says_same names s (merge level) text other rs qs one two = let both = one_list names _ _ one two in merge_same level _ _ text other rs qs both.1 both.2
@@ -172,7 +182,7 @@ module _ (disk : Text → List ℕ) where
   said_or_loose names s _ text row rs qs one two = absurd two
 
   module _ (input : List ℕ) (names : List Text) where
-    gives_same : (task : Task) → IsSaid task → (text other : List ℕ) (rs qs : NumberedRefusals) → Gives H E input task names text (Refusals rs) → Gives H E input task names other (Refusals qs) → (text ≡ other) × (rs ≡ qs)
+    gives_same : (task : Task) → IsTold task → (text other : List ℕ) (rs qs : NumberedRefusals) → Gives H E input task names text (Refusals rs) → Gives H E input task names other (Refusals qs) → (text ≡ other) × (rs ≡ qs)
     gives_same (under sheet work) is text other rs qs one two = let both = one_sheet sheet _ _ one two in says_same names both.0 work text other rs qs both.1 both.2
     gives_same bundle is text other rs qs one two =
         let sheets : Ok one.sheet ≡ Ok two.sheet = sym one.read ∙ two.read in
@@ -180,37 +190,54 @@ module _ (disk : Text → List ℕ) where
         merge_same _ _ _ text other rs qs one.is (subst (λ s. IsMerge _ (merged s _) (refused s _) other qs) same two.is)
     gives_same help is text other rs qs one two = absurd is
 
-    no_faults : (task : Task) → IsSaid task → (text : List ℕ) (n : ℕ) → Gives H E input task names text (Faults n) → ⊥
+    no_faults : (task : Task) → IsTold task → (text : List ℕ) (n : ℕ) → Gives H E input task names text (Faults n) → ⊥
     no_faults (under sheet (explain format)) is text n gives = is
     no_faults _ is text n gives = gives
 
-    both_loose : (task : Task) (row other : ℕ) (rs qs : NumberedRefusals) → IsLooseIn H E input names task row rs → IsLooseIn H E input names task other qs → (row ≡ other) × (rs ≡ qs)
+    abbrev IsLooseIn : Task → ℕ → NumberedRefusals → Type 0
+    IsLooseIn (under sheet work) row rs = WithSheet H sheet (λ s. Loose H names s work row rs)
+    IsLooseIn task row rs = ⊥
+
+    loose_in : (output : Option Text) (task : Task) (row : ℕ) (rs : NumberedRefusals) → Because H E input names output task (error.TooLoose row rs) → IsLooseIn task row rs
+    loose_in None task row rs (inl fault) = absurd fault
+    loose_in (Some name) task row rs (inl fault) = absurd fault
+    loose_in output (under sheet work) row rs (inr (inl (inl none))) = absurd none
+    loose_in output (under sheet work) row rs (inr (inl (inr (bytes, gave, none)))) = absurd none
+    loose_in output (under sheet work) row rs (inr (inr loose)) = loose
+    loose_in output bundle row rs (inr none) = none
+    loose_in output help row rs (inr none) = none
+
+    both_loose : (task : Task) (row other : ℕ) (rs qs : NumberedRefusals) → IsLooseIn task row rs → IsLooseIn task other qs → (row ≡ other) × (rs ≡ qs)
     both_loose (under sheet work) row other rs qs one two = let both = one_sheet sheet _ _ one two in loose_same names both.0 work row other rs qs both.1 both.2
     both_loose _ row other rs qs one two = absurd one
 
-    not_both : (task : Task) (text : List ℕ) (row : ℕ) (rs qs : NumberedRefusals) → Gives H E input task names text (Refusals rs) → IsLooseIn H E input names task row qs → ⊥
+    not_both : (task : Task) (text : List ℕ) (row : ℕ) (rs qs : NumberedRefusals) → Gives H E input task names text (Refusals rs) → IsLooseIn task row qs → ⊥
     not_both (under sheet work) text row rs qs one two = let both = one_sheet sheet _ _ one two in said_or_loose names both.0 work text row rs qs both.1 both.2
     not_both _ text row rs qs one two = two
 
-    module _ (output : Option Text) (task : Task) (said : IsSaid task) where
+    module _ (output : Option Text) (task : Task) (said : IsTold task) where
       abbrev Ends : List ℕ → Result Success Error → Type 0
       Ends = EndsWith H E input names output task
 
       -- nothing is printed behind a row that is too loose
-      no_text : (task : Task) → IsSaid task → (part : List ℕ) (row : ℕ) (rs : NumberedRefusals) → EndsWith H E input names output task part (Err (error.TooLoose row rs)) → part ≡ []
+      no_text : (task : Task) → IsTold task → (part : List ℕ) (row : ℕ) (rs : NumberedRefusals) → EndsWith H E input names output task part (Err (error.TooLoose row rs)) → part ≡ []
       no_text task said part row rs (why, inl none) = none
-      no_text (under sheet (explain format)) said part row rs (why, inr begun) = absurd said
-      no_text _ said part row rs (why, inr begun) = absurd begun.0
+      no_text task said part row rs (why, inr (text, rest, begun, whole)) = absurd (never task said begun.cut)
+        where
+          never : (task : Task) → IsTold task → IsExplain task ⊎ (⊥ × (begun.others ≡ [])) → ⊥
+          never (under sheet (explain format)) said cut = said
+          never _ said (inl explains) = explains
+          never _ said (inr cut) = cut.0
 
       -- only a row that is too loose gives a status below 3
       ends_same : (part other : List ℕ) (d e : Result Success Error) → status_of d < 3 → status_of e < 3 → Ends part d → Ends other e → (part ≡ other) × (d ≡ e)
       ends_same part other (Ok (Refusals rs)) (Ok (Refusals qs)) a b one two = let same = gives_same task said part other rs qs one two in (same.0, ap (λ x. Ok (Refusals x)) same.1)
       ends_same part other (Ok (Faults n)) e a b one two = absurd (no_faults task said part n one)
       ends_same part other d (Ok (Faults n)) a b one two = absurd (no_faults task said other n two)
-      ends_same part other (Ok (Refusals rs)) (Err (error.TooLoose row qs)) a b one two = absurd (not_both task part row rs qs one two.0)
-      ends_same part other (Err (error.TooLoose row qs)) (Ok (Refusals rs)) a b one two = absurd (not_both task other row rs qs two one.0)
+      ends_same part other (Ok (Refusals rs)) (Err (error.TooLoose row qs)) a b one two = absurd (not_both task part row rs qs one (loose_in output task row qs two.0))
+      ends_same part other (Err (error.TooLoose row qs)) (Ok (Refusals rs)) a b one two = absurd (not_both task other row rs qs two (loose_in output task row qs one.0))
       ends_same part other (Err (error.TooLoose row rs)) (Err (error.TooLoose next qs)) a b one two =
-          let same = both_loose task row next rs qs one.0 two.0 in (no_text task said part row rs one ∙ sym (no_text task said other next qs two), λ i. Err (error.TooLoose (same.0 i) (same.1 i)))
+          let same = both_loose task row next rs qs (loose_in output task row rs one.0) (loose_in output task next qs two.0) in (no_text task said part row rs one ∙ sym (no_text task said other next qs two), λ i. Err (error.TooLoose (same.0 i) (same.1 i)))
       ends_same part other (Err (error.TooLoose row rs)) (Err _) a b one two = absurd (omega (arith, b))
       ends_same part other (Ok (Refusals rs)) (Err _) a b one two = absurd (omega (arith, b))
       ends_same part other (Err _) e a b one two = absurd (omega (arith, a))
@@ -260,13 +287,29 @@ module _ (disk : Text → List ℕ) where
       words_reached words only (inl (b, mean, ends)) = reached (subst (λ b. InputEnd empty free old new H E (Some all) b part done) (only b mean) ends)
       words_reached words only (inr (fails, none, out, files)) = absurd (never (IsWordsError words) (λ row rs f. f.0) fails)
 
+-- the end of `explain`
+explains_agree : (disk : Text → List ℕ) (input : List ℕ) (names : List Text) (output : Option Text) (sheet : Text) (format : Format) (part other : List ℕ) (d e : Result Success Error) → status_of d < 3 → status_of e < 3
+    → EndsWith (holds disk) E input names output (under sheet (explain format)) part d → EndsWith (holds disk) E input names output (under sheet (explain format)) other e → ((name : Text) → ¬ (RepeatsKeys (disk name))) → (d ≡ e) × ListAlike part other
+explains_agree disk input names output sheet format part other (Ok (Faults n)) (Ok (Faults m)) low least one two unique = let same = explains_alike disk unique format sheet names part other n m one two in (ap (λ x. Ok (Faults x)) same.0, same.1)
+explains_agree disk input names output sheet format part other (Ok (Refusals rs)) e low least one two unique = absurd one.4
+explains_agree disk input names output sheet format part other d (Ok (Refusals rs)) low least one two unique = absurd two.4
+explains_agree disk input names output sheet format part other (Err (error.TooLoose row rs)) e low least one two unique = let loose = loose_in disk input names output (under sheet (explain format)) row rs one.0 in absurd loose.4
+explains_agree disk input names output sheet format part other d (Err (error.TooLoose row rs)) low least one two unique = let loose = loose_in disk input names output (under sheet (explain format)) row rs two.0 in absurd loose.4
+explains_agree disk input names output sheet format part other (Ok (Faults n)) (Err _) low least one two unique = absurd (omega (arith, least))
+explains_agree disk input names output sheet format part other (Err _) e low least one two unique = absurd (omega (arith, low))
+
+agree : (disk : Text → List ℕ) (input : List ℕ) (names : List Text) (output : Option Text) (task : Task) → IsSaid task → (part other : List ℕ) (d e : Result Success Error) → status_of d < 3 → status_of e < 3
+    → EndsWith (holds disk) E input names output task part d → EndsWith (holds disk) E input names output task other e → Agree disk task part other d e
+agree disk input names output (under sheet (explain format)) said part other d e low least one two = explains_agree disk input names output sheet format part other d e low least one two
+agree disk input names output task said part other d e low least one two = ends_same disk input names output task said part other d e low least one two
+
 pub runs_are_one : RunsAreOne
 runs_are_one disk all a said words others means only empty blank old new before after part other done end one two low least =
     let first = words_reached disk all a empty E old new part done low words means one in
     let second = words_reached disk all a blank E before after other end least others only two in
     let same = one_input disk all a (input_of a.task a.list) second.0 first.0 second.1 first.1 in
     let ends = subst (λ bytes. EndsWith (holds disk) (λ name. ⊤) bytes (report_names a bytes) a.output a.task other end) same second.2 in
-    ends_same disk first.0 (report_names a first.0) a.output a.task said part other done end low least first.2 ends
+    agree disk first.0 (report_names a first.0) a.output a.task said part other done end low least first.2 ends
 
 -- ---- words that ask for a command
 

@@ -1,37 +1,32 @@
 -- The lines of replicas that are written one after another.
-use Rattle.std.proofs.Common.{◌≡◌, ◌+◌, ◌<◌, ℕ, List, [], ◌∷◌, ◌++◌, Option, Err, take, drop, get_or, length, sym, ap, ◌∙◌, append_assoc, append-nil, take-append-drop}
+use Rattle.std.proofs.Common.{◌≡◌, ◌+◌, ◌<◌, ℕ, List, [], ◌∷◌, ◌++◌, Option, Err, take, drop, get_or, length, refl, sym, ap, ◌∙◌, append_assoc, append-nil, take-append-drop}
 use Rattle.std.specs.Io.KnownBytes.{Appends}
-use Rattle.std.proofs.KnownBytes.{Appends-trans}
 use Rattle.std.proofs.lemmas.Grind.{flat_map-append}
 use Rattle.std.proofs.lemmas.List.{take_more}
 use Rattle.fact_base.specs.Contents.{Contents}
+use Rattle.oim_write.specs.Sink.{AppendsFront, written_of}
 use Rattle.oim_write.specs.declared.write_fault.WriteFault.{WriteFault}
 use Rattle.oim_write.specs.declared.write_fault.WriteFault.TheVariants.{OutOfMemory, Device}
 use Rattle.oim_merge.specs.Run.{fault_of}
-use Rattle.command_line.specs.Endings.{AppendsPart, Puts}
-use Rattle.command_line.specs.Faults.{error_of}
+use Rattle.command_line.specs.Endings.{Is, IsCut, Prints, PutsText}
+use Rattle.command_line.specs.Faults.{IsOutputError, error_of}
 use Rattle.command_line.specs.declared.error.Error.{Error}
 use Rattle.command_line.specs.declared.error.Error.TheVariants as error
 use Rattle.command_line.specs.Outputs.{replica_line, replica_lines}
+use Rattle.command_line.proofs.Ends.{cut_at, stops_behind}
 
--- a part of a later piece is a part of the whole text
-pub part_behind : (old mid new : Option (List ℕ)) (all before piece behind : List ℕ) → all ≡ before ++ (piece ++ behind) → Appends old mid before → AppendsPart mid new piece → AppendsPart old new all
-part_behind old mid new all before piece behind whole first part = record {
-  front = before ++ part.front;
-  rest = part.rest ++ behind;
-  whole = whole ∙ ap (λ p. before ++ (p ++ behind)) part.whole ∙ ap (λ t. before ++ t) (append_assoc part.front part.rest behind) ∙ sym (append_assoc before part.front (part.rest ++ behind));
-  appended = Appends-trans old mid new before part.front first part.appended;
-}
-
-pub put_behind : (old mid new : Option (List ℕ)) (all before piece behind : List ℕ) → all ≡ before ++ (piece ++ behind) → Appends old mid before → (e : Error) → Puts piece mid new (Err e) → Puts all old new (Err e)
-put_behind old mid new all before piece behind whole first (error.Device written) part = part_behind old mid new all before piece behind whole first part
-put_behind old mid new all before piece behind whole first error.OutOfMemory part = part_behind old mid new all before piece behind whole first part
-put_behind old mid new all before piece behind whole first _ part = absurd part
+-- an error within a later piece of a text
+pub put_behind : (old mid new : Option (List ℕ)) (all before piece behind : List ℕ) → all ≡ before ++ (piece ++ behind) → Appends old mid before → (e : Error) → Prints (PutsText piece) mid new (Err e) → Prints (PutsText all) old new (Err e)
+put_behind old mid new all before piece behind whole first e p =
+    stops_behind (Is piece) IsOutputError (IsCut (Is piece)) (Is all) IsOutputError (IsCut (Is all)) e (λ why. why) before
+    (λ why. (all, piece ++ behind, (why, tt, refl), whole))
+    (λ text cut. (all, behind, (cut.0, tt, refl), whole ∙ sym (append_assoc before piece behind) ∙ ap (λ t. (before ++ t) ++ behind) (sym cut.2)))
+    old mid new first p
 
 -- a fault of the writer
-pub write_fault : (old new : Option (List ℕ)) (all : List ℕ) (f : WriteFault) → AppendsPart old new all → Puts all old new (Err (error_of (fault_of f)))
-write_fault old new all (OutOfMemory n) part = part
-write_fault old new all (Device n) part = part
+pub write_fault : (old new : Option (List ℕ)) (text : List ℕ) (f : WriteFault) → AppendsFront old new text (written_of f) → Prints (PutsText text) old new (Err (error_of (fault_of f)))
+write_fault old new text (OutOfMemory n) front = cut_at (Is text) IsOutputError old new error.OutOfMemory tt tt text tt refl n front
+write_fault old new text (Device n) front = cut_at (Is text) IsOutputError old new (error.Device n) tt tt text tt refl n front
 
 module _ (bases : List Contents) (i : ℕ) (within : i < length bases) (b : Contents) (is : b ≡ get_or bases i b) where
   -- the line of the next replica

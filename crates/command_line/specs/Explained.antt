@@ -9,6 +9,8 @@ use Rattle.oim_explain.specs.declared.lines.Explained.{Explained}
 use Rattle.oim_explain.specs.declared.lines.Format.{Format}
 use Rattle.oim_explain.specs.declared.lines.Format.TheVariants.{Text, Json}
 use Rattle.command_line.specs.Words.{name_texts}
+use Rattle.command_line.specs.declared.commands.explain.Counts.{Counts}
+use Rattle.command_line.specs.declared.error.Error.{Error}
 
 -- a report that was read, and what is printed about it; a reference only passes on the name
 pub record Report : Type 0 where
@@ -60,3 +62,17 @@ module _ (gives : List ℕ → List ℕ → Type 0) (format : Format) where
     pub are : AreExplained sheet 1 reports
     pub faults_are : faults ≡ all_faults of_sheet.faults reports
     pub text_is : text ≡ string_bytes of_sheet.text ++ (reports_text reports ++ counts_line format (length names) (faulty_reports reports) faults)
+
+-- the lines before the counts; `of_sheet` has those of the sheet's repeated members
+module _ (gives : List ℕ → List ℕ → Type 0) (format : Format) (sheet : Sheet) (of_sheet : Explained) where
+  pub record Lists (names : List (List ℕ)) (text : List ℕ) (counts : Counts) : Type 0 where
+    pub reports : List Report
+    pub named : name_texts (names_of reports) ≡ names
+    pub are : AreExplained gives format sheet 1 reports
+    pub text_is : text ≡ string_bytes of_sheet.text ++ reports_text reports
+    pub faulty : counts.faulty ≡ faulty_reports reports
+    pub faults : counts.faults ≡ all_faults of_sheet.faults reports
+
+  -- the lines up to those of the first reports
+  abbrev pub ListsFirst : List (List ℕ) → Error → List ℕ → Type 0
+  ListsFirst names e text = (first : List (List ℕ)) × (others : List (List ℕ)) × (names ≡ first ++ others) × (counts : Counts) × Lists first text counts

@@ -26,6 +26,11 @@ IsOutputFault (error.Device written) = ⊤
 IsOutputFault (error.TooMuch most) = ⊤
 IsOutputFault _ = ⊥
 
+-- memory was refused, or the output failed
+abbrev pub IsOutputError : Error → Type 0
+IsOutputError error.OutOfMemory = ⊤
+IsOutputError e = IsOutputFault e
+
 -- the result of a run, or the fault of its output
 abbrev pub IsDoneOrFault : Result Success Error → Result Success Error → Type 0
 IsDoneOrFault done result = (result ≡ done) ⊎ IsErrAnd result IsOutputFault

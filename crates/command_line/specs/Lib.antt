@@ -12,4 +12,3 @@ pub mod Printed
 pub mod Page
 pub mod RunLaws
 pub mod Endings
-pub mod Explaining

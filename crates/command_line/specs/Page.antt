@@ -5,19 +5,22 @@ use Rattle.std.specs.Prelude.{◌≡◌, ◌≢◌, ◌⊎◌, ℕ, Bool, true, 
 use Rattle.std.specs.Io.KnownBytes.{Appends}
 use Rattle.std.specs.Str.{bytes_eq}
 use Rattle.clap.specs.Words.{Text}
-use Rattle.oim_names.specs.declared.reason.Reason.{Reason}
-use Rattle.oim_report.specs.Sheet.{Sheet, sheet_outcome}
+use Rattle.oim_report.specs.Sheet.{Sheet}
+use Rattle.oim_explain.specs.declared.lines.Explained.{Explained}
+use Rattle.oim_explain.specs.declared.lines.Format.{Format}
 use Rattle.oim_merge.specs.Bundle.{sheet_piece}
 use Rattle.oim_merge.specs.Reports.{merged, refused}
 use Rattle.oim_merge.specs.Traced.{traced}
 use Rattle.command_line.specs.Checks.{Checks}
-use Rattle.command_line.specs.Explained.{ExplainGives}
-use Rattle.command_line.specs.Faults.{IsOutputFault, IsUsageError}
+use Rattle.command_line.specs.Endings.{Ends, Puts}
+use Rattle.command_line.specs.Explained.{ExplainGives, Lists, ListsFirst}
+use Rattle.command_line.specs.Faults.{IsOutputError, IsUsageError}
 use Rattle.command_line.specs.Outputs.{AreSources, AreVerdicts, IsLoose, IsMerge, MergesBundle, NumberedRefusals, Replays}
 use Rattle.command_line.specs.Printed.{lines_of, status_of}
 use Rattle.command_line.specs.ReportNames.{AreReportNames, IsNameError}
-use Rattle.command_line.specs.Why.{IsBadUnder, IsCutInput, IsLost, IsLostUnder, IsRefusedIn, IsUnread, Why, WithRead, WithSheet}
+use Rattle.command_line.specs.Why.{IsBadUnder, IsCutInput, IsLost, IsLostUnder, IsNoSheet, IsUnread, LacksSheet, WithRead, WithSheet}
 use Rattle.command_line.specs.Words.{AreRefused, Asked, Mean, Task, Work, bundle, check, explain, help, merge, replay, sources, under, verdicts}
+use Rattle.command_line.specs.declared.commands.explain.Counts.{Counts}
 use Rattle.command_line.specs.declared.error.Error.{Error}
 use Rattle.command_line.specs.declared.error.Error.TheVariants as error
 use Rattle.command_line.specs.declared.error.Success.{Success}
@@ -46,79 +49,73 @@ module _ (gives : Text → List ℕ → Type 0) (names : List Text) (sheet : She
 
 -- ---- how a task ends
 
--- `fails name` holds if a read of the file may fail; `input` has the bytes of the bundle
+-- `fails name` holds if a read of the file may fail
+module _ (gives : Text → List ℕ → Type 0) (fails : Text → Type 0) (names : List Text) (sheet : Sheet) (work : Work) where
+  -- why a command stopped under its sheet
+  abbrev pub Under : Error → Type 0
+  Under (error.Unread file cause) = IsLostUnder gives fails names work file.now
+  Under (error.TooLong file) = IsLostUnder gives fails names work file.now
+  Under (error.Event line) = IsBadUnder gives names work line
+  Under (error.TooLoose row rs) = Loose gives names sheet work row rs
+  Under e = IsOutputError e
+
+  abbrev pub CommandEnds : List ℕ → Result NumberedRefusals Error → Type 0
+  CommandEnds = Puts (Says gives names sheet work) Under
+
+-- how `explain` ends before it prints the counts
+abbrev pub EachEnds : (Text → List ℕ → Type 0) → Format → Sheet → Explained → (Text → Type 0) → List Text → List ℕ → Result Counts Error → Type 0
+EachEnds gives format sheet of_sheet fails names = Ends (Lists gives format sheet of_sheet names) (Under gives fails names sheet (explain format)) (ListsFirst gives format sheet of_sheet names)
+
+abbrev pub IsExplain : Task → Type 0
+IsExplain (under sheet (explain format)) = ⊤
+IsExplain task = ⊥
+
+-- memory was refused, or the output failed: its device, its limit, or the file with this name
+abbrev pub IsFault : Option Text → Error → Type 0
+IsFault (Some name) (error.Unwritten file cause) = file.now ≡ name
+IsFault output e = IsOutputError e
+
+-- clap makes the text of help
+abbrev pub Helps : List ℕ → NumberedRefusals → Type 0
+Helps text rs = rs ≡ []
+
+-- `input` has the bytes of the bundle
 module _ (gives : Text → List ℕ → Type 0) (fails : Text → Type 0) (input : List ℕ) where
   abbrev pub Explains : Text → Work → List Text → List ℕ → ℕ → Type 0
   Explains sheet (explain format) names text count = ExplainGives gives format sheet names text count
   Explains sheet work names text count = ⊥
 
-  -- the whole text for these reports, and the result; clap makes the text of help
+  -- the whole text for these reports, and the result
   abbrev pub Gives : Task → List Text → List ℕ → Success → Type 0
   Gives (under sheet work) names text (Refusals rs) = WithSheet gives sheet (λ s. Says gives names s work text rs)
   Gives (under sheet work) names text (Faults count) = Explains sheet work names text count
   Gives bundle names text (Refusals rs) = MergesBundle input text rs
-  Gives help names text (Refusals rs) = rs ≡ []
+  Gives help names text (Refusals rs) = Helps text rs
   Gives task names text (Faults count) = ⊥
 
   module _ (names : List Text) where
-    -- ---- why it stopped
-
-    -- the sheet was not read, or it was accepted and then another file was not read
-    abbrev pub IsLostIn : Task → Text → Type 0
-    IsLostIn (under sheet work) file = IsLost fails sheet file ⊎ WithSheet gives sheet (λ s. IsLostUnder gives fails names work file)
-    IsLostIn task file = ⊥
-
-    abbrev pub IsRefusedBy : Task → Reason → Type 0
-    IsRefusedBy bundle reason = sheet_outcome (sheet_piece input) ≡ Err reason
-    IsRefusedBy (under sheet work) reason = IsRefusedIn gives sheet reason
-    IsRefusedBy help reason = ⊥
-
-    abbrev pub IsBadIn : Task → ℕ → Type 0
-    IsBadIn (under sheet work) line = WithSheet gives sheet (λ s. IsBadUnder gives names work line)
-    IsBadIn task line = ⊥
-
-    abbrev pub IsLooseIn : Task → ℕ → NumberedRefusals → Type 0
-    IsLooseIn (under sheet work) row rs = WithSheet gives sheet (λ s. Loose gives names s work row rs)
-    IsLooseIn task row rs = ⊥
-
-    -- a row is too loose, or the output failed: the device, or the file with this name
-    abbrev pub IsFailureIn : Option Text → Task → Error → Type 0
-    IsFailureIn output task (error.TooLoose row rs) = IsLooseIn task row rs
-    IsFailureIn (Some name) task (error.Unwritten file cause) = file.now ≡ name
-    IsFailureIn output task e = IsOutputFault e
+    -- why it stopped, if its output did not fail
+    abbrev pub Stops : Task → Error → Type 0
+    Stops (under sheet work) e = LacksSheet gives fails sheet e ⊎ WithSheet gives sheet (λ s. Under gives fails names s work e)
+    Stops bundle e = IsNoSheet (sheet_piece input) e
+    Stops help e = ⊥
 
     abbrev pub Because : Option Text → Task → Error → Type 0
-    Because output task = Why (IsLostIn task) (IsRefusedBy task) (IsBadIn task) (IsFailureIn output task)
+    Because output task e = IsFault output e ⊎ Stops task e
 
-    -- ---- what was printed
-
-    -- behind these errors a beginning of the text may stand; `explain` prints each report before it reads the next
-    abbrev pub Cuts : Error → Task → Type 0
-    Cuts (error.Device written) task = ⊤
-    Cuts (error.TooMuch most) task = ⊤
-    Cuts error.OutOfMemory task = ⊤
-    Cuts e (under sheet (explain format)) = ⊤
-    Cuts e task = ⊥
-
-    -- the reports whose text was begun: all, or the first of `explain`
-    abbrev pub AreBegun : Task → List Text → Type 0
-    AreBegun (under sheet (explain format)) first = (others : List Text) × (names ≡ first ++ others)
-    AreBegun task first = first ≡ names
-
-    -- the part is a beginning of the text
-    pub record Begins (task : Task) (part : List ℕ) : Type 0 where
+    -- A text that was begun before an error: only if memory was refused or the output failed. But `explain` prints each report
+    -- before it reads the next, so after any error its text for the first reports may be begun.
+    pub record IsBegun (task : Task) (e : Error) (text : List ℕ) : Type 0 where
       pub first : List Text
-      pub begun : AreBegun task first
-      pub text : List ℕ
+      pub others : List Text
+      pub split : names ≡ first ++ others
+      pub cut : IsExplain task ⊎ (IsOutputError e × (others ≡ []))
       pub success : Success
       pub gives_text : Gives task first text success
-      pub rest : List ℕ
-      pub whole : text ≡ part ++ rest
 
     -- how the task ended, if it printed this part
     abbrev pub EndsWith : Option Text → Task → List ℕ → Result Success Error → Type 0
-    EndsWith output task part (Ok success) = Gives task names part success
-    EndsWith output task part (Err e) = Because output task e × ((part ≡ []) ⊎ (Cuts e task × Begins task part))
+    EndsWith output task = Ends (Gives task names) (Because output task) (IsBegun task)
 
 -- ---- what is read before
 
@@ -140,7 +137,7 @@ module _ (gives : Text → List ℕ → Type 0) (all : Option (List ℕ)) where
 module _ (fails : Text → Type 0) (all : Option (List ℕ)) where
   abbrev pub IsNotFrom : Bool → Text → Error → Type 0
   IsNotFrom true name = IsCutInput all name
-  IsNotFrom false name = IsUnread fails name
+  IsNotFrom false name = IsUnread (IsLost fails name)
 
   abbrev pub IsInputError : Option Text → Error → Type 0
   IsInputError None e = ⊥

@@ -1,5 +1,5 @@
 -- What the program prints on standard error, and its exit status (own).
-use Rattle.std.specs.Prelude.{◌≡◌, IfSome, IsTrue, ℕ, zero, suc, List, [], ◌∷◌, ◌++◌, codes, flat_map, Option, Some, None, Result, Ok, Err, String, string_bytes}
+use Rattle.std.specs.Prelude.{◌≡◌, IfSome, IsTrue, ℕ, zero, List, [], ◌∷◌, ◌++◌, codes, flat_map, Option, Some, None, Result, Ok, Err, String, string_bytes}
 use Rattle.std.specs.Fmt.{decimal}
 use Rattle.std.specs.Io.KnownBytes.{Appends}
 use Rattle.oim_names.specs.Reasons.{entry_of}
@@ -15,27 +15,13 @@ use Rattle.command_line.specs.declared.error.Success.TheVariants as success
 
 -- ---- the exit status
 
--- 1 if there is a refusal or a fault
-abbrev pub status_of_refusals : List (ℕ × Refusal) → ℕ
-status_of_refusals [] = 0
-status_of_refusals (r ∷ rs) = 1
-
-abbrev pub status_of_faults : ℕ → ℕ
-status_of_faults zero = 0
-status_of_faults (suc n) = 1
-
-abbrev pub status_of_success : Success → ℕ
-status_of_success (success.Refusals refusals) = status_of_refusals refusals
-status_of_success (success.Faults faults) = status_of_faults faults
-
--- 2 if a row is above the allowed level; 3 for each other error
-abbrev pub status_of_error : Error → ℕ
-status_of_error (error.TooLoose row refused) = 2
-status_of_error _ = 3
-
+-- 1 if there is a refusal or a fault; 2 if a row is above the allowed level; 3 for each other error
 abbrev pub status_of : Result Success Error → ℕ
-status_of (Ok success) = status_of_success success
-status_of (Err error) = status_of_error error
+status_of (Ok (success.Refusals [])) = 0
+status_of (Ok (success.Faults zero)) = 0
+status_of (Ok _) = 1
+status_of (Err (error.TooLoose row refused)) = 2
+status_of (Err _) = 3
 
 -- ---- the lines of refusals
 

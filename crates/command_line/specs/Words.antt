@@ -199,7 +199,7 @@ AreRefused words = ((k : ErrorKind) × (k ≢ kind.DisplayHelp) × (k ≢ kind.D
 
 -- the task without options
 abbrev pub alone : Task → Asked
-alone task = record { task = task; names = []; list = None; is_null = false; output = None; most = None; is_quiet = false; is_verbose = false }
+alone task = with_options [] task
 
 -- clap's matches of the words give this command
 abbrev pub AskFor : List Text → Asked → Type 0

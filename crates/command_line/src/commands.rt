@@ -1,11 +1,10 @@
 //! Runs the commands. The files of the folder `commands` have their help and their own parts.
 
-ghost use Rattle.std.specs.Prelude.{◌≡◌, ◌-◌, ◌^◌, ◌<◌, ℕ, List, false, IfErr, None, OnOk};
-ghost use Rattle.std.specs.Io.KnownBytes.{Appends};
+ghost use Rattle.std.specs.Prelude.{◌≡◌, ◌-◌, ◌^◌, ◌<◌, false, None, OnOk};
 ghost use Rattle.oim_write.specs.BoundedSink.{bounded_failures};
-ghost use Rattle.command_line.specs.Endings.{CommandEnds, Ends, Never, PrintsHelp, Puts};
-ghost use Rattle.command_line.specs.Page.{EndsWith};
-ghost use Rattle.command_line.specs.Why.{IsOutputError, WhyUnder};
+ghost use Rattle.command_line.specs.Endings.{Prints, Puts, PutsText};
+ghost use Rattle.command_line.specs.Faults.{IsOutputError};
+ghost use Rattle.command_line.specs.Page.{CommandEnds, EndsWith, Helps};
 ghost use Rattle.command_line.specs.Words.{merge, name_texts, sources, task_of, verdicts, work_of};
 
 pub(crate) mod check;
@@ -34,15 +33,15 @@ pub(crate) fn execute<'n, F: Folder, E: Write, S: Sink>(
     out: &mut BoundedSink<S>,
 ) -> Result<Success, Error<'n>>
     requires { bounded_failures (S.failures out.old.sink) out.old.overruns < 2 ^ 64 - 1 }
-    ensures ends { (part : List ℕ) × EndsWith (F.gives inputs.old.files.now) (F.fails inputs.old.files.now) inputs.old.bundle.now (name_texts inputs.old.names.now)
-        None (task_of request.now) part result × Appends (S.told out.old.sink) (S.told out.new.sink) part }
+    ensures ends { Prints (EndsWith (F.gives inputs.old.files.now) (F.fails inputs.old.files.now) inputs.old.bundle.now (name_texts inputs.old.names.now) None (task_of request.now))
+        (S.told out.old.sink) (S.told out.new.sink) result }
     ensures console { inputs.old.console.is_terminal ≡ false → inputs.new.console ≡ inputs.old.console }
 {
     match request {
         Request::Bundle => {
             Ok(Success::Refusals(consolidate_bundle(inputs.alloc, inputs.bundle, out)?))
         }
-        Request::Help(text) => put_help(inputs.alloc, text, out),
+        Request::Help(text) => Ok(Success::Refusals(put_help(inputs.alloc, text, out)?)),
         Request::Explain(sheet, format) => explain::run(sheet, *format, inputs, out),
         Request::Under(sheet, subcommand) => {
             let sheet = inputs.read_sheet(sheet)?;
@@ -55,14 +54,13 @@ fn put_help<'n, S: Sink>(
     alloc: Global,
     text: &clap::Error,
     out: &mut S,
-) -> Result<Success, Error<'n>>
+) -> Result<Refusals, Error<'n>>
     requires { S.failures out.old < 2 ^ 64 - 1 }
-    ensures ends { Ends PrintsHelp (S.told out.old) (S.told out.new) Never result }
-    ensures why { IfErr result IsOutputError }
+    ensures { Prints (Puts Helps IsOutputError) (S.told out.old) (S.told out.new) result }
 {
     let text = format!(in alloc; "{text}")?;
     put_text(out, text.as_str())?;
-    Ok(Success::Refusals(Refusals::new(alloc)))
+    Ok(Refusals::new(alloc))
 }
 
 /// Reads the reports and writes the output of the subcommand to `out`. Returns the refusals (for
@@ -74,9 +72,7 @@ fn execute_under<'n, F: Folder, E: Write, S: Sink>(
     out: &mut BoundedSink<S>,
 ) -> Result<Refusals, Error<'n>>
     requires { bounded_failures (S.failures out.old.sink) out.old.overruns < 2 ^ 64 - 1 }
-    ensures ends { CommandEnds (F.gives inputs.old.files.now) (name_texts inputs.old.names.now) sheet.now (work_of subcommand.entry)
-        (S.told out.old.sink) (S.told out.new.sink) result }
-    ensures why { IfErr result (WhyUnder (F.gives inputs.old.files.now) (F.fails inputs.old.files.now) (name_texts inputs.old.names.now) (work_of subcommand.entry)) }
+    ensures ends { Prints (CommandEnds (F.gives inputs.old.files.now) (F.fails inputs.old.files.now) (name_texts inputs.old.names.now) sheet.now (work_of subcommand.entry)) (S.told out.old.sink) (S.told out.new.sink) result }
     ensures console { inputs.old.console.is_terminal ≡ false → inputs.new.console ≡ inputs.old.console }
 {
     match subcommand {
@@ -96,9 +92,7 @@ fn run_merge<'n, F: Folder, E: Write, S: Sink>(
     out: &mut S,
 ) -> Result<Refusals, Error<'n>>
     requires { S.failures out.old < 2 ^ 64 - 1 }
-    ensures ends { CommandEnds (F.gives inputs.old.files.now) (name_texts inputs.old.names.now) sheet.now (merge allow)
-        (S.told out.old) (S.told out.new) result }
-    ensures why { IfErr result (WhyUnder (F.gives inputs.old.files.now) (F.fails inputs.old.files.now) (name_texts inputs.old.names.now) (merge allow)) }
+    ensures ends { Prints (CommandEnds (F.gives inputs.old.files.now) (F.fails inputs.old.files.now) (name_texts inputs.old.names.now) sheet.now (merge allow)) (S.told out.old) (S.told out.new) result }
     ensures console { inputs.old.console.is_terminal ≡ false → inputs.new.console ≡ inputs.old.console }
 {
     let Merged { base, refusals } = inputs.consolidate(sheet)?.into_merged()?;
@@ -116,9 +110,7 @@ fn run_verdicts<'n, F: Folder, E: Write, S: Sink>(
     out: &mut BoundedSink<S>,
 ) -> Result<Refusals, Error<'n>>
     requires { bounded_failures (S.failures out.old.sink) out.old.overruns < 2 ^ 64 - 1 }
-    ensures ends { CommandEnds (F.gives inputs.old.files.now) (name_texts inputs.old.names.now) sheet.now (verdicts format)
-        (S.told out.old.sink) (S.told out.new.sink) result }
-    ensures why { IfErr result (WhyUnder (F.gives inputs.old.files.now) (F.fails inputs.old.files.now) (name_texts inputs.old.names.now) (verdicts format)) }
+    ensures ends { Prints (CommandEnds (F.gives inputs.old.files.now) (F.fails inputs.old.files.now) (name_texts inputs.old.names.now) sheet.now (verdicts format)) (S.told out.old.sink) (S.told out.new.sink) result }
     ensures console { inputs.old.console.is_terminal ≡ false → inputs.new.console ≡ inputs.old.console }
 {
     let consolidation = inputs.consolidate(sheet)?;
@@ -134,9 +126,7 @@ fn run_sources<'n, F: Folder, E: Write, S: Sink>(
     out: &mut BoundedSink<S>,
 ) -> Result<Refusals, Error<'n>>
     requires { bounded_failures (S.failures out.old.sink) out.old.overruns < 2 ^ 64 - 1 }
-    ensures ends { CommandEnds (F.gives inputs.old.files.now) (name_texts inputs.old.names.now) sheet.now (sources format)
-        (S.told out.old.sink) (S.told out.new.sink) result }
-    ensures why { IfErr result (WhyUnder (F.gives inputs.old.files.now) (F.fails inputs.old.files.now) (name_texts inputs.old.names.now) (sources format)) }
+    ensures ends { Prints (CommandEnds (F.gives inputs.old.files.now) (F.fails inputs.old.files.now) (name_texts inputs.old.names.now) sheet.now (sources format)) (S.told out.old.sink) (S.told out.new.sink) result }
     ensures console { inputs.old.console.is_terminal ≡ false → inputs.new.console ≡ inputs.old.console }
 {
     let names = inputs.names;
@@ -147,7 +137,7 @@ fn run_sources<'n, F: Folder, E: Write, S: Sink>(
 
 fn put_text<'n, S: Sink>(out: &mut S, text: &str) -> Result<(), Error<'n>>
     requires { S.failures out.old < 2 ^ 64 - 1 }
-    ensures put { Puts text.now (S.told out.old) (S.told out.new) result }
+    ensures put { Prints (PutsText text.now) (S.told out.old) (S.told out.new) result }
     ensures failures { OnOk result (S.failures out.new ≡ S.failures out.old) }
 {
     put_bytes(out, text.as_bytes())
@@ -155,7 +145,7 @@ fn put_text<'n, S: Sink>(out: &mut S, text: &str) -> Result<(), Error<'n>>
 
 fn put_bytes<'n, S: Sink>(out: &mut S, bytes: &[u8]) -> Result<(), Error<'n>>
     requires { S.failures out.old < 2 ^ 64 - 1 }
-    ensures put { Puts bytes.now (S.told out.old) (S.told out.new) result }
+    ensures put { Prints (PutsText bytes.now) (S.told out.old) (S.told out.new) result }
     ensures failures { OnOk result (S.failures out.new ≡ S.failures out.old) }
 {
     match put_all(out, bytes) {

@@ -1,5 +1,5 @@
 ghost use Rattle.std.specs.Prelude.{◌≡◌, ℕ, List, IfOk, IfErr, IfSome, ⊤};
-ghost use Rattle.command_line.specs.Why.{IsCutInput, IsUnread};
+ghost use Rattle.command_line.specs.Why.{IsCutInput, IsLost, IsUnread};
 
 use crate::causes::why_unread;
 use crate::error::Error;
@@ -26,7 +26,7 @@ pub trait Folder {
     /// Errors: `Unread`, `TooLong`, and out of memory.
     fn read_named<'n>(&self, alloc: Global, name: &'n str) -> Result<Encoded, Error<'n>>
         ensures ok { IfOk result (gives self.now name.now) }
-        ensures why { IfErr result (IsUnread (fails self.now) name.now) };
+        ensures why { IfErr result (IsUnread (IsLost (fails self.now) name.now)) };
 }
 
 // The contracts of std do not describe the bytes of a file.
@@ -41,7 +41,7 @@ impl<F: Files> Folder for F {
 }
 
 fn read_file<'n, F: Files>(alloc: Global, files: &F, name: &'n str) -> Result<Encoded, Error<'n>>
-    ensures { IfErr result (IsUnread (λ _. ⊤) name.now) }
+    ensures { IfErr result (IsUnread (IsLost (λ _. ⊤) name.now)) }
 {
     let read = match File::open(files, name) {
         Ok(file) => read_bytes(alloc, file, name),

@@ -3,7 +3,7 @@ ghost use Rattle.std.specs.List.{AllZip};
 ghost use Rattle.oim_report.specs.Sheet.{sheet_outcome};
 ghost use Rattle.oim_merge.specs.Added.{added};
 ghost use Rattle.oim_merge.specs.Traced.{traced};
-ghost use Rattle.command_line.specs.Why.{AreUnread, IsLost, IsNoSheet, IsRefusedIn, IsUnread, NoFailure, NoLine, Why, WithRead};
+ghost use Rattle.command_line.specs.Why.{IsFirstLost, IsLost, IsNoSheet, IsUnread, LacksSheet, WithRead};
 ghost use Rattle.command_line.specs.Words.{name_texts};
 
 use crate::console::{Console, Progress};
@@ -41,7 +41,7 @@ impl<'n, F: Folder, E: Write> Inputs<'n, F, E> {
     /// Reads the file with this name, and allows output for its bytes.
     pub(crate) fn read(&mut self, name: &'n str) -> Result<Encoded, Error<'n>>
         ensures ok { IfOk result (F.gives self.old.files.now name.now) }
-        ensures why { IfErr result (IsUnread (F.fails self.old.files.now) name.now) }
+        ensures why { IfErr result (IsUnread (IsLost (F.fails self.old.files.now) name.now)) }
         ensures files { self.new.files ≡ self.old.files }
         ensures names { self.new.names ≡ self.old.names }
         ensures console { self.old.console.is_terminal ≡ false → self.new.console ≡ self.old.console }
@@ -66,7 +66,7 @@ impl<'n, F: Folder, E: Write> Inputs<'n, F, E> {
     pub(crate) fn read_sheet(&mut self, name: &'n str) -> Result<Sheet, Error<'n>>
         ensures ok { IfOk result (λ sheet. (bytes : List ℕ)
             × F.gives self.old.files.now name.now bytes × (sheet_outcome bytes ≡ Ok sheet)) }
-        ensures why { IfErr result (Why (IsLost (F.fails self.old.files.now) name.now) (IsRefusedIn (F.gives self.old.files.now) name.now) NoLine NoFailure) }
+        ensures why { IfErr result (LacksSheet (F.gives self.old.files.now) (F.fails self.old.files.now) name.now) }
         ensures files { self.new.files ≡ self.old.files }
         ensures names { self.new.names ≡ self.old.names }
         ensures console { self.old.console.is_terminal ≡ false → self.new.console ≡ self.old.console }
@@ -79,7 +79,7 @@ impl<'n, F: Folder, E: Write> Inputs<'n, F, E> {
     /// and counts it.
     pub(crate) fn read_report(&mut self, name: &'n str) -> Result<Encoded, Error<'n>>
         ensures ok { IfOk result (F.gives self.old.files.now name.now) }
-        ensures why { IfErr result (IsUnread (F.fails self.old.files.now) name.now) }
+        ensures why { IfErr result (IsUnread (IsLost (F.fails self.old.files.now) name.now)) }
         ensures files { self.new.files ≡ self.old.files }
         ensures names { self.new.names ≡ self.old.names }
         ensures console { self.old.console.is_terminal ≡ false → self.new.console ≡ self.old.console }
@@ -98,7 +98,7 @@ impl<'n, F: Folder, E: Write> Inputs<'n, F, E> {
     /// Returns the bytes of all reports, in order. Stops at the first report that cannot be read.
     pub(crate) fn read_reports(&mut self) -> Result<Vec<Encoded>, Error<'n>>
         ensures ok { IfOk result (λ all. AllZip (F.gives self.old.files.now) (name_texts self.old.names.now) all.items) }
-        ensures why { IfErr result (AreUnread (F.gives self.old.files.now) (F.fails self.old.files.now) (name_texts self.old.names.now)) }
+        ensures why { IfErr result (IsUnread (IsFirstLost (F.gives self.old.files.now) (F.fails self.old.files.now) (name_texts self.old.names.now))) }
         ensures console { self.old.console.is_terminal ≡ false → self.new.console ≡ self.old.console }
     {
         let names = self.names;
@@ -118,7 +118,7 @@ impl<'n, F: Folder, E: Write> Inputs<'n, F, E> {
     ) -> Result<Consolidation<'s>, Error<'n>>
         ensures ok { IfOk result (λ consolidation. WithRead (F.gives self.old.files.now) (name_texts self.old.names.now)
             (λ reports. consolidation ≡ added sheet.now reports)) }
-        ensures why { IfErr result (AreUnread (F.gives self.old.files.now) (F.fails self.old.files.now) (name_texts self.old.names.now)) }
+        ensures why { IfErr result (IsUnread (IsFirstLost (F.gives self.old.files.now) (F.fails self.old.files.now) (name_texts self.old.names.now))) }
         ensures console { self.old.console.is_terminal ≡ false → self.new.console ≡ self.old.console }
     {
         let mut consolidation = Consolidation::new(self.alloc, sheet);
@@ -134,7 +134,7 @@ impl<'n, F: Folder, E: Write> Inputs<'n, F, E> {
     pub(crate) fn trace<'s>(&mut self, sheet: &'s Sheet) -> Result<TracedMerge<'s>, Error<'n>>
         ensures ok { IfOk result (λ merge. WithRead (F.gives self.old.files.now) (name_texts self.old.names.now)
             (λ reports. merge ≡ traced sheet.now reports)) }
-        ensures why { IfErr result (AreUnread (F.gives self.old.files.now) (F.fails self.old.files.now) (name_texts self.old.names.now)) }
+        ensures why { IfErr result (IsUnread (IsFirstLost (F.gives self.old.files.now) (F.fails self.old.files.now) (name_texts self.old.names.now))) }
         ensures console { self.old.console.is_terminal ≡ false → self.new.console ≡ self.old.console }
     {
         let mut merge = TracedMerge::new(self.alloc, sheet);

@@ -64,7 +64,8 @@ pub fn asked_is_meant()
 
 /// Two runs whose words mean the same command or the bundle, with the same standard input and the
 /// same bytes under each name, and with statuses below 3: the same text, the same status and the
-/// same lines, whatever was written before. `explain` and help are excepted.
+/// same lines, whatever was written before. If no file repeats a key, two runs of `explain` list the
+/// same faults and return the same status; only sentences may differ. Help is excepted.
 pub fn runs_are_one()
     ensures { RunsAreOne }
 {}

@@ -1,6 +1,7 @@
 ghost use Rattle.std.specs.Prelude.{◌≡◌, ◌≢◌, ℕ, List, false, true, None, Ok, Some, IfOk, MatchResult};
-ghost use Rattle.std.specs.Io.KnownBytes.{Appends, Keeps};
+ghost use Rattle.std.specs.Io.KnownBytes.{Keeps};
 ghost use Rattle.std.specs.List.{list_any};
+ghost use Rattle.command_line.specs.Endings.{Prints};
 ghost use Rattle.command_line.specs.Faults.{IsDoneOrFault, IsDoneOrUnwritten};
 ghost use Rattle.command_line.specs.Page.{EndsWith, IsPlaced, SparesOthers, TaskEnds, world};
 ghost use Rattle.command_line.specs.Refused.{SparesRefused, is_of, refuses};
@@ -41,8 +42,8 @@ fn write_out<'n, F: Folder, E: Write, O: Write + Drop>(
     inputs: &mut Inputs<'n, F, E>,
     out: O,
 ) -> (Result<Success, Error<'n>>, O)
-    ensures ends { (part : List ℕ) × EndsWith (F.gives inputs.old.files.now) (F.fails inputs.old.files.now) inputs.old.bundle.now (name_texts inputs.old.names.now)
-        None (task_of args.now.request) part result.0 × Appends (O.contents out) (O.contents result.1) part }
+    ensures ends { Prints (EndsWith (F.gives inputs.old.files.now) (F.fails inputs.old.files.now) inputs.old.bundle.now (name_texts inputs.old.names.now) None (task_of args.now.request))
+        (O.contents out) (O.contents result.1) result.0 }
     ensures console { inputs.old.console.is_terminal ≡ false → inputs.new.console ≡ inputs.old.console }
 {
     let mut sink = BoundedSink::new(StdSink::new(out), args.first_bound());
@@ -111,19 +112,26 @@ fn write_file<'n, F: Folder, D: Disk, E: Write>(
     let is_too_much = sink.overruns() > 0;
     let sink = sink.into_inner();
     let done = stopped_by(done, is_too_much, sink.taken());
-    let reports = inputs.names;
-    let done = settle(
-        disk,
-        reports,
-        done,
-        sink.into_inner(),
-        beside.as_str(),
+    let target = Target {
+        reports: inputs.names,
+        beside: beside.as_str(),
         name,
-    );
+    };
+    let done = settle(disk, target, done, sink.into_inner());
     if done.is_err() {
         disk.remove(beside.as_str());
     }
     done
+}
+
+/// Where the new file goes.
+#[derive(Clone, Copy)]
+struct Target<'a, 'n> {
+    /// The reports of the run. A refused one is not replaced.
+    reports: &'a [&'a str],
+    /// The name of the new file until it is put in place.
+    beside: &'a str,
+    name: &'n str,
 }
 
 /// Why a refused report is not replaced.
@@ -133,20 +141,18 @@ const IS_REFUSED: &str = "It is a refused report; use another name for the outpu
 /// so is a refused report with this name, since the output would replace it.
 fn settle<'n, D: Disk>(
     disk: &mut D,
-    reports: &[&str],
+    target: Target<'_, 'n>,
     done: Result<Success, Error<'n>>,
     file: D::New,
-    beside: &str,
-    name: &'n str,
 ) -> Result<Success, Error<'n>>
-    ensures done { IsDoneOrUnwritten name.now done.entry result }
-    ensures others { (other : List ℕ) → other ≢ name.now → other ≢ beside.now → D.file disk.new other ≡ D.file disk.old other }
-    ensures placed { MatchResult result (λ success. Keeps (D.New.contents file) (D.file disk.new name.now)) (λ error. D.file disk.new name.now ≡ D.file disk.old name.now) }
-    ensures spares { IfOk result (SparesRefused reports.now name.now) }
+    ensures done { IsDoneOrUnwritten target.entry.name.now done.entry result }
+    ensures others { (other : List ℕ) → other ≢ target.entry.name.now → other ≢ target.entry.beside.now → D.file disk.new other ≡ D.file disk.old other }
+    ensures placed { MatchResult result (λ success. Keeps (D.New.contents file) (D.file disk.new target.entry.name.now)) (λ error. D.file disk.new target.entry.name.now ≡ D.file disk.old target.entry.name.now) }
+    ensures spares { IfOk result (SparesRefused target.entry.reports.now target.entry.name.now) }
 {
     match done {
-        Err(Error::Device(_)) => Err(Error::Unwritten(name, None)),
-        Ok(success) => place(disk, reports, success, file, beside, name),
+        Err(Error::Device(_)) => Err(Error::Unwritten(target.name, None)),
+        Ok(success) => place(disk, target, success, file),
         stopped => stopped,
     }
 }
@@ -154,23 +160,21 @@ fn settle<'n, D: Disk>(
 /// Puts the new file in place, but not in the place of a refused report.
 fn place<'n, D: Disk>(
     disk: &mut D,
-    reports: &[&str],
+    target: Target<'_, 'n>,
     success: Success,
     file: D::New,
-    beside: &str,
-    name: &'n str,
 ) -> Result<Success, Error<'n>>
-    ensures done { IsDoneOrUnwritten name.now (Ok success) result }
-    ensures others { (other : List ℕ) → other ≢ name.now → other ≢ beside.now → D.file disk.new other ≡ D.file disk.old other }
-    ensures placed { MatchResult result (λ success. Keeps (D.New.contents file) (D.file disk.new name.now)) (λ error. D.file disk.new name.now ≡ D.file disk.old name.now) }
-    ensures spares { IfOk result (SparesRefused reports.now name.now) }
+    ensures done { IsDoneOrUnwritten target.entry.name.now (Ok success) result }
+    ensures others { (other : List ℕ) → other ≢ target.entry.name.now → other ≢ target.entry.beside.now → D.file disk.new other ≡ D.file disk.old other }
+    ensures placed { MatchResult result (λ success. Keeps (D.New.contents file) (D.file disk.new target.entry.name.now)) (λ error. D.file disk.new target.entry.name.now ≡ D.file disk.old target.entry.name.now) }
+    ensures spares { IfOk result (SparesRefused target.entry.reports.now target.entry.name.now) }
 {
-    if is_refused(disk, reports, &success, name) {
-        return Err(Error::Unwritten(name, Some(IS_REFUSED)));
+    if is_refused(disk, target.reports, &success, target.name) {
+        return Err(Error::Unwritten(target.name, Some(IS_REFUSED)));
     }
-    match disk.put_in_place(file, beside, name) {
+    match disk.put_in_place(file, target.beside, target.name) {
         Ok(()) => Ok(success),
-        Err(_) => Err(Error::Unwritten(name, None)),
+        Err(_) => Err(Error::Unwritten(target.name, None)),
     }
 }
 
@@ -180,23 +184,11 @@ fn is_refused<D: Disk>(disk: &D, reports: &[&str], success: &Success, name: &str
 {
     for index in 0..reports.len() {
         let number = (index as u64).saturating_add(1);
-        if is_refused_report(disk, reports[index], number, success, name) {
+        if disk.is_same(reports[index], name) && refuses(success, number) {
             return true;
         }
     }
     false
-}
-
-fn is_refused_report<D: Disk>(
-    disk: &D,
-    report: &str,
-    number: u64,
-    success: &Success,
-    name: &str,
-) -> bool
-    ensures { result ≡ false → refuses success.now number ≡ true → report.now ≢ name.now }
-{
-    disk.is_same(report, name) && refuses(success, number)
 }
 
 /// `explain` returns only how many faults there are, so after a fault each report counts as refused.

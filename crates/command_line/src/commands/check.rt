@@ -1,8 +1,9 @@
 ghost use Rattle.std.specs.Prelude.{◌≡◌, ◌++◌, ◌-◌, ◌^◌, ◌<◌, false, codes, IfErr, IfOk, OnOk, string_bytes};
 ghost use Rattle.std.specs.Fmt.{decimal};
 ghost use Rattle.command_line.specs.Checks.{AddsResult, Checks, IsResult, accepted_line, result_written, results_header};
-ghost use Rattle.command_line.specs.Endings.{CommandEnds};
-ghost use Rattle.command_line.specs.Why.{AreUnread, WhyUnder, WithRead};
+ghost use Rattle.command_line.specs.Endings.{Prints};
+ghost use Rattle.command_line.specs.Page.{CommandEnds};
+ghost use Rattle.command_line.specs.Why.{IsFirstLost, IsUnread, WithRead};
 ghost use Rattle.command_line.specs.Words.{check, name_texts};
 
 use crate::commands::put_bytes;
@@ -85,9 +86,7 @@ pub(crate) fn run<'n, F: Folder, E: Write, S: Sink>(
     out: &mut S,
 ) -> Result<Refusals, Error<'n>>
     requires { S.failures out.old < 2 ^ 64 - 1 }
-    ensures ends { CommandEnds (F.gives inputs.old.files.now) (name_texts inputs.old.names.now) sheet.now (check format)
-        (S.told out.old) (S.told out.new) result }
-    ensures why { IfErr result (WhyUnder (F.gives inputs.old.files.now) (F.fails inputs.old.files.now) (name_texts inputs.old.names.now) (check format)) }
+    ensures ends { Prints (CommandEnds (F.gives inputs.old.files.now) (F.fails inputs.old.files.now) (name_texts inputs.old.names.now) sheet.now (check format)) (S.told out.old) (S.told out.new) result }
     ensures console { inputs.old.console.is_terminal ≡ false → inputs.new.console ≡ inputs.old.console }
 {
     let Batch { text, refusals } = check_each(format, sheet, inputs)?;
@@ -102,7 +101,7 @@ fn check_each<'n, F: Folder, E: Write>(
 ) -> Result<Batch, Error<'n>>
     ensures ok { IfOk result (λ batch. WithRead (F.gives inputs.old.files.now) (name_texts inputs.old.names.now)
         (λ reports. Checks format (name_texts inputs.old.names.now) sheet.now reports batch.text.items batch.refusals)) }
-    ensures why { IfErr result (AreUnread (F.gives inputs.old.files.now) (F.fails inputs.old.files.now) (name_texts inputs.old.names.now)) }
+    ensures why { IfErr result (IsUnread (IsFirstLost (F.gives inputs.old.files.now) (F.fails inputs.old.files.now) (name_texts inputs.old.names.now))) }
     ensures console { inputs.old.console.is_terminal ≡ false → inputs.new.console ≡ inputs.old.console }
 {
     let (alloc, names) = (inputs.alloc, inputs.names);

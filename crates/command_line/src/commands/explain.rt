@@ -1,21 +1,18 @@
-ghost use Rattle.std.specs.Prelude.{◌≡◌, ◌+◌, ◌-◌, ◌^◌, ◌<◌, false, nat_lt, if◌then◌else◌, ℕ, List, IfErr, IfOk, None, Ok, OnOk};
-ghost use Rattle.std.specs.Io.KnownBytes.{Appends};
+ghost use Rattle.std.specs.Prelude.{◌≡◌, ◌+◌, ◌-◌, ◌^◌, ◌<◌, false, length, nat_lt, if◌then◌else◌, IfErr, IfOk, None, Ok, OnOk};
 ghost use Rattle.oim_report.specs.Sheet.{sheet_outcome};
 ghost use Rattle.oim_write.specs.BoundedSink.{bounded_failures};
 ghost use Rattle.oim_explain.specs.Explained.{counted};
-ghost use Rattle.command_line.specs.Endings.{Puts};
+ghost use Rattle.command_line.specs.Endings.{Prints, PutsText};
 ghost use Rattle.command_line.specs.Explained.{counts_line};
-ghost use Rattle.command_line.specs.Explaining.{ReportsEnd, UnderEnds};
-ghost use Rattle.command_line.specs.Faults.{IsOutputFault};
-ghost use Rattle.command_line.specs.Page.{EndsWith};
-ghost use Rattle.command_line.specs.Why.{IsFirstLost, IsNoSheet, NoLine, NoReason, Why, WhyExplained};
+ghost use Rattle.command_line.specs.Page.{EachEnds, EndsWith};
+ghost use Rattle.command_line.specs.Why.{IsNoSheet};
 ghost use Rattle.command_line.specs.Words.{explain, name_texts, under};
 
 use crate::commands::put_text;
 use crate::error::{Error, Success};
 use crate::folder::Folder;
 use crate::inputs::{Inputs, sheet_of};
-use oim_explain::{Format, Input, SheetNames, explain, explain_repeated, explain_sheet};
+use oim_explain::{Explained, Format, Input, SheetNames, explain, explain_repeated, explain_sheet};
 use oim_report::Sheet;
 use oim_write::{BoundedSink, Sink};
 use std::alloc::Global;
@@ -81,66 +78,51 @@ pub(crate) fn run<'n, F: Folder, E: Write, S: Sink>(
     out: &mut BoundedSink<S>,
 ) -> Result<Success, Error<'n>>
     requires { bounded_failures (S.failures out.old.sink) out.old.overruns < 2 ^ 64 - 1 }
-    ensures ends { (part : List ℕ) × EndsWith (F.gives inputs.old.files.now) (F.fails inputs.old.files.now) inputs.old.bundle.now (name_texts inputs.old.names.now)
-        None (under name.now (explain format)) part result × Appends (S.told out.old.sink) (S.told out.new.sink) part }
-    ensures console { inputs.old.console.is_terminal ≡ false → inputs.new.console ≡ inputs.old.console }
-{
-    let bytes = inputs.read(name)?;
-    let counts = put_under(name, format, bytes.as_bytes(), inputs, out)?;
-    put_counts(inputs.alloc, format, inputs.names.len(), counts, out)?;
-    Ok(Success::Faults(counts.faults))
-}
-
-/// Writes the line with the counts, in the format `Text`.
-fn put_counts<'n, S: Sink>(
-    alloc: Global,
-    format: Format,
-    reports: usize,
-    counts: Counts,
-    out: &mut S,
-) -> Result<(), Error<'n>>
-    requires { S.failures out.old < 2 ^ 64 - 1 }
-    ensures { Puts (counts_line format reports counts.faulty counts.faults) (S.told out.old) (S.told out.new) result }
-{
-    match format {
-        Format::Text => {
-            let Counts { faulty, faults } = counts;
-            let line = format!(in alloc;
-                "reports: {reports}, with faults: {faulty}, faults: {faults}\n"
-            )?;
-            put_text(out, line.as_str())
-        }
-        Format::Json => Ok(()),
-    }
-}
-
-/// Writes the lines about the sheet's repeated members and about the reports.
-fn put_under<'n, F: Folder, E: Write, S: Sink>(
-    name: &'n str,
-    format: Format,
-    bytes: &[u8],
-    inputs: &mut Inputs<'n, F, E>,
-    out: &mut BoundedSink<S>,
-) -> Result<Counts, Error<'n>>
-    requires { bounded_failures (S.failures out.old.sink) out.old.overruns < 2 ^ 64 - 1 }
-    ensures ends { UnderEnds (F.gives inputs.old.files.now) format name.entry bytes.now inputs.old.names.now
+    ensures ends { Prints (EndsWith (F.gives inputs.old.files.now) (F.fails inputs.old.files.now) inputs.old.bundle.now (name_texts inputs.old.names.now) None (under name.now (explain format)))
         (S.told out.old.sink) (S.told out.new.sink) result }
-    ensures failures { OnOk result (bounded_failures (S.failures out.new.sink) out.new.overruns ≡ bounded_failures (S.failures out.old.sink) out.old.overruns) }
-    ensures names { inputs.new.names ≡ inputs.old.names }
-    ensures why { IfErr result (WhyExplained (F.gives inputs.old.files.now) (F.fails inputs.old.files.now) (name_texts inputs.old.names.now) bytes.now) }
     ensures console { inputs.old.console.is_terminal ≡ false → inputs.new.console ≡ inputs.old.console }
 {
+    let file = inputs.read(name)?;
+    let bytes = file.as_bytes();
     let sheet = read_sheet(inputs.alloc, name, bytes)?;
     let input = Input {
         report: None,
         name,
         format,
     };
-    out.raise(inputs.take_allowance());
     let repeated = explain_repeated(inputs.alloc, input, bytes)?;
-    put_text(out, repeated.text.as_str())?;
     let names = SheetNames::read(inputs.alloc, &sheet, bytes)?;
-    put_each(&names, format, inputs, out, repeated.faults)
+    let known = KnownSheet {
+        names: &names,
+        repeated: &repeated,
+        format,
+    };
+    let counts = put_each(known, inputs, out)?;
+    put_counts(format, counts, inputs, out)?;
+    Ok(Success::Faults(counts.faults))
+}
+
+/// Writes the line with the counts, in the format `Text`.
+fn put_counts<'n, F, E, S: Sink>(
+    format: Format,
+    counts: Counts,
+    inputs: &Inputs<'n, F, E>,
+    out: &mut S,
+) -> Result<(), Error<'n>>
+    requires { S.failures out.old < 2 ^ 64 - 1 }
+    ensures { Prints (PutsText (counts_line format (length inputs.now.names.now) counts.faulty counts.faults)) (S.told out.old) (S.told out.new) result }
+{
+    match format {
+        Format::Text => {
+            let reports = inputs.names.len();
+            let Counts { faulty, faults } = counts;
+            let line = format!(in inputs.alloc;
+                "reports: {reports}, with faults: {faulty}, faults: {faults}\n"
+            )?;
+            put_text(out, line.as_str())
+        }
+        Format::Json => Ok(()),
+    }
 }
 
 /// Errors: `Sheet` with the line that describes the fault of the sheet; out of memory.
@@ -177,24 +159,34 @@ impl Counts {
     }
 }
 
-/// Explains each report. `faults` is the number of lines already written about the sheet.
-fn put_each<'n, F: Folder, E: Write, S: Sink>(
-    names_of_sheet: &SheetNames<'_>,
+/// The names of an accepted sheet, the lines about its repeated members, and their format.
+#[derive(Clone, Copy)]
+struct KnownSheet<'s> {
+    names: &'s SheetNames<'s>,
+    repeated: &'s Explained,
     format: Format,
+}
+
+/// Writes the lines about the sheet's repeated members and about each report.
+fn put_each<'n, F: Folder, E: Write, S: Sink>(
+    known: KnownSheet<'_>,
     inputs: &mut Inputs<'n, F, E>,
     out: &mut BoundedSink<S>,
-    faults: u64,
 ) -> Result<Counts, Error<'n>>
     requires { bounded_failures (S.failures out.old.sink) out.old.overruns < 2 ^ 64 - 1 }
-    ensures ends { ReportsEnd (F.gives inputs.old.files.now) format names_of_sheet.now.sheet.now inputs.old.names.now
-        (S.told out.old.sink) (S.told out.new.sink) faults result }
+    ensures ends { Prints (EachEnds (F.gives inputs.old.files.now) known.entry.format known.entry.names.now.sheet.now known.entry.repeated.now (F.fails inputs.old.files.now) (name_texts inputs.old.names.now))
+        (S.told out.old.sink) (S.told out.new.sink) result }
     ensures failures { OnOk result (bounded_failures (S.failures out.new.sink) out.new.overruns ≡ bounded_failures (S.failures out.old.sink) out.old.overruns) }
     ensures names { inputs.new.names ≡ inputs.old.names }
-    ensures why { IfErr result (Why (IsFirstLost (F.gives inputs.old.files.now) (F.fails inputs.old.files.now) (name_texts inputs.old.names.now)) NoReason NoLine IsOutputFault) }
     ensures console { inputs.old.console.is_terminal ≡ false → inputs.new.console ≡ inputs.old.console }
 {
     let (alloc, names) = (inputs.alloc, inputs.names);
-    let mut counts = Counts { faulty: 0, faults };
+    out.raise(inputs.take_allowance());
+    put_text(out, known.repeated.text.as_str())?;
+    let mut counts = Counts {
+        faulty: 0,
+        faults: known.repeated.faults,
+    };
     for index in 0..names.len() {
         let report = inputs.read_report(names[index])?;
         out.raise(inputs.take_allowance());
@@ -202,9 +194,9 @@ fn put_each<'n, F: Folder, E: Write, S: Sink>(
         let input = Input {
             report: Some((index as u64).saturating_add(1)),
             name: names[index],
-            format,
+            format: known.format,
         };
-        let explained = explain(alloc, names_of_sheet, input, report.as_bytes())?;
+        let explained = explain(alloc, known.names, input, report.as_bytes())?;
         put_text(out, explained.text.as_str())?;
         counts = counts.with(explained.faults);
     }

@@ -1,9 +1,8 @@
-ghost use Rattle.std.specs.Prelude.{◌≡◌, ◌-◌, ◌^◌, ◌<◌, false, length, IfOk, IfErr};
-ghost use Rattle.oim_merge.specs.Replay.{IsReplayOf};
-ghost use Rattle.oim_merge.specs.Schedule.{IsFirstBad};
-ghost use Rattle.command_line.specs.Endings.{CommandEnds, Ends, Never, Puts};
+ghost use Rattle.std.specs.Prelude.{◌≡◌, ◌-◌, ◌^◌, ◌<◌, false};
+ghost use Rattle.command_line.specs.Endings.{Prints, Puts, PutsText};
+ghost use Rattle.command_line.specs.Faults.{IsOutputError};
 ghost use Rattle.command_line.specs.Outputs.{PrintsReplay, replica_lines};
-ghost use Rattle.command_line.specs.Why.{IsFirstLost, IsOutputError, NoFailure, NoReason, Why, WhyUnder, WithRead};
+ghost use Rattle.command_line.specs.Page.{CommandEnds};
 ghost use Rattle.command_line.specs.Words.{name_texts, replay};
 
 use crate::commands::put_text;
@@ -11,7 +10,7 @@ use crate::error::Error;
 use crate::folder::Folder;
 use crate::inputs::Inputs;
 use fact_base::Base;
-use oim_merge::{Events, Refusals, Replayed, read_events, replay};
+use oim_merge::{Refusals, Replayed, read_events, replay};
 use oim_report::Sheet;
 use oim_write::{Sink, write_to};
 use std::alloc::Global;
@@ -61,30 +60,14 @@ pub(crate) fn run<'n, F: Folder, E: Write, S: Sink>(
     out: &mut S,
 ) -> Result<Refusals, Error<'n>>
     requires { S.failures out.old < 2 ^ 64 - 1 }
-    ensures ends { CommandEnds (F.gives inputs.old.files.now) (name_texts inputs.old.names.now) sheet.now (replay replicas schedule.now)
-        (S.told out.old) (S.told out.new) result }
-    ensures why { IfErr result (WhyUnder (F.gives inputs.old.files.now) (F.fails inputs.old.files.now) (name_texts inputs.old.names.now) (replay replicas schedule.now)) }
+    ensures ends { Prints (CommandEnds (F.gives inputs.old.files.now) (F.fails inputs.old.files.now) (name_texts inputs.old.names.now) sheet.now (replay replicas schedule.now)) (S.told out.old) (S.told out.new) result }
     ensures console { inputs.old.console.is_terminal ≡ false → inputs.new.console ≡ inputs.old.console }
 {
     let lines = inputs.read(schedule)?;
     let events = read_events(inputs.alloc, lines.as_bytes())?;
-    let replayed = replay_reports(replicas, &events, sheet, inputs)?;
-    put_replayed(inputs.alloc, out, replayed)
-}
-
-fn replay_reports<'n, 's, F: Folder, E: Write>(
-    replicas: usize,
-    events: &Events,
-    sheet: &'s Sheet,
-    inputs: &mut Inputs<'n, F, E>,
-) -> Result<Replayed<'s>, Error<'n>>
-    ensures ok { IfOk result (λ replayed. WithRead (F.gives inputs.old.files.now) (name_texts inputs.old.names.now)
-        (λ reports. IsReplayOf sheet.now replicas reports events.now replayed)) }
-    ensures why { IfErr result (Why (IsFirstLost (F.gives inputs.old.files.now) (F.fails inputs.old.files.now) (name_texts inputs.old.names.now)) NoReason (λ line. WithRead (F.gives inputs.old.files.now) (name_texts inputs.old.names.now) (λ reports. IsFirstBad replicas (length reports) events.now line)) NoFailure) }
-    ensures console { inputs.old.console.is_terminal ≡ false → inputs.new.console ≡ inputs.old.console }
-{
     let reports = inputs.read_reports()?;
-    Ok(replay(inputs.alloc, sheet, replicas, reports.as_slice(), events)?)
+    let replayed = replay(inputs.alloc, sheet, replicas, reports.as_slice(), &events)?;
+    put_replayed(inputs.alloc, out, replayed)
 }
 
 fn put_replayed<'n, S: Sink>(
@@ -93,8 +76,7 @@ fn put_replayed<'n, S: Sink>(
     replayed: Replayed<'_>,
 ) -> Result<Refusals, Error<'n>>
     requires { S.failures out.old < 2 ^ 64 - 1 }
-    ensures ends { Ends (PrintsReplay replayed.entry) (S.told out.old) (S.told out.new) Never result }
-    ensures why { IfErr result IsOutputError }
+    ensures { Prints (Puts (PrintsReplay replayed.entry) IsOutputError) (S.told out.old) (S.told out.new) result }
 {
     let put = put_replicas(alloc, out, replayed.replicas());
     let refused = replayed.into_refused();
@@ -110,7 +92,7 @@ fn put_replicas<'n, S: Sink>(
     replicas: &[Base<'_>],
 ) -> Result<(), Error<'n>>
     requires { S.failures out.old < 2 ^ 64 - 1 }
-    ensures { Puts (replica_lines replicas.now) (S.told out.old) (S.told out.new) result }
+    ensures { Prints (PutsText (replica_lines replicas.now)) (S.told out.old) (S.told out.new) result }
 {
     for base in replicas {
         write_to(alloc, base, out)?;

@@ -1,10 +1,10 @@
 //! The commands `verdicts` and `sources`.
 
-ghost use Rattle.std.specs.Prelude.{◌-◌, ◌^◌, ◌<◌, IfErr};
+ghost use Rattle.std.specs.Prelude.{◌-◌, ◌^◌, ◌<◌};
 ghost use Rattle.oim_write.specs.BoundedSink.{bounded_failures};
-ghost use Rattle.command_line.specs.Endings.{Ends, Never};
+ghost use Rattle.command_line.specs.Endings.{Prints, Puts};
+ghost use Rattle.command_line.specs.Faults.{IsOutputError};
 ghost use Rattle.command_line.specs.Outputs.{AreSources, AreVerdicts};
-ghost use Rattle.command_line.specs.Why.{IsOutputError};
 ghost use Rattle.command_line.specs.Words.{name_texts};
 ghost use Rattle.command_line.specs.declared.print_format.PrintFormat.TheVariants.{Lines, Rows};
 
@@ -95,9 +95,7 @@ pub(crate) fn put_verdicts<'n, S: Sink>(
     out: &mut BoundedSink<S>,
 ) -> Result<Refusals, Error<'n>>
     requires { bounded_failures (S.failures out.old.sink) out.old.overruns < 2 ^ 64 - 1 }
-    ensures ends { Ends (AreVerdicts format consolidation.entry.body consolidation.entry.refusals)
-        (S.told out.old.sink) (S.told out.new.sink) Never result }
-    ensures why { IfErr result IsOutputError }
+    ensures { Prints (Puts (AreVerdicts format consolidation.entry.body consolidation.entry.refusals) IsOutputError) (S.told out.old.sink) (S.told out.new.sink) result }
 {
     let merged = consolidation.into_merged()?;
     match format {
@@ -113,9 +111,7 @@ fn put_lines<'n, S: Sink>(
     out: &mut S,
 ) -> Result<Refusals, Error<'n>>
     requires { S.failures out.old < 2 ^ 64 - 1 }
-    ensures ends { Ends (AreVerdicts Lines merged.entry.base.body merged.entry.refusals)
-        (S.told out.old) (S.told out.new) Never result }
-    ensures why { IfErr result IsOutputError }
+    ensures { Prints (Puts (AreVerdicts Lines merged.entry.base.body merged.entry.refusals) IsOutputError) (S.told out.old) (S.told out.new) result }
 {
     let Merged { base, refusals } = merged;
     let written = write_verdicts(alloc, &base, refusals, &VerdictLines, out);
@@ -131,9 +127,7 @@ fn put_rows<'n, S: Sink>(
     out: &mut BoundedSink<S>,
 ) -> Result<Refusals, Error<'n>>
     requires { bounded_failures (S.failures out.old.sink) out.old.overruns < 2 ^ 64 - 1 }
-    ensures ends { Ends (AreVerdicts (Rows format) merged.entry.base.body merged.entry.refusals)
-        (S.told out.old.sink) (S.told out.new.sink) Never result }
-    ensures why { IfErr result IsOutputError }
+    ensures { Prints (Puts (AreVerdicts (Rows format) merged.entry.base.body merged.entry.refusals) IsOutputError) (S.told out.old.sink) (S.told out.new.sink) result }
 {
     let Merged { base, refusals } = merged;
     if has_long_row(format, &base, out.left()) {
@@ -153,8 +147,7 @@ pub(crate) fn put_sources<'n, S: Sink>(
     out: &mut S,
 ) -> Result<Refusals, Error<'n>>
     requires { S.failures out.old < 2 ^ 64 - 1 }
-    ensures ends { Ends (AreSources format (name_texts files.now) merge.entry) (S.told out.old) (S.told out.new) Never result }
-    ensures why { IfErr result IsOutputError }
+    ensures { Prints (Puts (AreSources format (name_texts files.now) merge.entry) IsOutputError) (S.told out.old) (S.told out.new) result }
 {
     match format {
         PrintFormat::Lines => Ok(merge.finish(&SourceLines, out)?),

@@ -1,8 +1,8 @@
-use Rattle.std.proofs.Common.{take, drop, sym, take-append-drop}
+use Rattle.std.proofs.Common.{take, drop, inr, refl, sym, take-append-drop}
 use Rattle.command_line.proofs.commands.put_bytes.Goals as goal
 
 pub returns-in-Err-clause-put : goal.returns-in-Err-clause-put
 returns-in-Err-clause-put g c =
     let bytes = c.args.bytes.now in
     let n = c.in-Err.taken in
-    record { front = take n bytes; rest = drop n bytes; whole = sym (take-append-drop n bytes); appended = c.in-Err.ensures.err.0 }
+    record { part = take n bytes; ends = (tt, inr (bytes, drop n bytes, (tt, tt, refl), sym (take-append-drop n bytes))); appended = c.in-Err.ensures.err.0 }

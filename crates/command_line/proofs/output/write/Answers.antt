@@ -22,9 +22,9 @@ returns-in-None-clause-ends g c =
     let inputs = c.args.inputs.now in
     let disk = c.args.disk.now in
     let contents = g.O.Write.contents in
-    let ends = c.write_out.ensures.ends in
+    let p = c.write_out.ensures.ends in
     let done = c.write_out.result.0 in
     let Ends = EndsWith (g.F.Folder.gives inputs.files.now) (g.F.Folder.fails inputs.files.now) inputs.bundle.now (name_texts inputs.names.now) in
     let Went = Goes (g.D.Disk.empty disk) (g.D.Disk.free disk) (world (contents c.args.out) (g.D.Disk.file disk)) (world (contents c.write_out.result.1) (g.D.Disk.file disk)) in
     subst (λ (o : Option (Bor Text)). (part : List ℕ) × (Ends (option_map (λ name. name.now) o) (task_of c.args.args.now.request) part done × Went (option_map (λ name. name.now) o) part done))
-    (sym c.in-None.is) (ends.0, (ends.1, (ends.2, λ name. refl)))
+    (sym c.in-None.is) (p.part, (p.ends, (p.appended, λ name. refl)))

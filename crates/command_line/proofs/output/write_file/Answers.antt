@@ -49,9 +49,9 @@ returns-clause-ends g c =
     let placed = subst (λ old. MatchResult result (λ success. Keeps mid (file c.if-is_err.disk name)) (λ e. file c.if-is_err.disk name ≡ old)) c.create_beside.ensures.old
     (subst (λ new. MatchResult result (λ success. Keeps mid new) (λ e. new ≡ file c.create_beside.new.self name)) (sym kept)
     (subst (λ m. MatchResult result (λ success. Keeps m (file c.settle-done.new.disk name)) (λ e. file c.settle-done.new.disk name ≡ file c.create_beside.new.self name)) taken c.settle-done.ensures.placed)) in
-    let ends = c.execute-done.ensures.ends in
+    let p = c.execute-done.ensures.ends in
     settled gives fails inputs.bundle.now texts task name empty mid (g.D.Disk.free disk) (world None (file disk)) (world None (file c.if-is_err.disk)) c.stopped_by-done.result result c.settle-done.ensures.done placed
-    ends.0 (faulted gives fails inputs.bundle.now texts task c.execute-done.result c.stopped_by-done.result c.stopped_by-done.ensures ends.0 ends.1) (subst (λ o. Appends o mid ends.0) start ends.2)
+    p.part (faulted gives fails inputs.bundle.now texts task c.execute-done.result c.stopped_by-done.result c.stopped_by-done.ensures p.part p.ends) (subst (λ o. Appends o mid p.part) start p.appended)
 
 pub returns-in_err-beside-clause-others : goal.returns-in_err-beside-clause-others
 returns-in_err-beside-clause-others g c = inl (λ other apart. c.in_err-beside.ensures.none other)

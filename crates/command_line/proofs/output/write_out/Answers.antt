@@ -14,9 +14,10 @@ returns-clause-ends g c =
     let new = contents c.flushed.result.1 in
     let start : contents c.new-sink.result.sink.writer ≡ old = (λ i. contents (c.new-sink.ensures.sink i).writer) ∙ ap contents c.new.ensures.writer in
     let taken : contents c.into_inner.result ≡ mid = ap contents c.into_inner.ensures ∙ (λ i. contents (c.into_inner-sink.ensures i).writer) in
-    let ends = c.execute-done.ensures.ends in
-    let same = faulted (g.F.Folder.gives inputs.files.now) (g.F.Folder.fails inputs.files.now) inputs.bundle.now (name_texts inputs.names.now) (task_of c.args.args.now.request) in (
-      ends.0,
-      same c.stopped_by.result c.flushed.result.0 c.flushed.ensures.done ends.0 (same c.execute-done.result c.stopped_by.result c.stopped_by.ensures ends.0 ends.1),
-      Appends-kept old mid new ends.0 (subst (λ o. Appends o mid ends.0) start ends.2) (subst (λ m. Keeps m new) taken c.flushed.ensures.out),
-    )
+    let p = c.execute-done.ensures.ends in
+    let same = faulted (g.F.Folder.gives inputs.files.now) (g.F.Folder.fails inputs.files.now) inputs.bundle.now (name_texts inputs.names.now) (task_of c.args.args.now.request) in
+    record {
+      part = p.part;
+      ends = same c.stopped_by.result c.flushed.result.0 c.flushed.ensures.done p.part (same c.execute-done.result c.stopped_by.result c.stopped_by.ensures p.part p.ends);
+      appended = Appends-kept old mid new p.part (subst (λ o. Appends o mid p.part) start p.appended) (subst (λ m. Keeps m new) taken c.flushed.ensures.out);
+    }

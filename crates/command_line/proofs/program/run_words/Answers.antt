@@ -3,9 +3,8 @@ use Rattle.std.specs.Prelude.{IfSome}
 use Rattle.std.specs.Io.KnownBytes.{Appends}
 use Rattle.std.proofs.lemmas.Bool.{eqb-true}
 use Rattle.std.proofs.lemmas.List.{nil_from_length}
-use Rattle.command_line.specs.Page.{InputEnd, IsWordsError, world}
 use Rattle.command_line.specs.Printed.{lines_of}
-use Rattle.command_line.specs.Words.{Mean, asked_of}
+use Rattle.command_line.specs.Words.{asked_of}
 use Rattle.command_line.proofs.Steps.{step_failed}
 use Rattle.command_line.proofs.program.run_words.Goals as goal
 
@@ -31,17 +30,9 @@ returns-in-Ok g c =
 
 pub returns-in-Err : goal.returns-in-Err
 returns-in-Err g c =
-    let texts = map g.W.AsStr.text c.args.words.now in
-    let folder = c.args.folder.now in
-    let empty = g.D.Disk.empty c.args.disk.now in
-    let free = g.D.Disk.free c.args.disk.now in
-    let old = g.O.Write.contents c.args.streams.out in
-    let new = g.O.Write.contents c.ended.result.out in
-    let file = g.D.Disk.file c.args.disk.now in
     let contents = g.E.Write.contents in
     let start = c.new-console.ensures in
-    step_failed empty free old new file (Mean texts) (IsWordsError texts) (InputEnd empty free (world old file) (world new file) (g.F.Folder.gives folder) (g.F.Folder.fails folder) (g.R.Read.remaining c.args.streams.input))
-    c.in-Err.error c.in-Err.ensures.err (ap g.O.Write.contents c.ended.ensures.out) c.ended.ensures.status
+    step_failed (g.D.Disk.empty c.args.disk.now) (g.D.Disk.free c.args.disk.now) c.in-Err.error c.in-Err.ensures.err (ap g.O.Write.contents c.ended.ensures.out) c.ended.ensures.status
     (λ plain.
     let same = c.tell_awaited.ensures (λ is. plain.1 (ap (map g.W.AsStr.text) (nil_from_length c.args.words.now (eqb-true _ 0 (sym c.is_empty.ensures ∙ is))))) in
     subst (λ old. IfSome (lines_of (Err c.in-Err.error)) (Appends old (contents c.ended.result.console.err))) (ap (λ k. contents k.err) same ∙ ap contents start.0)

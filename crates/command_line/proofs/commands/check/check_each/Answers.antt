@@ -1,7 +1,7 @@
 use Rattle.std.proofs.Common.{◌≡◌, ◌+◌, refl, ap, ◌∙◌, subst, get_or, arith}
 use Rattle.std.specs.Prelude.{IfErr}
 use Rattle.command_line.specs.Checks.{AddsResult, result_written}
-use Rattle.command_line.specs.Why.{AreUnread, IsUnread, NoFailure}
+use Rattle.command_line.specs.Why.{IsFirstLost, IsLost, IsUnread}
 use Rattle.command_line.specs.Words.{name_texts}
 use Rattle.command_line.proofs.Checks.{checks_more, none_checked}
 use Rattle.command_line.proofs.Readings.{no_name}
@@ -39,6 +39,6 @@ returns-in_err-report-clause-why g c =
     let names = c.args.inputs.now.names.now in
     let l = c.loop-index in
     let e = c.in_err-report.field-0.0 in
-    let why = subst (λ files. IsUnread (g.F.Folder.fails files.now) (get_or names l.index no_name).now e) l.invariant.files c.in_err-report.ensures.why in
-    of_error (λ r. IfErr r (AreUnread gives fails (name_texts names))) c.from_residual-in_err-report.result e c.from_residual-in_err-report.ensures.1
-    (stops_at gives fails names l.index c.loop-index-test.true l.invariant.read.0 l.invariant.read.1 NoFailure e why)
+    let why = subst (λ files. IsUnread (IsLost (g.F.Folder.fails files.now) (get_or names l.index no_name).now) e) l.invariant.files c.in_err-report.ensures.why in
+    of_error (λ r. IfErr r (IsUnread (IsFirstLost gives fails (name_texts names)))) c.from_residual-in_err-report.result e c.from_residual-in_err-report.ensures.1
+    (stops_at gives fails names l.index c.loop-index-test.true l.invariant.read.0 l.invariant.read.1 e why)

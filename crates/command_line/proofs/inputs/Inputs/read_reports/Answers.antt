@@ -1,7 +1,7 @@
 use Rattle.std.proofs.Common.{◌∙◌, ap, ◌+◌, subst, sym, get_or, take}
 use Rattle.std.specs.Prelude.{IfErr}
 use Rattle.std.specs.List.{AllZip}
-use Rattle.command_line.specs.Why.{AreUnread, IsUnread, NoFailure}
+use Rattle.command_line.specs.Why.{IsFirstLost, IsLost, IsUnread}
 use Rattle.command_line.specs.Words.{name_texts}
 use Rattle.command_line.proofs.Readings.{no_name, read_more}
 use Rattle.command_line.proofs.Ends.{of_error}
@@ -29,6 +29,6 @@ returns-in_err-read_report-clause-why g c =
     let names = c.args.self.now.names.now in
     let l = c.loop-name in
     let e = c.in_err-read_report.field-0.0 in
-    let why = subst (λ files. IsUnread (g.F.Folder.fails files.now) (get_or names l.name-index no_name).now e) l.invariant.files c.in_err-read_report.ensures.why in
-    of_error (λ r. IfErr r (AreUnread gives fails (name_texts names))) c.from_residual.result e c.from_residual.ensures.1
-    (stops_at gives fails names l.name-index c.loop-name-test.true l.all.items l.invariant.read NoFailure e why)
+    let why = subst (λ files. IsUnread (IsLost (g.F.Folder.fails files.now) (get_or names l.name-index no_name).now) e) l.invariant.files c.in_err-read_report.ensures.why in
+    of_error (λ r. IfErr r (IsUnread (IsFirstLost gives fails (name_texts names)))) c.from_residual.result e c.from_residual.ensures.1
+    (stops_at gives fails names l.name-index c.loop-name-test.true l.all.items l.invariant.read e why)

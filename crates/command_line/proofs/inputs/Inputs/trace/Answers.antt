@@ -1,7 +1,7 @@
 use Rattle.std.proofs.Common.{◌+◌, ap, ◌∙◌, subst, get_or}
 use Rattle.std.specs.Prelude.{IfErr}
 use Rattle.oim_merge.specs.Traced.{Traced, with_traced}
-use Rattle.command_line.specs.Why.{AreUnread, IsUnread, NoFailure}
+use Rattle.command_line.specs.Why.{IsFirstLost, IsLost, IsUnread}
 use Rattle.command_line.specs.Words.{name_texts}
 use Rattle.command_line.proofs.Readings.{no_name, traced_step}
 use Rattle.command_line.proofs.Ends.{of_error}
@@ -29,6 +29,6 @@ returns-in_err-read_report-clause-why g c =
     let names = c.args.self.now.names.now in
     let l = c.loop-index in
     let e = c.in_err-read_report.field-0.0 in
-    let why = subst (λ files. IsUnread (g.F.Folder.fails files.now) (get_or names l.index no_name).now e) l.invariant.files c.in_err-read_report.ensures.why in
-    of_error (λ r. IfErr r (AreUnread gives fails (name_texts names))) c.from_residual.result e c.from_residual.ensures.1
-    (stops_at gives fails names l.index c.loop-index-test.true l.invariant.read.0 l.invariant.read.1 NoFailure e why)
+    let why = subst (λ files. IsUnread (IsLost (g.F.Folder.fails files.now) (get_or names l.index no_name).now) e) l.invariant.files c.in_err-read_report.ensures.why in
+    of_error (λ r. IfErr r (IsUnread (IsFirstLost gives fails (name_texts names)))) c.from_residual.result e c.from_residual.ensures.1
+    (stops_at gives fails names l.index c.loop-index-test.true l.invariant.read.0 l.invariant.read.1 e why)
